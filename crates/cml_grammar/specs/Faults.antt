@@ -1,0 +1,160 @@
+-- What is wrong with a line, and with a text: the first test of the table that holds, on the least line.
+use Rattle.std.specs.Prelude.{ℕ, suc, ◌==◌, ◌+◌, Bool, true, false, not, ◌&&◌, ◌||◌, nat_lt, nat_le, List, [], ◌∷◌, ◌++◌, length, Option, Some, None, if◌then◌else◌, codes}
+use Rattle.std.specs.Option.{option_map_or}
+use Rattle.std.specs.List.{list_any, zip}
+use Rattle.std.specs.Str.{bytes_eq}
+use Rattle.cml_grammar.specs.declared.names.Named.{Named}
+use Rattle.cml_grammar.specs.declared.names.Named.TheVariants as called
+use Rattle.cml_grammar.specs.declared.forms.Declares.{Declares}
+use Rattle.cml_grammar.specs.declared.forms.Declares.TheVariants as declares
+use Rattle.cml_grammar.specs.declared.forms.Verb.{Verb}
+use Rattle.cml_grammar.specs.declared.forms.Place.{Place}
+use Rattle.cml_grammar.specs.declared.fault.What.{What}
+use Rattle.cml_grammar.specs.declared.fault.What.TheVariants.{NoLineEnd, BadBytes, BadHeader, BadWords, UnknownLine, LateDeclaration, UnknownStep, WordCount, BadName, NameTaken, UnknownName, WrongKind, BadNumber, TooManyThreads, TooLong}
+use Rattle.cml_grammar.specs.declared.fault.Fault.{Fault}
+use Rattle.cml_grammar.specs.Words.{parts_of, words_of, is_bad_byte, is_skipped, has_empty_word}
+use Rattle.cml_grammar.specs.Names.{Given, is_name, is_number, is_given, named, thread_count}
+use Rattle.cml_grammar.specs.Forms.{Form, unknown, declaration, no_step, step, form_of, places_of, rest_of, is_name_place, is_fresh, is_used, is_number_place, suits}
+
+-- what the lines so far leave: the names that stand, and whether a step was seen
+pub record Scope : Type 0 where
+  pub names : List Given
+  pub started : Bool
+
+abbrev pub start : Scope
+start = record { names = []; started = false }
+
+-- a line says something where it isn't the header and isn't skipped
+abbrev pub says : ℕ → List ℕ → Bool
+says k line = not (k == 1) && not (is_skipped line)
+
+-- the tests of the table, in its order: of a line, of its form, and of each word in its place
+abbrev pub is_bad_header : ℕ → List ℕ → Bool
+is_bad_header k line = (k == 1) && not (bytes_eq line (codes "cml 1"))
+
+abbrev pub is_unknown : Form → Bool
+is_unknown unknown = true
+is_unknown (declaration d rest) = false
+is_unknown (no_step seat) = false
+is_unknown (step seat v rest) = false
+
+abbrev pub is_late : Bool → Form → Bool
+is_late started unknown = false
+is_late started (declaration d rest) = started
+is_late started (no_step seat) = false
+is_late started (step seat v rest) = false
+
+abbrev pub is_no_step : Form → Bool
+is_no_step unknown = false
+is_no_step (declaration d rest) = false
+is_no_step (no_step seat) = true
+is_no_step (step seat v rest) = false
+
+abbrev pub is_bad_name : Place → List ℕ → Bool
+is_bad_name place word = is_name_place place && not (is_name word)
+
+abbrev pub is_taken : List Given → Place → List ℕ → Bool
+is_taken names place word = is_fresh place && is_given names word
+
+abbrev pub is_unknown_name : List Given → Place → List ℕ → Bool
+is_unknown_name names place word = is_used place && not (is_given names word)
+
+abbrev pub is_wrong_kind : List Given → Place → List ℕ → Bool
+is_wrong_kind names place word = is_used place && not (option_map_or (suits place) (named names word) false)
+
+abbrev pub is_bad_number : Place → List ℕ → Bool
+is_bad_number place word = is_number_place place && not (is_number word)
+
+abbrev pub declares_thread : Form → Bool
+declares_thread unknown = false
+declares_thread (declaration declares.Mailbox rest) = false
+declares_thread (declaration declares.Thread rest) = true
+declares_thread (no_step seat) = false
+declares_thread (step seat v rest) = false
+
+-- some word in its place passes the test
+abbrev pub any_word : (Place → List ℕ → Bool) → Form → Bool
+any_word test form = list_any (λ p. test p.0 p.1) (zip (places_of form) (rest_of form))
+
+-- the first that holds
+abbrev pub first_of : List (Bool × What) → Option What
+first_of [] = None
+first_of (test ∷ tests) = if test.0 then Some test.1 else first_of tests
+
+abbrev pub tests_of_form : Scope → Form → List (Bool × What)
+tests_of_form scope form =
+    (is_unknown form, UnknownLine)
+    ∷ (is_late scope.started form, LateDeclaration)
+    ∷ (is_no_step form, UnknownStep)
+    ∷ (not (length (rest_of form) == length (places_of form)), WordCount)
+    ∷ (any_word is_bad_name form, BadName)
+    ∷ (any_word (is_taken scope.names) form, NameTaken)
+    ∷ (any_word (is_unknown_name scope.names) form, UnknownName)
+    ∷ (any_word (is_wrong_kind scope.names) form, WrongKind)
+    ∷ (any_word is_bad_number form, BadNumber)
+    ∷ (declares_thread form && nat_le 64 (thread_count scope.names), TooManyThreads)
+    ∷ []
+
+abbrev pub fault_in_words : Scope → List (List ℕ) → Option What
+fault_in_words scope words =
+    if has_empty_word words then Some BadWords else first_of (tests_of_form scope (form_of scope.names words))
+
+-- what is wrong with the line of number k
+abbrev pub fault_in : Scope → ℕ → List ℕ → Option What
+fault_in scope k line =
+    if list_any is_bad_byte line then Some BadBytes
+    else if is_bad_header k line then Some BadHeader
+    else if says k line then fault_in_words scope (words_of line)
+    else None
+
+-- the names that a line gives
+abbrev pub gives : List Given → Form → List Given
+gives names unknown = []
+gives names (declaration d []) = []
+gives names (declaration declares.Mailbox (word ∷ rest)) = (word, called.Mailbox) ∷ []
+gives names (declaration declares.Thread (word ∷ rest)) = (word, called.Thread (thread_count names + 1)) ∷ []
+gives names (no_step seat) = []
+gives names (step seat v rest) = []
+
+abbrev pub is_step : Form → Bool
+is_step unknown = false
+is_step (declaration d rest) = false
+is_step (no_step seat) = false
+is_step (step seat v rest) = true
+
+abbrev pub is_declaration : Form → Bool
+is_declaration unknown = false
+is_declaration (declaration d rest) = true
+is_declaration (no_step seat) = false
+is_declaration (step seat v rest) = false
+
+-- the scope behind a line of words
+abbrev pub after_words : Scope → List (List ℕ) → Scope
+after_words scope words =
+    let form = form_of scope.names words in
+    record { names = scope.names ++ gives scope.names form; started = scope.started || is_step form }
+
+-- the scope behind the line of number k
+abbrev pub after : Scope → ℕ → List ℕ → Scope
+after scope k line = if says k line then after_words scope (words_of line) else scope
+
+abbrev pub at_line : ℕ → What → Fault
+at_line k what = record { line = k; what = what }
+
+-- what is wrong with the last part, which no line end follows: nothing where it is empty, but for a text with no line
+abbrev pub fault_at_end : ℕ → List ℕ → Option Fault
+fault_at_end k part =
+    if not (length part == 0) then Some (at_line k NoLineEnd)
+    else if k == 1 then Some (at_line k BadHeader)
+    else None
+
+-- the fault of the least line from number k on
+abbrev pub fault_from : Scope → ℕ → List (List ℕ) → Option Fault
+fault_from scope k [] = None
+fault_from scope k (part ∷ []) = fault_at_end k part
+fault_from scope k (line ∷ next ∷ more) =
+    option_map_or (λ what. Some (at_line k what)) (fault_in scope k line) (fault_from (after scope k line) (suc k) (next ∷ more))
+
+-- the fault of a text: too long before all, then the least line's
+abbrev pub fault_of : List ℕ → Option Fault
+fault_of text = if nat_lt 1048576 (length text) then Some (at_line 0 TooLong) else fault_from start 1 (parts_of text)

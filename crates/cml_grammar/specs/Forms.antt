@@ -1,0 +1,95 @@
+-- The lines of a script: which words a declaration and a step have, and what may stand in each word's place.
+use Rattle.std.specs.Prelude.{ℕ, ◌==◌, ◌+◌, Bool, true, false, not, ◌&&◌, ◌||◌, List, [], ◌∷◌, length, Option, Some, None, is_some, if◌then◌else◌, codes}
+use Rattle.std.specs.Option.{option_map_or}
+use Rattle.std.specs.Str.{bytes_eq}
+use Rattle.cml_grammar.specs.declared.names.Named.{Named}
+use Rattle.cml_grammar.specs.declared.names.Named.TheVariants as called
+use Rattle.cml_grammar.specs.declared.forms.Declares.{Declares}
+use Rattle.cml_grammar.specs.declared.forms.Declares.TheVariants as declares
+use Rattle.cml_grammar.specs.declared.forms.Verb.{Verb}
+use Rattle.cml_grammar.specs.declared.forms.Verb.TheVariants as verb
+use Rattle.cml_grammar.specs.declared.forms.Place.{Place}
+use Rattle.cml_grammar.specs.declared.forms.Place.TheVariants.{Fresh, Mailbox, Number}
+use Rattle.cml_grammar.specs.Names.{Given, seat_of}
+
+-- a declaration's first word
+abbrev pub declares_of : List ℕ → Option Declares
+declares_of word =
+    if bytes_eq word (codes "mailbox") then Some declares.Mailbox
+    else if bytes_eq word (codes "thread") then Some declares.Thread
+    else None
+
+-- what stands after it
+abbrev pub declared_places : Declares → List Place
+declared_places declares.Mailbox = Fresh ∷ []
+declared_places declares.Thread = Fresh ∷ []
+
+-- a step's second word
+abbrev pub verb_of : List ℕ → Option Verb
+verb_of word =
+    if bytes_eq word (codes "send") then Some verb.Send
+    else if bytes_eq word (codes "recv") then Some verb.Recv
+    else if bytes_eq word (codes "poll") then Some verb.Poll
+    else None
+
+-- what stands after it
+abbrev pub step_places : Verb → List Place
+step_places verb.Send = Mailbox ∷ Number ∷ []
+step_places verb.Recv = Mailbox ∷ []
+step_places verb.Poll = Mailbox ∷ []
+
+-- what kind of line it is, with the words that are left
+pub data Form : Type 0 where
+  unknown : Form
+  declaration : Declares → List (List ℕ) → Form
+  no_step : ℕ → Form
+  step : ℕ → Verb → List (List ℕ) → Form
+
+abbrev pub step_form : ℕ → List (List ℕ) → Form
+step_form seat [] = no_step seat
+step_form seat (word ∷ rest) = option_map_or (λ v. step seat v rest) (verb_of word) (no_step seat)
+
+-- the first word is a declaration's, or a thread that was declared
+abbrev pub form_of : List Given → List (List ℕ) → Form
+form_of names [] = unknown
+form_of names (word ∷ rest) =
+    option_map_or (λ d. declaration d rest) (declares_of word)
+    (option_map_or (λ seat. step_form seat rest) (seat_of names word) unknown)
+
+abbrev pub places_of : Form → List Place
+places_of unknown = []
+places_of (declaration d rest) = declared_places d
+places_of (no_step seat) = []
+places_of (step seat v rest) = step_places v
+
+abbrev pub rest_of : Form → List (List ℕ)
+rest_of unknown = []
+rest_of (declaration d rest) = rest
+rest_of (no_step seat) = []
+rest_of (step seat v rest) = rest
+
+-- whether a place is a name's, is for a name that the line gives, or for one that it uses
+abbrev pub is_name_place : Place → Bool
+is_name_place Fresh = true
+is_name_place Mailbox = true
+is_name_place Number = false
+
+abbrev pub is_fresh : Place → Bool
+is_fresh Fresh = true
+is_fresh Mailbox = false
+is_fresh Number = false
+
+abbrev pub is_used : Place → Bool
+is_used place = is_name_place place && not (is_fresh place)
+
+abbrev pub is_number_place : Place → Bool
+is_number_place Fresh = false
+is_number_place Mailbox = false
+is_number_place Number = true
+
+-- whether what is named may stand in a place
+abbrev pub suits : Place → Named → Bool
+suits Fresh n = false
+suits Mailbox called.Mailbox = true
+suits Mailbox (called.Thread seat) = false
+suits Number n = false

@@ -1,0 +1,7 @@
+pub mod Words
+pub mod Names
+pub mod Forms
+pub mod Faults
+pub mod Script
+pub mod Meaning
+pub mod Reading

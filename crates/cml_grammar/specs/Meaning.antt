@@ -1,0 +1,54 @@
+-- What the lines of a script mean: which names it has, what a declaration makes and what a step asks for.
+use Rattle.std.specs.Prelude.{ℕ, List, [], ◌∷◌, ◌++◌, Option, Some, None}
+use Rattle.std.specs.Option.{option_map, option_and_then}
+use Rattle.std.specs.Str.Parse.{digits_value}
+use Rattle.cml_grammar.specs.declared.forms.Declares.{Declares}
+use Rattle.cml_grammar.specs.declared.forms.Declares.TheVariants as declares
+use Rattle.cml_grammar.specs.declared.forms.Verb.{Verb}
+use Rattle.cml_grammar.specs.declared.forms.Verb.TheVariants as verb
+use Rattle.cml_grammar.specs.declared.forms.Makes.{Makes}
+use Rattle.cml_grammar.specs.declared.forms.Makes.TheVariants as makes
+use Rattle.cml_grammar.specs.declared.forms.Action.{Action}
+use Rattle.cml_grammar.specs.declared.forms.Action.TheVariants as action
+use Rattle.cml_grammar.specs.Names.{Given, position_of, seat_of}
+use Rattle.cml_grammar.specs.Forms.{declares_of, verb_of}
+use Rattle.cml_grammar.specs.Faults.{Scope, start, after_words}
+use Rattle.cml_grammar.specs.Script.{SourceLine, Lines}
+
+-- the scope behind lines
+abbrev pub scope_after : Scope → List SourceLine → Scope
+scope_after scope [] = scope
+scope_after scope (line ∷ lines) = scope_after (after_words scope line.words) lines
+
+-- all names of a script, in text order
+abbrev pub names_of : Lines → List Given
+names_of script = (scope_after start (script.declarations ++ script.steps)).names
+
+-- what a declaration of these words makes
+abbrev pub makes_by : Declares → List (List ℕ) → Option Makes
+makes_by declares.Mailbox rest = Some makes.Mailbox
+makes_by declares.Thread rest = Some makes.Thread
+
+abbrev pub makes_of : List (List ℕ) → Option Makes
+makes_of [] = None
+makes_of (word ∷ rest) = option_and_then (λ d. makes_by d rest) (declares_of word)
+
+-- what a step of these words asks for, its names by their positions among the script's
+abbrev pub action_by : List Given → Verb → List (List ℕ) → Option Action
+action_by names verb.Send (mailbox ∷ message ∷ []) =
+    option_map (λ at. action.Send at (digits_value 10 message)) (position_of names mailbox)
+action_by names verb.Recv (object ∷ []) = option_map action.Recv (position_of names object)
+action_by names verb.Poll (object ∷ []) = option_map action.Poll (position_of names object)
+action_by names verb.Send _ = None
+action_by names verb.Recv _ = None
+action_by names verb.Poll _ = None
+
+abbrev pub action_of : List Given → List (List ℕ) → Option Action
+action_of names (thread ∷ word ∷ rest) = option_and_then (λ v. action_by names v rest) (verb_of word)
+action_of names (thread ∷ []) = None
+action_of names [] = None
+
+-- the seat of the thread that a step names first
+abbrev pub seat_of_step : List Given → List (List ℕ) → Option ℕ
+seat_of_step names [] = None
+seat_of_step names (thread ∷ rest) = seat_of names thread

@@ -1,0 +1,56 @@
+-- How a script is kept, and what a reader of its lists may rely on.
+use Rattle.std.specs.Prelude.{ℕ, ◌≡◌, ◌<◌, ◌≤◌, ◌^◌, List, [], ◌∷◌, length, map, Option, Some, String, string_bytes, slice_get, All}
+use Rattle.std.specs.Global.{Global}
+use Rattle.cml_grammar.specs.declared.names.Named.{Named}
+use Rattle.cml_grammar.specs.declared.names.Named.TheVariants as called
+use Rattle.cml_grammar.specs.declared.forms.Action.{Action}
+use Rattle.cml_grammar.specs.declared.forms.Action.TheVariants.{Send, Recv, Poll}
+use Rattle.cml_grammar.specs.declared.script.Line.{Line}
+use Rattle.cml_grammar.specs.declared.script.Declaration.{Declaration}
+use Rattle.cml_grammar.specs.declared.script.Step.{Step}
+use Rattle.cml_grammar.specs.Words.{words_of}
+use Rattle.cml_grammar.specs.Names.{Given, thread_count}
+use Rattle.cml_grammar.specs.Script.{SourceLine, Lines}
+use Rattle.cml_grammar.specs.Meaning.{names_of, makes_of, action_of, seat_of_step}
+
+abbrev pub source_of : Line → SourceLine
+source_of line = record { number = line.number; words = words_of (string_bytes line.text) }
+
+abbrev pub view_of : ℕ → List Declaration → List Step → Lines
+view_of version declarations steps = record {
+  version = version;
+  declarations = map (λ d. source_of d.line) declarations;
+  steps = map (λ s. source_of s.line) steps;
+}
+
+-- the names as a list of texts, with what each names
+abbrev pub texts_of : List (String Global × Named) → List Given
+texts_of entries = map (λ e. (string_bytes e.0, e.1)) entries
+
+-- the name at this position is a mailbox's
+abbrev pub IsMailboxAt : List Given → ℕ → Type 0
+IsMailboxAt names at = (word : List ℕ) × (slice_get names at ≡ Some (word, called.Mailbox))
+
+-- each name that a step uses stands, for something that can take the step
+abbrev pub UsesWell : List Given → Action → Type 0
+UsesWell names (Send at message) = IsMailboxAt names at × (message < 2 ^ 64)
+UsesWell names (Recv at) = IsMailboxAt names at
+UsesWell names (Poll at) = IsMailboxAt names at
+
+-- what a declaration was read as is what its words mean
+pub record ReadsDeclaration (d : Declaration) : Type 0 where
+  pub makes : makes_of (words_of (string_bytes d.line.text)) ≡ Some d.makes
+
+-- what a step was read as is what its words mean among the script's names
+pub record ReadsStep (names : List Given) (s : Step) : Type 0 where
+  pub seat : seat_of_step names (words_of (string_bytes s.line.text)) ≡ Some s.seat
+  pub action : action_of names (words_of (string_bytes s.line.text)) ≡ Some s.action
+  pub uses : UsesWell names s.action
+
+pub record IsReading (script : Lines) (entries : List (String Global × Named)) (declared : List Declaration) (asked : List Step) : Type 0 where
+  pub names : texts_of entries ≡ names_of script
+  pub declarations : All ReadsDeclaration declared
+  pub steps : All (ReadsStep (names_of script)) asked
+  pub threads : thread_count (names_of script) ≤ 64
+  pub few : length declared ≤ 1048576
+  pub short : length asked ≤ 1048576

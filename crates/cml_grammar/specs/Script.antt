@@ -1,0 +1,43 @@
+-- Scripts, and which text is which script.
+use Rattle.std.specs.Prelude.{ℕ, suc, ◌≡◌, ◌<◌, ◌≤◌, ◌&&◌, Bool, List, [], ◌∷◌, length, if◌then◌else◌, None}
+use Rattle.cml_grammar.specs.Words.{parts_of, words_of}
+use Rattle.cml_grammar.specs.Forms.{Form, form_of}
+use Rattle.cml_grammar.specs.Faults.{Scope, start, says, fault_in, is_declaration, is_step, after}
+
+-- a line: its number, from 1, and its words
+pub record SourceLine : Type 0 where
+  pub number : ℕ
+  pub words : List (List ℕ)
+
+-- a script: its version, and its declaration lines and step lines in text order
+pub record Lines : Type 0 where
+  pub version : ℕ
+  pub declarations : List SourceLine
+  pub steps : List SourceLine
+
+-- the lines, with one more in front where the test says so
+abbrev pub with_line : Bool → SourceLine → List SourceLine → List SourceLine
+with_line test line lines = if test then line ∷ lines else lines
+
+abbrev pub source : ℕ → List ℕ → SourceLine
+source k line = record { number = k; words = words_of line }
+
+-- The parts of a text from number k on, in the scope that the earlier lines leave: no line has a fault, and these are
+-- the declarations and the steps among them. Nothing follows the last line end.
+abbrev pub Says : Scope → ℕ → List (List ℕ) → List SourceLine → List SourceLine → Type 0
+Says scope k [] declarations steps = ⊥
+Says scope k (part ∷ []) declarations steps =
+    (1 < k) × (part ≡ []) × (declarations ≡ []) × (steps ≡ [])
+Says scope k (line ∷ next ∷ more) declarations steps =
+    let form = form_of scope.names (words_of line) in
+    (fault_in scope k line ≡ None)
+    × (later_declarations : List SourceLine) × (later_steps : List SourceLine)
+    × (declarations ≡ with_line (says k line && is_declaration form) (source k line) later_declarations)
+    × (steps ≡ with_line (says k line && is_step form) (source k line) later_steps)
+    × Says (after scope k line) (suc k) (next ∷ more) later_declarations later_steps
+
+-- the text is this script
+pub record IsScript (text : List ℕ) (script : Lines) : Type 0 where
+  pub short : length text ≤ 1048576
+  pub version : script.version ≡ 1
+  pub says : Says start 1 (parts_of text) script.declarations script.steps

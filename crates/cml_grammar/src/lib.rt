@@ -1,0 +1,12 @@
+//! Scripts of threads: what a text says, line by line, and what is wrong with it.
+#![tactic(auto)]
+
+mod fault;
+mod forms;
+mod names;
+mod script;
+
+pub use fault::{Fault, What};
+pub use forms::{Action, Declares, Makes, Place, Verb};
+pub use names::Named;
+pub use script::{Declaration, Line, Script, Step};
