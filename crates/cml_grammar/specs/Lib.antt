@@ -5,3 +5,4 @@ pub mod Faults
 pub mod Script
 pub mod Meaning
 pub mod Reading
+pub mod Shown

@@ -1,3 +1,14 @@
+//! The tables of the lines: which words a declaration and a step have, and what may stand where.
+ghost use Rattle.std.specs.Prelude.{◌≡◌, ◌==◌, not, map, length};
+ghost use Rattle.cml_grammar.specs.Names.{seat_of};
+ghost use Rattle.cml_grammar.specs.Forms.{declares_of, declared_places, verb_of, step_places, step_form, form_of, places_of, rest_of, is_name_place, is_fresh, is_used, is_number_place, suits};
+ghost use Rattle.cml_grammar.specs.Faults.{is_unknown, is_no_step, is_declaration, declares_thread};
+ghost use Rattle.cml_grammar.specs.Reading.{texts_of};
+ghost use Rattle.cml_grammar.specs.Shown.{shown};
+
+use crate::names::{Named, seat_of};
+use indexmap::IndexMap;
+
 /// What a declaration line declares.
 #[derive(Clone, Copy, Debug, PartialEq, Eq)]
 pub enum Declares {
@@ -37,4 +48,174 @@ pub enum Action {
     Send(usize, u64),
     Recv(usize),
     Poll(usize),
+}
+
+/// What kind of line it is, with the words that are left.
+#[derive(Clone, Copy)]
+pub(crate) enum Form<'a> {
+    Unknown,
+    Declaration(Declares, &'a [&'a str]),
+    NoStep(u64),
+    Step(u64, Verb, &'a [&'a str]),
+}
+
+impl Declares {
+    fn of_word(word: &str) -> Option<Declares>
+        ensures { result ≡ declares_of word.now }
+    {
+        match word {
+            "mailbox" => Some(Declares::Mailbox),
+            "thread" => Some(Declares::Thread),
+            _ => None,
+        }
+    }
+
+    fn places(self) -> &'static [Place]
+        ensures { result.now ≡ declared_places self }
+    {
+        match self {
+            Declares::Mailbox | Declares::Thread => &[Place::Fresh],
+        }
+    }
+}
+
+impl Verb {
+    fn of_word(word: &str) -> Option<Verb>
+        ensures { result ≡ verb_of word.now }
+    {
+        match word {
+            "send" => Some(Verb::Send),
+            "recv" => Some(Verb::Recv),
+            "poll" => Some(Verb::Poll),
+            _ => None,
+        }
+    }
+
+    fn places(self) -> &'static [Place]
+        ensures { result.now ≡ step_places self }
+    {
+        match self {
+            Verb::Send => &[Place::Mailbox, Place::Number],
+            Verb::Recv | Verb::Poll => &[Place::Mailbox],
+        }
+    }
+}
+
+impl Place {
+    pub(crate) fn is_name_place(self) -> bool
+        ensures { result ≡ is_name_place self }
+    {
+        match self {
+            Place::Fresh | Place::Mailbox => true,
+            Place::Number => false,
+        }
+    }
+
+    pub(crate) fn is_fresh(self) -> bool
+        ensures { result ≡ is_fresh self }
+    {
+        self == Place::Fresh
+    }
+
+    pub(crate) fn is_used(self) -> bool
+        ensures { result ≡ is_used self }
+    {
+        self.is_name_place() && !self.is_fresh()
+    }
+
+    pub(crate) fn is_number_place(self) -> bool
+        ensures { result ≡ is_number_place self }
+    {
+        self == Place::Number
+    }
+
+    /// Whether what is named may stand here.
+    pub(crate) fn suits(self, named: Named) -> bool
+        ensures { result ≡ suits self named }
+    {
+        match (self, named) {
+            (Place::Mailbox, Named::Mailbox) => true,
+            (Place::Mailbox, Named::Thread(_)) => false,
+            (Place::Fresh | Place::Number, _) => false,
+        }
+    }
+}
+
+impl<'a> Form<'a> {
+    pub(crate) fn of_words(names: &IndexMap<String, Named>, words: &'a [&'a str]) -> Form<'a>
+        ensures { shown result ≡ form_of (texts_of names.now.entries) (map (λ w. w.now) words.now) }
+    {
+        let Some((first, rest)) = words.split_first() else {
+            return Form::Unknown;
+        };
+        if let Some(declares) = Declares::of_word(first) {
+            return Form::Declaration(declares, rest);
+        }
+        match seat_of(names, first) {
+            Some(seat) => Form::of_step(seat, rest),
+            None => Form::Unknown,
+        }
+    }
+
+    fn of_step(seat: u64, words: &'a [&'a str]) -> Form<'a>
+        ensures { shown result ≡ step_form seat (map (λ w. w.now) words.now) }
+    {
+        let Some((first, rest)) = words.split_first() else {
+            return Form::NoStep(seat);
+        };
+        match Verb::of_word(first) {
+            Some(verb) => Form::Step(seat, verb, rest),
+            None => Form::NoStep(seat),
+        }
+    }
+
+    pub(crate) fn places(&self) -> &'static [Place]
+        ensures { result.now ≡ places_of (shown self.now) }
+    {
+        match self {
+            Form::Unknown | Form::NoStep(_) => &[],
+            Form::Declaration(declares, _) => declares.places(),
+            Form::Step(_, verb, _) => verb.places(),
+        }
+    }
+
+    pub(crate) fn rest(&self) -> &'a [&'a str]
+        ensures { map (λ w. w.now) result.now ≡ rest_of (shown self.now) }
+    {
+        match self {
+            Form::Unknown | Form::NoStep(_) => &[],
+            Form::Declaration(_, rest) | Form::Step(_, _, rest) => rest,
+        }
+    }
+
+    pub(crate) fn is_unknown(&self) -> bool
+        ensures { result ≡ is_unknown (shown self.now) }
+    {
+        matches!(self, Form::Unknown)
+    }
+
+    pub(crate) fn is_declaration(&self) -> bool
+        ensures { result ≡ is_declaration (shown self.now) }
+    {
+        matches!(self, Form::Declaration(_, _))
+    }
+
+    pub(crate) fn is_no_step(&self) -> bool
+        ensures { result ≡ is_no_step (shown self.now) }
+    {
+        matches!(self, Form::NoStep(_))
+    }
+
+    /// Whether there are too few or too many words.
+    pub(crate) fn has_other_count(&self) -> bool
+        ensures { result ≡ not (length (rest_of (shown self.now)) == length (places_of (shown self.now))) }
+    {
+        self.rest().len() != self.places().len()
+    }
+
+    pub(crate) fn declares_thread(&self) -> bool
+        ensures { result ≡ declares_thread (shown self.now) }
+    {
+        matches!(self, Form::Declaration(Declares::Thread, _))
+    }
 }

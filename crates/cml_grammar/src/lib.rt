@@ -5,6 +5,7 @@ mod fault;
 mod forms;
 mod names;
 mod script;
+mod words;
 
 pub use fault::{Fault, What};
 pub use forms::{Action, Declares, Makes, Place, Verb};

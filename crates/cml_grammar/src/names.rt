@@ -1,7 +1,91 @@
+//! Names and numbers, and look-ups among the names that stand.
+ghost use Rattle.std.specs.Prelude.{◌≡◌, ◌^◌, ◌<◌, Some, None, if◌then◌else◌};
+ghost use Rattle.std.specs.Str.Parse.{digits_value};
+ghost use Rattle.cml_grammar.specs.Names.{is_letter, is_name_byte, is_reserved, is_name, is_number, named, seat_of, position_of, is_given};
+ghost use Rattle.cml_grammar.specs.Reading.{texts_of};
+
+use indexmap::IndexMap;
+
 /// What a name of a script names.
 #[derive(Clone, Copy, Debug, PartialEq, Eq)]
 pub enum Named {
     /// A thread, and its seat: the k-th declared thread, from 1, has seat k.
     Thread(u64),
     Mailbox,
+}
+
+fn is_letter(byte: u8) -> bool
+    ensures { result ≡ is_letter byte }
+{
+    matches!(byte, b'A'..=b'Z' | b'a'..=b'z')
+}
+
+fn is_name_byte(byte: u8) -> bool
+    ensures { result ≡ is_name_byte byte }
+{
+    is_letter(byte) || matches!(byte, b'0'..=b'9') || byte == b'_'
+}
+
+/// Whether a word is none of the names that may be given.
+fn is_reserved(word: &str) -> bool
+    ensures { result ≡ is_reserved word.now }
+{
+    matches!(
+        word,
+        "cml" | "mailbox" | "channel" | "port" | "ivar" | "mvar" | "thread" | "lane" | "feed"
+    )
+}
+
+pub(crate) fn is_name(word: &str) -> bool
+    ensures { result ≡ is_name word.now }
+{
+    let Some((first, rest)) = word.as_bytes().split_first() else {
+        return false;
+    };
+    if !is_letter(*first) || rest.len() > 31 || is_reserved(word) {
+        return false;
+    }
+    rest.iter().all(|byte| is_name_byte(*byte))
+}
+
+/// The number that a word is, if it is one.
+pub(crate) fn number_of(word: &str) -> Option<u64>
+    ensures { result ≡ (if is_number word.now then Some (digits_value 10 word.now) else None) }
+{
+    let first = word.as_bytes().first()?;
+    if *first == b'0' {
+        return (word.len() == 1).then_some(0);
+    }
+    if *first == b'+' {
+        return None;
+    }
+    word.parse().ok()
+}
+
+pub(crate) fn find_named(names: &IndexMap<String, Named>, word: &str) -> Option<Named>
+    ensures { result ≡ named (texts_of names.now.entries) word.now }
+{
+    names.get(word).copied()
+}
+
+pub(crate) fn is_given(names: &IndexMap<String, Named>, word: &str) -> bool
+    ensures { result ≡ is_given (texts_of names.now.entries) word.now }
+{
+    names.contains_key(word)
+}
+
+/// The seat of the thread with this name.
+pub(crate) fn seat_of(names: &IndexMap<String, Named>, word: &str) -> Option<u64>
+    ensures { result ≡ seat_of (texts_of names.now.entries) word.now }
+{
+    match find_named(names, word)? {
+        Named::Thread(seat) => Some(seat),
+        Named::Mailbox => None,
+    }
+}
+
+pub(crate) fn position_of(names: &IndexMap<String, Named>, word: &str) -> Option<usize>
+    ensures { result ≡ position_of (texts_of names.now.entries) word.now }
+{
+    names.get_index_of(word)
 }

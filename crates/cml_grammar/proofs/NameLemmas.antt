@@ -1,0 +1,126 @@
+-- Names and numbers: what the look-ups of a map of texts give, and which words are numbers.
+use Rattle.std.proofs.Common.{◌≡◌, ◌≢◌, ℕ, zero, suc, ◌^◌, ◌<◌, ◌≤◌, ◌+◌, Bool, true, false, not, cond, ◌&&◌, ◌||◌, ◌==◌, nat_eq, nat_lt, eqb, ltb, List, [], ◌∷◌, ◌++◌, length, map, slice_get, position, Option, Some, None, is_some, Result, Ok, Err, refl, sym, ap, ◌∙◌, arith, rules, get_or, eq-eqb, if◌then◌else◌, String, string_bytes, nat_le, true≢false}
+use Rattle.std.specs.Global.{Global}
+use Rattle.std.specs.List.{list_any, list_all}
+use Rattle.std.specs.Option.{option_map, option_and_then}
+use Rattle.std.specs.Result.{result_ok, OkIff}
+use Rattle.std.specs.Str.{bytes_eq, all_ascii_digits}
+use Rattle.std.specs.Str.Parse.{digits_value, ParsesUnsigned}
+use Rattle.std.specs.Map.{lookup, keys_of}
+use Rattle.std.proofs.lemmas.Bool.{lt-ltb, le-leb, ltb-true, ltb-false, and_parts, and_from, eqb-true, true_from_ne_false, false_from_ne_true, ne_eqb}
+use Rattle.std.proofs.lemmas.Str.Parse.{parse_plain, numerals_by_value, tells_all_ascii_digits}
+use Rattle.cml_grammar.specs.declared.names.Named.{Named}
+use Rattle.cml_grammar.specs.Names.{Given, is_letter, is_name_byte, is_reserved, is_name, is_number, is_called, position_of, named, is_given}
+use Rattle.cml_grammar.specs.Reading.{texts_of}
+use Rattle.cml_grammar.proofs.ListLemmas.{position-cons}
+
+-- what stands at a word in a map of texts
+abbrev pub Entries : Type 0
+Entries = List (String Global × Named)
+
+pub position-texts : (es : Entries) (word : List ℕ) → position (λ k. bytes_eq word (string_bytes k)) (keys_of es) ≡ position_of (texts_of es) word
+position-texts [] word = refl
+position-texts (e ∷ es) word =
+    position-cons (λ k. bytes_eq word (string_bytes k)) e.0 (keys_of es)
+    ∙ ap (λ r. cond (bytes_eq word (string_bytes e.0)) (Some 0) (option_map suc r)) (position-texts es word)
+    ∙ sym (position-cons (is_called word) (string_bytes e.0, e.1) (texts_of es))
+
+named-cons : (g : Given) (gs : List Given) (word : List ℕ) → named (g ∷ gs) word ≡ cond (bytes_eq word g.0) (Some g.1) (named gs word)
+named-cons g gs word = ap (option_and_then (λ i. option_map (λ g. g.1) (slice_get (g ∷ gs) i))) (position-cons (is_called word) g gs) ∙ by (bytes_eq word g.0)
+  where
+    at : Option ℕ → Option Named
+    at r = option_and_then (λ i. option_map (λ g. g.1) (slice_get (g ∷ gs) i)) r
+
+    later : (r : Option ℕ) → option_and_then (λ i. option_map (λ g. g.1) (slice_get (g ∷ gs) i)) (option_map suc r) ≡ option_and_then (λ i. option_map (λ g. g.1) (slice_get gs i)) r
+    later None = refl
+    later (Some i) = refl
+
+    by : (b : Bool) → option_and_then (λ i. option_map (λ g. g.1) (slice_get (g ∷ gs) i)) (cond b (Some 0) (option_map suc (position (is_called word) gs))) ≡ cond b (Some g.1) (named gs word)
+    by true = refl
+    by false = later (position (is_called word) gs)
+
+pub lookup-texts : (es : Entries) (word : List ℕ) → lookup (λ k. bytes_eq word (string_bytes k)) es ≡ named (texts_of es) word
+lookup-texts [] word = refl
+lookup-texts (e ∷ es) word =
+    ap (cond (bytes_eq word (string_bytes e.0)) (Some e.1)) (lookup-texts es word)
+    ∙ sym (named-cons (string_bytes e.0, e.1) (texts_of es) word)
+
+-- a word that is given names something
+pub is_some-named : (names : List Given) (word : List ℕ) → is_some (named names word) ≡ is_given names word
+is_some-named [] word = refl
+is_some-named (g ∷ gs) word =
+    ap is_some (named-cons g gs word) ∙ by (bytes_eq word g.0) (is_some-named gs word)
+    ∙ sym (ap is_some (position-cons (is_called word) g gs))
+  where
+    kept : (r : Option ℕ) → is_some r ≡ is_some (option_map suc r)
+    kept None = refl
+    kept (Some i) = refl
+
+    by : (b : Bool) → is_some (named gs word) ≡ is_given gs word → is_some (cond b (Some g.1) (named gs word)) ≡ is_some (cond b (Some 0) (option_map suc (position (is_called word) gs)))
+    by true h = refl
+    by false h = h ∙ kept (position (is_called word) gs)
+
+pub is_some-lookup : (es : Entries) (word : List ℕ) → is_some (lookup (λ k. bytes_eq word (string_bytes k)) es) ≡ is_given (texts_of es) word
+is_some-lookup es word = ap is_some (lookup-texts es word) ∙ is_some-named (texts_of es) word
+
+-- a name is tested from its first byte on
+pub is_name_rest : (word : List ℕ) (b : ℕ) (bs : List ℕ) → word ≡ b ∷ bs → is_letter b ≡ true → length bs ≤ 31 → is_reserved word ≡ false → is_name word ≡ list_all is_name_byte bs
+is_name_rest word b bs e letter short free =
+    ap is_name e
+    ∙ (λ j. letter j && list_all is_name_byte bs && le-leb (length bs) 31 short j && not ((sym (ap is_reserved e) ∙ free) j))
+    ∙ all_true (list_all is_name_byte bs)
+  where
+    all_true : (t : Bool) → (true && t && true && true) ≡ t
+    all_true true = refl
+    all_true false = refl
+
+-- the number of a word, if it is one
+abbrev pub number_in : List ℕ → Option ℕ
+number_in word = if is_number word then Some (digits_value 10 word) else None
+
+pub number_none : (word : List ℕ) → length word ≡ 0 → None ≡ number_in word
+number_none [] h = refl
+number_none (b ∷ bs) h = absurd (omega arith)
+
+-- a number that begins with 0 is 0
+pub number_zero : (word : List ℕ) → get_or word 0 0 ≡ 48 → (if length word == 1 then Some 0 else None) ≡ number_in word
+number_zero [] h = absurd (omega arith)
+number_zero (b ∷ []) h = sym (ap (λ d. number_in (d ∷ [])) h)
+number_zero (b ∷ d ∷ ds) h =
+    ap (λ t. if t then Some 0 else None) (ne_eqb (length (b ∷ d ∷ ds)) 1 (λ e. omega arith))
+    ∙ sym (ap (λ x. number_in (x ∷ d ∷ ds)) h
+        ∙ ap (λ t. if all_ascii_digits (d ∷ ds) && t && nat_lt (digits_value 10 (48 ∷ d ∷ ds)) (2 ^ 64) then Some (digits_value 10 (48 ∷ d ∷ ds)) else None) (ne_eqb (length (d ∷ ds)) 0 (λ e. omega arith))
+        ∙ by (all_ascii_digits (d ∷ ds)))
+  where
+    by : (t : Bool) → (if t && false && nat_lt (digits_value 10 (48 ∷ d ∷ ds)) (2 ^ 64) then Some (digits_value 10 (48 ∷ d ∷ ds)) else None) ≡ None
+    by true = refl
+    by false = refl
+
+pub number_plus : (word : List ℕ) → get_or word 0 0 ≡ 43 → None ≡ number_in word
+number_plus [] h = refl
+number_plus (b ∷ bs) h = sym (ap (λ d. number_in (d ∷ bs)) h)
+
+-- what `parse` says of a word that begins with neither
+pub number_from_parse : {E : Type 0} (word : List ℕ) (r : Result ℕ E) → ParsesUnsigned 64 10 word r → 0 < length word → get_or word 0 0 ≢ 48 → get_or word 0 0 ≢ 43 → result_ok r ≡ number_in word
+number_from_parse [] r parses some zeroth plus = absurd (omega arith)
+number_from_parse {E} (b ∷ bs) r parses some zeroth plus =
+    by r (parse_plain (numerals_by_value _ tells_all_ascii_digits) 64 (b ∷ bs) r parses plus)
+  where
+    word : List ℕ
+    word = b ∷ bs
+
+    begins : (not (b == 48) || length bs == 0) ≡ true
+    begins = ap (λ t. not t || length bs == 0) (ne_eqb b 48 zeroth)
+
+    dropped : (t : Bool) → (t && true && nat_lt (digits_value 10 word) (2 ^ 64)) ≡ (t && nat_lt (digits_value 10 word) (2 ^ 64))
+    dropped true = refl
+    dropped false = refl
+
+    is_it : is_number word ≡ (all_ascii_digits word && nat_lt (digits_value 10 word) (2 ^ 64))
+    is_it = ap (λ t. all_ascii_digits word && t && nat_lt (digits_value 10 word) (2 ^ 64)) begins ∙ dropped (all_ascii_digits word)
+
+    by : (q : Result ℕ E) → OkIff q ((all_ascii_digits word ≡ true) × (0 < length word) × (digits_value 10 word < 2 ^ 64)) (digits_value 10 word) → result_ok q ≡ number_in word
+    by (Ok x) h =
+        ap Some h.1 ∙ sym (ap (λ t. if t then Some (digits_value 10 word) else None) (is_it ∙ and_from _ _ h.0.0 (lt-ltb _ _ h.0.2)))
+    by (Err e) h = sym (ap (λ t. if t then Some (digits_value 10 word) else None) (is_it ∙ false_from_ne_true _ (λ t.
+        let parts = and_parts _ _ t in h (parts.0, some, ltb-true _ _ parts.1))))
