@@ -1,5 +1,5 @@
 -- What is wrong with a line, and with a text: the first test of the table that holds, on the least line.
-use Rattle.std.specs.Prelude.{ℕ, suc, ◌==◌, ◌+◌, Bool, true, false, not, ◌&&◌, ◌||◌, nat_lt, nat_le, List, [], ◌∷◌, ◌++◌, length, Option, Some, None, if◌then◌else◌, codes}
+use Rattle.std.specs.Prelude.{ℕ, suc, ◌≡◌, ◌⊎◌, ◌==◌, ◌+◌, Bool, true, false, not, ◌&&◌, ◌||◌, nat_lt, nat_le, List, [], ◌∷◌, ◌++◌, length, Option, Some, None, if◌then◌else◌, codes}
 use Rattle.std.specs.Option.{option_map_or}
 use Rattle.std.specs.List.{list_any, zip}
 use Rattle.std.specs.Str.{bytes_eq}
@@ -10,7 +10,7 @@ use Rattle.cml_grammar.specs.declared.forms.Declares.TheVariants as declares
 use Rattle.cml_grammar.specs.declared.forms.Verb.{Verb}
 use Rattle.cml_grammar.specs.declared.forms.Place.{Place}
 use Rattle.cml_grammar.specs.declared.fault.What.{What}
-use Rattle.cml_grammar.specs.declared.fault.What.TheVariants.{NoLineEnd, BadBytes, BadHeader, BadWords, UnknownLine, LateDeclaration, UnknownStep, WordCount, BadName, NameTaken, UnknownName, WrongKind, BadNumber, TooManyThreads, TooLong}
+use Rattle.cml_grammar.specs.declared.fault.What.TheVariants.{NoLineEnd, BadBytes, BadHeader, BadWords, UnknownLine, LateDeclaration, UnknownStep, WordCount, BadName, NameTaken, UnknownName, WrongKind, BadNumber, TooManyThreads, TooLong, Memory}
 use Rattle.cml_grammar.specs.declared.fault.Fault.{Fault}
 use Rattle.cml_grammar.specs.Words.{parts_of, words_of, is_bad_byte, is_skipped, has_empty_word}
 use Rattle.cml_grammar.specs.Names.{Given, is_name, is_number, is_given, named, thread_count}
@@ -158,3 +158,11 @@ fault_from scope k (line ∷ next ∷ more) =
 -- the fault of a text: too long before all, then the least line's
 abbrev pub fault_of : List ℕ → Option Fault
 fault_of text = if nat_lt 1048576 (length text) then Some (at_line 0 TooLong) else fault_from start 1 (parts_of text)
+
+-- what went wrong with a line is what was found there, unless memory ran out
+abbrev pub IsWhat : What → Option What → Type 0
+IsWhat what found = (what ≡ Memory) ⊎ (found ≡ Some what)
+
+-- the fault of a text, unless memory ran out
+abbrev pub IsFaultOf : List ℕ → Fault → Type 0
+IsFaultOf text fault = (fault ≡ at_line 0 Memory) ⊎ (fault_of text ≡ Some fault)

@@ -6,3 +6,5 @@ pub mod Script
 pub mod Meaning
 pub mod Reading
 pub mod Shown
+pub mod Flaws
+pub mod Suiting

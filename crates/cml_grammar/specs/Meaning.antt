@@ -20,9 +20,13 @@ abbrev pub scope_after : Scope → List SourceLine → Scope
 scope_after scope [] = scope
 scope_after scope (line ∷ lines) = scope_after (after_words scope line.words) lines
 
+-- the scope behind all lines of a script
+abbrev pub scope_of : Lines → Scope
+scope_of script = scope_after start (script.declarations ++ script.steps)
+
 -- all names of a script, in text order
 abbrev pub names_of : Lines → List Given
-names_of script = (scope_after start (script.declarations ++ script.steps)).names
+names_of script = (scope_of script).names
 
 -- what a declaration of these words makes
 abbrev pub makes_by : Declares → List (List ℕ) → Option Makes

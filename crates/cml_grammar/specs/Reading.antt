@@ -1,17 +1,21 @@
 -- How a script is kept, and what a reader of its lists may rely on.
-use Rattle.std.specs.Prelude.{ℕ, ◌≡◌, ◌<◌, ◌≤◌, ◌^◌, List, [], ◌∷◌, length, map, Option, Some, String, string_bytes, slice_get, All}
+use Rattle.std.specs.Prelude.{ℕ, ◌≡◌, ◌<◌, ◌≤◌, ◌==◌, ◌^◌, Bool, not, if◌then◌else◌, List, [], ◌∷◌, ◌++◌, length, map, Option, Some, String, string_bytes, slice_get, All, ⊤}
 use Rattle.std.specs.Global.{Global}
 use Rattle.cml_grammar.specs.declared.names.Named.{Named}
 use Rattle.cml_grammar.specs.declared.names.Named.TheVariants as called
 use Rattle.cml_grammar.specs.declared.forms.Action.{Action}
 use Rattle.cml_grammar.specs.declared.forms.Action.TheVariants.{Send, Recv, Poll}
+use Rattle.cml_grammar.specs.declared.forms.Makes.{Makes}
+use Rattle.cml_grammar.specs.declared.forms.Makes.TheVariants as makes
 use Rattle.cml_grammar.specs.declared.script.Line.{Line}
 use Rattle.cml_grammar.specs.declared.script.Declaration.{Declaration}
 use Rattle.cml_grammar.specs.declared.script.Step.{Step}
 use Rattle.cml_grammar.specs.Words.{words_of}
 use Rattle.cml_grammar.specs.Names.{Given, thread_count}
-use Rattle.cml_grammar.specs.Script.{SourceLine, Lines}
-use Rattle.cml_grammar.specs.Meaning.{names_of, makes_of, action_of, seat_of_step}
+use Rattle.cml_grammar.specs.Forms.{form_of}
+use Rattle.cml_grammar.specs.Faults.{is_declaration, is_step, says}
+use Rattle.cml_grammar.specs.Script.{SourceLine, Lines, source, with_line}
+use Rattle.cml_grammar.specs.Meaning.{scope_of, names_of, makes_of, action_of, seat_of_step}
 
 abbrev pub source_of : Line → SourceLine
 source_of line = record { number = line.number; words = words_of (string_bytes line.text) }
@@ -37,6 +41,24 @@ UsesWell names (Send at message) = IsMailboxAt names at × (message < 2 ^ 64)
 UsesWell names (Recv at) = IsMailboxAt names at
 UsesWell names (Poll at) = IsMailboxAt names at
 
+-- a thread's seat is one of the first n
+abbrev pub IsSeatedWithin : ℕ → Named → Type 0
+IsSeatedWithin n (called.Thread seat) = (1 ≤ seat) × (seat ≤ n)
+IsSeatedWithin n called.Mailbox = ⊤
+
+-- the word is the name at this position, and names what the declaration makes
+abbrev pub GivesAt : List Given → ℕ → List ℕ → Makes → Type 0
+GivesAt names at word makes.Thread = (seat : ℕ) × (slice_get names at ≡ Some (word, called.Thread seat))
+GivesAt names at word makes.Mailbox = slice_get names at ≡ Some (word, called.Mailbox)
+
+-- the i-th declaration gives the i-th name, its second word
+abbrev pub Gives : List Given → ℕ → Declaration → Type 0
+Gives names i d = (word : List ℕ) × (slice_get (words_of (string_bytes d.line.text)) 1 ≡ Some word) × GivesAt names i word d.makes
+
+pub record GivesNames (names : List Given) (declared : List Declaration) : Type 0 where
+  pub one_each : length names ≡ length declared
+  pub each : (i : ℕ) (d : Declaration) → slice_get declared i ≡ Some d → Gives names i d
+
 -- what a declaration was read as is what its words mean
 pub record ReadsDeclaration (d : Declaration) : Type 0 where
   pub makes : makes_of (words_of (string_bytes d.line.text)) ≡ Some d.makes
@@ -44,13 +66,40 @@ pub record ReadsDeclaration (d : Declaration) : Type 0 where
 -- what a step was read as is what its words mean among the script's names
 pub record ReadsStep (names : List Given) (s : Step) : Type 0 where
   pub seat : seat_of_step names (words_of (string_bytes s.line.text)) ≡ Some s.seat
+  pub seated : (1 ≤ s.seat) × (s.seat ≤ thread_count names)
   pub action : action_of names (words_of (string_bytes s.line.text)) ≡ Some s.action
   pub uses : UsesWell names s.action
 
 pub record IsReading (script : Lines) (entries : List (String Global × Named)) (declared : List Declaration) (asked : List Step) : Type 0 where
   pub names : texts_of entries ≡ names_of script
+  pub gives : GivesNames (names_of script) declared
   pub declarations : All ReadsDeclaration declared
   pub steps : All (ReadsStep (names_of script)) asked
   pub threads : thread_count (names_of script) ≤ 64
   pub few : length declared ≤ 1048576
   pub short : length asked ≤ 1048576
+
+-- the same of the lines so far, with the number of threads beside them, and what the next line needs to know
+pub record IsReadSoFar (script : Lines) (entries : List (String Global × Named)) (declared : List Declaration) (asked : List Step) (threads : ℕ) : Type 0 where
+  pub names : texts_of entries ≡ names_of script
+  pub gives : GivesNames (names_of script) declared
+  pub declarations : All ReadsDeclaration declared
+  pub steps : All (ReadsStep (names_of script)) asked
+  pub count : threads ≡ thread_count (names_of script)
+  pub limit : threads ≤ 64
+  pub seats : All (λ g. IsSeatedWithin (thread_count (names_of script)) g.1) (names_of script)
+  pub started : (scope_of script).started ≡ not (length asked == 0)
+
+-- a script so far, and behind it a line of words
+abbrev pub with_words : Lines → ℕ → List ℕ → Lines
+with_words script k line =
+    let form = form_of (names_of script) (words_of line) in
+    record {
+      version = script.version;
+      declarations = script.declarations ++ with_line (is_declaration form) (source k line) [];
+      steps = script.steps ++ with_line (is_step form) (source k line) [];
+    }
+
+-- a script so far, and behind it any line
+abbrev pub with_next : Lines → ℕ → List ℕ → Lines
+with_next script k line = if says k line then with_words script k line else script

@@ -1,8 +1,10 @@
 //! Scripts of threads: what a text says, line by line, and what is wrong with it.
 #![tactic(auto)]
 
+mod checks;
 mod fault;
 mod forms;
+mod meaning;
 mod names;
 mod script;
 mod words;

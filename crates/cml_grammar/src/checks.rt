@@ -1,0 +1,109 @@
+//! The table of faults: its tests of a line's form, and of each word in its place.
+ghost use Rattle.std.specs.Prelude.{◌≡◌, ◌&&◌, nat_le, false};
+ghost use Rattle.std.specs.Option.{option_map_or};
+ghost use Rattle.cml_grammar.specs.Names.{thread_count, named};
+ghost use Rattle.cml_grammar.specs.Forms.{suits};
+ghost use Rattle.cml_grammar.specs.Faults.{is_late, declares_thread, first_of, any_word, tests_of_form};
+ghost use Rattle.cml_grammar.specs.Flaws.{has_flaw};
+ghost use Rattle.cml_grammar.specs.Reading.{texts_of};
+ghost use Rattle.cml_grammar.specs.Shown.{shown};
+
+use crate::fault::What;
+use crate::forms::{Form, Place};
+use crate::names::{Named, find_named, is_given, is_name, number_of};
+use indexmap::IndexMap;
+
+/// The most threads that a script may declare.
+pub(crate) const MAX_THREADS: u64 = 64;
+
+/// What may be wrong with a word in its place.
+#[derive(Clone, Copy)]
+enum Flaw {
+    BadName,
+    Taken,
+    UnknownName,
+    WrongKind,
+    BadNumber,
+}
+
+fn has_flaw(names: &IndexMap<String, Named>, flaw: Flaw, place: Place, word: &str) -> bool
+    ensures { result ≡ has_flaw (texts_of names.now.entries) flaw place word.now }
+{
+    match flaw {
+        Flaw::BadName => place.is_name_place() && !is_name(word),
+        Flaw::Taken => place.is_fresh() && is_given(names, word),
+        Flaw::UnknownName => place.is_used() && !is_given(names, word),
+        Flaw::WrongKind => place.is_used() && !names_suiting(names, place, word),
+        Flaw::BadNumber => place.is_number_place() && number_of(word).is_none(),
+    }
+}
+
+/// Whether the word names what may stand in the place.
+fn names_suiting(names: &IndexMap<String, Named>, place: Place, word: &str) -> bool
+    ensures { result ≡ option_map_or (suits place) (named (texts_of names.now.entries) word.now) false }
+{
+    match find_named(names, word) {
+        Some(named) => place.suits(named),
+        None => false,
+    }
+}
+
+/// Whether some word in its place has the flaw.
+fn any_word(names: &IndexMap<String, Named>, form: &Form, flaw: Flaw) -> bool
+    ensures { result ≡ any_word (has_flaw (texts_of names.now.entries) flaw) (shown form.now) }
+{
+    let places = form.places();
+    places
+        .iter()
+        .zip(form.rest())
+        .any(|(place, word)| has_flaw(names, flaw, *place, word))
+}
+
+fn is_late(started: bool, form: &Form) -> bool
+    ensures { result ≡ is_late started (shown form.now) }
+{
+    started && form.is_declaration()
+}
+
+fn is_thread_too_many(threads: u64, form: &Form) -> bool
+    ensures { result ≡ (declares_thread (shown form.now) && nat_le 64 threads) }
+{
+    form.declares_thread() && threads >= MAX_THREADS
+}
+
+/// The first test that holds.
+fn first_of(tests: &[(bool, What)]) -> Option<What>
+    ensures { result ≡ first_of tests.now }
+{
+    for (holds, what) in tests {
+        if *holds {
+            return Some(*what);
+        }
+    }
+    None
+}
+
+/// What is wrong with a line of this form, where these names stand, so many of them threads', and a step was seen or not.
+pub(crate) fn fault_in_form(
+    names: &IndexMap<String, Named>,
+    threads: u64,
+    started: bool,
+    form: &Form,
+) -> Option<What>
+    requires { threads ≡ thread_count (texts_of names.now.entries) }
+    ensures { result ≡ first_of (tests_of_form (record { names = texts_of names.now.entries; started = started }) (shown form.now)) }
+{
+    let tests = [
+        (form.is_unknown(), What::UnknownLine),
+        (is_late(started, form), What::LateDeclaration),
+        (form.is_no_step(), What::UnknownStep),
+        (form.has_other_count(), What::WordCount),
+        (any_word(names, form, Flaw::BadName), What::BadName),
+        (any_word(names, form, Flaw::Taken), What::NameTaken),
+        (any_word(names, form, Flaw::UnknownName), What::UnknownName),
+        (any_word(names, form, Flaw::WrongKind), What::WrongKind),
+        (any_word(names, form, Flaw::BadNumber), What::BadNumber),
+        (is_thread_too_many(threads, form), What::TooManyThreads),
+    ];
+    first_of(&tests)
+}
