@@ -1,0 +1,4 @@
+pub mod LeastLemmas
+pub mod LogLemmas
+pub mod HoldsLemmas
+mod PlainLogLemmas

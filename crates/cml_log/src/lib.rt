@@ -1,0 +1,15 @@
+//! A list of messages that cursors read, each from its own place, and that is given back chunk by chunk.
+#![tactic(auto)]
+
+mod back;
+mod key;
+mod message_log;
+mod places;
+mod plain_log;
+#[cfg(test)]
+mod tests;
+
+pub use back::Back;
+pub use key::Key;
+pub use message_log::MessageLog;
+pub use plain_log::PlainLog;

@@ -1,0 +1,96 @@
+ghost use Rattle.std.specs.Prelude.{◌≡◌, ℕ, ◌+◌, ◌-◌, ◌%◌, ◌<◌, ◌≤◌, ◌↔◌, Some, None, length, IsTrue, OnOk, OnErr, IfOk, IfErr, option_copied, slice_get};
+ghost use Rattle.cml_log.specs.Log.{Log, empty_log, next_of, IsOpen, place_of, owed_items, cursor_count, chunk_count, chunk_start, trimmed, with_item, with_place, Opens};
+
+use crate::{Back, Key};
+use std::alloc::{AllocError, Global};
+
+/// A list of messages, to which one end adds and which each open cursor reads from its own place on.
+///
+/// Items lie in chunks of `CHUNK` places. What lies before the chunk of the least place of an open cursor is dropped,
+/// and without a cursor what lies before the chunk of the next place.
+/// Memory is taken only by `new`, by a push that fills its chunk, and where one more cursor is opened.
+pub trait MessageLog<T>: Drop {
+    /// How many places a chunk has.
+    const CHUNK: u64;
+
+    ghost CHUNK: { ℕ };
+
+    ghost log: { Self → Log T };
+
+    /// An empty log.
+    fn new(alloc: Global) -> Result<Self, AllocError>
+        requires holds_one { 0 < CHUNK }
+        requires small { CHUNK ≤ 1024 }
+        ensures { IfOk result (λ made. log made ≡ empty_log) };
+
+    /// Adds an item at the next place, or hands it back.
+    fn push(&mut self, item: T) -> Result<(), Back<T>>
+        requires { next_of (log self.old) < 18446744073709551614 }
+        ensures ok { OnOk result (log self.new ≡ trimmed CHUNK (with_item (log self.old) item)) }
+        ensures err { OnErr result (log self.new ≡ log self.old) }
+        ensures back { IfErr result (λ refused. refused.0 ≡ item) }
+
+        // Only a push that fills its chunk needs memory.
+        ensures refused { OnErr result (next_of (log self.old) % CHUNK ≡ CHUNK - 1) };
+
+    /// Opens a cursor at the next place, so that it reads what is pushed from now on.
+    fn open_cursor(&mut self) -> Result<Key, AllocError>
+        ensures ok { IfOk result
+            (λ key. Opens (log self.old) (log self.new) key (next_of (log self.old))) }
+        ensures err { OnErr result (log self.new ≡ log self.old) };
+
+    /// Opens a cursor where another stands.
+    fn copy_cursor(&mut self, k: Key) -> Result<Key, AllocError>
+        requires { IsOpen (log self.old) k }
+        ensures ok { IfOk result
+            (λ key. Opens (log self.old) (log self.new) key (place_of (log self.old) k)) }
+        ensures err { OnErr result (log self.new ≡ log self.old) };
+
+    /// Closes a cursor.
+    fn close_cursor(&mut self, k: Key)
+        requires { IsOpen (log self.old) k }
+        ensures { log self.new ≡ trimmed CHUNK (with_place (log self.old) k None) };
+
+    /// The item at a cursor's place, if one was pushed there.
+    fn peek(&self, k: Key) -> Option<&T>
+        requires { IsOpen (log self.now) k }
+        ensures { option_copied result ≡ slice_get (owed_items (log self.now) k) 0 };
+
+    /// Moves a cursor past the item at its place.
+    fn advance(&mut self, k: Key)
+        requires opened { IsOpen (log self.old) k }
+        requires owed { 0 < length (owed_items (log self.old) k) }
+        ensures { log self.new
+            ≡ trimmed CHUNK (with_place (log self.old) k (Some (place_of (log self.old) k + 1))) };
+
+    /// The place of the first kept item, at which the chunk of the least place begins.
+    fn first(&self) -> u64
+        ensures value { result ≡ (log self.now).first }
+        ensures starts_chunk { result ≡ chunk_start CHUNK (log self.now) };
+
+    /// The place that the next item gets, which is how many were pushed.
+    fn next(&self) -> u64
+        ensures { result ≡ next_of (log self.now) };
+
+    /// Where a cursor stands.
+    fn place(&self, k: Key) -> u64
+        requires { IsOpen (log self.now) k }
+        ensures { result ≡ place_of (log self.now) k };
+
+    /// How many items a cursor has still to read.
+    fn owed(&self, k: Key) -> u64
+        requires { IsOpen (log self.now) k }
+        ensures { result ≡ length (owed_items (log self.now) k) };
+
+    /// How many cursors are open.
+    fn cursors(&self) -> usize
+        ensures { result ≡ cursor_count (log self.now) };
+
+    /// How many chunks are kept: those from the first kept place's to the next place's.
+    fn chunks(&self) -> u64
+        ensures { result ≡ chunk_count CHUNK (log self.now) };
+
+    /// Whether a key's cursor is open.
+    fn is_open(&self, k: Key) -> bool
+        ensures { IsTrue result ↔ IsOpen (log self.now) k };
+}
