@@ -1,13 +1,21 @@
-// A library with one function.
+//! Mailboxes on one board, and the journal of every call that it accepted.
 #![tactic(auto)]
 
-ghost use Rattle.std.specs.Prelude.{◌≡◌};
-ghost use Rattle.cml_board.specs.Echo.{echo_of};
+mod answer;
+mod board;
+mod call;
+mod entry;
+mod laws;
+mod mailbox;
+mod message;
+mod outcome;
+#[cfg(test)]
+mod tests;
 
-// The `ensures` clause is the contract: what `echo` returns is `echo_of` of its argument, a definition
-// in `specs/Echo.antt`, which a caller's clause can cite too.
-pub fn echo(x: usize) -> usize
-    ensures { result ≡ echo_of x }
-{
-    x
-}
+pub use answer::Answer;
+pub use board::Board;
+pub use call::{Call, Kind, Name};
+pub use entry::{Entry, Reply, Who};
+pub use laws::lawful_at_every_position;
+pub use message::Message;
+pub use outcome::{Outcome, Refusal};

@@ -1,0 +1,4 @@
+pub mod ListLemmas
+pub mod Received
+pub mod Showing
+pub mod Everywhere

@@ -1,0 +1,33 @@
+-- The element at a place, after a write and after a push.
+use Rattle.std.proofs.Common.{◌≡◌, ◌≢◌, ℕ, zero, suc, ◌<◌, ◌⊎◌, inl, inr, List, [], ◌∷◌, ◌++◌, length, slice_get, slice_set, Some, None, refl, ap, ◌∙◌}
+use Rattle.std.proofs.lemmas.Option.{same_Some, none-some}
+
+module _ {X : Type 0} where
+  pub slice_get-set_same : (xs : List X) (i : ℕ) (x y : X) → slice_get xs i ≡ Some x → slice_get (slice_set xs i y) i ≡ Some y
+  slice_get-set_same [] i x y found = absurd (none-some x found)
+  slice_get-set_same (z ∷ xs) zero x y found = refl
+  slice_get-set_same (z ∷ xs) (suc i) x y found = slice_get-set_same xs i x y found
+
+  pub slice_get-set_other : (xs : List X) (i j : ℕ) (y : X) → j ≢ i → slice_get (slice_set xs i y) j ≡ slice_get xs j
+  slice_get-set_other [] i j y other = refl
+  slice_get-set_other (x ∷ xs) zero zero y other = absurd (other refl)
+  slice_get-set_other (x ∷ xs) zero (suc j) y other = refl
+  slice_get-set_other (x ∷ xs) (suc i) zero y other = refl
+  slice_get-set_other (x ∷ xs) (suc i) (suc j) y other = slice_get-set_other xs i j y (λ e. other (ap suc e))
+
+  -- what stands at a place after a push stood there before it, or was pushed
+  pub pushed_cases : (xs : List X) (y z : X) (k : ℕ) → slice_get (xs ++ y ∷ []) k ≡ Some z → (slice_get xs k ≡ Some z) ⊎ ((k ≡ length xs) × (y ≡ z))
+  pushed_cases [] y z zero found = inr (refl, same_Some y z found)
+  pushed_cases [] y z (suc k) found = absurd (none-some z found)
+  pushed_cases (x ∷ xs) y z zero found = inl found
+  pushed_cases (x ∷ xs) y z (suc k) found =
+      elim (pushed_cases xs y z k found) [ inl h ↦ inl h | inr h ↦ inr (ap suc h.0, h.1) ]
+
+  pub slice_get-append_some : (xs ys : List X) (k : ℕ) (x : X) → slice_get xs k ≡ Some x → slice_get (xs ++ ys) k ≡ Some x
+  slice_get-append_some [] ys k x found = absurd (none-some x found)
+  slice_get-append_some (z ∷ xs) ys zero x found = found
+  slice_get-append_some (z ∷ xs) ys (suc k) x found = slice_get-append_some xs ys k x found
+
+  pub slice_get_pushed : (xs : List X) (y : X) → slice_get (xs ++ y ∷ []) (length xs) ≡ Some y
+  slice_get_pushed [] y = refl
+  slice_get_pushed (x ∷ xs) y = slice_get_pushed xs y

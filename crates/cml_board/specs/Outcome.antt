@@ -1,0 +1,37 @@
+-- What a board is to those who call it, and what becomes of a call.
+use Rattle.std.specs.Prelude.{ℕ, ◌≡◌, ◌≢◌, ◌<◌, List, [], ◌∷◌, length, Option, Some, None}
+use Rattle.cml_board.specs.declared.call.Call.{Call}
+use Rattle.cml_board.specs.declared.entry.Who.{Who}
+use Rattle.cml_board.specs.declared.entry.Reply.{Reply}
+use Rattle.cml_board.specs.declared.entry.Entry.{Entry}
+use Rattle.cml_board.specs.declared.outcome.Refusal.{Refusal}
+use Rattle.cml_board.specs.declared.outcome.Refusal.TheVariants.{NoSuch, WrongKind, JournalFull, NoMemory}
+use Rattle.cml_board.specs.declared.outcome.Outcome.{Outcome}
+use Rattle.cml_board.specs.declared.outcome.Outcome.TheVariants.{Answered, WouldWait, Refused}
+use Rattle.cml_board.specs.Shown.{Shown}
+use Rattle.cml_board.specs.History.{IsMade, IsTaken, Fits, answer}
+
+module _ {M : Type 0} where
+  abbrev pub HasRoom : Shown M → Type 0
+  HasRoom board = length board.history < board.limit
+
+  -- when each refusal comes: they are tested in this order, and want of memory stands behind all of them
+  abbrev pub Refuses : Shown M → Call M → Refusal → Type 0
+  Refuses board call NoSuch = ¬ (IsMade board.history call)
+  Refuses board call WrongKind = IsMade board.history call × ¬ (IsTaken board.history call)
+  Refuses board call JournalFull = Fits board.history call × (length board.history ≡ board.limit)
+  Refuses board call NoMemory = Fits board.history call × HasRoom board × (answer board.history call ≢ None)
+
+  -- the board has one entry more, and the same limit
+  pub record AddsEntry (old new : Shown M) (who : Who) (call : Call M) (reply : Reply M) : Type 0 where
+    pub history : new.history ≡ record { who = who; call = call; reply = reply } ∷ old.history
+    pub limit : new.limit ≡ old.limit
+
+  -- what becomes of a call: an answered one adds just its entry, and every other changes nothing and is handed back
+  abbrev pub Applies : Shown M → Shown M → Who → Call M → Outcome M → Type 0
+  Applies old new who call (Refused refusal back) = Refuses old call refusal × (back ≡ call) × (new ≡ old)
+  Applies old new who call (WouldWait back) =
+      Fits old.history call × HasRoom old × (answer old.history call ≡ None) × (back ≡ call) × (new ≡ old)
+  Applies old new who call (Answered a) =
+      Fits old.history call × HasRoom old × (answer old.history call ≡ Some a.reply)
+      × (a.call ≡ call) × (a.at ≡ length old.history) × AddsEntry old new who call a.reply

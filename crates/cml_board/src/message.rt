@@ -1,0 +1,24 @@
+ghost use Rattle.std.specs.Prelude.{◌≡◌, ◌↔◌, IsTrue, IfOk};
+
+use std::alloc::{AllocError, Global};
+
+/// What mailboxes carry. A journal keeps a copy of each message beside the one that is delivered.
+pub trait Message: Drop + Sized {
+    /// A second message equal to this one. Only want of memory refuses it.
+    fn share(&self, alloc: Global) -> Result<Self, AllocError>
+        ensures { IfOk result (λ copy. copy ≡ self.now) };
+
+    /// Whether two messages are equal.
+    fn same(&self, other: &Self) -> bool
+        ensures { IsTrue result ↔ (self.now ≡ other.now) };
+}
+
+impl Message for u64 {
+    fn share(&self, _alloc: Global) -> Result<u64, AllocError> {
+        Ok(*self)
+    }
+
+    fn same(&self, other: &u64) -> bool {
+        *self == *other
+    }
+}
