@@ -1,3 +1,6 @@
+pub mod KeepingLemmas
 pub mod ListLemmas
 pub mod MeaningLemmas
 pub mod NameLemmas
+pub mod ReadingLemmas
+pub mod TableLemmas

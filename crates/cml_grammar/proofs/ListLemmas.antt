@@ -1,8 +1,8 @@
 -- What `list_any`, `position` and `slice_get` give on a mapped list, one item at a time, and on a longer list.
-use Rattle.std.proofs.Common.{◌≡◌, ℕ, zero, suc, ◌+◌, ◌<◌, Bool, true, false, not, cond, ◌||◌, nat_lt, List, [], ◌∷◌, ◌++◌, length, map, slice_get, position, Option, Some, None, is_some, refl, sym, ap, ◌∙◌, arith, one-add}
+use Rattle.std.proofs.Common.{◌≡◌, ℕ, zero, suc, ◌+◌, ◌<◌, Bool, true, false, not, cond, ◌||◌, nat_lt, List, [], ◌∷◌, ◌++◌, length, map, slice_get, position, Option, Some, None, is_some, refl, sym, ap, ◌∙◌, arith, one-add, ◌⊎◌, inl, inr}
 use Rattle.std.specs.List.{list_any, position_or_len, zip}
 use Rattle.std.specs.Option.{option_map}
-use Rattle.std.proofs.lemmas.Option.{none-some}
+use Rattle.std.proofs.lemmas.Option.{none-some, same_Some}
 use Rattle.std.proofs.lemmas.Bool.{lt-ltb}
 use Rattle.std.proofs.lemmas.Bool.Decides.{nat_tests}
 
@@ -33,18 +33,6 @@ position-cons p x xs = by (p x)
     by true = ap (λ b. cond b (Some 0) None) (lt-ltb 0 (suc (length xs)) (omega arith))
     by false = ap (λ m. cond (nat_lt m (suc (length xs))) (Some (1 + n)) None) (one-add n) ∙ ap (λ b. cond b (Some (1 + n)) None) (nat_lt-suc n (length xs)) ∙ later (nat_lt n (length xs))
 
-pub position-append : {X : Type 0} (p : X → Bool) (xs ys : List X) (i : ℕ) → position p xs ≡ Some i → position p (xs ++ ys) ≡ Some i
-position-append p [] ys i h = absurd (none-some i h)
-position-append p (x ∷ xs) ys i h = position-cons p x (xs ++ ys) ∙ by (p x) (λ j. position-append p xs ys j) (sym (position-cons p x xs) ∙ h)
-  where
-    by : (b : Bool) → ((j : ℕ) → position p xs ≡ Some j → position p (xs ++ ys) ≡ Some j) → cond b (Some 0) (option_map suc (position p xs)) ≡ Some i → cond b (Some 0) (option_map suc (position p (xs ++ ys))) ≡ Some i
-    by true rest e = e
-    by false rest e = inner (position p xs) refl e
-      where
-        inner : (r : Option ℕ) → position p xs ≡ r → option_map suc r ≡ Some i → option_map suc (position p (xs ++ ys)) ≡ Some i
-        inner None q f = absurd (none-some i f)
-        inner (Some j) q f = ap (option_map suc) (rest j q) ∙ f
-
 pub slice_get-append : {X : Type 0} (xs ys : List X) (i : ℕ) (x : X) → slice_get xs i ≡ Some x → slice_get (xs ++ ys) i ≡ Some x
 slice_get-append [] ys i x h = absurd (none-some x h)
 slice_get-append (y ∷ xs) ys zero x h = h
@@ -53,3 +41,11 @@ slice_get-append (y ∷ xs) ys (suc i) x h = slice_get-append xs ys i x h
 pub slice_get-push : {X : Type 0} (xs : List X) (x : X) → slice_get (xs ++ x ∷ []) (length xs) ≡ Some x
 slice_get-push [] x = refl
 slice_get-push (y ∷ xs) x = slice_get-push xs x
+
+-- what stands in a list with one more item behind
+pub slice_get-push-cases : {X : Type 0} (xs : List X) (x : X) (i : ℕ) (y : X) → slice_get (xs ++ x ∷ []) i ≡ Some y → (slice_get xs i ≡ Some y) ⊎ ((i ≡ length xs) × (y ≡ x))
+slice_get-push-cases [] x zero y h = inr (refl, sym (same_Some x y h))
+slice_get-push-cases [] x (suc i) y h = absurd (none-some y h)
+slice_get-push-cases (z ∷ xs) x zero y h = inl h
+slice_get-push-cases (z ∷ xs) x (suc i) y h =
+    elim (slice_get-push-cases xs x i y h) [ | inl a ↦ inl a | inr b ↦ inr (ap suc b.0, b.1) ]

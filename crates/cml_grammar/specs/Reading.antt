@@ -1,8 +1,10 @@
 -- How a script is kept, and what a reader of its lists may rely on.
-use Rattle.std.specs.Prelude.{ℕ, ◌≡◌, ◌<◌, ◌≤◌, ◌==◌, ◌^◌, Bool, not, if◌then◌else◌, List, [], ◌∷◌, ◌++◌, length, map, Option, Some, String, string_bytes, slice_get, All, ⊤}
+use Rattle.std.specs.Prelude.{ℕ, ◌+◌, ◌≡◌, ◌<◌, ◌≤◌, ◌==◌, ◌^◌, Bool, not, if◌then◌else◌, List, [], ◌∷◌, ◌++◌, length, map, Option, Some, String, string_bytes, slice_get, All, ⊤}
 use Rattle.std.specs.Global.{Global}
 use Rattle.cml_grammar.specs.declared.names.Named.{Named}
 use Rattle.cml_grammar.specs.declared.names.Named.TheVariants as called
+use Rattle.cml_grammar.specs.declared.forms.Declares.{Declares}
+use Rattle.cml_grammar.specs.declared.forms.Declares.TheVariants as declares
 use Rattle.cml_grammar.specs.declared.forms.Action.{Action}
 use Rattle.cml_grammar.specs.declared.forms.Action.TheVariants.{Send, Recv, Poll}
 use Rattle.cml_grammar.specs.declared.forms.Makes.{Makes}
@@ -89,6 +91,15 @@ pub record IsReadSoFar (script : Lines) (entries : List (String Global × Named)
   pub limit : threads ≤ 64
   pub seats : All (λ g. IsSeatedWithin (thread_count (names_of script)) g.1) (names_of script)
   pub started : (scope_of script).started ≡ not (length asked == 0)
+
+-- what a declaration's name names, where so many threads were declared before, and how many threads it adds
+abbrev pub named_by : Declares → ℕ → Named
+named_by declares.Mailbox threads = called.Mailbox
+named_by declares.Thread threads = called.Thread (threads + 1)
+
+abbrev pub threads_by : Declares → ℕ
+threads_by declares.Mailbox = 0
+threads_by declares.Thread = 1
 
 -- a script so far, and behind it a line of words
 abbrev pub with_words : Lines → ℕ → List ℕ → Lines

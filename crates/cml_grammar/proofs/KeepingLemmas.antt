@@ -1,0 +1,288 @@
+-- What holds of the lines so far holds with one more declaration, and with one more step.
+use Rattle.std.proofs.Common.{◌≡◌, ℕ, zero, suc, ◌+◌, ◌<◌, ◌≤◌, ◌==◌, Bool, true, false, not, ◌&&◌, ◌||◌, List, [], ◌∷◌, ◌++◌, length, map, slice_get, nat_le, Option, Some, None, is_some, if◌then◌else◌, String, string_bytes, All, refl, sym, ap, ◌∙◌, subst, arith, inl, inr, ◌⊎◌}
+use Rattle.std.specs.Global.{Global}
+use Rattle.std.specs.Bool.{⊤}
+use Rattle.std.specs.Option.{option_map_or, option_and_then, option_map}
+use Rattle.std.proofs.lemmas.Bool.{or_right, leb-false, ne_eqb, true≢false, eqb-true}
+use Rattle.std.proofs.lemmas.List.{append-nil, length-append, length-map}
+use Rattle.std.proofs.lemmas.List.Sums.{sum_by_push}
+use Rattle.std.proofs.lemmas.List.Elements.{All-nil, All-push, All-weaker, All-get_or}
+use Rattle.std.proofs.lemmas.Option.{none-some, same_Some, slice_get_within, get_or_from_slice_get, option_and_then_some}
+use Rattle.cml_grammar.specs.declared.names.Named.{Named}
+use Rattle.cml_grammar.specs.declared.names.Named.TheVariants as called
+use Rattle.cml_grammar.specs.declared.forms.Declares.{Declares}
+use Rattle.cml_grammar.specs.declared.forms.Declares.TheVariants as declares
+use Rattle.cml_grammar.specs.declared.forms.Verb.{Verb}
+use Rattle.cml_grammar.specs.declared.forms.Makes.{Makes}
+use Rattle.cml_grammar.specs.declared.forms.Makes.TheVariants as makes
+use Rattle.cml_grammar.specs.declared.script.Declaration.{Declaration}
+use Rattle.cml_grammar.specs.declared.script.Step.{Step}
+use Rattle.cml_grammar.specs.Words.{words_of}
+use Rattle.cml_grammar.specs.Names.{Given, thread_count, seat_in, seat_of, named, position_of}
+use Rattle.cml_grammar.specs.Forms.{Form, unknown, no_step, declaration, step, form_of, step_form, declares_of, verb_of}
+use Rattle.cml_grammar.specs.Faults.{Scope, fault_in_words, after_words, gives, is_declaration, is_step, declares_thread}
+use Rattle.cml_grammar.specs.Script.{Lines}
+use Rattle.cml_grammar.specs.Meaning.{scope_of, names_of, makes_by, makes_of, action_by, action_of, seat_of_step}
+use Rattle.cml_grammar.specs.Reading.{source_of, view_of, texts_of, IsSeatedWithin, GivesAt, Gives, GivesNames, ReadsDeclaration, ReadsStep, UsesWell, IsReadSoFar, named_by, threads_by, with_words}
+use Rattle.cml_grammar.proofs.ListLemmas.{slice_get-append, slice_get-push, slice_get-push-cases}
+use Rattle.cml_grammar.proofs.TableLemmas.{Passes, words_pass}
+use Rattle.cml_grammar.proofs.ReadingLemmas.{no_steps, scope_of-with_words, view-declaration, view-step}
+
+-- ---- what the form of a line says of its words
+chosen : {A B : Type 0} (o : Option A) (f : A → B) (d : B) → ((a : A) × (o ≡ Some a) × (option_map_or f o d ≡ f a)) ⊎ ((o ≡ None) × (option_map_or f o d ≡ d))
+chosen None f d = inr (refl, refl)
+chosen (Some a) f d = inl (a, refl, refl)
+
+pub record IsDeclarationLine (words : List (List ℕ)) (what : Declares) (rest : List (List ℕ)) : Type 0 where
+  pub word : List ℕ
+  pub is : words ≡ word ∷ rest
+  pub declares : declares_of word ≡ Some what
+
+pub record IsStepLine (names : List Given) (words : List (List ℕ)) (seat : ℕ) (verb : Verb) (rest : List (List ℕ)) : Type 0 where
+  pub thread : List ℕ
+  pub word : List ℕ
+  pub is : words ≡ thread ∷ word ∷ rest
+  pub seated : seat_of names thread ≡ Some seat
+  pub does : verb_of word ≡ Some verb
+
+not_declaration : (seat : ℕ) (words : List (List ℕ)) (what : Declares) (rest : List (List ℕ)) → step_form seat words ≡ declaration what rest → ⊥
+not_declaration seat [] what rest h = cc
+not_declaration seat (word ∷ words) what rest h =
+    elim (chosen (verb_of word) (λ v. step seat v words) (no_step seat)) [
+      | inl a ↦ let e : step seat a.0 words ≡ declaration what rest = sym a.2 ∙ h in cc
+      | inr b ↦ let e : no_step seat ≡ declaration what rest = sym b.1 ∙ h in cc
+    ]
+
+pub declaration_line : (names : List Given) (words : List (List ℕ)) (what : Declares) (rest : List (List ℕ)) → form_of names words ≡ declaration what rest → IsDeclarationLine words what rest
+declaration_line names [] what rest h = absurd (let e : unknown ≡ declaration what rest = h in cc)
+declaration_line names (word ∷ words) what rest h =
+    elim (chosen (declares_of word) (λ d. declaration d words) (option_map_or (λ seat. step_form seat words) (seat_of names word) unknown)) [
+      | inl a ↦
+          let e : declaration a.0 words ≡ declaration what rest = sym a.2 ∙ h in
+          let same : a.0 ≡ what = cc in
+          let left : words ≡ rest = cc in
+          record { word = word; is = ap (λ ws. word ∷ ws) left; declares = a.1 ∙ ap Some same }
+      | inr b ↦ absurd (elim (chosen (seat_of names word) (λ seat. step_form seat words) unknown) [
+          | inl s ↦ not_declaration s.0 words what rest (sym s.2 ∙ sym b.1 ∙ h)
+          | inr n ↦ let e : unknown ≡ declaration what rest = sym n.1 ∙ sym b.1 ∙ h in cc
+        ])
+    ]
+
+step_line_from : (names : List Given) (thread : List ℕ) (given seat : ℕ) (words : List (List ℕ)) (verb : Verb) (rest : List (List ℕ)) → seat_of names thread ≡ Some given → step_form given words ≡ step seat verb rest → IsStepLine names (thread ∷ words) seat verb rest
+step_line_from names thread given seat [] verb rest found h = absurd (let e : no_step given ≡ step seat verb rest = h in cc)
+step_line_from names thread given seat (word ∷ words) verb rest found h =
+    elim (chosen (verb_of word) (λ v. step given v words) (no_step given)) [
+      | inl a ↦
+          let e : step given a.0 words ≡ step seat verb rest = sym a.2 ∙ h in
+          let same : given ≡ seat = cc in
+          let does : a.0 ≡ verb = cc in
+          let left : words ≡ rest = cc in
+          record { thread = thread; word = word; is = ap (λ ws. thread ∷ word ∷ ws) left; seated = found ∙ ap Some same; does = a.1 ∙ ap Some does }
+      | inr b ↦ absurd (let e : no_step given ≡ step seat verb rest = sym b.1 ∙ h in cc)
+    ]
+
+pub step_line : (names : List Given) (words : List (List ℕ)) (seat : ℕ) (verb : Verb) (rest : List (List ℕ)) → form_of names words ≡ step seat verb rest → IsStepLine names words seat verb rest
+step_line names [] seat verb rest h = absurd (let e : unknown ≡ step seat verb rest = h in cc)
+step_line names (word ∷ words) seat verb rest h =
+    elim (chosen (declares_of word) (λ d. declaration d words) (option_map_or (λ seat. step_form seat words) (seat_of names word) unknown)) [
+      | inl a ↦ absurd (let e : declaration a.0 words ≡ step seat verb rest = sym a.2 ∙ h in cc)
+      | inr b ↦ elim (chosen (seat_of names word) (λ seat. step_form seat words) unknown) [
+          | inl s ↦ step_line_from names word s.0 seat words verb rest s.1 (sym s.2 ∙ sym b.1 ∙ h)
+          | inr n ↦ absurd (let e : unknown ≡ step seat verb rest = sym n.1 ∙ sym b.1 ∙ h in cc)
+        ]
+    ]
+
+-- ---- names with one more
+pub thread_count-push : (names : List Given) (word : List ℕ) (what : Declares) (threads : ℕ) → thread_count (names ++ (word, named_by what threads) ∷ []) ≡ thread_count names + threads_by what
+thread_count-push names word declares.Mailbox threads = sum_by_push _ names (word, called.Mailbox)
+thread_count-push names word declares.Thread threads = sum_by_push _ names (word, called.Thread (threads + 1))
+
+pub gives-one : (names : List Given) (word : List ℕ) (what : Declares) → gives names (declaration what (word ∷ [])) ≡ (word, named_by what (thread_count names)) ∷ []
+gives-one names word declares.Mailbox = refl
+gives-one names word declares.Thread = refl
+
+seated_more : (m n : ℕ) → m ≤ n → (k : Named) → IsSeatedWithin m k → IsSeatedWithin n k
+seated_more m n le (called.Thread seat) h = (h.0, omega (arith, h.1))
+seated_more m n le called.Mailbox h = tt
+
+seated_new : (what : Declares) (threads : ℕ) → IsSeatedWithin (threads + threads_by what) (named_by what threads)
+seated_new declares.Mailbox threads = tt
+seated_new declares.Thread threads = (omega arith, omega arith)
+
+seats_push : (names : List Given) (word : List ℕ) (what : Declares) → All (λ g. IsSeatedWithin (thread_count names) g.1) names
+    → All (λ g. IsSeatedWithin (thread_count (names ++ (word, named_by what (thread_count names)) ∷ [])) g.1) (names ++ (word, named_by what (thread_count names)) ∷ [])
+seats_push names word what seats =
+    let count = thread_count names in
+    let grown : count + threads_by what ≡ thread_count (names ++ (word, named_by what count) ∷ []) = sym (thread_count-push names word what count) in
+    subst (λ n. All (λ (g : Given). IsSeatedWithin n g.1) (names ++ (word, named_by what count) ∷ [])) grown
+      (All-push (λ (g : Given). IsSeatedWithin (count + threads_by what) g.1) names (word, named_by what count)
+        (All-weaker (λ (g : Given). IsSeatedWithin count g.1) (λ (g : Given). IsSeatedWithin (count + threads_by what) g.1) (λ g h. seated_more count (count + threads_by what) (omega arith) g.1 h) names seats)
+        (seated_new what count))
+
+GivesAt-append : (names more : List Given) (at : ℕ) (word : List ℕ) (made : Makes) → GivesAt names at word made → GivesAt (names ++ more) at word made
+GivesAt-append names more at word makes.Thread h = (h.0, slice_get-append names more at _ h.1)
+GivesAt-append names more at word makes.Mailbox h = slice_get-append names more at _ h
+
+GivesAt-new : (names : List Given) (word : List ℕ) (what : Declares) (threads : ℕ) (made : Makes) (rest : List (List ℕ)) → makes_by what rest ≡ Some made → GivesAt (names ++ (word, named_by what threads) ∷ []) (length names) word made
+GivesAt-new names word declares.Mailbox threads made rest h = subst (GivesAt (names ++ (word, called.Mailbox) ∷ []) (length names) word) (same_Some _ _ h) (slice_get-push names (word, called.Mailbox))
+GivesAt-new names word declares.Thread threads made rest h = subst (GivesAt (names ++ (word, called.Thread (threads + 1)) ∷ []) (length names) word) (same_Some _ _ h) (threads + 1, slice_get-push names (word, called.Thread (threads + 1)))
+
+pub GivesNames-push : (names : List Given) (ds : List Declaration) (word : List ℕ) (what : Declares) (threads : ℕ) (d : Declaration) (rest : List (List ℕ))
+    → GivesNames names ds → slice_get (words_of (string_bytes d.line.text)) 1 ≡ Some word → makes_by what rest ≡ Some d.makes
+    → GivesNames (names ++ (word, named_by what threads) ∷ []) (ds ++ d ∷ [])
+GivesNames-push names ds word what threads d rest h second makes = record {
+  one_each = omega (arith, length-append names ((word, named_by what threads) ∷ []), length-append ds (d ∷ []), h.one_each);
+  each = λ i x found. elim (slice_get-push-cases ds d i x found) [
+    | inl before ↦ let g = h.each i x before in (g.0, g.1, GivesAt-append names _ i g.0 x.makes g.2)
+    | inr last ↦
+        subst (λ (n : ℕ). Gives (names ++ (word, named_by what threads) ∷ []) n x) (h.one_each ∙ sym last.0)
+          (subst (Gives (names ++ (word, named_by what threads) ∷ []) (length names)) (sym last.1)
+            (word, second, GivesAt-new names word what threads d.makes rest makes))
+  ];
+}
+
+-- ---- the lines so far, with one more declaration
+module _ (v : ℕ) (es es' : List (String Global × Named)) (ds : List Declaration) (ss : List Step) (threads : ℕ)
+    (d : Declaration) (what : Declares) (name : List ℕ)
+    (so_far : IsReadSoFar (view_of v ds ss) es ds ss threads)
+    (none : fault_in_words (scope_of (view_of v ds ss)) (words_of (string_bytes d.line.text)) ≡ None)
+    (form : form_of (names_of (view_of v ds ss)) (words_of (string_bytes d.line.text)) ≡ declaration what (name ∷ []))
+    (makes : (rest : List (List ℕ)) → makes_by what rest ≡ Some d.makes)
+    (entries : texts_of es' ≡ texts_of es ++ (name, named_by what threads) ∷ []) where
+  script : Lines
+  script = view_of v ds ss
+
+  names : List Given
+  names = names_of (view_of v ds ss)
+
+  words : List (List ℕ)
+  words = words_of (string_bytes d.line.text)
+
+  pub declared_passes : Passes (scope_of (view_of v ds ss)) (declaration what (name ∷ []))
+  declared_passes = subst (Passes (scope_of (view_of v ds ss))) form (words_pass (scope_of (view_of v ds ss)) (words_of (string_bytes d.line.text)) none).1
+
+  sources_started : (scope_of (view_of v ds ss)).started ≡ not (length (view_of v ds ss).steps == 0)
+  sources_started = so_far.started ∙ ap (λ n. not (n == 0)) (sym (length-map ss _))
+
+  no_step_seen : ss ≡ []
+  no_step_seen = by ss (no_steps (view_of v ds ss) (declaration what (name ∷ [])) sources_started declared_passes refl)
+    where
+      by : (xs : List Step) → map (λ (s : Step). source_of s.line) xs ≡ [] → xs ≡ []
+      by [] e = refl
+      by (x ∷ xs) e = absurd (let f : length (map (λ (s : Step). source_of s.line) (x ∷ xs)) ≡ 0 = ap length e in omega arith)
+
+  pub declared_scope : scope_of (view_of v (ds ++ d ∷ []) ss) ≡ after_words (scope_of (view_of v ds ss)) (words_of (string_bytes d.line.text))
+  declared_scope =
+      ap scope_of (view-declaration v ds ss d (name ∷ []) what form)
+      ∙ scope_of-with_words (view_of v ds ss) d.line.number (string_bytes d.line.text) sources_started none
+
+  declared_names : names_of (view_of v (ds ++ d ∷ []) ss) ≡ names_of (view_of v ds ss) ++ (name, named_by what (thread_count (names_of (view_of v ds ss)))) ∷ []
+  declared_names =
+      ap (λ (s : Scope). s.names) declared_scope
+      ∙ ap (λ f. names_of (view_of v ds ss) ++ gives (names_of (view_of v ds ss)) f) form
+      ∙ ap (λ gs. names_of (view_of v ds ss) ++ gs) (gives-one (names_of (view_of v ds ss)) name what)
+
+  declared_started : (scope_of (view_of v (ds ++ d ∷ []) ss)).started ≡ not (length ss == 0)
+  declared_started =
+      ap (λ (s : Scope). s.started) declared_scope
+      ∙ ap (λ f. (scope_of (view_of v ds ss)).started || is_step f) form
+      ∙ or_false (scope_of (view_of v ds ss)).started
+      ∙ so_far.started
+    where
+      or_false : (b : Bool) → (b || false) ≡ b
+      or_false true = refl
+      or_false false = refl
+
+  room : threads + threads_by what ≤ 64
+  room = by what declared_passes.room
+    where
+      by : (w : Declares) → (declares_thread (declaration w (name ∷ [])) && nat_le 64 (thread_count (names_of (view_of v ds ss)))) ≡ false → threads + threads_by w ≤ 64
+      by declares.Mailbox h = omega (arith, so_far.limit)
+      by declares.Thread h = omega (arith, so_far.count, leb-false 64 (thread_count (names_of (view_of v ds ss))) h)
+
+  line : IsDeclarationLine (words_of (string_bytes d.line.text)) what (name ∷ [])
+  line = declaration_line (names_of (view_of v ds ss)) (words_of (string_bytes d.line.text)) what (name ∷ []) form
+
+  reads : ReadsDeclaration d
+  reads = record { makes = ap makes_of line.is ∙ ap (option_and_then (λ w. makes_by w (name ∷ []))) line.declares ∙ makes (name ∷ []) }
+
+  pub declared_so_far : IsReadSoFar (view_of v (ds ++ d ∷ []) ss) es' (ds ++ d ∷ []) ss (threads + threads_by what)
+  declared_so_far = record {
+    names = entries ∙ ap (λ gs. gs ++ (name, named_by what threads) ∷ []) so_far.names ∙ ap (λ n. names_of (view_of v ds ss) ++ (name, named_by what n) ∷ []) so_far.count ∙ sym declared_names;
+    gives = subst (λ gs. GivesNames gs (ds ++ d ∷ [])) (sym declared_names)
+      (GivesNames-push (names_of (view_of v ds ss)) ds name what (thread_count (names_of (view_of v ds ss))) d (name ∷ []) so_far.gives (ap (λ ws. slice_get ws 1) line.is) (makes (name ∷ [])));
+    declarations = All-push ReadsDeclaration ds d so_far.declarations reads;
+    steps = subst (All (ReadsStep (names_of (view_of v (ds ++ d ∷ []) ss)))) (sym no_step_seen) (All-nil (ReadsStep (names_of (view_of v (ds ++ d ∷ []) ss))));
+    count = ap (λ n. n + threads_by what) so_far.count ∙ sym (thread_count-push (names_of (view_of v ds ss)) name what (thread_count (names_of (view_of v ds ss)))) ∙ ap thread_count (sym declared_names);
+    limit = room;
+    seats = subst (λ gs. All (λ (g : Given). IsSeatedWithin (thread_count gs) g.1) gs) (sym declared_names) (seats_push (names_of (view_of v ds ss)) name what so_far.seats);
+    started = declared_started;
+  }
+
+-- ---- and with one more step
+seated_from : (names : List Given) (n : ℕ) (thread : List ℕ) (seat : ℕ) → All (λ g. IsSeatedWithin n g.1) names → seat_of names thread ≡ Some seat → (1 ≤ seat) × (seat ≤ n)
+seated_from names n thread seat seats h =
+    option_and_then_some seat_in (named names thread) seat h (λ k found is.
+      option_and_then_some (λ i. option_map (λ g. g.1) (slice_get names i)) (position_of names thread) k found (λ i at meant.
+        within (slice_get names i) i k refl meant is))
+  where
+    seat_within : (k : Named) → seat_in k ≡ Some seat → IsSeatedWithin n k → (1 ≤ seat) × (seat ≤ n)
+    seat_within (called.Thread s) e w = subst (λ (m : ℕ). (1 ≤ m) × (m ≤ n)) (same_Some _ _ e) w
+    seat_within called.Mailbox e w = absurd (none-some seat e)
+
+    within : (r : Option Given) (i : ℕ) (k : Named) → slice_get names i ≡ r → option_map (λ g. g.1) r ≡ Some k → seat_in k ≡ Some seat → (1 ≤ seat) × (seat ≤ n)
+    within None i k at meant is = absurd (none-some k meant)
+    within (Some g) i k at meant is =
+        let here = All-get_or (λ (x : Given). IsSeatedWithin n x.1) names i g (slice_get_within names i g at) seats in
+        seat_within k is (subst (IsSeatedWithin n) (same_Some _ _ meant) (subst (λ (x : Given). IsSeatedWithin n x.1) (get_or_from_slice_get names i g g at) here))
+
+module _ (v : ℕ) (es : List (String Global × Named)) (ds : List Declaration) (ss : List Step) (threads : ℕ)
+    (s : Step) (verb : Verb) (rest : List (List ℕ))
+    (so_far : IsReadSoFar (view_of v ds ss) es ds ss threads)
+    (none : fault_in_words (scope_of (view_of v ds ss)) (words_of (string_bytes s.line.text)) ≡ None)
+    (form : form_of (names_of (view_of v ds ss)) (words_of (string_bytes s.line.text)) ≡ step s.seat verb rest)
+    (action : action_by (names_of (view_of v ds ss)) verb rest ≡ Some s.action)
+    (uses : UsesWell (names_of (view_of v ds ss)) s.action) where
+  asked_sources_started : (scope_of (view_of v ds ss)).started ≡ not (length (view_of v ds ss).steps == 0)
+  asked_sources_started = so_far.started ∙ ap (λ n. not (n == 0)) (sym (length-map ss _))
+
+  pub asked_scope : scope_of (view_of v ds (ss ++ s ∷ [])) ≡ after_words (scope_of (view_of v ds ss)) (words_of (string_bytes s.line.text))
+  asked_scope =
+      ap scope_of (view-step v ds ss s s.seat verb rest form)
+      ∙ scope_of-with_words (view_of v ds ss) s.line.number (string_bytes s.line.text) asked_sources_started none
+
+  asked_names : names_of (view_of v ds (ss ++ s ∷ [])) ≡ names_of (view_of v ds ss)
+  asked_names =
+      ap (λ (x : Scope). x.names) asked_scope
+      ∙ ap (λ f. names_of (view_of v ds ss) ++ gives (names_of (view_of v ds ss)) f) form
+      ∙ append-nil (names_of (view_of v ds ss))
+
+  asked_started : (scope_of (view_of v ds (ss ++ s ∷ []))).started ≡ not (length (ss ++ s ∷ []) == 0)
+  asked_started =
+      ap (λ (x : Scope). x.started) asked_scope
+      ∙ ap (λ f. (scope_of (view_of v ds ss)).started || is_step f) form
+      ∙ or_right (scope_of (view_of v ds ss)).started true refl
+      ∙ ap not (sym (ne_eqb (length (ss ++ s ∷ [])) 0 (λ e. omega (arith, length-append ss (s ∷ [])))))
+
+  asked_line : IsStepLine (names_of (view_of v ds ss)) (words_of (string_bytes s.line.text)) s.seat verb rest
+  asked_line = step_line (names_of (view_of v ds ss)) (words_of (string_bytes s.line.text)) s.seat verb rest form
+
+  reads_step : ReadsStep (names_of (view_of v ds ss)) s
+  reads_step = record {
+    seat = ap (seat_of_step (names_of (view_of v ds ss))) asked_line.is ∙ asked_line.seated;
+    seated = seated_from (names_of (view_of v ds ss)) (thread_count (names_of (view_of v ds ss))) asked_line.thread s.seat so_far.seats asked_line.seated;
+    action = ap (action_of (names_of (view_of v ds ss))) asked_line.is ∙ ap (option_and_then (λ w. action_by (names_of (view_of v ds ss)) w rest)) asked_line.does ∙ action;
+    uses = uses;
+  }
+
+  pub asked_so_far : IsReadSoFar (view_of v ds (ss ++ s ∷ [])) es ds (ss ++ s ∷ []) threads
+  asked_so_far = record {
+    names = so_far.names ∙ sym asked_names;
+    gives = subst (λ gs. GivesNames gs ds) (sym asked_names) so_far.gives;
+    declarations = so_far.declarations;
+    steps = subst (λ gs. All (ReadsStep gs) (ss ++ s ∷ [])) (sym asked_names) (All-push (ReadsStep (names_of (view_of v ds ss))) ss s so_far.steps reads_step);
+    count = so_far.count ∙ ap thread_count (sym asked_names);
+    limit = so_far.limit;
+    seats = subst (λ gs. All (λ (g : Given). IsSeatedWithin (thread_count gs) g.1) gs) (sym asked_names) so_far.seats;
+    started = asked_started;
+  }
