@@ -3,7 +3,7 @@ use Rattle.std.proofs.Common.{◌≡◌, ℕ, zero, suc, ◌+◌, ◌<◌, ◌�
 use Rattle.std.specs.Global.{Global}
 use Rattle.std.specs.Bool.{⊤}
 use Rattle.std.specs.Option.{option_map_or, option_and_then, option_map}
-use Rattle.std.proofs.lemmas.Bool.{or_right, leb-false, ne_eqb, true≢false, eqb-true}
+use Rattle.std.proofs.lemmas.Bool.{or_right, or_parts, leb-false, ne_eqb, true≢false, eqb-true}
 use Rattle.std.proofs.lemmas.List.{append-nil, length-append, length-map}
 use Rattle.std.proofs.lemmas.List.Sums.{sum_by_push}
 use Rattle.std.proofs.lemmas.List.Elements.{All-nil, All-push, All-weaker, All-get_or}
@@ -18,7 +18,7 @@ use Rattle.cml_grammar.specs.declared.forms.Makes.TheVariants as makes
 use Rattle.cml_grammar.specs.declared.script.Declaration.{Declaration}
 use Rattle.cml_grammar.specs.declared.script.Step.{Step}
 use Rattle.cml_grammar.specs.Words.{words_of}
-use Rattle.cml_grammar.specs.Names.{Given, thread_count, seat_in, seat_of, named, position_of}
+use Rattle.cml_grammar.specs.Names.{Given, thread_count, seat_in, seat_of, named, position_of, is_given}
 use Rattle.cml_grammar.specs.Forms.{Form, unknown, no_step, declaration, step, form_of, step_form, declares_of, verb_of}
 use Rattle.cml_grammar.specs.Faults.{Scope, fault_in_words, after_words, gives, is_declaration, is_step, declares_thread}
 use Rattle.cml_grammar.specs.Script.{Lines}
@@ -92,6 +92,11 @@ step_line names (word ∷ words) seat verb rest h =
         ]
     ]
 
+-- the name that a declaration without fault gives does not stand yet
+pub fresh_name : (scope : Scope) (what : Declares) (name : List ℕ) → Passes scope (declaration what (name ∷ [])) → is_given scope.names name ≡ false
+fresh_name scope declares.Mailbox name p = (or_parts _ _ p.fresh).0
+fresh_name scope declares.Thread name p = (or_parts _ _ p.fresh).0
+
 -- ---- names with one more
 pub thread_count-push : (names : List Given) (word : List ℕ) (what : Declares) (threads : ℕ) → thread_count (names ++ (word, named_by what threads) ∷ []) ≡ thread_count names + threads_by what
 thread_count-push names word declares.Mailbox threads = sum_by_push _ names (word, called.Mailbox)
@@ -142,22 +147,12 @@ GivesNames-push names ds word what threads d rest h second makes = record {
 }
 
 -- ---- the lines so far, with one more declaration
-module _ (v : ℕ) (es es' : List (String Global × Named)) (ds : List Declaration) (ss : List Step) (threads : ℕ)
+module _ (v : ℕ) (es : List (String Global × Named)) (ds : List Declaration) (ss : List Step) (threads : ℕ)
     (d : Declaration) (what : Declares) (name : List ℕ)
     (so_far : IsReadSoFar (view_of v ds ss) es ds ss threads)
     (none : fault_in_words (scope_of (view_of v ds ss)) (words_of (string_bytes d.line.text)) ≡ None)
     (form : form_of (names_of (view_of v ds ss)) (words_of (string_bytes d.line.text)) ≡ declaration what (name ∷ []))
-    (makes : (rest : List (List ℕ)) → makes_by what rest ≡ Some d.makes)
-    (entries : texts_of es' ≡ texts_of es ++ (name, named_by what threads) ∷ []) where
-  script : Lines
-  script = view_of v ds ss
-
-  names : List Given
-  names = names_of (view_of v ds ss)
-
-  words : List (List ℕ)
-  words = words_of (string_bytes d.line.text)
-
+    (makes : (rest : List (List ℕ)) → makes_by what rest ≡ Some d.makes) where
   pub declared_passes : Passes (scope_of (view_of v ds ss)) (declaration what (name ∷ []))
   declared_passes = subst (Passes (scope_of (view_of v ds ss))) form (words_pass (scope_of (view_of v ds ss)) (words_of (string_bytes d.line.text)) none).1
 
@@ -206,8 +201,8 @@ module _ (v : ℕ) (es es' : List (String Global × Named)) (ds : List Declarati
   reads : ReadsDeclaration d
   reads = record { makes = ap makes_of line.is ∙ ap (option_and_then (λ w. makes_by w (name ∷ []))) line.declares ∙ makes (name ∷ []) }
 
-  pub declared_so_far : IsReadSoFar (view_of v (ds ++ d ∷ []) ss) es' (ds ++ d ∷ []) ss (threads + threads_by what)
-  declared_so_far = record {
+  pub declared_so_far : (es' : List (String Global × Named)) → texts_of es' ≡ texts_of es ++ (name, named_by what threads) ∷ [] → IsReadSoFar (view_of v (ds ++ d ∷ []) ss) es' (ds ++ d ∷ []) ss (threads + threads_by what)
+  declared_so_far es' entries = record {
     names = entries ∙ ap (λ gs. gs ++ (name, named_by what threads) ∷ []) so_far.names ∙ ap (λ n. names_of (view_of v ds ss) ++ (name, named_by what n) ∷ []) so_far.count ∙ sym declared_names;
     gives = subst (λ gs. GivesNames gs (ds ++ d ∷ [])) (sym declared_names)
       (GivesNames-push (names_of (view_of v ds ss)) ds name what (thread_count (names_of (view_of v ds ss))) d (name ∷ []) so_far.gives (ap (λ ws. slice_get ws 1) line.is) (makes (name ∷ [])));

@@ -9,6 +9,12 @@ use Rattle.std.specs.Str.Parse.{digits_value, ParsesUnsigned}
 use Rattle.std.specs.Map.{lookup, keys_of}
 use Rattle.std.proofs.lemmas.Bool.{lt-ltb, le-leb, ltb-true, ltb-false, and_parts, and_from, eqb-true, true_from_ne_false, false_from_ne_true, ne_eqb}
 use Rattle.std.proofs.lemmas.Str.Parse.{parse_plain, numerals_by_value, tells_all_ascii_digits}
+use Rattle.std.specs.String.{string_eq}
+use Rattle.std.specs.declared.hash.FoldHasher.{FoldHasher}
+use Rattle.std.specs.declared.hash.BuildHasherDefault.{BuildHasherDefault}
+use Rattle.std.proofs.lemmas.List.{map-append}
+use Rattle.indexmap.specs.IndexMap.{IndexMap, insert_entry}
+use Rattle.indexmap.proofs.CallerLemmas.{insert_entry-new}
 use Rattle.cml_grammar.specs.declared.names.Named.{Named}
 use Rattle.cml_grammar.specs.Names.{Given, is_letter, is_name_byte, is_reserved, is_name, is_number, is_called, position_of, named, is_given}
 use Rattle.cml_grammar.specs.Reading.{texts_of}
@@ -62,6 +68,17 @@ is_some-named (g ∷ gs) word =
 
 pub is_some-lookup : (es : Entries) (word : List ℕ) → is_some (lookup (λ k. bytes_eq word (string_bytes k)) es) ≡ is_given (texts_of es) word
 is_some-lookup es word = ap is_some (lookup-texts es word) ∙ is_some-named (texts_of es) word
+
+-- the texts with one more that was not given
+pub inserted_texts : (m : IndexMap (String Global) Named (BuildHasherDefault FoldHasher)) (key : String Global) (n : Named) (word : List ℕ) → string_bytes key ≡ word → is_given (texts_of m.entries) word ≡ false → texts_of (insert_entry string_eq m.entries key n) ≡ texts_of m.entries ++ (word, n) ∷ []
+inserted_texts m key n word same free =
+    ap texts_of (insert_entry-new string_eq m key n (absent (lookup (string_eq key) m.entries) (is_some-lookup m.entries (string_bytes key) ∙ ap (is_given (texts_of m.entries)) same ∙ free)))
+    ∙ map-append (λ (e : String Global × Named). (string_bytes e.0, e.1)) m.entries ((key, n) ∷ [])
+    ∙ ap (λ w. texts_of m.entries ++ (w, n) ∷ []) same
+  where
+    absent : (r : Option Named) → is_some r ≡ false → r ≡ None
+    absent None h = refl
+    absent (Some x) h = absurd (true≢false h)
 
 -- a name is tested from its first byte on
 pub is_name_rest : (word : List ℕ) (b : ℕ) (bs : List ℕ) → word ≡ b ∷ bs → is_letter b ≡ true → length bs ≤ 31 → is_reserved word ≡ false → is_name word ≡ list_all is_name_byte bs

@@ -1,3 +1,10 @@
+//! What is wrong with a script, and on which line.
+ghost use Rattle.std.specs.Prelude.{◌≡◌};
+ghost use Rattle.cml_grammar.specs.declared.fault.What.TheVariants.{Memory};
+
+use std::alloc::{AllocError, AllocFailed};
+use std::error::Error;
+use std::fmt;
 use thiserror::Error;
 
 /// What is wrong with a line of a script, in the order in which the tests are made, and then what
@@ -50,3 +57,32 @@ pub struct Fault {
     pub line: u64,
     pub what: What,
 }
+
+impl From<AllocError> for What {
+    ghost from_gives = { λ _ what. what ≡ Memory };
+
+    fn from(_error: AllocError) -> What {
+        What::Memory
+    }
+}
+
+impl<T: Drop> From<AllocFailed<T>> for What {
+    ghost from_gives = { λ _ what. what ≡ Memory };
+
+    fn from(_error: AllocFailed<T>) -> What {
+        What::Memory
+    }
+}
+
+impl fmt::Display for Fault {
+    fn fmt<W: fmt::Write>(&self, f: &mut fmt::Formatter<W>) -> fmt::Result {
+        let line = self.line;
+        let what = self.what;
+        match what {
+            What::TooLong | What::Memory => write!(f, "script: {what}"),
+            _ => write!(f, "script: line {line}: {what}"),
+        }
+    }
+}
+
+impl Error for Fault {}

@@ -6,6 +6,7 @@ mod fault;
 mod forms;
 mod meaning;
 mod names;
+mod reading;
 mod script;
 mod words;
 

@@ -1,10 +1,10 @@
 //! What a line that is without fault asks for.
-ghost use Rattle.std.specs.Prelude.{◌≡◌, ◌^◌, ◌<◌, map, Some, true};
+ghost use Rattle.std.specs.Prelude.{◌≡◌, ℕ, ◌+◌, ◌^◌, ◌<◌, List, map, Some, true};
 ghost use Rattle.std.specs.Str.Parse.{digits_value};
 ghost use Rattle.cml_grammar.specs.Names.{is_number, is_given, position_of};
 ghost use Rattle.cml_grammar.specs.Forms.{step_places};
 ghost use Rattle.cml_grammar.specs.Meaning.{makes_by, action_by};
-ghost use Rattle.cml_grammar.specs.Reading.{texts_of, UsesWell};
+ghost use Rattle.cml_grammar.specs.Reading.{texts_of, UsesWell, named_by, threads_by};
 ghost use Rattle.cml_grammar.specs.Suiting.{AllSuit};
 
 use crate::forms::{Action, Declares, Makes, Verb};
@@ -27,12 +27,34 @@ fn message_of(word: &str) -> u64
     number_of(word).unwrap()
 }
 
-pub(crate) fn makes_by(declares: Declares, rest: &[&str]) -> Makes
-    ensures { makes_by declares (map (λ w. w.now) rest.now) ≡ Some result }
+pub(crate) fn makes_by(declares: Declares) -> Makes
+    ensures { (rest : List (List ℕ)) → makes_by declares rest ≡ Some result }
 {
     match declares {
         Declares::Mailbox => Makes::Mailbox,
         Declares::Thread => Makes::Thread,
+    }
+}
+
+/// What the name of a declaration names, where so many threads were declared before.
+pub(crate) fn named_by(declares: Declares, threads: u64) -> Named
+    requires { threads < 2 ^ 32 }
+    ensures { result ≡ named_by declares threads }
+{
+    match declares {
+        Declares::Mailbox => Named::Mailbox,
+        Declares::Thread => Named::Thread(threads + 1),
+    }
+}
+
+/// How many threads there are with the one that is declared, if it is one.
+pub(crate) fn threads_with(declares: Declares, threads: u64) -> u64
+    requires { threads < 2 ^ 32 }
+    ensures { result ≡ threads + threads_by declares }
+{
+    match declares {
+        Declares::Mailbox => threads,
+        Declares::Thread => threads + 1,
     }
 }
 

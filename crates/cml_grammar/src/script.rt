@@ -1,3 +1,6 @@
+//! A script that was read: its names, its declarations and its steps.
+ghost use Rattle.std.specs.Prelude.{◌≡◌, ◌≤◌, length, map, All};
+
 use crate::forms::{Action, Makes};
 use crate::names::Named;
 use indexmap::IndexMap;
@@ -35,7 +38,6 @@ pub struct Script {
     steps: Vec<Step>,
 }
 
-
 impl Model for Script {
     ghost use Rattle.cml_grammar.specs.Script.{Lines};
 
@@ -46,4 +48,60 @@ impl Model for Script {
     ghost view = { λ s. view_of s.version s.declarations.items s.steps.items };
 
     ghost invariant = { λ s. IsReading (view_of s.version s.declarations.items s.steps.items) s.names.entries s.declarations.items s.steps.items };
+}
+
+impl Script {
+    ghost use Rattle.cml_grammar.specs.Names.{thread_count};
+    ghost use Rattle.cml_grammar.specs.Meaning.{names_of};
+    ghost use Rattle.cml_grammar.specs.Reading.{source_of, view_of, texts_of, GivesNames, ReadsDeclaration, ReadsStep, IsReading};
+
+    pub(crate) fn new(
+        version: u64,
+        names: IndexMap<String, Named>,
+        declarations: Vec<Declaration>,
+        steps: Vec<Step>,
+    ) -> Script
+        requires { IsReading (view_of version declarations.items steps.items) names.entries declarations.items steps.items }
+        ensures { result ≡ view_of version declarations.items steps.items }
+    {
+        Script {
+            version,
+            names,
+            declarations,
+            steps,
+        }
+    }
+
+    pub fn version(&self) -> u64
+        ensures { result ≡ self.now.version }
+    {
+        self.version
+    }
+
+    /// The names in text order, with what each names.
+    pub fn names(&self) -> &IndexMap<String, Named>
+        ensures names { texts_of result.now.entries ≡ names_of self.now }
+        ensures threads { thread_count (names_of self.now) ≤ 64 }
+    {
+        &self.names
+    }
+
+    /// The declarations in text order. The i-th gives the i-th name.
+    pub fn declarations(&self) -> &[Declaration]
+        ensures lines { map (λ d. source_of d.line) result.now ≡ self.now.declarations }
+        ensures makes { All ReadsDeclaration result.now }
+        ensures names { GivesNames (names_of self.now) result.now }
+        ensures few { length result.now ≤ 1048576 }
+    {
+        &self.declarations
+    }
+
+    /// The steps in text order.
+    pub fn steps(&self) -> &[Step]
+        ensures lines { map (λ s. source_of s.line) result.now ≡ self.now.steps }
+        ensures asked { All (ReadsStep (names_of self.now)) result.now }
+        ensures few { length result.now ≤ 1048576 }
+    {
+        &self.steps
+    }
 }

@@ -1,0 +1,96 @@
+-- The same, in the words of the code: what was inserted and pushed, and the value that was seen before.
+use Rattle.std.proofs.Common.{◌≡◌, ℕ, ◌+◌, List, [], ◌∷◌, ◌++◌, Option, Some, None, String, string_bytes, refl, sym, ap, ◌∙◌, subst}
+use Rattle.std.proofs.Common.{false}
+use Rattle.std.specs.Global.{Global}
+use Rattle.std.specs.String.{string_eq}
+use Rattle.std.specs.declared.hash.FoldHasher.{FoldHasher}
+use Rattle.std.specs.declared.hash.BuildHasherDefault.{BuildHasherDefault}
+use Rattle.indexmap.specs.IndexMap.{IndexMap, insert_entry}
+use Rattle.cml_grammar.specs.declared.names.Named.{Named}
+use Rattle.cml_grammar.specs.declared.forms.Declares.{Declares}
+use Rattle.cml_grammar.specs.declared.forms.Verb.{Verb}
+use Rattle.cml_grammar.specs.declared.script.Declaration.{Declaration}
+use Rattle.cml_grammar.specs.declared.script.Step.{Step}
+use Rattle.cml_grammar.specs.Words.{words_of}
+use Rattle.cml_grammar.specs.Names.{is_given}
+use Rattle.cml_grammar.specs.Forms.{declaration, step, form_of, step_places}
+use Rattle.cml_grammar.specs.Faults.{Scope, fault_in_words, after_words}
+use Rattle.cml_grammar.specs.Script.{Lines}
+use Rattle.cml_grammar.specs.Meaning.{scope_of, names_of, makes_by, action_by}
+use Rattle.cml_grammar.specs.Reading.{view_of, texts_of, UsesWell, IsReadSoFar, named_by, threads_by}
+use Rattle.cml_grammar.specs.Suiting.{AllSuit}
+use Rattle.cml_grammar.proofs.NameLemmas.{inserted_texts}
+use Rattle.cml_grammar.proofs.TableLemmas.{Passes, words_pass, all_suit-passes}
+use Rattle.cml_grammar.proofs.KeepingLemmas.{fresh_name, declared_passes, declared_scope, declared_so_far, asked_scope, asked_so_far}
+
+abbrev Names : Type 0
+Names = IndexMap (String Global) Named (BuildHasherDefault FoldHasher)
+
+-- what a declaration was read from
+pub record Declared (now : Lines) (d : Declaration) (what : Declares) (name : List ℕ) : Type 0 where
+  pub fits : fault_in_words (scope_of now) (words_of (string_bytes d.line.text)) ≡ None
+  pub form : form_of (names_of now) (words_of (string_bytes d.line.text)) ≡ declaration what (name ∷ [])
+  pub makes : (rest : List (List ℕ)) → makes_by what rest ≡ Some d.makes
+
+module _ (v : ℕ) (now : Lines) (m : Names) (ds ds' : List Declaration) (ss : List Step) (threads : ℕ)
+    (d : Declaration) (what : Declares) (name : List ℕ)
+    (seen : view_of v ds ss ≡ now)
+    (so_far : IsReadSoFar (view_of v ds ss) m.entries ds ss threads)
+    (read : Declared now d what name)
+    (pushed : ds' ≡ ds ++ d ∷ []) where
+  before : Declared (view_of v ds ss) d what name
+  before = subst (λ (s : Lines). Declared s d what name) (sym seen) read
+
+  fresh : is_given (texts_of m.entries) name ≡ false
+  fresh =
+      ap (λ gs. is_given gs name) so_far.names
+      ∙ fresh_name (scope_of (view_of v ds ss)) what name (subst (Passes (scope_of (view_of v ds ss))) before.form (words_pass (scope_of (view_of v ds ss)) (words_of (string_bytes d.line.text)) before.fits).1)
+
+  pub declared_closes : (es' : List (String Global × Named)) (threads' : ℕ) (key : String Global) (n : Named)
+      → string_bytes key ≡ name → n ≡ named_by what threads → es' ≡ insert_entry string_eq m.entries key n → threads' ≡ threads + threads_by what
+      → IsReadSoFar (view_of v ds' ss) es' ds' ss threads'
+  declared_closes es' threads' key n same named inserted counted =
+      let entries = ap texts_of inserted ∙ inserted_texts m key n name same fresh ∙ ap (λ k. texts_of m.entries ++ (name, k) ∷ []) named in
+      let whole = declared_so_far v m.entries ds ss threads d what name so_far before.fits before.form before.makes es' entries in
+      subst (λ (t : ℕ). IsReadSoFar (view_of v ds' ss) es' ds' ss t) (sym counted)
+        (subst (λ (xs : List Declaration). IsReadSoFar (view_of v xs ss) es' xs ss (threads + threads_by what)) (sym pushed) whole)
+
+  pub declared_scopes : scope_of (view_of v ds' ss) ≡ after_words (scope_of now) (words_of (string_bytes d.line.text))
+  declared_scopes =
+      ap (λ (xs : List Declaration). scope_of (view_of v xs ss)) pushed
+      ∙ declared_scope v m.entries ds ss threads d what name so_far before.fits before.form before.makes
+      ∙ ap (λ (s : Lines). after_words (scope_of s) (words_of (string_bytes d.line.text))) seen
+
+-- what a step was read from
+pub record Asked (now : Lines) (s : Step) (verb : Verb) (rest : List (List ℕ)) : Type 0 where
+  pub fits : fault_in_words (scope_of now) (words_of (string_bytes s.line.text)) ≡ None
+  pub form : form_of (names_of now) (words_of (string_bytes s.line.text)) ≡ step s.seat verb rest
+
+pub asked_suits : (now : Lines) (words : List (List ℕ)) (seat : ℕ) (verb : Verb) (rest : List (List ℕ)) → fault_in_words (scope_of now) words ≡ None → form_of (names_of now) words ≡ step seat verb rest → AllSuit (names_of now) (step_places verb) rest
+asked_suits now words seat verb rest fits form =
+    all_suit-passes (scope_of now) (step seat verb rest) (subst (Passes (scope_of now)) form (words_pass (scope_of now) words fits).1)
+
+module _ (v : ℕ) (now : Lines) (es : List (String Global × Named)) (ds : List Declaration) (ss ss' : List Step) (threads : ℕ)
+    (s : Step) (verb : Verb) (rest : List (List ℕ))
+    (seen : view_of v ds ss ≡ now)
+    (so_far : IsReadSoFar (view_of v ds ss) es ds ss threads)
+    (read : Asked now s verb rest)
+    (action : action_by (texts_of es) verb rest ≡ Some s.action)
+    (uses : UsesWell (texts_of es) s.action)
+    (pushed : ss' ≡ ss ++ s ∷ []) where
+  before_step : Asked (view_of v ds ss) s verb rest
+  before_step = subst (λ (x : Lines). Asked x s verb rest) (sym seen) read
+
+  means : action_by (names_of (view_of v ds ss)) verb rest ≡ Some s.action
+  means = ap (λ gs. action_by gs verb rest) (sym so_far.names) ∙ action
+
+  pub asked_closes : IsReadSoFar (view_of v ds ss') es ds ss' threads
+  asked_closes =
+      subst (λ (xs : List Step). IsReadSoFar (view_of v ds xs) es ds xs threads) (sym pushed)
+        (asked_so_far v es ds ss threads s verb rest so_far before_step.fits before_step.form means (subst (λ gs. UsesWell gs s.action) so_far.names uses))
+
+  pub asked_scopes : scope_of (view_of v ds ss') ≡ after_words (scope_of now) (words_of (string_bytes s.line.text))
+  asked_scopes =
+      ap (λ (xs : List Step). scope_of (view_of v ds xs)) pushed
+      ∙ asked_scope v es ds ss threads s verb rest so_far before_step.fits before_step.form means (subst (λ gs. UsesWell gs s.action) so_far.names uses)
+      ∙ ap (λ (x : Lines). after_words (scope_of x) (words_of (string_bytes s.line.text))) seen

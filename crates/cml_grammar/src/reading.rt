@@ -1,0 +1,173 @@
+//! The lines of a script so far, and how one more is read.
+ghost use Rattle.std.specs.Prelude.{◌≡◌, ◌+◌, ◌<◌, ◌≤◌, [], ◌∷◌, length, map, None, OnOk, IfErr};
+ghost use Rattle.cml_grammar.specs.Words.{words_of, is_bad_byte};
+ghost use Rattle.cml_grammar.specs.Faults.{fault_in, fault_in_words, is_bad_header, says, after, after_words, IsWhat};
+
+use crate::checks::fault_in_form;
+use crate::fault::What;
+use crate::forms::{Declares, Form, Verb};
+use crate::meaning::{action_by, makes_by, named_by, threads_with};
+use crate::names::Named;
+use crate::script::{Declaration, Line, Script, Step};
+use crate::words::{has_bad_byte, has_empty_word, is_skipped, split_words};
+use indexmap::IndexMap;
+use std::alloc::Global;
+use std::marker::Model;
+
+const HEADER: &[u8; 5] = b"cml 1";
+
+/// The lines so far. Contracts see them as a script.
+#[derive(Drop)]
+pub(crate) struct Reading {
+    names: IndexMap<String, Named>,
+    threads: u64,
+    declarations: Vec<Declaration>,
+    steps: Vec<Step>,
+}
+
+impl Model for Reading {
+    ghost use Rattle.cml_grammar.specs.Script.{Lines};
+
+    ghost Value = { Lines };
+
+    ghost use Rattle.cml_grammar.specs.Reading.{view_of, IsReadSoFar};
+
+    ghost view = { λ r. view_of 1 r.declarations.items r.steps.items };
+
+    ghost invariant = { λ r. IsReadSoFar (view_of 1 r.declarations.items r.steps.items) r.names.entries r.declarations.items r.steps.items r.threads };
+}
+
+fn is_bad_header(number: u64, line: &[u8]) -> bool
+    ensures { result ≡ is_bad_header number line.now }
+{
+    number == 1 && line != HEADER.as_slice()
+}
+
+/// Whether the line says something: it is not the header, and is not skipped.
+fn says(number: u64, line: &[u8]) -> bool
+    ensures { result ≡ says number line.now }
+{
+    number != 1 && !is_skipped(line)
+}
+
+impl Reading {
+    ghost use Rattle.std.specs.Prelude.{string_bytes, Some};
+    ghost use Rattle.cml_grammar.specs.Forms.{declaration, step, form_of};
+    ghost use Rattle.cml_grammar.specs.Faults.{start};
+    ghost use Rattle.cml_grammar.specs.Meaning.{scope_of, names_of};
+    ghost use Rattle.cml_grammar.specs.Reading.{with_words, with_next};
+
+    pub(crate) fn new(alloc: Global) -> Reading
+        ensures { result ≡ record { version = 1; declarations = []; steps = [] } }
+    {
+        Reading {
+            names: IndexMap::new(alloc),
+            threads: 0,
+            declarations: Vec::new(alloc),
+            steps: Vec::new(alloc),
+        }
+    }
+
+    pub(crate) fn read_line(
+        &mut self,
+        alloc: Global,
+        number: u64,
+        line: &[u8],
+    ) -> Result<(), What>
+        ensures fits { OnOk result (fault_in (scope_of self.old) number line.now ≡ None) }
+        ensures lines { OnOk result (self.new ≡ with_next self.old number line.now) }
+        ensures scope { OnOk result (scope_of self.new ≡ after (scope_of self.old) number line.now) }
+        ensures fault { IfErr result (λ what. IsWhat what (fault_in (scope_of self.old) number line.now)) }
+    {
+        if has_bad_byte(line) {
+            return Err(What::BadBytes);
+        }
+        if is_bad_header(number, line) {
+            return Err(What::BadHeader);
+        }
+        if !says(number, line) {
+            return Ok(());
+        }
+        match str::from_utf8(line) {
+            Ok(text) => self.read_words(alloc, number, text),
+            Err(_) => unreachable!(),
+        }
+    }
+
+    fn read_words(&mut self, alloc: Global, number: u64, text: &str) -> Result<(), What>
+        ensures fits { OnOk result (fault_in_words (scope_of self.old) (words_of text.now) ≡ None) }
+        ensures lines { OnOk result (self.new ≡ with_words self.old number text.now) }
+        ensures scope { OnOk result (scope_of self.new ≡ after_words (scope_of self.old) (words_of text.now)) }
+        ensures fault { IfErr result (λ what. IsWhat what (fault_in_words (scope_of self.old) (words_of text.now))) }
+    {
+        let words = split_words(alloc, text)?;
+        if has_empty_word(&words) {
+            return Err(What::BadWords);
+        }
+        let form = Form::of_words(&self.names, &words);
+        let started = !self.steps.is_empty();
+        if let Some(what) = fault_in_form(&self.names, self.threads, started, &form) {
+            return Err(what);
+        }
+        let text = String::from_str(alloc, text)?;
+        let line = Line { number, text };
+        match form {
+            Form::Declaration(declares, [name]) => self.declare(alloc, line, declares, name),
+            Form::Step(seat, verb, rest) => self.step(line, seat, verb, rest),
+            _ => unreachable!(),
+        }
+    }
+
+    /// Adds a declaration that is without fault. An `Err` is for want of memory, and changes nothing.
+    fn declare(
+        &mut self,
+        alloc: Global,
+        line: Line,
+        declares: Declares,
+        name: &str,
+    ) -> Result<(), What>
+        requires fits { fault_in_words (scope_of self.old) (words_of (string_bytes line.text)) ≡ None }
+        requires form { form_of (names_of self.old) (words_of (string_bytes line.text)) ≡ declaration declares (name.now ∷ []) }
+        ensures lines { OnOk result (self.new ≡ with_words self.old line.number (string_bytes line.text)) }
+        ensures scope { OnOk result (scope_of self.new ≡ after_words (scope_of self.old) (words_of (string_bytes line.text))) }
+        ensures memory { IfErr result (λ what. what ≡ What.Memory) }
+    {
+        let named = named_by(declares, self.threads);
+        let threads = threads_with(declares, self.threads);
+        let makes = makes_by(declares);
+        let name = String::from_str(alloc, name)?;
+        self.declarations.reserve(1)?;
+        self.names.insert(name, named)?;
+        self.declarations.push_reserved(Declaration { line, makes });
+        self.threads = threads;
+        Ok(())
+    }
+
+    /// Adds a step that is without fault. An `Err` is for want of memory, and changes nothing.
+    fn step(&mut self, line: Line, seat: u64, verb: Verb, rest: &[&str]) -> Result<(), What>
+        requires fits { fault_in_words (scope_of self.old) (words_of (string_bytes line.text)) ≡ None }
+        requires form { form_of (names_of self.old) (words_of (string_bytes line.text)) ≡ step seat verb (map (λ w. w.now) rest.now) }
+        ensures lines { OnOk result (self.new ≡ with_words self.old line.number (string_bytes line.text)) }
+        ensures scope { OnOk result (scope_of self.new ≡ after_words (scope_of self.old) (words_of (string_bytes line.text))) }
+        ensures memory { IfErr result (λ what. what ≡ What.Memory) }
+    {
+        let action = action_by(&self.names, verb, rest);
+        self.steps.push(Step { line, seat, action })?;
+        Ok(())
+    }
+
+    /// The script of these lines.
+    pub(crate) fn into_script(self) -> Script
+        requires few { length self.declarations ≤ 1048576 }
+        requires short { length self.steps ≤ 1048576 }
+        ensures { result ≡ self }
+    {
+        let Reading {
+            names,
+            threads: _,
+            declarations,
+            steps,
+        } = self;
+        Script::new(1, names, declarations, steps)
+    }
+}
