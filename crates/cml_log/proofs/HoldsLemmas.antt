@@ -1,5 +1,5 @@
 -- Lemmas on what a log holds of the items that were ever pushed, for this crate and its callers.
-use Rattle.std.proofs.Common.{◌≡◌, ℕ, zero, suc, ◌+◌, ◌-◌, ◌*◌, ◌/◌, ◌<◌, ◌≤◌, List, [], ◌∷◌, ◌++◌, length, drop, Some, None, refl, sym, ap, ◌∙◌, arith}
+use Rattle.std.proofs.Common.{◌≡◌, ℕ, zero, suc, ◌+◌, ◌-◌, ◌*◌, ◌/◌, ◌<◌, ◌≤◌, List, [], ◌∷◌, ◌++◌, length, drop, Some, None, refl, sym, ap, subst, ◌∙◌, arith}
 use Rattle.std.proofs.Math.Nat.{mul-div-le, zero-div}
 use Rattle.std.proofs.lemmas.List.{length-append, length-drop, drop-drop, drop-append-le}
 use Rattle.std.specs.List.{slice_get}
@@ -68,23 +68,26 @@ module _ {T : Type 0} where
       Holds-from_tidy chunk (trimmed chunk l) stream (IsTidy-trimmed chunk l ready) (next_of-trimmed chunk l ready.kept ∙ same) (kept-trimmed chunk l stream ready.kept shown)
 
   -- a push adds to the stream
-  pub Holds-push : (chunk : ℕ) (l : Log T) (stream : List T) (item : T) → Holds chunk l stream → Holds chunk (trimmed chunk (with_item l item)) (stream ++ item ∷ [])
-  Holds-push chunk l stream item holds =
-      let low = Holds-first_le chunk l stream holds in
-      let shown : l.kept ++ item ∷ [] ≡ drop l.first (stream ++ item ∷ []) =
-      ap (λ ks. ks ++ item ∷ []) holds.kept ∙ sym (drop-append-le l.first stream (item ∷ []) low) in
-      let same : next_of (with_item l item) ≡ length (stream ++ item ∷ []) =
-      omega (arith, Holds-next chunk l stream holds, length-append l.kept (item ∷ []), length-append stream (item ∷ [])) in
-      Holds-trimmed chunk (with_item l item) (stream ++ item ∷ []) (IsTrimmable-with_item chunk l item (Holds-tidy chunk l stream holds)) same shown
+  pub Holds-push : (chunk : ℕ) (old new : Log T) (stream : List T) (item : T) → Holds chunk old stream → new ≡ trimmed chunk (with_item old item) → Holds chunk new (stream ++ item ∷ [])
+  Holds-push chunk old new stream item holds changed =
+      let low = Holds-first_le chunk old stream holds in
+      let shown : old.kept ++ item ∷ [] ≡ drop old.first (stream ++ item ∷ []) =
+          ap (λ ks. ks ++ item ∷ []) holds.kept ∙ sym (drop-append-le old.first stream (item ∷ []) low) in
+      let same : next_of (with_item old item) ≡ length (stream ++ item ∷ []) =
+          omega (arith, Holds-next chunk old stream holds, length-append old.kept (item ∷ []), length-append stream (item ∷ [])) in
+      subst (λ l. Holds chunk l (stream ++ item ∷ [])) (sym changed)
+        (Holds-trimmed chunk (with_item old item) (stream ++ item ∷ []) (IsTrimmable-with_item chunk old item (Holds-tidy chunk old stream holds)) same shown)
 
   -- each other change leaves it
-  pub Holds-advance : (chunk : ℕ) (l : Log T) (stream : List T) (key : ℕ) → Holds chunk l stream → IsOpen l key → 0 < length (owed_items l key) → Holds chunk (trimmed chunk (with_place l key (Some (place_of l key + 1)))) stream
-  Holds-advance chunk l stream key holds opened owed =
-      Holds-trimmed chunk (with_place l key (Some (place_of l key + 1))) stream (IsTrimmable-advance chunk l key (Holds-tidy chunk l stream holds) opened owed) (Holds-next chunk l stream holds) holds.kept
+  pub Holds-advance : (chunk : ℕ) (old new : Log T) (stream : List T) (key : ℕ) → Holds chunk old stream → IsOpen old key → 0 < length (owed_items old key) → new ≡ trimmed chunk (with_place old key (Some (place_of old key + 1))) → Holds chunk new stream
+  Holds-advance chunk old new stream key holds opened owed changed =
+      subst (λ l. Holds chunk l stream) (sym changed)
+        (Holds-trimmed chunk (with_place old key (Some (place_of old key + 1))) stream (IsTrimmable-advance chunk old key (Holds-tidy chunk old stream holds) opened owed) (Holds-next chunk old stream holds) holds.kept)
 
-  pub Holds-close : (chunk : ℕ) (l : Log T) (stream : List T) (key : ℕ) → Holds chunk l stream → IsOpen l key → Holds chunk (trimmed chunk (with_place l key None)) stream
-  Holds-close chunk l stream key holds opened =
-      Holds-trimmed chunk (with_place l key None) stream (IsTrimmable-close chunk l key (Holds-tidy chunk l stream holds) opened) (Holds-next chunk l stream holds) holds.kept
+  pub Holds-close : (chunk : ℕ) (old new : Log T) (stream : List T) (key : ℕ) → Holds chunk old stream → IsOpen old key → new ≡ trimmed chunk (with_place old key None) → Holds chunk new stream
+  Holds-close chunk old new stream key holds opened changed =
+      subst (λ l. Holds chunk l stream) (sym changed)
+        (Holds-trimmed chunk (with_place old key None) stream (IsTrimmable-close chunk old key (Holds-tidy chunk old stream holds) opened) (Holds-next chunk old stream holds) holds.kept)
 
   Holds-opened : (chunk : ℕ) (old new : Log T) (stream : List T) (key place : ℕ) → Holds chunk old stream → Opens old new key place → IsTidy chunk new → Holds chunk new stream
   Holds-opened chunk old new stream key place holds opens tidy =

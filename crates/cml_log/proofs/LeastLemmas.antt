@@ -48,6 +48,15 @@ least-stands end (Some place ∷ rest) =
       | inr found ↦ inr (suc found.0, found.1)
     ]
 
+-- those three facts tell the least place
+pub least-is : (end low : ℕ) (places : List (Option ℕ)) → low ≤ end → ((key place : ℕ) → get_or places key None ≡ Some place → low ≤ place) → (low ≡ end) ⊎ ((key : ℕ) × (get_or places key None ≡ Some low)) → least end places ≡ low
+least-is end low places high below stands =
+    let up = least-ge low end places high below in
+    elim stands [
+      | inl last ↦ omega (arith, least-le_end end places)
+      | inr found ↦ omega (arith, least-le_place end places found.0 low found.1)
+    ]
+
 -- without an open cursor the least place is the end
 pub least-vacant : (end : ℕ) (places : List (Option ℕ)) → ((key : ℕ) → get_or places key None ≡ None) → least end places ≡ end
 least-vacant end places vacant =
