@@ -3,6 +3,8 @@ pub mod KeepingLemmas
 pub mod ListLemmas
 pub mod MeaningLemmas
 pub mod NameLemmas
+pub mod PartsLemmas
 pub mod ReadingLemmas
+pub mod ScriptLaws
 pub mod TableLemmas
 pub mod WordLemmas

@@ -1,9 +1,10 @@
 -- What `list_any`, `position` and `slice_get` give on a mapped list, one item at a time, and on a longer list.
-use Rattle.std.proofs.Common.{◌≡◌, ℕ, zero, suc, ◌+◌, ◌<◌, Bool, true, false, not, cond, ◌||◌, nat_lt, List, [], ◌∷◌, ◌++◌, length, map, slice_get, position, Option, Some, None, is_some, refl, sym, ap, ◌∙◌, arith, one-add, ◌⊎◌, inl, inr}
-use Rattle.std.specs.List.{list_any, position_or_len, zip}
+use Rattle.std.proofs.Common.{◌≡◌, ℕ, zero, suc, ◌+◌, ◌<◌, Bool, true, false, not, cond, ◌||◌, nat_lt, List, [], ◌∷◌, ◌++◌, length, map, slice_get, position, Option, Some, None, is_some, refl, sym, ap, ◌∙◌, arith, one-add, take, drop, ◌⊎◌, inl, inr}
+use Rattle.std.specs.List.{list_any, position_or_len, zip, slice_split, onto_first}
 use Rattle.std.specs.Option.{option_map}
-use Rattle.std.proofs.lemmas.Option.{none-some, same_Some}
-use Rattle.std.proofs.lemmas.Bool.{lt-ltb}
+use Rattle.std.proofs.lemmas.Option.{none-some, same_Some, cond_some}
+use Rattle.std.proofs.lemmas.Bool.{lt-ltb, ltb-true}
+use Rattle.std.proofs.lemmas.List.Splits.{slice_split-cons_no, slice_split_first}
 use Rattle.std.proofs.lemmas.Bool.Decides.{nat_tests}
 
 pub list_any-map : {X Y : Type 0} (f : X → Y) (test : Y → Bool) (xs : List X) → list_any test (map f xs) ≡ list_any (λ x. test (f x)) xs
@@ -49,3 +50,22 @@ slice_get-push-cases [] x (suc i) y h = absurd (none-some y h)
 slice_get-push-cases (z ∷ xs) x zero y h = inl h
 slice_get-push-cases (z ∷ xs) x (suc i) y h =
     elim (slice_get-push-cases xs x i y h) [ | inl a ↦ inl a | inr b ↦ inr (ap suc b.0, b.1) ]
+
+-- ---- how a list is split at the first item that passes
+pub slice_split-none : {X : Type 0} (p : X → Bool) (xs : List X) → position p xs ≡ None → slice_split p xs ≡ xs ∷ []
+slice_split-none p [] h = refl
+slice_split-none p (x ∷ xs) h = by (p x) refl (λ e. slice_split-none p xs e) (sym (position-cons p x xs) ∙ h)
+  where
+    inner : (r : Option ℕ) → position p xs ≡ r → option_map suc r ≡ None → position p xs ≡ None
+    inner None e f = e
+    inner (Some i) e f = absurd (none-some (suc i) (sym f))
+
+    by : (b : Bool) → p x ≡ b → (position p xs ≡ None → slice_split p xs ≡ xs ∷ []) → cond b (Some 0) (option_map suc (position p xs)) ≡ None → slice_split p (x ∷ xs) ≡ (x ∷ xs) ∷ []
+    by true e rest f = absurd (none-some 0 (sym f))
+    by false e rest f = slice_split-cons_no p x xs e ∙ ap (onto_first x) (rest (inner (position p xs) refl f))
+
+pub slice_split-some : (p : ℕ → Bool) (xs : List ℕ) (i : ℕ) → position p xs ≡ Some i → slice_split p xs ≡ take i xs ∷ slice_split p (drop (i + 1) xs)
+slice_split-some p xs i h =
+    let found = cond_some (nat_lt (position_or_len p xs) (length xs)) (position_or_len p xs) i h in
+    slice_split_first p xs 0 (ltb-true _ _ found.0)
+    ∙ ap (λ n. take n xs ∷ slice_split p (drop (n + 1) xs)) found.1

@@ -1,5 +1,9 @@
 -- Names and numbers: what the look-ups of a map of texts give, and which words are numbers.
 use Rattle.std.proofs.Common.{◌≡◌, ◌≢◌, ℕ, zero, suc, ◌^◌, ◌<◌, ◌≤◌, ◌+◌, Bool, true, false, not, cond, ◌&&◌, ◌||◌, ◌==◌, nat_eq, nat_lt, eqb, ltb, List, [], ◌∷◌, ◌++◌, length, map, slice_get, position, Option, Some, None, is_some, Result, Ok, Err, refl, sym, ap, ◌∙◌, arith, rules, get_or, eq-eqb, if◌then◌else◌, String, string_bytes, nat_le, true≢false}
+use Rattle.std.proofs.Common.{◌⊎◌, inl, inr, subst}
+use Rattle.std.specs.Fmt.{decimal}
+use Rattle.std.proofs.lemmas.Fmt.{decimal-digits_value, digits_decimal, digits_value-decimal, decimal_nonempty, first_decimal, decimal_digit}
+use Rattle.std.proofs.lemmas.Bool.{or_cases, cases_lt}
 use Rattle.std.specs.Global.{Global}
 use Rattle.std.specs.List.{list_any, list_all}
 use Rattle.std.specs.Option.{option_map, option_and_then}
@@ -141,3 +145,32 @@ number_from_parse {E} (b ∷ bs) r parses some zeroth plus =
         ap Some h.1 ∙ sym (ap (λ t. if t then Some (digits_value 10 word) else None) (is_it ∙ and_from _ _ h.0.0 (lt-ltb _ _ h.0.2)))
     by (Err e) h = sym (ap (λ t. if t then Some (digits_value 10 word) else None) (is_it ∙ false_from_ne_true _ (λ t.
         let parts = and_parts _ _ t in h (parts.0, some, ltb-true _ _ parts.1))))
+
+-- ---- a number's word, and what a number prints as
+number_from_digits : (ds : List ℕ) → all_ascii_digits ds ≡ true → 0 < length ds → (get_or ds 0 0 ≡ 48 → length ds ≡ 1) → digits_value 10 ds < 2 ^ 64 → is_number ds ≡ true
+number_from_digits [] digits some lone small = absurd (omega arith)
+number_from_digits (b ∷ bs) digits some lone small = and_from _ _ (and_from _ _ digits (begins (b == 48) refl)) (lt-ltb _ _ small)
+  where
+    begins : (t : Bool) → (b == 48) ≡ t → (not t || length bs == 0) ≡ true
+    begins false e = refl
+    begins true e = eq-eqb (length bs) 0 (omega (arith, lone (eqb-true b 48 e)))
+
+pub printed_number : (word : List ℕ) → is_number word ≡ true → word ≡ decimal (digits_value 10 word)
+printed_number [] h = absurd (true≢false (sym h))
+printed_number (b ∷ bs) h =
+    let whole = and_parts _ _ h in
+    let front = and_parts _ _ whole.0 in
+    sym (decimal-digits_value (numerals_by_value _ tells_all_ascii_digits) (b ∷ bs) front.0 (omega arith) (λ e. lone e (or_cases _ _ front.1)) (ltb-true _ _ whole.1))
+  where
+    lone : b ≡ 48 → (not (b == 48) ≡ true) ⊎ ((length bs == 0) ≡ true) → length (b ∷ bs) ≡ 1
+    lone e (inl n) = absurd (true≢false (sym n ∙ ap not (eq-eqb b 48 e)))
+    lone e (inr z) = omega (arith, eqb-true (length bs) 0 z)
+
+pub read_number : (n : ℕ) → n < 2 ^ 64 → is_number (decimal n) ≡ true
+read_number n small =
+    let own = numerals_by_value _ tells_all_ascii_digits in
+    number_from_digits (decimal n) (digits_decimal own n small) (decimal_nonempty n small) (λ e. lone e (cases_lt 0 n)) (subst (λ (m : ℕ). m < 2 ^ 64) (sym (digits_value-decimal own n small)) small)
+  where
+    lone : get_or (decimal n) 0 0 ≡ 48 → (0 < n) ⊎ (n ≤ 0) → length (decimal n) ≡ 1
+    lone e (inl above) = absurd (omega (arith, first_decimal n above small, e))
+    lone e (inr zeroth) = ap length (decimal_digit n (omega (arith, zeroth)))

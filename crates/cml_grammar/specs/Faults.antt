@@ -141,6 +141,11 @@ after scope k line = if says k line then after_words scope (words_of line) else 
 abbrev pub at_line : ℕ → What → Fault
 at_line k what = record { line = k; what = what }
 
+-- the same, but for want of memory, which concerns no line
+abbrev pub fault_at : ℕ → What → Fault
+fault_at k Memory = at_line 0 Memory
+fault_at k what = at_line k what
+
 -- what is wrong with the last part, which no line end follows: nothing where it is empty, but for a text with no line
 abbrev pub fault_at_end : ℕ → List ℕ → Option Fault
 fault_at_end k part =

@@ -8,3 +8,4 @@ pub mod Reading
 pub mod Shown
 pub mod Flaws
 pub mod Suiting
+pub mod Laws

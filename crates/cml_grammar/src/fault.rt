@@ -1,6 +1,7 @@
 //! What is wrong with a script, and on which line.
 ghost use Rattle.std.specs.Prelude.{◌≡◌};
 ghost use Rattle.cml_grammar.specs.declared.fault.What.TheVariants.{Memory};
+ghost use Rattle.cml_grammar.specs.Faults.{fault_at};
 
 use std::alloc::{AllocError, AllocFailed};
 use std::error::Error;
@@ -56,6 +57,16 @@ pub enum What {
 pub struct Fault {
     pub line: u64,
     pub what: What,
+}
+
+impl What {
+    /// The fault of this at a line, or at none where it concerns none.
+    pub(crate) fn at(self, line: u64) -> Fault
+        ensures { result ≡ fault_at line self }
+    {
+        let line = if self == What::Memory { 0 } else { line };
+        Fault { line, what: self }
+    }
 }
 
 impl From<AllocError> for What {
