@@ -53,7 +53,7 @@ module _ (v : ℕ) (now : Lines) (m : Names) (ds ds' : List Declaration) (ss : L
       let entries = ap texts_of inserted ∙ inserted_texts m key n name same fresh ∙ ap (λ k. texts_of m.entries ++ (name, k) ∷ []) named in
       let whole = declared_so_far v m.entries ds ss threads d what name so_far before.fits before.form before.makes es' entries in
       subst (λ (t : ℕ). IsReadSoFar (view_of v ds' ss) es' ds' ss t) (sym counted)
-        (subst (λ (xs : List Declaration). IsReadSoFar (view_of v xs ss) es' xs ss (threads + threads_by what)) (sym pushed) whole)
+      (subst (λ (xs : List Declaration). IsReadSoFar (view_of v xs ss) es' xs ss (threads + threads_by what)) (sym pushed) whole)
 
   pub declared_scopes : scope_of (view_of v ds' ss) ≡ after_words (scope_of now) (words_of (string_bytes d.line.text))
   declared_scopes =
@@ -87,7 +87,7 @@ module _ (v : ℕ) (now : Lines) (es : List (String Global × Named)) (ds : List
   pub asked_closes : IsReadSoFar (view_of v ds ss') es ds ss' threads
   asked_closes =
       subst (λ (xs : List Step). IsReadSoFar (view_of v ds xs) es ds xs threads) (sym pushed)
-        (asked_so_far v es ds ss threads s verb rest so_far before_step.fits before_step.form means (subst (λ gs. UsesWell gs s.action) so_far.names uses))
+      (asked_so_far v es ds ss threads s verb rest so_far before_step.fits before_step.form means (subst (λ gs. UsesWell gs s.action) so_far.names uses))
 
   pub asked_scopes : scope_of (view_of v ds ss') ≡ after_words (scope_of now) (words_of (string_bytes s.line.text))
   asked_scopes =

@@ -63,9 +63,9 @@ declaration_line names (word ∷ words) what rest h =
           let left : words ≡ rest = cc in
           record { word = word; is = ap (λ ws. word ∷ ws) left; declares = a.1 ∙ ap Some same }
       | inr b ↦ absurd (elim (chosen (seat_of names word) (λ seat. step_form seat words) unknown) [
-          | inl s ↦ not_declaration s.0 words what rest (sym s.2 ∙ sym b.1 ∙ h)
-          | inr n ↦ let e : unknown ≡ declaration what rest = sym n.1 ∙ sym b.1 ∙ h in cc
-        ])
+        | inl s ↦ not_declaration s.0 words what rest (sym s.2 ∙ sym b.1 ∙ h)
+        | inr n ↦ let e : unknown ≡ declaration what rest = sym n.1 ∙ sym b.1 ∙ h in cc
+      ])
     ]
 
 step_line_from : (names : List Given) (thread : List ℕ) (given seat : ℕ) (words : List (List ℕ)) (verb : Verb) (rest : List (List ℕ)) → seat_of names thread ≡ Some given → step_form given words ≡ step seat verb rest → IsStepLine names (thread ∷ words) seat verb rest
@@ -87,9 +87,9 @@ step_line names (word ∷ words) seat verb rest h =
     elim (chosen (declares_of word) (λ d. declaration d words) (option_map_or (λ seat. step_form seat words) (seat_of names word) unknown)) [
       | inl a ↦ absurd (let e : declaration a.0 words ≡ step seat verb rest = sym a.2 ∙ h in cc)
       | inr b ↦ elim (chosen (seat_of names word) (λ seat. step_form seat words) unknown) [
-          | inl s ↦ step_line_from names word s.0 seat words verb rest s.1 (sym s.2 ∙ sym b.1 ∙ h)
-          | inr n ↦ absurd (let e : unknown ≡ step seat verb rest = sym n.1 ∙ sym b.1 ∙ h in cc)
-        ]
+        | inl s ↦ step_line_from names word s.0 seat words verb rest s.1 (sym s.2 ∙ sym b.1 ∙ h)
+        | inr n ↦ absurd (let e : unknown ≡ step seat verb rest = sym n.1 ∙ sym b.1 ∙ h in cc)
+      ]
     ]
 
 -- the name that a declaration without fault gives does not stand yet
@@ -120,9 +120,9 @@ seats_push names word what seats =
     let count = thread_count names in
     let grown : count + threads_by what ≡ thread_count (names ++ (word, named_by what count) ∷ []) = sym (thread_count-push names word what count) in
     subst (λ n. All (λ (g : Given). IsSeatedWithin n g.1) (names ++ (word, named_by what count) ∷ [])) grown
-      (All-push (λ (g : Given). IsSeatedWithin (count + threads_by what) g.1) names (word, named_by what count)
-        (All-weaker (λ (g : Given). IsSeatedWithin count g.1) (λ (g : Given). IsSeatedWithin (count + threads_by what) g.1) (λ g h. seated_more count (count + threads_by what) (omega arith) g.1 h) names seats)
-        (seated_new what count))
+    (All-push (λ (g : Given). IsSeatedWithin (count + threads_by what) g.1) names (word, named_by what count)
+    (All-weaker (λ (g : Given). IsSeatedWithin count g.1) (λ (g : Given). IsSeatedWithin (count + threads_by what) g.1) (λ g h. seated_more count (count + threads_by what) (omega arith) g.1 h) names seats)
+    (seated_new what count))
 
 GivesAt-append : (names more : List Given) (at : ℕ) (word : List ℕ) (made : Makes) → GivesAt names at word made → GivesAt (names ++ more) at word made
 GivesAt-append names more at word makes.Thread h = (h.0, slice_get-append names more at _ h.1)
@@ -141,8 +141,8 @@ GivesNames-push names ds word what threads d rest h second makes = record {
     | inl before ↦ let g = h.each i x before in (g.0, g.1, GivesAt-append names _ i g.0 x.makes g.2)
     | inr last ↦
         subst (λ (n : ℕ). Gives (names ++ (word, named_by what threads) ∷ []) n x) (h.one_each ∙ sym last.0)
-          (subst (Gives (names ++ (word, named_by what threads) ∷ []) (length names)) (sym last.1)
-            (word, second, GivesAt-new names word what threads d.makes rest makes))
+        (subst (Gives (names ++ (word, named_by what threads) ∷ []) (length names)) (sym last.1)
+        (word, second, GivesAt-new names word what threads d.makes rest makes))
   ];
 }
 
@@ -205,7 +205,7 @@ module _ (v : ℕ) (es : List (String Global × Named)) (ds : List Declaration) 
   declared_so_far es' entries = record {
     names = entries ∙ ap (λ gs. gs ++ (name, named_by what threads) ∷ []) so_far.names ∙ ap (λ n. names_of (view_of v ds ss) ++ (name, named_by what n) ∷ []) so_far.count ∙ sym declared_names;
     gives = subst (λ gs. GivesNames gs (ds ++ d ∷ [])) (sym declared_names)
-      (GivesNames-push (names_of (view_of v ds ss)) ds name what (thread_count (names_of (view_of v ds ss))) d (name ∷ []) so_far.gives (ap (λ ws. slice_get ws 1) line.is) (makes (name ∷ [])));
+        (GivesNames-push (names_of (view_of v ds ss)) ds name what (thread_count (names_of (view_of v ds ss))) d (name ∷ []) so_far.gives (ap (λ ws. slice_get ws 1) line.is) (makes (name ∷ [])));
     declarations = All-push ReadsDeclaration ds d so_far.declarations reads;
     steps = subst (All (ReadsStep (names_of (view_of v (ds ++ d ∷ []) ss)))) (sym no_step_seen) (All-nil (ReadsStep (names_of (view_of v (ds ++ d ∷ []) ss))));
     count = ap (λ n. n + threads_by what) so_far.count ∙ sym (thread_count-push (names_of (view_of v ds ss)) name what (thread_count (names_of (view_of v ds ss)))) ∙ ap thread_count (sym declared_names);
@@ -218,8 +218,8 @@ module _ (v : ℕ) (es : List (String Global × Named)) (ds : List Declaration) 
 seated_from : (names : List Given) (n : ℕ) (thread : List ℕ) (seat : ℕ) → All (λ g. IsSeatedWithin n g.1) names → seat_of names thread ≡ Some seat → (1 ≤ seat) × (seat ≤ n)
 seated_from names n thread seat seats h =
     option_and_then_some seat_in (named names thread) seat h (λ k found is.
-      option_and_then_some (λ i. option_map (λ g. g.1) (slice_get names i)) (position_of names thread) k found (λ i at meant.
-        within (slice_get names i) i k refl meant is))
+    option_and_then_some (λ i. option_map (λ g. g.1) (slice_get names i)) (position_of names thread) k found (λ i at meant.
+    within (slice_get names i) i k refl meant is))
   where
     seat_within : (k : Named) → seat_in k ≡ Some seat → IsSeatedWithin n k → (1 ≤ seat) × (seat ≤ n)
     seat_within (called.Thread s) e w = subst (λ (m : ℕ). (1 ≤ m) × (m ≤ n)) (same_Some _ _ e) w

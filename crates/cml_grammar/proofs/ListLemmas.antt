@@ -49,7 +49,7 @@ slice_get-push-cases [] x zero y h = inr (refl, sym (same_Some x y h))
 slice_get-push-cases [] x (suc i) y h = absurd (none-some y h)
 slice_get-push-cases (z ∷ xs) x zero y h = inl h
 slice_get-push-cases (z ∷ xs) x (suc i) y h =
-    elim (slice_get-push-cases xs x i y h) [ | inl a ↦ inl a | inr b ↦ inr (ap suc b.0, b.1) ]
+    elim (slice_get-push-cases xs x i y h) [ inl a ↦ inl a | inr b ↦ inr (ap suc b.0, b.1) ]
 
 -- ---- how a list is split at the first item that passes
 pub slice_split-none : {X : Type 0} (p : X → Bool) (xs : List X) → position p xs ≡ None → slice_split p xs ≡ xs ∷ []

@@ -110,8 +110,8 @@ number_zero (b ∷ []) h = sym (ap (λ d. number_in (d ∷ [])) h)
 number_zero (b ∷ d ∷ ds) h =
     ap (λ t. if t then Some 0 else None) (ne_eqb (length (b ∷ d ∷ ds)) 1 (λ e. omega arith))
     ∙ sym (ap (λ x. number_in (x ∷ d ∷ ds)) h
-        ∙ ap (λ t. if all_ascii_digits (d ∷ ds) && t && nat_lt (digits_value 10 (48 ∷ d ∷ ds)) (2 ^ 64) then Some (digits_value 10 (48 ∷ d ∷ ds)) else None) (ne_eqb (length (d ∷ ds)) 0 (λ e. omega arith))
-        ∙ by (all_ascii_digits (d ∷ ds)))
+    ∙ ap (λ t. if all_ascii_digits (d ∷ ds) && t && nat_lt (digits_value 10 (48 ∷ d ∷ ds)) (2 ^ 64) then Some (digits_value 10 (48 ∷ d ∷ ds)) else None) (ne_eqb (length (d ∷ ds)) 0 (λ e. omega arith))
+    ∙ by (all_ascii_digits (d ∷ ds)))
   where
     by : (t : Bool) → (if t && false && nat_lt (digits_value 10 (48 ∷ d ∷ ds)) (2 ^ 64) then Some (digits_value 10 (48 ∷ d ∷ ds)) else None) ≡ None
     by true = refl

@@ -110,7 +110,7 @@ pub record ReadsOn (text : List ℕ) (script : Lines) (k : ℕ) (rest : List ℕ
 
 pub reads_on-start : (text : List ℕ) (script : Lines) → script ≡ record { version = 1; declarations = []; steps = [] } → ReadsOn text script 1 text
 reads_on-start text script e = subst (λ (s : Lines). ReadsOn text s 1 text) (sym e)
-  (record { fault = refl; declared = refl; asked = refl; version = refl; few = omega arith; short = omega arith; place = omega arith })
+    (record { fault = refl; declared = refl; asked = refl; version = refl; few = omega arith; short = omega arith; place = omega arith })
 
 pub reads_on-line : (text : List ℕ) (script next : Lines) (k : ℕ) (rest line later : List ℕ) → ReadsOn text script k rest
     → parts_of rest ≡ line ∷ parts_of later → length later < length rest
@@ -128,21 +128,21 @@ reads_on-line text script next k rest line later so_far cut shorter fits read sc
     whole : ReadsOn text next (suc k) later
     whole = record {
       fault =
-        ap (λ (s : Scope). fault_from s (suc k) (parts_of later)) scope
-        ∙ sym (ap (fault_from (scope_of script) k) cut ∙ fault_from-line (scope_of script) k line later fits)
-        ∙ so_far.fault;
+          ap (λ (s : Scope). fault_from s (suc k) (parts_of later)) scope
+          ∙ sym (ap (fault_from (scope_of script) k) cut ∙ fault_from-line (scope_of script) k line later fits)
+          ∙ so_far.fault;
       declared =
-        ap (λ (s : Scope). next.declarations ++ declared_from s (suc k) (parts_of later)) scope
-        ∙ ap (λ ls. ls ++ declared_from (after (scope_of script) k line) (suc k) (parts_of later)) declarations
-        ∙ with_line-append _ (source k line) script.declarations (declared_from (after (scope_of script) k line) (suc k) (parts_of later))
-        ∙ ap (λ ls. script.declarations ++ ls) (sym (ap (declared_from (scope_of script) k) cut ∙ declared_from-line (scope_of script) k line later))
-        ∙ so_far.declared;
+          ap (λ (s : Scope). next.declarations ++ declared_from s (suc k) (parts_of later)) scope
+          ∙ ap (λ ls. ls ++ declared_from (after (scope_of script) k line) (suc k) (parts_of later)) declarations
+          ∙ with_line-append _ (source k line) script.declarations (declared_from (after (scope_of script) k line) (suc k) (parts_of later))
+          ∙ ap (λ ls. script.declarations ++ ls) (sym (ap (declared_from (scope_of script) k) cut ∙ declared_from-line (scope_of script) k line later))
+          ∙ so_far.declared;
       asked =
-        ap (λ (s : Scope). next.steps ++ asked_from s (suc k) (parts_of later)) scope
-        ∙ ap (λ ls. ls ++ asked_from (after (scope_of script) k line) (suc k) (parts_of later)) steps
-        ∙ with_line-append _ (source k line) script.steps (asked_from (after (scope_of script) k line) (suc k) (parts_of later))
-        ∙ ap (λ ls. script.steps ++ ls) (sym (ap (asked_from (scope_of script) k) cut ∙ asked_from-line (scope_of script) k line later))
-        ∙ so_far.asked;
+          ap (λ (s : Scope). next.steps ++ asked_from s (suc k) (parts_of later)) scope
+          ∙ ap (λ ls. ls ++ asked_from (after (scope_of script) k line) (suc k) (parts_of later)) steps
+          ∙ with_line-append _ (source k line) script.steps (asked_from (after (scope_of script) k line) (suc k) (parts_of later))
+          ∙ ap (λ ls. script.steps ++ ls) (sym (ap (asked_from (scope_of script) k) cut ∙ asked_from-line (scope_of script) k line later))
+          ∙ so_far.asked;
       version = ap (λ (s : Lines). s.version) read ∙ with_next-version script k line ∙ so_far.version;
       few = omega (arith, so_far.few, ap length declarations, with_line-length (says k line && is_declaration (form_of (names_of script) (words_of line))) (source k line) script.declarations);
       short = omega (arith, so_far.short, ap length steps, with_line-length (says k line && is_step (form_of (names_of script) (words_of line))) (source k line) script.steps);

@@ -34,9 +34,14 @@ pub says_from : (scope : Scope) (k : ℕ) (parts : List (List ℕ)) → 1 ≤ k 
 says_from scope k [] low some h = absurd (omega arith)
 says_from scope k (part ∷ []) low some h = let e = ends_well k part low h in (e.0, e.1, refl, refl)
 says_from scope k (line ∷ next ∷ more) low some h =
-    let e = not_some (fault_in scope k line) (at_line k) (fault_from (after scope k line) (suc k) (next ∷ more)) h in
-    (e.0, declared_from (after scope k line) (suc k) (next ∷ more), asked_from (after scope k line) (suc k) (next ∷ more), refl, refl,
-      says_from (after scope k line) (suc k) (next ∷ more) (omega arith) (omega arith) e.1)
+    let e = not_some (fault_in scope k line) (at_line k) (fault_from (after scope k line) (suc k) (next ∷ more)) h in (
+      e.0,
+      declared_from (after scope k line) (suc k) (next ∷ more),
+      asked_from (after scope k line) (suc k) (next ∷ more),
+      refl,
+      refl,
+      says_from (after scope k line) (suc k) (next ∷ more) (omega arith) (omega arith) e.1,
+    )
 
 -- what parts say leaves them without fault
 no_fault : (scope : Scope) (k : ℕ) (parts : List (List ℕ)) (declared asked : List SourceLine) → Says scope k parts declared asked → fault_from scope k parts ≡ None
@@ -52,9 +57,10 @@ said_once : (scope : Scope) (k : ℕ) (parts : List (List ℕ)) (d d' s s' : Lis
 said_once scope k [] d d' s s' h g = absurd h
 said_once scope k (part ∷ []) d d' s s' h g = (h.2 ∙ sym g.2, h.3 ∙ sym g.3)
 said_once scope k (line ∷ next ∷ more) d d' s s' h g =
-    let same = said_once (after scope k line) (suc k) (next ∷ more) h.1 g.1 h.2 g.2 h.5 g.5 in
-    (h.3 ∙ ap (with_line (says k line && is_declaration (form_of scope.names (words_of line))) (source k line)) same.0 ∙ sym g.3,
-      h.4 ∙ ap (with_line (says k line && is_step (form_of scope.names (words_of line))) (source k line)) same.1 ∙ sym g.4)
+    let same = said_once (after scope k line) (suc k) (next ∷ more) h.1 g.1 h.2 g.2 h.5 g.5 in (
+      h.3 ∙ ap (with_line (says k line && is_declaration (form_of scope.names (words_of line))) (source k line)) same.0 ∙ sym g.3,
+      h.4 ∙ ap (with_line (says k line && is_step (form_of scope.names (words_of line))) (source k line)) same.1 ∙ sym g.4,
+    )
 
 pub fault_of-short : (text : List ℕ) → length text ≤ 1048576 → fault_of text ≡ fault_from start 1 (parts_of text)
 fault_of-short text short = ap (λ t. if t then Some (at_line 0 TooLong) else fault_from start 1 (parts_of text)) (le-ltb 1048576 (length text) short)
@@ -75,9 +81,10 @@ faultless_script text h = by (nat_lt 1048576 (length text)) refl h
   where
     by : (t : Bool) → nat_lt 1048576 (length text) ≡ t → (if t then Some (at_line 0 TooLong) else fault_from start 1 (parts_of text)) ≡ None → (script : Lines) × IsScript text script
     by true e f = absurd (none-some (at_line 0 TooLong) (sym f))
-    by false e f =
-        (record { version = 1; declarations = declared_from start 1 (parts_of text); steps = asked_from start 1 (parts_of text) },
-          record { short = ltb-false 1048576 (length text) e; version = refl; says = says_from start 1 (parts_of text) (omega arith) (parts-some text) f })
+    by false e f = (
+      record { version = 1; declarations = declared_from start 1 (parts_of text); steps = asked_from start 1 (parts_of text) },
+      record { short = ltb-false 1048576 (length text) e; version = refl; says = says_from start 1 (parts_of text) (omega arith) (parts-some text) f },
+    )
 
 -- ---- the end of the reading
 pub reads_all : (text : List ℕ) (script : Lines) (k : ℕ) (rest : List ℕ) → length text ≤ 1048576 → ReadsOn text script k rest → parts_of rest ≡ rest ∷ [] → fault_at_end k rest ≡ None → IsScript text script
@@ -89,7 +96,7 @@ reads_all text script k rest short so_far last none =
       short = short;
       version = so_far.version;
       says = subst (λ ds. Says start 1 (parts_of text) ds script.steps) declared
-        (subst (λ ss. Says start 1 (parts_of text) (declared_from start 1 (parts_of text)) ss) asked (says_from start 1 (parts_of text) (omega arith) (parts-some text) whole));
+          (subst (λ ss. Says start 1 (parts_of text) (declared_from start 1 (parts_of text)) ss) asked (says_from start 1 (parts_of text) (omega arith) (parts-some text) whole));
     }
 
 pub fault_at_last : (text : List ℕ) (script : Lines) (k : ℕ) (rest : List ℕ) (fault : Fault) → length text ≤ 1048576 → ReadsOn text script k rest → parts_of rest ≡ rest ∷ [] → fault_at_end k rest ≡ Some fault → IsFaultOf text fault

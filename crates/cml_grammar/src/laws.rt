@@ -4,30 +4,25 @@ ghost use Rattle.cml_grammar.specs.Laws.{ScriptsHaveNoFault, TextsAreOneScript, 
 /// A text that is a script has no fault.
 pub fn scripts_have_no_fault()
     ensures { ScriptsHaveNoFault }
-{
-}
+{}
 
 /// A text is at most one script.
 pub fn texts_are_one_script()
     ensures { TextsAreOneScript }
-{
-}
+{}
 
 /// A text without fault is a script.
 pub fn faultless_texts_are_scripts()
     ensures { FaultlessTextsAreScripts }
-{
-}
+{}
 
 /// A number's word is what the number prints as, and the other way round.
 pub fn numbers_are_as_printed()
     ensures printed { NumbersArePrinted }
     ensures read { PrintedNumbersAreRead }
-{
-}
+{}
 
 /// A line's words, with a space between each two, are the line.
 pub fn words_make_lines()
     ensures { WordsMakeLines }
-{
-}
+{}

@@ -21,3 +21,6 @@ pub use laws::{
 pub use names::Named;
 pub use read::read_script;
 pub use script::{Declaration, Line, Script, Step};
+
+#[cfg(test)]
+mod tests;

@@ -68,12 +68,7 @@ impl Reading {
         }
     }
 
-    pub(crate) fn read_line(
-        &mut self,
-        alloc: Global,
-        number: u64,
-        line: &[u8],
-    ) -> Result<(), What>
+    pub(crate) fn read_line(&mut self, alloc: Global, number: u64, line: &[u8]) -> Result<(), What>
         ensures fits { OnOk result (fault_in (scope_of self.old) number line.now ≡ None) }
         ensures lines { OnOk result (self.new ≡ with_next self.old number line.now) }
         ensures scope { OnOk result (scope_of self.new ≡ after (scope_of self.old) number line.now) }

@@ -9,8 +9,8 @@ pub returns-in-Err-clause-fault : goal.returns-in-Err-clause-fault
 returns-in-Err-clause-fault c =
     let l = c.loop-line in
     subst (IsFaultOf c.args.text.now) (sym c.at.ensures)
-      (fault_of_text c.args.text.now _ c.requires
-        (fault-line c.args.text.now l.reading l.number l.rest.now c.in-Some.line.now c.in-Some.later.now c.in-Err.what l.invariant c.in-Some.ensures.0 c.in-Err.ensures.fault))
+    (fault_of_text c.args.text.now _ c.requires
+    (fault-line c.args.text.now l.reading l.number l.rest.now c.in-Some.line.now c.in-Some.later.now c.in-Err.what l.invariant c.in-Some.ensures.0 c.in-Err.ensures.fault))
 
 pub loop-line-preserved : goal.loop-line-preserved
 loop-line-preserved c =

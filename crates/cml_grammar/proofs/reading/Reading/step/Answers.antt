@@ -13,19 +13,19 @@ pub action_by-action-requires : goal.action_by-action-requires
 action_by-action-requires c =
     let rest : List (List ℕ) = map (λ (w : Bor (List ℕ)). w.now) c.args.rest.now in
     subst (λ (gs : List Given). AllSuit gs (step_places c.args.verb) rest) (sym c.self.invariant.names)
-      (subst (λ (s : Lines). AllSuit (names_of s) (step_places c.args.verb) rest) (sym c.self.view_is)
-        (asked_suits c.args.self.now (words_of (string_bytes c.args.line.text)) c.args.seat c.args.verb rest c.requires.fits c.requires.form))
+    (subst (λ (s : Lines). AllSuit (names_of s) (step_places c.args.verb) rest) (sym c.self.view_is)
+    (asked_suits c.args.self.now (words_of (string_bytes c.args.line.text)) c.args.seat c.args.verb rest c.requires.fits c.requires.form))
 
 pub returns-clause-scope : goal.returns-clause-scope
 returns-clause-scope c =
     let i = c.self.inside in
     let s : Step = record { line = c.args.line; seat = c.args.seat; action = c.action_by-action.result } in
     asked_scopes 1 c.args.self.now i.names.entries i.declarations.items i.steps.items _ i.threads s c.args.verb (map (λ (w : Bor (List ℕ)). w.now) c.args.rest.now) c.self.view_is c.self.invariant
-      (record { fits = c.requires.fits; form = c.requires.form }) c.action_by-action.ensures.action c.action_by-action.ensures.uses c.in_ok-push.ensures.items
+    (record { fits = c.requires.fits; form = c.requires.form }) c.action_by-action.ensures.action c.action_by-action.ensures.uses c.in_ok-push.ensures.items
 
 pub invariant_of-self-2 : goal.invariant_of-self-2
 invariant_of-self-2 c =
     let i = c.self.inside in
     let s : Step = record { line = c.args.line; seat = c.args.seat; action = c.action_by-action.result } in
     asked_closes 1 c.args.self.now i.names.entries i.declarations.items i.steps.items _ i.threads s c.args.verb (map (λ (w : Bor (List ℕ)). w.now) c.args.rest.now) c.self.view_is c.self.invariant
-      (record { fits = c.requires.fits; form = c.requires.form }) c.action_by-action.ensures.action c.action_by-action.ensures.uses c.in_ok-push.ensures.items
+    (record { fits = c.requires.fits; form = c.requires.form }) c.action_by-action.ensures.action c.action_by-action.ensures.uses c.in_ok-push.ensures.items
