@@ -1,5 +1,5 @@
 -- The same, in the words of the code: what was inserted and pushed, and the value that was seen before.
-use Rattle.std.proofs.Common.{◌≡◌, ℕ, ◌+◌, List, [], ◌∷◌, ◌++◌, Option, Some, None, String, string_bytes, refl, sym, ap, ◌∙◌, subst}
+use Rattle.std.proofs.Common.{◌≡◌, ℕ, ◌+◌, List, [], ◌∷◌, ◌++◌, Some, None, String, string_bytes, sym, ap, ◌∙◌, subst}
 use Rattle.std.proofs.Common.{false}
 use Rattle.std.specs.Global.{Global}
 use Rattle.std.specs.String.{string_eq}
@@ -14,14 +14,14 @@ use Rattle.cml_grammar.specs.declared.script.Step.{Step}
 use Rattle.cml_grammar.specs.Words.{words_of}
 use Rattle.cml_grammar.specs.Names.{is_given}
 use Rattle.cml_grammar.specs.Forms.{declaration, step, form_of, step_places}
-use Rattle.cml_grammar.specs.Faults.{Scope, fault_in_words, after_words}
+use Rattle.cml_grammar.specs.Faults.{fault_in_words, after_words}
 use Rattle.cml_grammar.specs.Script.{Lines}
 use Rattle.cml_grammar.specs.Meaning.{scope_of, names_of, makes_by, action_by}
 use Rattle.cml_grammar.specs.Reading.{view_of, texts_of, UsesWell, IsReadSoFar, named_by, threads_by}
 use Rattle.cml_grammar.specs.Suiting.{AllSuit}
 use Rattle.cml_grammar.proofs.NameLemmas.{inserted_texts}
 use Rattle.cml_grammar.proofs.TableLemmas.{Passes, words_pass, all_suit-passes}
-use Rattle.cml_grammar.proofs.KeepingLemmas.{fresh_name, declared_passes, declared_scope, declared_so_far, asked_scope, asked_so_far}
+use Rattle.cml_grammar.proofs.KeepingLemmas.{fresh_name, declared_scope, declared_so_far, asked_scope, asked_so_far}
 
 abbrev Names : Type 0
 Names = IndexMap (String Global) Named (BuildHasherDefault FoldHasher)

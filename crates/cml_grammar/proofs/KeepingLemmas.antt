@@ -1,9 +1,8 @@
 -- What holds of the lines so far holds with one more declaration, and with one more step.
-use Rattle.std.proofs.Common.{◌≡◌, ℕ, zero, suc, ◌+◌, ◌<◌, ◌≤◌, ◌==◌, Bool, true, false, not, ◌&&◌, ◌||◌, List, [], ◌∷◌, ◌++◌, length, map, slice_get, nat_le, Option, Some, None, is_some, if◌then◌else◌, String, string_bytes, All, refl, sym, ap, ◌∙◌, subst, arith, inl, inr, ◌⊎◌}
+use Rattle.std.proofs.Common.{◌≡◌, ℕ, ◌+◌, ◌≤◌, ◌==◌, Bool, true, false, not, ◌&&◌, ◌||◌, List, [], ◌∷◌, ◌++◌, length, map, slice_get, nat_le, Option, Some, None, String, string_bytes, All, refl, sym, ap, ◌∙◌, subst, arith, inl, inr, ◌⊎◌}
 use Rattle.std.specs.Global.{Global}
-use Rattle.std.specs.Bool.{⊤}
 use Rattle.std.specs.Option.{option_map_or, option_and_then, option_map}
-use Rattle.std.proofs.lemmas.Bool.{or_right, or_parts, leb-false, ne_eqb, true≢false, eqb-true}
+use Rattle.std.proofs.lemmas.Bool.{or_right, or_parts, leb-false, ne_eqb}
 use Rattle.std.proofs.lemmas.List.{append-nil, length-append, length-map}
 use Rattle.std.proofs.lemmas.List.Sums.{sum_by_push}
 use Rattle.std.proofs.lemmas.List.Elements.{All-nil, All-push, All-weaker, All-get_or}
@@ -19,11 +18,10 @@ use Rattle.cml_grammar.specs.declared.script.Declaration.{Declaration}
 use Rattle.cml_grammar.specs.declared.script.Step.{Step}
 use Rattle.cml_grammar.specs.Words.{words_of}
 use Rattle.cml_grammar.specs.Names.{Given, thread_count, seat_in, seat_of, named, position_of, is_given}
-use Rattle.cml_grammar.specs.Forms.{Form, unknown, no_step, declaration, step, form_of, step_form, declares_of, verb_of}
-use Rattle.cml_grammar.specs.Faults.{Scope, fault_in_words, after_words, gives, is_declaration, is_step, declares_thread}
-use Rattle.cml_grammar.specs.Script.{Lines}
+use Rattle.cml_grammar.specs.Forms.{unknown, no_step, declaration, step, form_of, step_form, declares_of, verb_of}
+use Rattle.cml_grammar.specs.Faults.{Scope, fault_in_words, after_words, gives, is_step, declares_thread}
 use Rattle.cml_grammar.specs.Meaning.{scope_of, names_of, makes_by, makes_of, action_by, action_of, seat_of_step}
-use Rattle.cml_grammar.specs.Reading.{source_of, view_of, texts_of, IsSeatedWithin, GivesAt, Gives, GivesNames, ReadsDeclaration, ReadsStep, UsesWell, IsReadSoFar, named_by, threads_by, with_words}
+use Rattle.cml_grammar.specs.Reading.{source_of, view_of, texts_of, IsSeatedWithin, GivesAt, Gives, GivesNames, ReadsDeclaration, ReadsStep, UsesWell, IsReadSoFar, named_by, threads_by}
 use Rattle.cml_grammar.proofs.ListLemmas.{slice_get-append, slice_get-push, slice_get-push-cases}
 use Rattle.cml_grammar.proofs.TableLemmas.{Passes, words_pass}
 use Rattle.cml_grammar.proofs.ReadingLemmas.{no_steps, scope_of-with_words, view-declaration, view-step}

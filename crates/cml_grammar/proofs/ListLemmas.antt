@@ -1,5 +1,5 @@
 -- What `list_any`, `position` and `slice_get` give on a mapped list, one item at a time, and on a longer list.
-use Rattle.std.proofs.Common.{◌≡◌, ℕ, zero, suc, ◌+◌, ◌<◌, Bool, true, false, not, cond, ◌||◌, nat_lt, List, [], ◌∷◌, ◌++◌, length, map, slice_get, position, Option, Some, None, is_some, refl, sym, ap, ◌∙◌, arith, one-add, take, drop, ◌⊎◌, inl, inr}
+use Rattle.std.proofs.Common.{◌≡◌, ℕ, zero, suc, ◌+◌, Bool, true, false, not, cond, ◌||◌, nat_lt, List, [], ◌∷◌, ◌++◌, length, map, slice_get, position, Option, Some, None, refl, sym, ap, ◌∙◌, arith, one-add, take, drop, ◌⊎◌, inl, inr}
 use Rattle.std.specs.List.{list_any, position_or_len, zip, slice_split, onto_first}
 use Rattle.std.specs.Option.{option_map}
 use Rattle.std.proofs.lemmas.Option.{none-some, same_Some, cond_some}

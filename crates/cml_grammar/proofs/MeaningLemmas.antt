@@ -1,16 +1,15 @@
 -- What a step's words mean where each suits its place.
-use Rattle.std.proofs.Common.{◌≡◌, ℕ, ◌<◌, ◌^◌, Bool, true, List, [], ◌∷◌, length, map, get_or, slice_get, Option, Some, None, is_some, refl, sym, ap, ◌∙◌, subst, Bor}
+use Rattle.std.proofs.Common.{◌≡◌, ℕ, true, List, [], ◌∷◌, map, get_or, Some, is_some, sym, ap, ◌∙◌, subst, Bor}
 use Rattle.std.specs.Str.Parse.{digits_value}
 use Rattle.std.specs.Option.{option_map}
 use Rattle.std.proofs.lemmas.Option.{same_Some}
-use Rattle.cml_grammar.specs.declared.forms.Verb.{Verb}
 use Rattle.cml_grammar.specs.declared.forms.Verb.TheVariants as verb
-use Rattle.cml_grammar.specs.declared.forms.Place.TheVariants.{Mailbox, Number}
+use Rattle.cml_grammar.specs.declared.forms.Place.TheVariants.{Mailbox}
 use Rattle.cml_grammar.specs.declared.forms.Action.TheVariants as action
-use Rattle.cml_grammar.specs.Names.{Given, is_number, is_given, position_of}
+use Rattle.cml_grammar.specs.Names.{Given, is_given, position_of}
 use Rattle.cml_grammar.specs.Forms.{step_places}
 use Rattle.cml_grammar.specs.Meaning.{action_by}
-use Rattle.cml_grammar.specs.Reading.{IsMailboxAt, UsesWell}
+use Rattle.cml_grammar.specs.Reading.{IsMailboxAt}
 use Rattle.cml_grammar.specs.Suiting.{Suits, AllSuit}
 
 abbrev pub Words : Type 0

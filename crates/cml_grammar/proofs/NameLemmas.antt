@@ -1,17 +1,17 @@
 -- Names and numbers: what the look-ups of a map of texts give, and which words are numbers.
-use Rattle.std.proofs.Common.{◌≡◌, ◌≢◌, ℕ, zero, suc, ◌^◌, ◌<◌, ◌≤◌, ◌+◌, Bool, true, false, not, cond, ◌&&◌, ◌||◌, ◌==◌, nat_eq, nat_lt, eqb, ltb, List, [], ◌∷◌, ◌++◌, length, map, slice_get, position, Option, Some, None, is_some, Result, Ok, Err, refl, sym, ap, ◌∙◌, arith, rules, get_or, eq-eqb, if◌then◌else◌, String, string_bytes, nat_le, true≢false}
+use Rattle.std.proofs.Common.{◌≡◌, ◌≢◌, ℕ, suc, ◌^◌, ◌<◌, ◌≤◌, Bool, true, false, not, cond, ◌&&◌, ◌||◌, ◌==◌, nat_lt, List, [], ◌∷◌, ◌++◌, length, slice_get, position, Option, Some, None, is_some, Result, Ok, Err, refl, sym, ap, ◌∙◌, arith, get_or, eq-eqb, if◌then◌else◌, String, string_bytes, true≢false}
 use Rattle.std.proofs.Common.{◌⊎◌, inl, inr, subst}
 use Rattle.std.specs.Fmt.{decimal}
 use Rattle.std.proofs.lemmas.Fmt.{decimal-digits_value, digits_decimal, digits_value-decimal, decimal_nonempty, first_decimal, decimal_digit}
 use Rattle.std.proofs.lemmas.Bool.{or_cases, cases_lt}
 use Rattle.std.specs.Global.{Global}
-use Rattle.std.specs.List.{list_any, list_all}
+use Rattle.std.specs.List.{list_all}
 use Rattle.std.specs.Option.{option_map, option_and_then}
 use Rattle.std.specs.Result.{result_ok, OkIff}
 use Rattle.std.specs.Str.{bytes_eq, all_ascii_digits}
 use Rattle.std.specs.Str.Parse.{digits_value, ParsesUnsigned}
 use Rattle.std.specs.Map.{lookup, keys_of}
-use Rattle.std.proofs.lemmas.Bool.{lt-ltb, le-leb, ltb-true, ltb-false, and_parts, and_from, eqb-true, true_from_ne_false, false_from_ne_true, ne_eqb}
+use Rattle.std.proofs.lemmas.Bool.{lt-ltb, le-leb, ltb-true, and_parts, and_from, eqb-true, false_from_ne_true, ne_eqb}
 use Rattle.std.proofs.lemmas.Str.Parse.{parse_plain, numerals_by_value, tells_all_ascii_digits}
 use Rattle.std.specs.String.{string_eq}
 use Rattle.std.specs.declared.hash.FoldHasher.{FoldHasher}

@@ -1,17 +1,14 @@
 -- A text by its parts: what a run of lines is read as, one line at a time.
-use Rattle.std.proofs.Common.{◌≡◌, ℕ, suc, ◌+◌, ◌<◌, ◌≤◌, ◌==◌, Bool, true, false, not, ◌&&◌, List, [], ◌∷◌, ◌++◌, length, Option, Some, None, if◌then◌else◌, refl, sym, ap, ◌∙◌, subst, arith, inl, inr, ◌⊎◌, ⊎_elim, true≢false}
+use Rattle.std.proofs.Common.{◌≡◌, ℕ, suc, ◌+◌, ◌<◌, ◌≤◌, ◌==◌, Bool, true, false, ◌&&◌, List, [], ◌∷◌, ◌++◌, length, Some, None, if◌then◌else◌, refl, sym, ap, ◌∙◌, subst, arith, inl, inr, ◌⊎◌, ⊎_elim}
 use Rattle.std.specs.Option.{option_map_or}
-use Rattle.std.specs.List.{slice_split, onto_first}
+use Rattle.std.specs.List.{onto_first}
 use Rattle.std.proofs.lemmas.List.{append-nil, append_assoc, length-append}
-use Rattle.std.proofs.lemmas.Option.{none-some, same_Some}
-use Rattle.std.proofs.lemmas.Bool.{eqb-true, ne_eqb, eqb-false}
 use Rattle.cml_grammar.specs.declared.fault.What.{What}
 use Rattle.cml_grammar.specs.declared.fault.What.TheVariants.{Memory}
-use Rattle.cml_grammar.specs.declared.fault.Fault.{Fault}
 use Rattle.cml_grammar.specs.Words.{parts_of, words_of}
 use Rattle.cml_grammar.specs.Forms.{form_of}
-use Rattle.cml_grammar.specs.Faults.{Scope, start, says, fault_in, after, at_line, fault_at, fault_at_end, fault_from, is_declaration, is_step, IsWhat}
-use Rattle.cml_grammar.specs.Script.{SourceLine, Lines, source, with_line, Says}
+use Rattle.cml_grammar.specs.Faults.{Scope, start, says, fault_in, after, at_line, fault_at, fault_from, is_declaration, is_step, IsWhat}
+use Rattle.cml_grammar.specs.Script.{SourceLine, Lines, source, with_line}
 use Rattle.cml_grammar.specs.Meaning.{scope_of, names_of}
 use Rattle.cml_grammar.specs.Reading.{with_next, with_words}
 

@@ -1,32 +1,17 @@
 -- How what is kept of the lines so far goes on with one more line.
-use Rattle.std.proofs.Common.{◌≡◌, ℕ, zero, suc, ◌+◌, ◌<◌, ◌≤◌, ◌==◌, Bool, true, false, not, ◌&&◌, ◌||◌, List, [], ◌∷◌, ◌++◌, length, map, slice_get, nat_le, Option, Some, None, is_some, if◌then◌else◌, count_by, String, string_bytes, All, Bor, refl, sym, ap, ◌∙◌, subst, arith, ⊎_elim}
-use Rattle.std.specs.Global.{Global}
-use Rattle.std.specs.Bool.{⊤}
-use Rattle.std.specs.Option.{option_map_or, option_and_then, option_map}
-use Rattle.std.proofs.lemmas.Bool.{not-false, not-true, or_right, and_parts, eqb-true, ne_eqb, leb-false, true≢false}
-use Rattle.std.proofs.lemmas.List.{append-nil, append_assoc, map-append, length-map, length_push}
-use Rattle.std.proofs.lemmas.List.Sums.{sum_by_push}
-use Rattle.std.proofs.lemmas.List.Elements.{All-nil, All-push, All-weaker, All-get_or}
-use Rattle.std.proofs.lemmas.Option.{none-some, same_Some, slice_get_within, get_or_from_slice_get}
-use Rattle.cml_grammar.specs.declared.names.Named.{Named}
-use Rattle.cml_grammar.specs.declared.names.Named.TheVariants as called
+use Rattle.std.proofs.Common.{◌≡◌, ℕ, ◌==◌, true, not, List, [], ◌∷◌, ◌++◌, length, map, None, string_bytes, refl, sym, ap, ◌∙◌, arith}
+use Rattle.std.proofs.lemmas.Bool.{not-false, eqb-true, true≢false}
+use Rattle.std.proofs.lemmas.List.{append-nil, append_assoc, map-append}
 use Rattle.cml_grammar.specs.declared.forms.Declares.{Declares}
-use Rattle.cml_grammar.specs.declared.forms.Declares.TheVariants as declares
 use Rattle.cml_grammar.specs.declared.forms.Verb.{Verb}
-use Rattle.cml_grammar.specs.declared.forms.Makes.{Makes}
-use Rattle.cml_grammar.specs.declared.forms.Makes.TheVariants as makes
-use Rattle.cml_grammar.specs.declared.forms.Action.{Action}
-use Rattle.cml_grammar.specs.declared.script.Line.{Line}
 use Rattle.cml_grammar.specs.declared.script.Declaration.{Declaration}
 use Rattle.cml_grammar.specs.declared.script.Step.{Step}
 use Rattle.cml_grammar.specs.Words.{words_of}
-use Rattle.cml_grammar.specs.Names.{Given, thread_count, seat_in, seat_of, named, position_of, is_given}
-use Rattle.cml_grammar.specs.Forms.{Form, unknown, declaration, no_step, step, form_of, step_form, declares_of, verb_of, declared_places}
-use Rattle.cml_grammar.specs.Faults.{Scope, start, fault_in_words, after_words, gives, is_declaration, is_step, is_late, declares_thread}
+use Rattle.cml_grammar.specs.Forms.{Form, unknown, declaration, no_step, step, form_of}
+use Rattle.cml_grammar.specs.Faults.{Scope, start, fault_in_words, after_words, is_declaration, is_step}
 use Rattle.cml_grammar.specs.Script.{SourceLine, Lines, source, with_line}
-use Rattle.cml_grammar.specs.Meaning.{scope_after, scope_of, names_of, makes_by, makes_of, action_by, action_of, seat_of_step}
-use Rattle.cml_grammar.specs.Reading.{source_of, view_of, texts_of, IsSeatedWithin, GivesAt, Gives, GivesNames, ReadsDeclaration, ReadsStep, UsesWell, IsReadSoFar, named_by, threads_by, with_words}
-use Rattle.cml_grammar.proofs.ListLemmas.{slice_get-append, slice_get-push, slice_get-push-cases}
+use Rattle.cml_grammar.specs.Meaning.{scope_after, scope_of, names_of}
+use Rattle.cml_grammar.specs.Reading.{source_of, view_of, with_words}
 use Rattle.cml_grammar.proofs.TableLemmas.{Passes, words_pass}
 
 -- the scope behind lines, and behind one more

@@ -1,15 +1,14 @@
 -- A text without fault is a script, and one script only.
-use Rattle.std.proofs.Common.{◌≡◌, ℕ, suc, ◌+◌, ◌<◌, ◌≤◌, ◌==◌, Bool, true, false, not, ◌&&◌, nat_lt, List, [], ◌∷◌, ◌++◌, length, Option, Some, None, if◌then◌else◌, refl, sym, ap, ◌∙◌, subst, arith, inl, inr, ◌⊎◌, ⊎_elim, true≢false}
+use Rattle.std.proofs.Common.{◌≡◌, ℕ, suc, ◌<◌, ◌≤◌, ◌==◌, Bool, true, false, not, ◌&&◌, nat_lt, List, [], ◌∷◌, ◌++◌, length, Option, Some, None, if◌then◌else◌, refl, sym, ap, ◌∙◌, subst, arith, inl, inr, ◌⊎◌, ⊎_elim}
 use Rattle.std.specs.Option.{option_map_or}
 use Rattle.std.proofs.lemmas.List.{append-nil}
 use Rattle.std.proofs.lemmas.Option.{none-some}
-use Rattle.std.proofs.lemmas.Bool.{eqb-true, ne_eqb, eqb-false, not-false, le-ltb, ltb-false}
-use Rattle.cml_grammar.specs.declared.fault.What.{What}
+use Rattle.std.proofs.lemmas.Bool.{ne_eqb, eqb-false, le-ltb, ltb-false}
 use Rattle.cml_grammar.specs.declared.fault.What.TheVariants.{Memory, NoLineEnd, BadHeader, TooLong}
 use Rattle.cml_grammar.specs.declared.fault.Fault.{Fault}
 use Rattle.cml_grammar.specs.Words.{parts_of, words_of}
 use Rattle.cml_grammar.specs.Forms.{form_of}
-use Rattle.cml_grammar.specs.Faults.{Scope, start, says, fault_in, after, at_line, fault_at, fault_at_end, fault_from, fault_of, is_declaration, is_step, IsFaultOf}
+use Rattle.cml_grammar.specs.Faults.{Scope, start, says, fault_in, after, at_line, fault_at_end, fault_from, fault_of, is_declaration, is_step, IsFaultOf}
 use Rattle.cml_grammar.specs.Script.{SourceLine, Lines, source, with_line, Says, IsScript}
 use Rattle.cml_grammar.specs.Meaning.{scope_of}
 use Rattle.cml_grammar.specs.Laws.{ScriptsHaveNoFault, TextsAreOneScript, FaultlessTextsAreScripts}

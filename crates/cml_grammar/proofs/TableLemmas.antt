@@ -1,5 +1,5 @@
 -- What it means that a line fails each test of the table.
-use Rattle.std.proofs.Common.{◌≡◌, ℕ, suc, Bool, true, false, not, ◌&&◌, ◌||◌, List, [], ◌∷◌, length, slice_get, Option, Some, None, is_some, if◌then◌else◌, nat_le, refl, sym, ap, ◌∙◌, arith}
+use Rattle.std.proofs.Common.{◌≡◌, ℕ, Bool, true, false, ◌&&◌, List, [], ◌∷◌, length, slice_get, Option, Some, None, if◌then◌else◌, nat_le, refl, sym, ap, ◌∙◌, arith}
 use Rattle.std.specs.List.{list_any, zip}
 use Rattle.std.specs.Option.{option_map, option_map_or, option_and_then}
 use Rattle.std.proofs.lemmas.Bool.{or_parts, not-false, true≢false, eqb-true}
@@ -9,7 +9,7 @@ use Rattle.cml_grammar.specs.declared.forms.Place.{Place}
 use Rattle.cml_grammar.specs.declared.forms.Place.TheVariants.{Fresh, Mailbox, Number}
 use Rattle.cml_grammar.specs.declared.names.Named.{Named}
 use Rattle.cml_grammar.specs.declared.names.Named.TheVariants as called
-use Rattle.cml_grammar.specs.Names.{Given, thread_count, is_given, named, position_of}
+use Rattle.cml_grammar.specs.Names.{Given, thread_count, named, position_of}
 use Rattle.cml_grammar.specs.Words.{has_empty_word}
 use Rattle.cml_grammar.specs.Forms.{Form, form_of, places_of, rest_of, suits}
 use Rattle.cml_grammar.specs.Faults.{Scope, first_of, tests_of_form, fault_in_words, any_word, is_unknown, is_late, is_no_step, is_bad_name, is_taken, is_unknown_name, is_wrong_kind, is_bad_number, declares_thread}

@@ -3,11 +3,8 @@ use Rattle.std.specs.Prelude.{ℕ, suc, ◌≡◌, ◌⊎◌, ◌==◌, ◌+◌,
 use Rattle.std.specs.Option.{option_map_or}
 use Rattle.std.specs.List.{list_any, zip}
 use Rattle.std.specs.Str.{bytes_eq}
-use Rattle.cml_grammar.specs.declared.names.Named.{Named}
 use Rattle.cml_grammar.specs.declared.names.Named.TheVariants as called
-use Rattle.cml_grammar.specs.declared.forms.Declares.{Declares}
 use Rattle.cml_grammar.specs.declared.forms.Declares.TheVariants as declares
-use Rattle.cml_grammar.specs.declared.forms.Verb.{Verb}
 use Rattle.cml_grammar.specs.declared.forms.Place.{Place}
 use Rattle.cml_grammar.specs.declared.fault.What.{What}
 use Rattle.cml_grammar.specs.declared.fault.What.TheVariants.{NoLineEnd, BadBytes, BadHeader, BadWords, UnknownLine, LateDeclaration, UnknownStep, WordCount, BadName, NameTaken, UnknownName, WrongKind, BadNumber, TooManyThreads, TooLong, Memory}

@@ -1,5 +1,5 @@
 -- How a script is kept, and what a reader of its lists may rely on.
-use Rattle.std.specs.Prelude.{ℕ, ◌+◌, ◌≡◌, ◌<◌, ◌≤◌, ◌==◌, ◌^◌, Bool, not, if◌then◌else◌, List, [], ◌∷◌, ◌++◌, length, map, Option, Some, String, string_bytes, slice_get, All, ⊤}
+use Rattle.std.specs.Prelude.{ℕ, ◌+◌, ◌≡◌, ◌<◌, ◌≤◌, ◌==◌, ◌^◌, not, if◌then◌else◌, List, [], ◌++◌, length, map, Some, String, string_bytes, slice_get, All, ⊤}
 use Rattle.std.specs.Global.{Global}
 use Rattle.cml_grammar.specs.declared.names.Named.{Named}
 use Rattle.cml_grammar.specs.declared.names.Named.TheVariants as called

@@ -1,7 +1,7 @@
 -- Scripts, and which text is which script.
 use Rattle.std.specs.Prelude.{ℕ, suc, ◌≡◌, ◌<◌, ◌≤◌, ◌&&◌, Bool, List, [], ◌∷◌, length, if◌then◌else◌, None}
 use Rattle.cml_grammar.specs.Words.{parts_of, words_of}
-use Rattle.cml_grammar.specs.Forms.{Form, form_of}
+use Rattle.cml_grammar.specs.Forms.{form_of}
 use Rattle.cml_grammar.specs.Faults.{Scope, start, says, fault_in, is_declaration, is_step, after}
 
 -- a line: its number, from 1, and its words

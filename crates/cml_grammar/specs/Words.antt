@@ -1,7 +1,6 @@
 -- How a text is cut into lines, and a line into words.
-use Rattle.std.specs.Prelude.{ℕ, ◌==◌, ◌-◌, Bool, true, false, not, ◌&&◌, ◌||◌, nat_lt, nat_le, List, [], ◌∷◌, length, slice_index, if◌then◌else◌}
+use Rattle.std.specs.Prelude.{ℕ, ◌==◌, Bool, true, ◌||◌, nat_lt, List, [], ◌∷◌, length}
 use Rattle.std.specs.List.{slice_split, list_any}
-use Rattle.std.specs.Str.{bytes_eq}
 
 -- the parts of a text between line ends: each but the last is a line, and the last is what follows the last line end
 abbrev pub parts_of : List ℕ → List (List ℕ)

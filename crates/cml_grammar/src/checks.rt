@@ -14,7 +14,7 @@ use crate::names::{Named, find_named, is_given, is_name, number_of};
 use indexmap::IndexMap;
 
 /// The most threads that a script may declare.
-pub(crate) const MAX_THREADS: u64 = 64;
+const MAX_THREADS: u64 = 64;
 
 /// What may be wrong with a word in its place.
 #[derive(Clone, Copy)]

@@ -26,7 +26,7 @@ fn is_name_byte(byte: u8) -> bool
     is_letter(byte) || matches!(byte, b'0'..=b'9') || byte == b'_'
 }
 
-/// Whether a word is none of the names that may be given.
+/// Whether the word has a meaning of its own in scripts, now or later, and so is no name.
 fn is_reserved(word: &str) -> bool
     ensures { result ≡ is_reserved word.now }
 {

@@ -5,7 +5,7 @@ use Rattle.cml_grammar.specs.Forms.{step_places}
 use Rattle.cml_grammar.specs.Meaning.{action_by}
 use Rattle.cml_grammar.specs.Reading.{texts_of}
 use Rattle.cml_grammar.specs.Suiting.{AllSuit}
-use Rattle.cml_grammar.proofs.MeaningLemmas.{bytes, word_at, first_suits, mailbox_given, mailbox_at, recv_means, poll_means, send_means, second_suits}
+use Rattle.cml_grammar.proofs.MeaningLemmas.{bytes, word_at, first_suits, mailbox_given, mailbox_at, recv_means, poll_means}
 use Rattle.cml_grammar.proofs.meaning.action_by.Goals as goal
 
 pub given_position-requires : goal.given_position-requires

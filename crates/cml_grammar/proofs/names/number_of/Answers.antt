@@ -1,4 +1,4 @@
-use Rattle.std.proofs.Common.{◌≡◌, ◌≢◌, ◌<◌, rules, sym, ◌∙◌, length, arith}
+use Rattle.std.proofs.Common.{◌∙◌, arith}
 use Rattle.std.proofs.lemmas.Grind.{common_steps}
 use Rattle.cml_grammar.proofs.NameLemmas.{number_from_parse}
 use Rattle.cml_grammar.proofs.names.number_of.Goals as goal

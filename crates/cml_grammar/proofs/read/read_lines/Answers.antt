@@ -1,5 +1,4 @@
 use Rattle.std.proofs.Common.{subst, sym}
-use Rattle.cml_grammar.specs.declared.fault.Fault.{Fault}
 use Rattle.cml_grammar.specs.Faults.{IsFaultOf}
 use Rattle.cml_grammar.proofs.PartsLemmas.{reads_on-line, fault-line}
 use Rattle.cml_grammar.proofs.ScriptLaws.{fault_of_text, reads_all}

@@ -1,6 +1,6 @@
 use Rattle.std.proofs.Common.{List, [], ◌∷◌, ◌++◌, ap, ◌∙◌}
 use Rattle.cml_grammar.specs.declared.script.Declaration.{Declaration}
-use Rattle.cml_grammar.proofs.ClosingLemmas.{Declared, declared_closes, declared_scopes}
+use Rattle.cml_grammar.proofs.ClosingLemmas.{declared_closes, declared_scopes}
 use Rattle.cml_grammar.proofs.reading.Reading.declare.Goals as goal
 
 pub returns-clause-scope : goal.returns-clause-scope
