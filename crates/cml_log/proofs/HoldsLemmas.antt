@@ -1,5 +1,5 @@
 -- Lemmas on what a log holds of the items that were ever pushed, for this crate and its callers.
-use Rattle.std.proofs.Common.{◌≡◌, ℕ, zero, suc, ◌+◌, ◌-◌, ◌*◌, ◌/◌, ◌<◌, ◌≤◌, List, [], ◌∷◌, ◌++◌, length, drop, Some, None, refl, sym, ap, subst, ◌∙◌, arith}
+use Rattle.std.proofs.Common.{◌≡◌, ℕ, zero, suc, ◌+◌, ◌-◌, ◌*◌, ◌/◌, ◌<◌, ◌≤◌, List, [], ◌∷◌, ◌++◌, length, drop, Some, None, Result, Ok, Err, IfOk, OnErr, refl, sym, ap, subst, ◌∙◌, arith}
 use Rattle.std.proofs.Math.Nat.{mul-div-le, zero-div}
 use Rattle.std.proofs.lemmas.List.{length-append, length-drop, drop-drop, drop-append-le}
 use Rattle.std.specs.List.{slice_get}
@@ -72,22 +72,22 @@ module _ {T : Type 0} where
   Holds-push chunk old new stream item holds changed =
       let low = Holds-first_le chunk old stream holds in
       let shown : old.kept ++ item ∷ [] ≡ drop old.first (stream ++ item ∷ []) =
-          ap (λ ks. ks ++ item ∷ []) holds.kept ∙ sym (drop-append-le old.first stream (item ∷ []) low) in
+      ap (λ ks. ks ++ item ∷ []) holds.kept ∙ sym (drop-append-le old.first stream (item ∷ []) low) in
       let same : next_of (with_item old item) ≡ length (stream ++ item ∷ []) =
-          omega (arith, Holds-next chunk old stream holds, length-append old.kept (item ∷ []), length-append stream (item ∷ [])) in
+      omega (arith, Holds-next chunk old stream holds, length-append old.kept (item ∷ []), length-append stream (item ∷ [])) in
       subst (λ l. Holds chunk l (stream ++ item ∷ [])) (sym changed)
-        (Holds-trimmed chunk (with_item old item) (stream ++ item ∷ []) (IsTrimmable-with_item chunk old item (Holds-tidy chunk old stream holds)) same shown)
+      (Holds-trimmed chunk (with_item old item) (stream ++ item ∷ []) (IsTrimmable-with_item chunk old item (Holds-tidy chunk old stream holds)) same shown)
 
   -- each other change leaves it
   pub Holds-advance : (chunk : ℕ) (old new : Log T) (stream : List T) (key : ℕ) → Holds chunk old stream → IsOpen old key → 0 < length (owed_items old key) → new ≡ trimmed chunk (with_place old key (Some (place_of old key + 1))) → Holds chunk new stream
   Holds-advance chunk old new stream key holds opened owed changed =
       subst (λ l. Holds chunk l stream) (sym changed)
-        (Holds-trimmed chunk (with_place old key (Some (place_of old key + 1))) stream (IsTrimmable-advance chunk old key (Holds-tidy chunk old stream holds) opened owed) (Holds-next chunk old stream holds) holds.kept)
+      (Holds-trimmed chunk (with_place old key (Some (place_of old key + 1))) stream (IsTrimmable-advance chunk old key (Holds-tidy chunk old stream holds) opened owed) (Holds-next chunk old stream holds) holds.kept)
 
   pub Holds-close : (chunk : ℕ) (old new : Log T) (stream : List T) (key : ℕ) → Holds chunk old stream → IsOpen old key → new ≡ trimmed chunk (with_place old key None) → Holds chunk new stream
   Holds-close chunk old new stream key holds opened changed =
       subst (λ l. Holds chunk l stream) (sym changed)
-        (Holds-trimmed chunk (with_place old key None) stream (IsTrimmable-close chunk old key (Holds-tidy chunk old stream holds) opened) (Holds-next chunk old stream holds) holds.kept)
+      (Holds-trimmed chunk (with_place old key None) stream (IsTrimmable-close chunk old key (Holds-tidy chunk old stream holds) opened) (Holds-next chunk old stream holds) holds.kept)
 
   Holds-opened : (chunk : ℕ) (old new : Log T) (stream : List T) (key place : ℕ) → Holds chunk old stream → Opens old new key place → IsTidy chunk new → Holds chunk new stream
   Holds-opened chunk old new stream key place holds opens tidy =
@@ -100,6 +100,15 @@ module _ {T : Type 0} where
   pub Holds-copy_cursor : (chunk : ℕ) (old new : Log T) (stream : List T) (source key : ℕ) → Holds chunk old stream → IsOpen old source → Opens old new key (place_of old source) → Holds chunk new stream
   Holds-copy_cursor chunk old new stream source key holds opened opens =
       Holds-opened chunk old new stream key (place_of old source) holds opens (IsTidy-copy_cursor chunk old new source key (Holds-tidy chunk old stream holds) opened opens)
+
+  -- the same where a call may have been refused, and then changed nothing
+  pub Holds-opening : {E : Type 0} (chunk : ℕ) (old new : Log T) (stream : List T) (outcome : Result ℕ E) → Holds chunk old stream → IfOk outcome (λ key. Opens old new key (next_of old)) → OnErr outcome (new ≡ old) → Holds chunk new stream
+  Holds-opening chunk old new stream (Ok key) holds opens same = Holds-open_cursor chunk old new stream key holds opens
+  Holds-opening chunk old new stream (Err error) holds opens same = subst (λ l. Holds chunk l stream) (sym same) holds
+
+  pub Holds-copying : {E : Type 0} (chunk : ℕ) (old new : Log T) (stream : List T) (source : ℕ) (outcome : Result ℕ E) → Holds chunk old stream → IsOpen old source → IfOk outcome (λ key. Opens old new key (place_of old source)) → OnErr outcome (new ≡ old) → Holds chunk new stream
+  Holds-copying chunk old new stream source (Ok key) holds opened opens same = Holds-copy_cursor chunk old new stream source key holds opened opens
+  Holds-copying chunk old new stream source (Err error) holds opened opens same = subst (λ l. Holds chunk l stream) (sym same) holds
 
   slice_get-head : (xs : List T) (k : ℕ) → slice_get (drop k xs) 0 ≡ slice_get xs k
   slice_get-head [] zero = refl
