@@ -7,11 +7,6 @@ use Rattle.cml_log.specs.Log.{Log, empty_log, least, next_of, place_at, IsOpen, 
 use Rattle.cml_log.specs.Holds.{IsTidy}
 use Rattle.cml_log.proofs.LeastLemmas.{least-le_end, least-le_place, least-later_end, least-opened, least-set, chunk_start-le}
 
--- an optional place that is there is the one that reading it gives
-found_place : (slot : Option ℕ) → IsSome slot → (place : ℕ) × (slot ≡ Some place)
-found_place None there = absurd (cc)
-found_place (Some place) there = (place, refl)
-
 module _ {T : Type 0} where
   -- the log may be trimmed: its chunk's start is no earlier than what it keeps, and no cursor is
   -- past the end
