@@ -100,6 +100,7 @@ impl Script {
     pub fn steps(&self) -> &[Step]
         ensures lines { map (λ s. source_of s.line) result.now ≡ self.now.steps }
         ensures asked { All (ReadsStep (names_of self.now)) result.now }
+        ensures threads { thread_count (names_of self.now) ≤ 64 }
         ensures few { length result.now ≤ 1048576 }
     {
         &self.steps
