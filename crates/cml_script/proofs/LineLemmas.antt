@@ -1,0 +1,75 @@
+-- What the lines of a script were read as.
+use Rattle.std.proofs.Common.{◌≡◌, ℕ, zero, suc, ◌<◌, ◌≤◌, Bool, true, false, eqb, [], ◌∷◌, arith, List, length, map, slice_get, Option, Some, refl, sym, ap, subst, ◌∙◌}
+use Rattle.std.specs.Prelude.{All, is_some, string_bytes}
+use Rattle.std.specs.Option.{option_and_then, option_map_or}
+use Rattle.std.proofs.lemmas.List.{length-map}
+use Rattle.std.proofs.lemmas.Bool.{eqb-true}
+use Rattle.cml_grammar.specs.declared.forms.Makes.{Makes}
+use Rattle.cml_grammar.specs.declared.forms.Makes.TheVariants as makes
+use Rattle.cml_grammar.specs.declared.names.Named.TheVariants as called
+use Rattle.cml_grammar.specs.Meaning.{names_of}
+use Rattle.cml_script.specs.Stage.{NamesObjects, HasSeats}
+use Rattle.std.proofs.lemmas.List.Elements.{All-get_or}
+use Rattle.std.proofs.lemmas.Option.{slice_get_within, get_or_from_slice_get, same_Some, some_pair_parts}
+use mir.Val.{bool_byte}
+use Rattle.cml_script.specs.Counting.{one_if}
+use Rattle.cml_grammar.specs.declared.script.Declaration.{Declaration}
+use Rattle.cml_grammar.specs.declared.script.Step.{Step}
+use Rattle.cml_grammar.specs.Names.{Given, thread_count}
+use Rattle.cml_grammar.specs.Words.{words_of}
+use Rattle.cml_grammar.specs.Script.{SourceLine, Lines}
+use Rattle.cml_grammar.specs.Reading.{source_of, ReadsDeclaration, ReadsStep, Gives, GivesAt, GivesNames}
+use Rattle.cml_script.specs.Schedule.{making_call, call_in, is_object, is_seated}
+use Rattle.cml_script.proofs.ListLemmas.{mapped_at}
+
+pub all_at : {X : Type 0} (P : X → Type 0) (xs : List X) (i : ℕ) (x : X) → All P xs → slice_get xs i ≡ Some x → P x
+all_at P xs i x all found =
+    subst P (get_or_from_slice_get xs i x x found) (All-get_or P xs i x (slice_get_within xs i x found) all)
+
+pub declaration_call : (d : Declaration) → ReadsDeclaration d → call_in (source_of d.line) ≡ making_call d.makes
+declaration_call d reads = ap (option_and_then making_call) reads.makes
+
+pub declaration_object : (d : Declaration) → ReadsDeclaration d → is_object (source_of d.line) ≡ is_some (making_call d.makes)
+declaration_object d reads = ap is_some (declaration_call d reads)
+
+-- the thread of a step
+pub step_seated : (script : Lines) (s : Step) (seat : ℕ) → ReadsStep (names_of script) s → is_seated script seat (source_of s.line) ≡ eqb s.seat seat
+step_seated script s seat reads = ap (λ o. option_map_or (λ t. eqb t seat) o false) reads.seat
+
+stands : {X : Type 0} (xs : List X) (i : ℕ) → i < length xs → (x : X) × (slice_get xs i ≡ Some x)
+stands [] i lt = absurd (omega arith)
+stands (x ∷ xs) zero lt = (x, refl)
+stands (x ∷ xs) (suc i) lt = stands xs i (omega arith)
+
+-- a mailbox's name is given by the declaration of an object
+gives_object : (names : List Given) (at : ℕ) (word : List ℕ) (d : Declaration) → slice_get names at ≡ Some (word, called.Mailbox) → Gives names at d → is_some (making_call d.makes) ≡ true
+gives_object names at word d mailbox gives = by_makes d.makes (gives.2)
+  where
+    by_makes : (m : Makes) → GivesAt names at gives.0 m → is_some (making_call m) ≡ true
+    by_makes makes.Mailbox g = refl
+    by_makes makes.Thread g =
+        let clash : called.Mailbox ≡ called.Thread g.0 = (some_pair_parts word gives.0 called.Mailbox (called.Thread g.0) (sym mailbox ∙ g.1)).1 in
+        cc
+
+pub names_objects : (script : Lines) (items : List Declaration) → map (λ d. source_of d.line) items ≡ script.declarations → GivesNames (names_of script) items → All ReadsDeclaration items → NamesObjects script
+names_objects script items lines gives reads = λ at (word, mailbox).
+    let within : at < length items = omega (arith, slice_get_within (names_of script) at (word, called.Mailbox) mailbox, gives.one_each) in
+    let there = stands items at within in
+    let d = there.0 in
+    (source_of d.line, mapped_at (λ x. source_of x.line) items script.declarations at d lines there.1,
+      declaration_object d (all_at ReadsDeclaration items at d reads there.1) ∙ gives_object (names_of script) at word d mailbox (gives.each at d there.1))
+
+pub has_seats : (script : Lines) (items : List Step) → map (λ s. source_of s.line) items ≡ script.steps → All (ReadsStep (names_of script)) items → thread_count (names_of script) ≤ 64 → HasSeats script
+has_seats script items lines reads few = λ i line seat found seated.
+    let within : i < length items = omega (arith, slice_get_within script.steps i line found, ap length lines, length-map items (λ s. source_of s.line)) in
+    let there = stands items i within in
+    let s = there.0 in
+    let same : source_of s.line ≡ line = same_Some _ _ (sym (mapped_at (λ x. source_of x.line) items script.steps i s lines there.1) ∙ found) in
+    let read = all_at (ReadsStep (names_of script)) items i s reads there.1 in
+    let here : s.seat ≡ seat = eqb-true s.seat seat (sym (step_seated script s seat read) ∙ ap (is_seated script seat) same ∙ seated) in
+    let bounds = read.seated in
+    (omega (arith, here, bounds.0), omega (arith, here, bounds.1, few))
+
+pub byte_one : (t : Bool) → bool_byte t ≡ one_if t
+byte_one true = refl
+byte_one false = refl

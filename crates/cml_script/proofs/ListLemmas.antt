@@ -1,0 +1,66 @@
+-- The element at a place, and what is counted, filtered and taken up to it.
+use Rattle.std.proofs.Common.{◌≡◌, ◌≢◌, ℕ, zero, suc, ◌+◌, ◌<◌, ◌≤◌, inl, inr, Bool, true, false, cond, List, [], ◌∷◌, ◌++◌, length, get_or, one-add, zero-add, take, map, filter, slice_get, Option, Some, None, refl, sym, ap, ◌∙◌, arith, add-one}
+use Rattle.std.specs.Option.{option_map}
+use Rattle.std.proofs.lemmas.Option.{same_Some, none-some, slice_get-map, slice_get_within, slice_get_read}
+use Rattle.std.proofs.lemmas.List.{length_push}
+use Rattle.std.proofs.lemmas.Bool.{cases_lt}
+use Rattle.cml_script.specs.Counting.{one_if, how_many}
+
+module _ {X : Type 0} where
+  pub taken_more : (xs : List X) (i : ℕ) (x : X) → slice_get xs i ≡ Some x → take (i + 1) xs ≡ take i xs ++ x ∷ []
+  taken_more [] i x found = absurd (none-some x found)
+  taken_more (y ∷ ys) zero x found = ap (λ z. z ∷ []) (same_Some y x found)
+  taken_more (y ∷ ys) (suc i) x found =
+      let ih = rw add-one at (taken_more ys i x found) in rw add-one (ap (λ l. y ∷ l) ih)
+
+  pub how_many-append : (p : X → Bool) (xs ys : List X) → how_many p (xs ++ ys) ≡ how_many p xs + how_many p ys
+  how_many-append p [] ys = omega arith
+  how_many-append p (x ∷ xs) ys = let ih = how_many-append p xs ys in omega (arith, ih)
+
+  pub how_many-le : (p : X → Bool) (xs : List X) → how_many p xs ≤ length xs
+  how_many-le p [] = omega arith
+  how_many-le p (x ∷ xs) = elim (p x) as (λ t. one_if t + how_many p xs ≤ suc (length xs)) [ true ↦ omega (arith, how_many-le p xs) | false ↦ omega (arith, how_many-le p xs) ]
+
+  pub count_taken : (p : X → Bool) (xs : List X) (i : ℕ) (x : X) → slice_get xs i ≡ Some x → how_many p (take (i + 1) xs) ≡ how_many p (take i xs) + one_if (p x)
+  count_taken p xs i x found =
+      ap (how_many p) (taken_more xs i x found) ∙ how_many-append p (take i xs) (x ∷ []) ∙ omega arith
+
+  -- what passes stands among all that pass behind those that passed before it
+  pub filter_at : (p : X → Bool) (xs : List X) (i : ℕ) (x : X) → slice_get xs i ≡ Some x → p x ≡ true → slice_get (filter p xs) (how_many p (take i xs)) ≡ Some x
+  filter_at p [] i x found passes = absurd (none-some x found)
+  filter_at p (y ∷ ys) zero x found passes =
+      let same = same_Some y x found in
+      let yes : p y ≡ true = ap p same ∙ passes in
+      rw yes (ap Some same)
+  filter_at p (y ∷ ys) (suc i) x found passes = by_test (p y) (filter_at p ys i x found passes)
+    where
+      by_test : (t : Bool) → slice_get (filter p ys) (how_many p (take i ys)) ≡ Some x → slice_get (cond t (y ∷ filter p ys) (filter p ys)) (one_if t + how_many p (take i ys)) ≡ Some x
+      by_test true there = rw (one-add (how_many p (take i ys))) there
+      by_test false there = rw (zero-add (how_many p (take i ys))) there
+
+  pub slice_get-append_left : (xs ys : List X) (k : ℕ) → k < length xs → slice_get (xs ++ ys) k ≡ slice_get xs k
+  slice_get-append_left [] ys k within = absurd (omega arith)
+  slice_get-append_left (x ∷ xs) ys zero within = refl
+  slice_get-append_left (x ∷ xs) ys (suc k) within = slice_get-append_left xs ys k (omega arith)
+
+  pub slice_get_pushed : (xs : List X) (y : X) (k : ℕ) → k ≡ length xs → slice_get (xs ++ y ∷ []) k ≡ Some y
+  slice_get_pushed [] y k e = rw e refl
+  slice_get_pushed (x ∷ xs) y zero e = absurd (omega arith)
+  slice_get_pushed (x ∷ xs) y (suc k) e = slice_get_pushed xs y k (omega arith)
+
+  -- a value at each place, and one more
+  pub each_pushed : (f : ℕ → X) (xs : List X) (y : X) → ((k : ℕ) → k < length xs → slice_get xs k ≡ Some (f k)) → y ≡ f (length xs) → (k : ℕ) → k < length (xs ++ y ∷ []) → slice_get (xs ++ y ∷ []) k ≡ Some (f k)
+  each_pushed f xs y each last k within = elim (cases_lt k (length xs)) [
+    | inl lt ↦ slice_get-append_left xs (y ∷ []) k lt ∙ each k lt
+    | inr ge ↦
+      let here : k ≡ length xs = omega (arith, length_push xs y) in
+      slice_get_pushed xs y k here ∙ ap Some (last ∙ ap f (sym here))
+  ]
+
+  -- what a `for` reads at its index
+  pub read_at : (xs : List X) (i : ℕ) (x : X) → i < length xs → x ≡ get_or xs i x → slice_get xs i ≡ Some x
+  read_at xs i x within read = slice_get_read xs (length xs) i x refl within read
+
+module _ {X Y : Type 0} where
+  pub mapped_at : (f : X → Y) (xs : List X) (ys : List Y) (i : ℕ) (x : X) → map f xs ≡ ys → slice_get xs i ≡ Some x → slice_get ys i ≡ Some (f x)
+  mapped_at f xs ys i x e found = ap (λ l. slice_get l i) (sym e) ∙ slice_get-map f xs i ∙ ap (option_map f) found

@@ -1,0 +1,9 @@
+use Rattle.std.proofs.Common.{◌≡◌, ◌++◌, drop, string_bytes}
+use Rattle.cml_grammar.specs.Meaning.{names_of}
+use Rattle.cml_script.specs.Report.{object_lines_from}
+use Rattle.cml_script.proofs.report.write_objects.Given as goal
+
+abbrev pub invariant-loop-at : goal.invariant-loop-at
+invariant-loop-at l =
+    string_bytes l.report ++ object_lines_from l.stage.script l.stage.history l.at (drop l.at (names_of l.stage.script))
+    ≡ string_bytes l.fn.report ++ object_lines_from l.stage.script l.stage.history 0 (names_of l.stage.script)

@@ -1,0 +1,9 @@
+pub use Rattle.cml_grammar.specs.Script
+pub use Rattle.cml_grammar.specs.Meaning
+pub use Rattle.cml_grammar.specs.Faults
+pub use Rattle.cml_board.specs.History
+pub mod Counting
+pub mod Schedule
+pub mod Report
+pub mod Play
+pub mod Stage

@@ -1,0 +1,133 @@
+-- In which order a script's calls are made. A history is a list of entries, the newest first.
+use Rattle.std.specs.Prelude.{ℕ, ◌≡◌, ◌≢◌, ◌+◌, ◌-◌, ◌<◌, ◌≤◌, ◌==◌, ◌⊎◌, Bool, true, false, nat_lt, List, [], ◌∷◌, length, take, map, filter, slice_get, Option, Some, None, is_some, MatchBool, if◌then◌else◌, ⊤}
+use Rattle.std.specs.Option.{option_map, option_map_or, option_and_then}
+use Rattle.cml_script.specs.Counting.{how_many}
+use Rattle.cml_board.specs.declared.call.Name.{Name}
+use Rattle.cml_board.specs.declared.call.Call.{Call}
+use Rattle.cml_board.specs.declared.call.Call.TheVariants as call
+use Rattle.cml_board.specs.declared.entry.Who.{Who}
+use Rattle.cml_board.specs.declared.entry.Who.TheVariants.{Seat, Lane, Feed}
+use Rattle.cml_board.specs.declared.entry.Entry.{Entry}
+use Rattle.cml_board.specs.History.{Lawful, answer}
+use Rattle.cml_grammar.specs.declared.forms.Makes.{Makes}
+use Rattle.cml_grammar.specs.declared.forms.Makes.TheVariants as makes
+use Rattle.cml_grammar.specs.declared.forms.Action.{Action}
+use Rattle.cml_grammar.specs.declared.forms.Action.TheVariants as action
+use Rattle.cml_grammar.specs.Script.{SourceLine, Lines}
+use Rattle.cml_grammar.specs.Meaning.{names_of, makes_of, action_of, seat_of_step}
+use Rattle.cml_script.specs.declared.stop.Stop.{Stop}
+use Rattle.cml_script.specs.declared.stop.Stop.TheVariants.{Done, Stalled, Full}
+
+abbrev pub History : Type 0
+History = List (Entry ℕ)
+
+-- Declarations.
+
+-- the call that makes what a declaration makes; a thread is made by none
+abbrev pub making_call : Makes → Option (Call ℕ)
+making_call makes.Thread = None
+making_call makes.Mailbox = Some call.NewMailbox
+
+abbrev pub call_in : SourceLine → Option (Call ℕ)
+call_in line = option_and_then making_call (makes_of line.words)
+
+abbrev pub is_object : SourceLine → Bool
+is_object line = is_some (call_in line)
+
+-- the declarations of objects, and how many they are
+abbrev pub objects_of : Lines → List SourceLine
+objects_of script = filter is_object script.declarations
+
+abbrev pub declared_count : Lines → ℕ
+declared_count script = how_many is_object script.declarations
+
+-- the object that a name stands for, by the name's position among the script's: the k-th declared object is the k-th made
+abbrev pub object_of : Lines → History → ℕ → Option ℕ
+object_of script history at =
+    let object = how_many is_object (take at script.declarations) in
+    if nat_lt object (length history) then Some object else None
+
+-- Steps.
+
+-- what a step asks of the objects that its names stand for
+abbrev pub call_of : (ℕ → Option ℕ) → Action → Option (Call ℕ)
+call_of object (action.Send at message) = option_map (λ o. call.Send (record { 0 = o }) message) (object at)
+call_of object (action.Recv at) = option_map (λ o. call.Recv (record { 0 = o })) (object at)
+call_of object (action.Poll at) = option_map (λ o. call.Poll (record { 0 = o })) (object at)
+
+-- a step of the thread with this seat
+abbrev pub is_seated : Lines → ℕ → SourceLine → Bool
+is_seated script seat line = option_map_or (λ s. s == seat) (seat_of_step (names_of script) line.words) false
+
+-- how many steps of that thread stand before the i-th step of the script
+abbrev pub earlier : Lines → ℕ → ℕ → ℕ
+earlier script seat i = how_many (is_seated script seat) (take i script.steps)
+
+
+abbrev pub is_seat : ℕ → Who → Bool
+is_seat seat (Seat s) = s == seat
+is_seat seat (Lane l) = false
+is_seat seat (Feed f) = false
+
+abbrev pub is_by : ℕ → Entry ℕ → Bool
+is_by seat entry = is_seat seat entry.who
+
+-- how many calls that thread has made
+abbrev pub performed : History → ℕ → ℕ
+performed history seat = how_many (is_by seat) history
+
+-- the call of the i-th step, after this history
+abbrev pub step_call : Lines → History → ℕ → Option (Call ℕ)
+step_call script history i =
+    option_and_then (λ line. option_and_then (call_of (object_of script history)) (action_of (names_of script) line.words)) (slice_get script.steps i)
+
+-- the i-th step is the next of its thread, with this seat and this call, and its call wouldn't wait
+pub record IsReady (script : Lines) (history : History) (i seat : ℕ) (asked : Call ℕ) : Type 0 where
+  pub line : SourceLine
+  pub found : slice_get script.steps i ≡ Some line
+  pub seated : is_seated script seat line ≡ true
+  pub next : earlier script seat i ≡ performed history seat
+  pub calls : step_call script history i ≡ Some asked
+  pub answered : answer history asked ≢ None
+
+-- no step is ready
+abbrev pub NoneReady : Lines → History → Type 0
+NoneReady script history = (i seat : ℕ) (asked : Call ℕ) → IsReady script history i seat asked → ⊥
+
+-- the entry is the call of the least step that is ready
+pub record IsStep (script : Lines) (before : History) (entry : Entry ℕ) : Type 0 where
+  pub step : ℕ
+  pub seat : ℕ
+  pub by : entry.who ≡ Seat seat
+  pub ready : IsReady script before step seat entry.call
+  pub least : (i other : ℕ) (asked : Call ℕ) → IsReady script before i other asked → step ≤ i
+
+-- the entry makes the next declared object, by seat 0
+pub record IsDeclaration (script : Lines) (before : History) (entry : Entry ℕ) : Type 0 where
+  pub by : entry.who ≡ Seat 0
+  pub makes : option_and_then call_in (slice_get (objects_of script) (length before)) ≡ Some entry.call
+
+-- each entry is the one that comes next: the declared objects first, and then always the least step that is ready
+abbrev pub Follows : Lines → History → Type 0
+Follows script [] = ⊤
+Follows script (entry ∷ before) =
+    MatchBool (nat_lt (length before) (declared_count script)) (IsDeclaration script before entry) (IsStep script before entry) × Follows script before
+
+-- how many steps are left
+abbrev pub left : Lines → History → ℕ
+left script history = length script.steps - (length history - declared_count script)
+
+-- when each ending comes
+abbrev pub Ends : Lines → ℕ → History → Stop → Type 0
+Ends script limit history Full =
+    (length history ≡ limit) × ((0 < left script history) ⊎ (length history < declared_count script))
+Ends script limit history Stalled =
+    (length history < limit) × (declared_count script ≤ length history) × (0 < left script history) × NoneReady script history
+Ends script limit history Done = (declared_count script ≤ length history) × (left script history ≡ 0)
+
+-- the history is that of the script under this limit, and ends so
+pub record Schedule (script : Lines) (limit : ℕ) (history : History) (stop : Stop) : Type 0 where
+  pub lawful : Lawful history
+  pub room : length history ≤ limit
+  pub follows : Follows script history
+  pub ends : Ends script limit history stop

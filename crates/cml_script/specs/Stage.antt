@@ -1,0 +1,110 @@
+-- A script under way: what its stage shows, and what it keeps.
+use Rattle.std.specs.Prelude.{ℕ, suc, ◌≡◌, ◌+◌, ◌<◌, Bool, List, [], ◌∷◌, ◌≤◌, ◌^◌, true, length, min, take, map, slice_get, Option, Some, None, if◌then◌else◌}
+use Rattle.std.specs.Global.{Global}
+use Rattle.std.specs.Option.{option_and_then}
+use Rattle.cml_script.specs.Counting.{how_many}
+use Rattle.std.specs.Prelude.{Vec}
+use Rattle.cml_board.specs.declared.call.Call.{Call}
+use Rattle.cml_board.specs.declared.entry.Who.TheVariants.{Seat}
+use Rattle.cml_board.specs.declared.entry.Entry.{Entry}
+use Rattle.cml_grammar.specs.Script.{SourceLine, Lines}
+use Rattle.cml_board.specs.History.{Lawful}
+use Rattle.cml_grammar.specs.Meaning.{names_of}
+use Rattle.cml_grammar.specs.Reading.{IsMailboxAt}
+use Rattle.cml_script.specs.Schedule.{objects_of, declared_count, call_in, History, is_object, is_seated, performed, Follows, IsReady}
+
+-- the script, what was performed of it, newest first, and how many entries there may be
+pub record Play : Type 0 where
+  pub script : Lines
+  pub history : History
+  pub limit : ℕ
+
+-- the positions from k on of the steps of the thread with this seat
+abbrev pub positions_from : Lines → ℕ → ℕ → List SourceLine → List ℕ
+positions_from script seat k [] = []
+positions_from script seat k (line ∷ lines) =
+    if is_seated script seat line then k ∷ positions_from script seat (suc k) lines else positions_from script seat (suc k) lines
+
+-- by name, how many objects are declared before it
+pub record AreNumbers (script : Lines) (numbers : List ℕ) : Type 0 where
+  pub all : length numbers ≡ length script.declarations
+  pub each : (at : ℕ) → at < length numbers → slice_get numbers at ≡ Some (how_many is_object (take at script.declarations))
+
+-- by thread, the positions of its steps among these
+pub record AreQueues (script : Lines) (steps : List SourceLine) (queues : List (List ℕ)) : Type 0 where
+  pub seats : length queues ≡ 64
+  pub each : (thread : ℕ) (queue : List ℕ) → slice_get queues thread ≡ Some queue → queue ≡ positions_from script (thread + 1) 0 steps
+
+-- by thread, how many of its steps were performed
+pub record AreCounts (history : History) (counts : List ℕ) : Type 0 where
+  pub seats : length counts ≡ 64
+  pub each : (thread : ℕ) → thread < 64 → slice_get counts thread ≡ Some (performed history (thread + 1))
+
+-- each mailbox's name is given by the declaration of an object
+abbrev pub NamesObjects : Lines → Type 0
+NamesObjects script = (at : ℕ) → IsMailboxAt (names_of script) at → (line : SourceLine) × (slice_get script.declarations at ≡ Some line) × (is_object line ≡ true)
+
+-- each step is a thread's, whose seat is 1 to 64
+abbrev pub HasSeats : Lines → Type 0
+HasSeats script = (i : ℕ) (line : SourceLine) (seat : ℕ) → slice_get script.steps i ≡ Some line → is_seated script seat line ≡ true → (1 ≤ seat) × (seat ≤ 64)
+
+pub record Stands (play : Play) (numbers : List ℕ) (queues : List (List ℕ)) (counts : List ℕ) : Type 0 where
+  pub lawful : Lawful play.history
+  pub room : length play.history ≤ play.limit
+  pub bounded : play.limit ≤ 2 ^ 32
+  pub named : NamesObjects play.script
+  pub seats : HasSeats play.script
+  pub follows : Follows play.script play.history
+  pub numbered : AreNumbers play.script numbers
+  pub queued : AreQueues play.script play.script.steps queues
+  pub counted : AreCounts play.history counts
+
+abbrev pub items_of : List (Vec ℕ Global) → List (List ℕ)
+items_of queues = map (λ queue. queue.items) queues
+
+-- one entry more was performed
+abbrev pub with_entry : Play → Entry ℕ → Play
+with_entry play entry = record { script = play.script; history = entry ∷ play.history; limit = play.limit }
+
+-- the earlier of two steps, where there are two
+abbrev pub earlier_of : Option ℕ → Option ℕ → Option ℕ
+earlier_of None other = other
+earlier_of (Some i) None = Some i
+earlier_of (Some i) (Some j) = Some (min i j)
+
+-- the i-th step is ready, and is its thread's
+abbrev pub IsReadyOf : Lines → History → ℕ → ℕ → Type 0
+IsReadyOf script history seat i = (asked : Call ℕ) × IsReady script history i seat asked
+
+-- no step of that thread is
+abbrev pub NoneReadyOf : Lines → History → ℕ → Type 0
+NoneReadyOf script history seat = (i : ℕ) (asked : Call ℕ) → IsReady script history i seat asked → ⊥
+
+-- the i-th step is the least of all that are ready
+pub record IsLeast (script : Lines) (history : History) (i : ℕ) : Type 0 where
+  pub seat : ℕ
+  pub asked : Call ℕ
+  pub ready : IsReady script history i seat asked
+  pub least : (other by : ℕ) (call : Call ℕ) → IsReady script history other by call → i ≤ other
+
+-- the entry is the call of the i-th step, the least that was ready
+pub record IsStepAt (script : Lines) (before : History) (entry : Entry ℕ) (i : ℕ) : Type 0 where
+  pub least : IsLeast script before i
+  pub who : entry.who ≡ Seat least.seat
+  pub call : entry.call ≡ least.asked
+
+-- of the threads before this one, none has a step that is ready, or this is the least such step
+abbrev pub IsLeastBelow : Lines → History → ℕ → Option ℕ → Type 0
+IsLeastBelow script history thread None = (seat i : ℕ) (asked : Call ℕ) → seat ≤ thread → IsReady script history i seat asked → ⊥
+IsLeastBelow script history thread (Some i) =
+    (seat : ℕ) × (asked : Call ℕ) × IsReady script history i seat asked
+    × ((by other : ℕ) (call : Call ℕ) → by ≤ thread → IsReady script history other by call → i ≤ other)
+
+-- the position of the thread's next step
+abbrev pub next_position : Play → ℕ → Option ℕ
+next_position play seat = slice_get (positions_from play.script seat 0 play.script.steps) (performed play.history seat)
+
+-- the call makes the next declared object
+pub record IsNextObject (play : Play) (making : Call ℕ) : Type 0 where
+  pub left : length play.history < declared_count play.script
+  pub makes : option_and_then call_in (slice_get (objects_of play.script) (length play.history)) ≡ Some making

@@ -1,0 +1,266 @@
+//! A script under way on a board.
+ghost use Rattle.std.specs.Prelude.{◌≡◌, ◌≢◌, ◌↔◌, ℕ, ◌+◌, ◌-◌, ◌<◌, ◌≤◌, ◌^◌, List, [], ◌∷◌, length, slice_get, Some, None, IfOk, OnErr, MatchOption, MatchBool, IsTrue, IfSome, is_some};
+ghost use Rattle.std.specs.Option.{option_map};
+ghost use Rattle.cml_board.specs.History.{Fits, Lawful, kind_of};
+ghost use Rattle.cml_board.specs.declared.call.Kind.TheVariants as kind;
+ghost use Rattle.cml_board.specs.declared.entry.Reply.{Reply};
+ghost use Rattle.cml_board.specs.declared.entry.Entry.{Entry};
+ghost use Rattle.cml_grammar.specs.Meaning.{names_of};
+ghost use Rattle.cml_grammar.specs.Reading.{IsMailboxAt};
+ghost use Rattle.cml_script.specs.Schedule.{NoneReady, Follows, left, declared_count, making_call, object_of, step_call};
+ghost use Rattle.cml_script.specs.Report.{performed_count};
+ghost use Rattle.cml_script.specs.Counting.{one_if};
+ghost use Rattle.cml_script.specs.Stage.{with_entry, IsNextObject, next_position, earlier_of, IsLeast, IsReadyOf, NoneReadyOf, IsStepAt};
+
+use crate::plan::{THREADS, count_objects, number_objects, queue_steps};
+use cml_board::{Answer, Board, Call, Entry, Name, Outcome, Refusal, Who};
+use cml_grammar::{Action, Makes, Script};
+use std::alloc::{AllocError, Global};
+use std::marker::Model;
+
+/// A script under way: its board, and how far each of its threads is.
+#[derive(Drop)]
+pub struct Stage<'a> {
+    script: &'a Script,
+    board: Board<u64>,
+    // By name, how many objects are declared before it.
+    numbers: Vec<u64>,
+    // By thread, the positions of its steps in the script, and how many of them were performed.
+    queues: Vec<Vec<usize>>,
+    counts: Vec<usize>,
+}
+
+impl<'a> Model for Stage<'a> {
+    ghost use Rattle.cml_script.specs.Stage.{Play, Stands, items_of};
+
+    ghost Value = { Play };
+
+    ghost view = { λ s. record { script = s.script.now; history = s.board.history; limit = s.board.limit } };
+
+    ghost invariant = { λ s. Stands (record { script = s.script.now; history = s.board.history; limit = s.board.limit }) s.numbers.items (items_of s.queues.items) s.counts.items };
+}
+
+impl<'a> Stage<'a> {
+    /// A stage on which nothing was performed.
+    pub fn new(alloc: Global, script: &'a Script, limit: u64) -> Result<Stage<'a>, AllocError>
+        requires least { 1 ≤ limit }
+        requires most { limit ≤ 2 ^ 32 }
+        ensures { IfOk result (λ stage. stage ≡ record { script = script.now; history = []; limit = limit }) }
+    {
+        let numbers = number_objects(alloc, script)?;
+        let queues = queue_steps(alloc, script)?;
+        Ok(Stage {
+            script,
+            board: Board::new(alloc, limit)?,
+            numbers,
+            queues,
+            counts: vec![in alloc; 0; THREADS]?,
+        })
+    }
+
+    pub fn board(&self) -> &Board<u64>
+        ensures history { result.now.history ≡ self.now.history }
+        ensures limit { result.now.limit ≡ self.now.limit }
+    {
+        &self.board
+    }
+
+    pub fn script(&self) -> &'a Script
+        ensures { result.now ≡ self.now.script }
+    {
+        self.script
+    }
+
+    /// What was performed so far, oldest first.
+    pub fn journal(&self) -> &[Entry<u64>]
+        ensures entries { length result.now ≡ length self.now.history }
+        ensures lawful { Lawful self.now.history }
+        ensures follows { Follows self.now.script self.now.history }
+        ensures room { length self.now.history ≤ self.now.limit }
+    {
+        self.board.journal()
+    }
+
+    /// How many steps were performed.
+    pub fn performed(&self) -> usize
+        ensures { result ≡ performed_count self.now.script self.now.history }
+    {
+        self.journal()
+            .len()
+            .saturating_sub(count_objects(self.script))
+    }
+
+    /// How many steps are left.
+    pub fn left(&self) -> usize
+        ensures { result ≡ left self.now.script self.now.history }
+    {
+        self.script.steps().len().saturating_sub(self.performed())
+    }
+
+    /// Whether the journal has as many entries as its limit.
+    pub fn is_full(&self) -> bool
+        ensures full { IsTrue result ↔ (length self.now.history ≡ self.now.limit) }
+        ensures within { length self.now.history ≤ self.now.limit }
+    {
+        self.board.journal().len() as u64 == self.board.limit()
+    }
+
+    /// The mailbox that a name stands for, where it was made.
+    pub fn object(&self, at: usize) -> Option<Name>
+        requires { IsMailboxAt (names_of self.now.script) at }
+        ensures object { result ≡ option_map (λ o. record { 0 = o }) (object_of self.now.script self.now.history at) }
+        ensures kind { IfSome result (λ name. kind_of self.now.history name.0 ≡ Some kind.Mailbox) }
+    {
+        let object = self.numbers[at];
+        if object < self.board.journal().len() as u64 {
+            Some(Name(object))
+        } else {
+            None
+        }
+    }
+
+    /// Makes the declared objects in text order, and answers false where the journal was full before all were made.
+    pub fn declare(&mut self) -> Result<bool, AllocError>
+        requires { self.old.history ≡ [] }
+        ensures script { self.new.script ≡ self.old.script }
+        ensures limit { self.new.limit ≡ self.old.limit }
+        ensures all { IfOk result (λ all. MatchBool all
+            (length self.new.history ≡ declared_count self.new.script)
+            ((length self.new.history ≡ self.new.limit) × (length self.new.history < declared_count self.new.script))) }
+    {
+        let script = self.script;
+        for declaration in script.declarations() {
+            if !self.declare_next(declaration.makes)? {
+                return Ok(false);
+            }
+        }
+        Ok(true)
+    }
+
+    /// Makes what the next declaration makes, and answers false where the journal is full.
+    fn declare_next(&mut self, makes: Makes) -> Result<bool, AllocError>
+        requires { IfSome (making_call makes) (IsNextObject self.old) }
+        ensures script { self.new.script ≡ self.old.script }
+        ensures limit { self.new.limit ≡ self.old.limit }
+        ensures made { IfOk result (λ made. MatchBool made
+            (length self.new.history ≡ length self.old.history + one_if (is_some (making_call makes)))
+            ((length self.new.history ≡ self.new.limit) × (length self.new.history < declared_count self.new.script))) }
+    {
+        match makes {
+            Makes::Thread => Ok(true),
+            Makes::Mailbox => self.make(Call::NewMailbox),
+        }
+    }
+
+    /// Makes the next declared object, and answers false where the journal is full.
+    fn make(&mut self, call: Call<u64>) -> Result<bool, AllocError>
+        requires next { IsNextObject self.old call }
+        requires fits { Fits self.old.history call }
+        ensures made { IfOk result (λ made. MatchBool made
+            ((reply : Reply ℕ) × (self.new ≡ with_entry self.old (record { who = Who.Seat 0; call = call; reply = reply })))
+            ((length self.old.history ≡ self.old.limit) × (self.new ≡ self.old))) }
+        ensures err { OnErr result (self.new ≡ self.old) }
+    {
+        match self.board.apply(Who::Seat(0), call) {
+            Outcome::Answered(_) => return Ok(true),
+            Outcome::Refused(Refusal::JournalFull, _) => return Ok(false),
+            Outcome::Refused(Refusal::NoMemory, _) => return Err(AllocError),
+            Outcome::Refused(Refusal::NoSuch, _) => unreachable!(),
+            Outcome::Refused(Refusal::WrongKind, _) => unreachable!(),
+            Outcome::WouldWait(_) => unreachable!(),
+        }
+    }
+
+    /// The least step in text order that is its thread's next one and wouldn't wait.
+    pub fn least_ready(&self) -> Option<usize>
+        requires { declared_count self.now.script ≤ length self.now.history }
+        ensures { MatchOption result (NoneReady self.now.script self.now.history) (IsLeast self.now.script self.now.history) }
+    {
+        let mut least = None;
+        for thread in 0..self.queues.len() {
+            least = earlier_of(least, self.candidate(thread));
+        }
+        least
+    }
+
+    /// The thread's next step, where it wouldn't wait.
+    fn candidate(&self, thread: usize) -> Option<usize>
+        requires thread { thread < 64 }
+        requires declared { declared_count self.now.script ≤ length self.now.history }
+        ensures { MatchOption result (NoneReadyOf self.now.script self.now.history (thread + 1))
+            (λ i. IsReadyOf self.now.script self.now.history (thread + 1) i) }
+    {
+        let i = self.next_step(thread)?;
+        if self.board.would_wait(&self.call(i)) {
+            return None;
+        }
+        Some(i)
+    }
+
+    /// The thread's next step.
+    fn next_step(&self, thread: usize) -> Option<usize>
+        requires { thread < 64 }
+        ensures { result ≡ next_position self.now (thread + 1) }
+    {
+        let queue = &self.queues[thread];
+        queue.get(self.counts[thread]).copied()
+    }
+
+    /// The call of the i-th step.
+    fn call(&self, i: usize) -> Call<u64>
+        requires within { i < length self.now.script.steps }
+        requires declared { declared_count self.now.script ≤ length self.now.history }
+        ensures call { step_call self.now.script self.now.history i ≡ Some result }
+        ensures fits { Fits self.now.history result }
+    {
+        match self.script.steps()[i].action {
+            Action::Send(at, message) => Call::Send(self.mailbox(at), message),
+            Action::Recv(at) => Call::Recv(self.mailbox(at)),
+            Action::Poll(at) => Call::Poll(self.mailbox(at)),
+        }
+    }
+
+    /// The mailbox with this name, which is made.
+    fn mailbox(&self, at: usize) -> Name
+        requires mailbox { IsMailboxAt (names_of self.now.script) at }
+        requires declared { declared_count self.now.script ≤ length self.now.history }
+        ensures object { object_of self.now.script self.now.history at ≡ Some result.0 }
+        ensures kind { kind_of self.now.history result.0 ≡ Some kind.Mailbox }
+    {
+        Name(self.numbers[at])
+    }
+
+    /// Performs the least step that is ready.
+    pub fn perform(&mut self, i: usize) -> Result<Answer<u64>, AllocError>
+        requires ready { IsLeast self.old.script self.old.history i }
+        requires declared { declared_count self.old.script ≤ length self.old.history }
+        requires room { length self.old.history < self.old.limit }
+        ensures performed { IfOk result (λ answer. (entry : Entry ℕ) × (self.new ≡ with_entry self.old entry)
+            × IsStepAt self.old.script self.old.history entry i × (entry.reply ≡ answer.reply)) }
+        ensures err { OnErr result (self.new ≡ self.old) }
+    {
+        let call = self.call(i);
+        let seat = self.script.steps()[i].seat;
+        match self.board.apply(Who::Seat(seat), call) {
+            Outcome::Answered(answer) => {
+                self.counts[seat as usize - 1] += 1;
+                Ok(answer)
+            }
+            Outcome::WouldWait(_) => unreachable!(),
+            Outcome::Refused(Refusal::NoSuch, _) => unreachable!(),
+            Outcome::Refused(Refusal::WrongKind, _) => unreachable!(),
+            Outcome::Refused(Refusal::JournalFull, _) => unreachable!(),
+            Outcome::Refused(Refusal::NoMemory, _) => Err(AllocError),
+        }
+    }
+}
+
+fn earlier_of(one: Option<usize>, other: Option<usize>) -> Option<usize>
+    ensures { result ≡ earlier_of one other }
+{
+    match (one, other) {
+        (Some(i), Some(j)) => Some(i.min(j)),
+        (Some(i), None) => Some(i),
+        (None, other) => other,
+    }
+}
