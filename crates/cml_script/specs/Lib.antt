@@ -7,3 +7,5 @@ pub mod Schedule
 pub mod Report
 pub mod Play
 pub mod Stage
+pub mod Endings
+pub mod Replay

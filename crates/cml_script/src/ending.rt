@@ -1,0 +1,104 @@
+//! How a run of a script ends.
+ghost use Rattle.std.specs.Prelude.{◌≡◌};
+ghost use Rattle.cml_script.specs.declared.ending.Ending.TheVariants as ending;
+ghost use Rattle.cml_script.specs.Endings.{ending_of_fault, ending_of_stop, ending_of_unread, status};
+
+use crate::read::Unread;
+use crate::stop::Stop;
+use cml_grammar::{Fault, What};
+use std::alloc::AllocError;
+use std::fmt;
+
+/// How a run of a script ends.
+#[derive(Clone, Copy, Debug, PartialEq, Eq)]
+pub enum Ending {
+    /// Every step was performed.
+    Done,
+    /// Steps are left, and none is ready.
+    Stalled,
+    /// The script has a fault.
+    Fault(Fault),
+    /// The script could not be read, or its reader was asked too often.
+    ReadFault,
+    /// The report could not be written.
+    WriteFault,
+    /// There was no memory, and nothing was written.
+    NoMemory,
+    /// The journal met its limit.
+    Full,
+    /// The journal's entry at this position breaks the law.
+    NotLawful(usize),
+    /// A gate held a thread.
+    Held,
+}
+
+impl From<AllocError> for Ending {
+    ghost from_gives = { λ _ ended. ended ≡ ending.NoMemory };
+
+    fn from(_error: AllocError) -> Ending {
+        Ending::NoMemory
+    }
+}
+
+impl From<Unread> for Ending {
+    ghost from_gives = { λ unread ended. ended ≡ ending_of_unread unread };
+
+    fn from(unread: Unread) -> Ending {
+        match unread {
+            Unread::Failed => Ending::ReadFault,
+            Unread::Memory => Ending::NoMemory,
+        }
+    }
+}
+
+impl From<Stop> for Ending {
+    ghost from_gives = { λ stop ended. ended ≡ ending_of_stop stop };
+
+    fn from(stop: Stop) -> Ending {
+        match stop {
+            Stop::Done => Ending::Done,
+            Stop::Stalled => Ending::Stalled,
+            Stop::Full => Ending::Full,
+        }
+    }
+}
+
+impl From<Fault> for Ending {
+    ghost from_gives = { λ fault ended. ended ≡ ending_of_fault fault };
+
+    fn from(fault: Fault) -> Ending {
+        match fault.what {
+            What::Memory => Ending::NoMemory,
+            _ => Ending::Fault(fault),
+        }
+    }
+}
+
+/// The exit status of a program that ends so.
+pub fn status_of(ending: &Ending) -> u8
+    ensures { result ≡ status ending.now }
+{
+    match ending {
+        Ending::Done => 0,
+        Ending::Stalled | Ending::Held => 1,
+        Ending::Fault(_) => 2,
+        Ending::ReadFault | Ending::WriteFault => 4,
+        Ending::NoMemory => 5,
+        Ending::Full => 6,
+        Ending::NotLawful(_) => 7,
+    }
+}
+
+/// The line for standard error. It is empty where the report says how the run ended.
+impl fmt::Display for Ending {
+    fn fmt<W: fmt::Write>(&self, f: &mut fmt::Formatter<W>) -> fmt::Result {
+        match self {
+            Ending::Fault(fault) => write!(f, "{fault}"),
+            Ending::ReadFault => write!(f, "cml: read failed"),
+            Ending::WriteFault => write!(f, "cml: write failed"),
+            Ending::NoMemory => write!(f, "cml: no memory"),
+            Ending::NotLawful(at) => write!(f, "cml: not lawful at {at}"),
+            Ending::Done | Ending::Stalled | Ending::Full | Ending::Held => Ok(()),
+        }
+    }
+}

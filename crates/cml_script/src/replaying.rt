@@ -1,0 +1,58 @@
+//! A script, from the reader's bytes to the report's.
+ghost use Rattle.std.specs.Prelude.{◌≡◌, ◌≤◌, ◌^◌, IfOk, IfErr, OnOk, string_bytes};
+ghost use Rattle.std.specs.Io.KnownBytes.{Appends};
+ghost use Rattle.cml_script.specs.Replay.{Replays, IsPlayedOf, EndsUnplayed, WritesReport};
+
+use crate::ending::Ending;
+use crate::perform::{Played, play};
+use crate::read::{Unread, read_all};
+use cml_grammar::read_script;
+use std::alloc::{AllocError, Global};
+use std::io::{self, Read, Write};
+
+/// Replays a script on one thread: it reads the whole script, performs it, always the first step in
+/// text order that is its thread's next and wouldn't wait, and then writes the report.
+pub fn replay<R: Read, W: Write>(
+    alloc: Global,
+    reader: &mut R,
+    writer: &mut W,
+    limit: u64,
+) -> Ending
+    requires least { 1 ≤ limit }
+    requires most { limit ≤ 2 ^ 32 }
+    ensures { Replays limit (R.remaining reader.old) (R.remaining reader.new) (W.contents writer.old) (W.contents writer.new) result }
+{
+    match play_text(alloc, reader, limit) {
+        Ok(played) => write_report(writer, &played),
+        Err(ending) => ending,
+    }
+}
+
+/// Reads a script and performs it.
+fn play_text<R: Read>(alloc: Global, reader: &mut R, limit: u64) -> Result<Played, Ending>
+    requires least { 1 ≤ limit }
+    requires most { limit ≤ 2 ^ 32 }
+    ensures played { IfOk result (λ played. IsPlayedOf limit (R.remaining reader.old) (R.remaining reader.new) played.stop (string_bytes played.report)) }
+    ensures unplayed { IfErr result (λ ending. EndsUnplayed (R.remaining reader.old) (R.remaining reader.new) ending) }
+{
+    let text = read_all(alloc, reader)?;
+    let script = read_script(alloc, &text)?;
+    let played = play(alloc, &script, limit)?;
+    Ok(played)
+}
+
+fn write_report<W: Write>(writer: &mut W, played: &Played) -> Ending
+    ensures { WritesReport (W.contents writer.old) (W.contents writer.new) played.now.stop (string_bytes played.now.report) result }
+{
+    match write_whole(writer, played.report.as_bytes()) {
+        Ok(()) => Ending::from(played.stop),
+        Err(_) => Ending::WriteFault,
+    }
+}
+
+fn write_whole<W: Write>(writer: &mut W, bytes: &[u8]) -> io::Result<()>
+    ensures { OnOk result (Appends (W.contents writer.old) (W.contents writer.new) bytes.now) }
+{
+    writer.write_all(bytes)?;
+    writer.flush()
+}
