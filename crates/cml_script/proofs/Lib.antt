@@ -5,3 +5,4 @@ pub mod KindLemmas
 pub mod ReadyLemmas
 pub mod StandLemmas
 pub mod ReportLemmas
+pub mod CommandLineLemmas

@@ -9,3 +9,4 @@ pub mod Play
 pub mod Stage
 pub mod Endings
 pub mod Replay
+pub mod CommandLine

@@ -1,6 +1,8 @@
 //! Scripts of threads, replayed on one board, and their reports.
 #![tactic(auto)]
 
+mod asked;
+mod command_line;
 mod ending;
 mod perform;
 mod plan;
@@ -10,8 +12,13 @@ mod report;
 mod stage;
 mod stop;
 
+pub use asked::Order;
+pub use cml_grammar::{Fault, Script, What, read_script};
+pub use command_line::{order, status_of_error};
 pub use ending::{Ending, status_of};
 pub use perform::{Played, play};
 pub use replaying::replay;
-pub use stage::Stage;
 pub use stop::Stop;
+
+#[cfg(test)]
+mod tests;
