@@ -2,9 +2,8 @@
 #![tactic(auto)]
 
 use cml_script::replay;
-use std::fs;
-use std::io;
 use std::process::ExitCode;
+use std::{fs, io};
 
 const LIMIT: u64 = 65_536;
 
@@ -12,11 +11,19 @@ fn main(rt: HostRuntime) -> io::Result<ExitCode> {
     let names = scripts(&rt)?;
     let mut differing: u64 = 0;
     for name in &names {
-        let verdict = if is_same(&rt, name.as_str())? { "same" } else { "differs" };
+        let verdict = if is_same(&rt, name.as_str())? {
+            "same"
+        } else {
+            "differs"
+        };
         println!(rt; "{name}: {verdict}")?;
         differing += u64::from(verdict == "differs");
     }
-    Ok(if differing == 0 { ExitCode::SUCCESS } else { ExitCode::FAILURE })
+    Ok(if differing == 0 {
+        ExitCode::SUCCESS
+    } else {
+        ExitCode::FAILURE
+    })
 }
 
 /// The names of the scripts, without their endings, in order.

@@ -1,14 +1,12 @@
 -- The declared objects are the first that are made, each of its kind.
-use Rattle.std.proofs.Common.{◌≡◌, ◌≢◌, ℕ, zero, suc, ◌+◌, ◌<◌, ◌≤◌, Bool, true, false, cond, ltb, List, [], ◌∷◌, ◌++◌, length, take, filter, slice_get, Option, Some, None, MatchBool, IfSome, refl, sym, ap, subst, ◌∙◌, arith, inl, inr}
-use Rattle.std.specs.Option.{option_and_then, option_map}
+use Rattle.std.proofs.Common.{◌≡◌, ℕ, zero, suc, ◌+◌, ◌<◌, ◌≤◌, Bool, true, false, cond, ltb, List, [], ◌∷◌, length, take, filter, slice_get, Option, Some, None, MatchBool, IfSome, refl, sym, ap, subst, ◌∙◌, arith, inl, inr}
+use Rattle.std.specs.Option.{option_and_then}
 use Rattle.std.proofs.lemmas.Option.{same_Some, none-some, option_and_then_some, slice_get_within}
-use Rattle.std.proofs.lemmas.List.{take_all, length_push, append-nil, length-append}
-use Rattle.std.proofs.lemmas.Bool.{lt-ltb, le-ltb, cases_lt}
-use Rattle.cml_board.specs.declared.call.Name.{Name}
+use Rattle.std.proofs.lemmas.List.{length_push}
+use Rattle.std.proofs.lemmas.Bool.{lt-ltb, cases_lt}
 use Rattle.cml_board.specs.declared.call.Call.{Call}
 use Rattle.cml_board.specs.declared.call.Call.TheVariants as call
 use Rattle.cml_board.specs.declared.call.Kind.TheVariants as kind
-use Rattle.cml_board.specs.declared.entry.Reply.{Reply}
 use Rattle.cml_board.specs.declared.entry.Reply.TheVariants as reply
 use Rattle.cml_board.specs.declared.entry.Entry.{Entry}
 use Rattle.cml_board.specs.History.{Lawful, made, made_by, kind_of, answer}
@@ -23,7 +21,7 @@ use Rattle.cml_script.specs.Stage.{Play, IsNextObject}
 use Rattle.cml_script.proofs.LineLemmas.{declaration_call, declaration_object}
 use Rattle.cml_script.specs.Counting.{one_if, how_many}
 use Rattle.cml_script.specs.Schedule.{History, Follows, IsDeclaration, IsStep, declared_count, objects_of, call_in, making_call, is_object, object_of}
-use Rattle.cml_script.proofs.ListLemmas.{slice_get-append_left, slice_get_pushed, how_many-append, how_many-le, count_taken, filter_at}
+use Rattle.cml_script.proofs.ListLemmas.{slice_get-append_left, slice_get_pushed, filter_at}
 
 -- a declared object is made by this call
 making_is : (m : Makes) (c : Call ℕ) → making_call m ≡ Some c → c ≡ call.NewMailbox
@@ -60,8 +58,8 @@ kept_next : (script : Lines) (before : History) (entry : Entry ℕ) → declared
 kept_next script before entry declared m = record {
   short = λ le. absurd (omega (arith, le));
   each = λ k lt low.
-    let there = m.each k (omega arith) low in
-    slice_get-append_left (made before) (made_by entry.call entry.reply) k (slice_get_within (made before) k kind.Mailbox there) ∙ there;
+      let there = m.each k (omega arith) low in
+      slice_get-append_left (made before) (made_by entry.call entry.reply) k (slice_get_within (made before) k kind.Mailbox there) ∙ there;
 }
 
 pub makes_declared : (script : Lines) (history : History) → Follows script history → Lawful history → MakesDeclared script history
@@ -70,8 +68,8 @@ makes_declared script (entry ∷ before) follows lawful =
     let earlier = makes_declared script before follows.1 lawful.2 in
     elim (cases_lt (length before) (declared_count script)) [
       | inl lt ↦
-        let test : ltb (length before) (declared_count script) ≡ true = lt-ltb (length before) (declared_count script) lt in
-        declared_next script before entry lt (subst (λ t. MatchBool t (IsDeclaration script before entry) (IsStep script before entry)) test follows.0) lawful.1 earlier
+          let test : ltb (length before) (declared_count script) ≡ true = lt-ltb (length before) (declared_count script) lt in
+          declared_next script before entry lt (subst (λ t. MatchBool t (IsDeclaration script before entry) (IsStep script before entry)) test follows.0) lawful.1 earlier
       | inr ge ↦ kept_next script before entry ge earlier
     ]
 

@@ -1,6 +1,6 @@
 -- What the lines of a script were read as.
-use Rattle.std.proofs.Common.{◌≡◌, ℕ, zero, suc, ◌<◌, ◌≤◌, Bool, true, false, eqb, [], ◌∷◌, arith, List, length, map, slice_get, Option, Some, refl, sym, ap, subst, ◌∙◌}
-use Rattle.std.specs.Prelude.{All, is_some, string_bytes}
+use Rattle.std.proofs.Common.{◌≡◌, ℕ, zero, suc, ◌<◌, ◌≤◌, Bool, true, false, eqb, [], ◌∷◌, arith, List, length, map, slice_get, Some, refl, sym, ap, subst, ◌∙◌}
+use Rattle.std.specs.Prelude.{All, is_some}
 use Rattle.std.specs.Option.{option_and_then, option_map_or}
 use Rattle.std.proofs.lemmas.List.{length-map}
 use Rattle.std.proofs.lemmas.Bool.{eqb-true}
@@ -16,8 +16,7 @@ use Rattle.cml_script.specs.Counting.{one_if}
 use Rattle.cml_grammar.specs.declared.script.Declaration.{Declaration}
 use Rattle.cml_grammar.specs.declared.script.Step.{Step}
 use Rattle.cml_grammar.specs.Names.{Given, thread_count}
-use Rattle.cml_grammar.specs.Words.{words_of}
-use Rattle.cml_grammar.specs.Script.{SourceLine, Lines}
+use Rattle.cml_grammar.specs.Script.{Lines}
 use Rattle.cml_grammar.specs.Reading.{source_of, ReadsDeclaration, ReadsStep, Gives, GivesAt, GivesNames}
 use Rattle.cml_script.specs.Schedule.{making_call, call_in, is_object, is_seated}
 use Rattle.cml_script.proofs.ListLemmas.{mapped_at}
@@ -55,9 +54,11 @@ pub names_objects : (script : Lines) (items : List Declaration) → map (λ d. s
 names_objects script items lines gives reads = λ at (word, mailbox).
     let within : at < length items = omega (arith, slice_get_within (names_of script) at (word, called.Mailbox) mailbox, gives.one_each) in
     let there = stands items at within in
-    let d = there.0 in
-    (source_of d.line, mapped_at (λ x. source_of x.line) items script.declarations at d lines there.1,
-      declaration_object d (all_at ReadsDeclaration items at d reads there.1) ∙ gives_object (names_of script) at word d mailbox (gives.each at d there.1))
+    let d = there.0 in (
+      source_of d.line,
+      mapped_at (λ x. source_of x.line) items script.declarations at d lines there.1,
+      declaration_object d (all_at ReadsDeclaration items at d reads there.1) ∙ gives_object (names_of script) at word d mailbox (gives.each at d there.1),
+    )
 
 pub has_seats : (script : Lines) (items : List Step) → map (λ s. source_of s.line) items ≡ script.steps → All (ReadsStep (names_of script)) items → thread_count (names_of script) ≤ 64 → HasSeats script
 has_seats script items lines reads few = λ i line seat found seated.

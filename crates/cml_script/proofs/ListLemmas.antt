@@ -1,7 +1,7 @@
 -- The element at a place, and what is counted, filtered and taken up to it.
-use Rattle.std.proofs.Common.{◌≡◌, ◌≢◌, ℕ, zero, suc, ◌+◌, ◌<◌, ◌≤◌, inl, inr, Bool, true, false, cond, List, [], ◌∷◌, ◌++◌, length, get_or, one-add, zero-add, take, map, filter, slice_get, Option, Some, None, refl, sym, ap, ◌∙◌, arith, add-one}
+use Rattle.std.proofs.Common.{◌≡◌, ℕ, zero, suc, ◌+◌, ◌<◌, ◌≤◌, inl, inr, Bool, true, false, cond, List, [], ◌∷◌, ◌++◌, length, get_or, one-add, zero-add, take, map, filter, slice_get, Some, refl, sym, ap, ◌∙◌, arith, add-one}
 use Rattle.std.specs.Option.{option_map}
-use Rattle.std.proofs.lemmas.Option.{same_Some, none-some, slice_get-map, slice_get_within, slice_get_read}
+use Rattle.std.proofs.lemmas.Option.{same_Some, none-some, slice_get-map, slice_get_read}
 use Rattle.std.proofs.lemmas.List.{length_push}
 use Rattle.std.proofs.lemmas.Bool.{cases_lt}
 use Rattle.cml_script.specs.Counting.{one_if, how_many}
@@ -53,8 +53,8 @@ module _ {X : Type 0} where
   each_pushed f xs y each last k within = elim (cases_lt k (length xs)) [
     | inl lt ↦ slice_get-append_left xs (y ∷ []) k lt ∙ each k lt
     | inr ge ↦
-      let here : k ≡ length xs = omega (arith, length_push xs y) in
-      slice_get_pushed xs y k here ∙ ap Some (last ∙ ap f (sym here))
+        let here : k ≡ length xs = omega (arith, length_push xs y) in
+        slice_get_pushed xs y k here ∙ ap Some (last ∙ ap f (sym here))
   ]
 
   -- what a `for` reads at its index

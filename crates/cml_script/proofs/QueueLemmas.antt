@@ -109,8 +109,8 @@ module _ (script : Lines) where
   queues_empty vecs seats none = record {
     seats = length-map vecs (λ (q : Vec ℕ Global). q.items) ∙ seats;
     each = λ thread queue found.
-      let there = slice_get-map (λ (q : Vec ℕ Global). q.items) vecs thread in
-      empty_found vecs thread queue (slice_get vecs thread) none refl (sym there ∙ found);
+        let there = slice_get-map (λ (q : Vec ℕ Global). q.items) vecs thread in
+        empty_found vecs thread queue (slice_get vecs thread) none refl (sym there ∙ found);
   }
 
   -- one more step, in its thread's queue
@@ -129,14 +129,14 @@ module _ (script : Lines) where
         seats = length-set (items_of vecs) (s.seat - 1) now.items ∙ queues.seats;
         each = λ thread queue at. elim (cases_eq thread (s.seat - 1)) [
           | inl same ↦
-            let here : slice_get (slice_set (items_of vecs) (s.seat - 1) now.items) thread ≡ Some now.items = ap (slice_get (slice_set (items_of vecs) (s.seat - 1) now.items)) same ∙ set_at (items_of vecs) (s.seat - 1) now.items was.items was_at in
-            let own : is_seated script (thread + 1) (source_of s.line) ≡ true = step_seated script s (thread + 1) reading ∙ eq-eqb s.seat (thread + 1) (omega (arith, seat)) in
-            sym (same_Some _ _ (sym here ∙ at)) ∙ pushed
-            ∙ ap (λ l. l ++ i ∷ []) (queues.each (s.seat - 1) was.items was_at ∙ ap (λ t. positions_from script (t + 1) 0 (take i script.steps)) (sym same))
-            ∙ sym (ap (positions_from script (thread + 1) 0) more ∙ positions_pushed script (thread + 1) 0 (take i script.steps) (source_of s.line) ∙ ap (λ t. positions_from script (thread + 1) 0 (take i script.steps) ++ cond t ((0 + length (take i script.steps)) ∷ []) []) own ∙ ap (λ n. positions_from script (thread + 1) 0 (take i script.steps) ++ n ∷ []) (zero-add (length (take i script.steps)) ∙ long))
+              let here : slice_get (slice_set (items_of vecs) (s.seat - 1) now.items) thread ≡ Some now.items = ap (slice_get (slice_set (items_of vecs) (s.seat - 1) now.items)) same ∙ set_at (items_of vecs) (s.seat - 1) now.items was.items was_at in
+              let own : is_seated script (thread + 1) (source_of s.line) ≡ true = step_seated script s (thread + 1) reading ∙ eq-eqb s.seat (thread + 1) (omega (arith, seat)) in
+              sym (same_Some _ _ (sym here ∙ at)) ∙ pushed
+              ∙ ap (λ l. l ++ i ∷ []) (queues.each (s.seat - 1) was.items was_at ∙ ap (λ t. positions_from script (t + 1) 0 (take i script.steps)) (sym same))
+              ∙ sym (ap (positions_from script (thread + 1) 0) more ∙ positions_pushed script (thread + 1) 0 (take i script.steps) (source_of s.line) ∙ ap (λ t. positions_from script (thread + 1) 0 (take i script.steps) ++ cond t ((0 + length (take i script.steps)) ∷ []) []) own ∙ ap (λ n. positions_from script (thread + 1) 0 (take i script.steps) ++ n ∷ []) (zero-add (length (take i script.steps)) ∙ long))
           | inr other ↦
-            let no : is_seated script (thread + 1) (source_of s.line) ≡ false = step_seated script s (thread + 1) reading ∙ ne_eqb s.seat (thread + 1) (λ e. other (omega (arith, e))) in
-            queues.each thread queue (sym (set_off (items_of vecs) (s.seat - 1) thread now.items other) ∙ at)
-            ∙ sym (ap (positions_from script (thread + 1) 0) more ∙ positions_pushed script (thread + 1) 0 (take i script.steps) (source_of s.line) ∙ ap (λ t. positions_from script (thread + 1) 0 (take i script.steps) ++ cond t ((0 + length (take i script.steps)) ∷ []) []) no ∙ append-nil (positions_from script (thread + 1) 0 (take i script.steps)))
+              let no : is_seated script (thread + 1) (source_of s.line) ≡ false = step_seated script s (thread + 1) reading ∙ ne_eqb s.seat (thread + 1) (λ e. other (omega (arith, e))) in
+              queues.each thread queue (sym (set_off (items_of vecs) (s.seat - 1) thread now.items other) ∙ at)
+              ∙ sym (ap (positions_from script (thread + 1) 0) more ∙ positions_pushed script (thread + 1) 0 (take i script.steps) (source_of s.line) ∙ ap (λ t. positions_from script (thread + 1) 0 (take i script.steps) ++ cond t ((0 + length (take i script.steps)) ∷ []) []) no ∙ append-nil (positions_from script (thread + 1) 0 (take i script.steps)))
         ];
       })

@@ -1,22 +1,14 @@
 -- Which steps are ready, thread by thread.
-use Rattle.std.proofs.Common.{◌≡◌, ◌≢◌, ℕ, zero, suc, ◌+◌, ◌<◌, ◌≤◌, min, Bool, true, false, cond, eqb, List, [], ◌∷◌, ◌++◌, length, take, slice_get, slice_set, Option, Some, None, IfSome, MatchOption, refl, sym, ap, subst, ◌∙◌, arith, inl, inr}
-use Rattle.std.specs.Prelude.{map, All, string_bytes}
-use Rattle.std.specs.Option.{option_map_or}
-use Rattle.std.proofs.lemmas.Option.{same_Some, none-some, slice_get_within, slice_get-map}
-use Rattle.std.proofs.lemmas.Bool.{eqb-true, eq-eqb, ne_eqb, cases_lt, cases_eq, false≢true}
+use Rattle.std.proofs.Common.{◌≡◌, ◌≢◌, ℕ, ◌+◌, ◌<◌, ◌≤◌, min, length, take, slice_get, Option, Some, None, MatchOption, sym, ap, subst, ◌∙◌, arith, inl, inr}
+use Rattle.std.proofs.lemmas.Option.{same_Some, none-some, slice_get_within}
+use Rattle.std.proofs.lemmas.Bool.{cases_lt}
 use Rattle.cml_board.specs.declared.call.Call.{Call}
-use Rattle.cml_board.specs.declared.entry.Entry.{Entry}
 use Rattle.cml_board.specs.History.{answer}
-use Rattle.cml_grammar.specs.declared.script.Step.{Step}
-use Rattle.cml_grammar.specs.Names.{Given, thread_count}
-use Rattle.cml_grammar.specs.Words.{words_of}
-use Rattle.cml_grammar.specs.Script.{SourceLine, Lines}
-use Rattle.cml_grammar.specs.Meaning.{names_of, seat_of_step}
-use Rattle.cml_grammar.specs.Reading.{source_of, ReadsStep}
-use Rattle.cml_script.specs.Counting.{one_if, how_many}
-use Rattle.cml_script.specs.Schedule.{History, IsReady, NoneReady, is_seated, earlier, performed, step_call}
+use Rattle.cml_grammar.specs.Script.{Lines}
+use Rattle.cml_script.specs.Counting.{how_many}
+use Rattle.cml_script.specs.Schedule.{History, IsReady, NoneReady, is_seated, performed, step_call}
 use Rattle.cml_script.specs.Stage.{positions_from, earlier_of, IsReadyOf, NoneReadyOf, IsLeast, IsLeastBelow, HasSeats}
-use Rattle.cml_script.proofs.QueueLemmas.{position_is, position_of_step, StandsThere}
+use Rattle.cml_script.proofs.QueueLemmas.{position_is, position_of_step}
 
 module _ (script : Lines) (history : History) where
   -- what stands in a thread's queue behind the steps that it performed is its next step, and the only one that may be ready
@@ -45,15 +37,17 @@ module _ (script : Lines) (history : History) where
   pub ready_there : (seat i : ℕ) (call : Call ℕ) → slice_get (positions_from script seat 0 script.steps) (performed history seat) ≡ Some i → step_call script history i ≡ Some call → answer history call ≢ None → IsReadyOf script history seat i
   ready_there seat i call at calls answers =
       let s = position_is script seat 0 script.steps (performed history seat) i at in
-      let here : s.place ≡ i = omega (arith, s.at) in
-      (call, record {
-        line = s.line;
-        found = ap (slice_get script.steps) (sym here) ∙ s.found;
-        seated = s.seated;
-        next = ap (λ n. how_many (is_seated script seat) (take n script.steps)) (sym here) ∙ s.behind;
-        calls = calls;
-        answered = answers;
-      })
+      let here : s.place ≡ i = omega (arith, s.at) in (
+        call,
+        record {
+          line = s.line;
+          found = ap (slice_get script.steps) (sym here) ∙ s.found;
+          seated = s.seated;
+          next = ap (λ n. how_many (is_seated script seat) (take n script.steps)) (sym here) ∙ s.behind;
+          calls = calls;
+          answered = answers;
+        },
+      )
 
   none_before : HasSeats script → (seat i : ℕ) (asked : Call ℕ) → seat ≤ 0 → IsReady script history i seat asked → ⊥
   none_before seats seat i asked le ready = absurd (omega (arith, (seats i ready.line seat ready.found ready.seated).0))
@@ -78,27 +72,47 @@ module _ (script : Lines) (history : History) where
     | inl lt ↦ below seat i asked (omega arith) ready
     | inr ge ↦ none i asked (at_thread thread seat i asked le ge ready)
   ]
-  least_more thread None (Some j) below next = (thread + 1, next.0, next.1, λ by other call le ready. elim (cases_lt by (thread + 1)) [
-    | inl lt ↦ absurd (below by other call (omega arith) ready)
-    | inr ge ↦ omega (arith, same_step (thread + 1) j other next.0 call next.1 (at_thread thread by other call le ge ready))
-  ])
-  least_more thread (Some i) None below none = (below.0, below.1, below.2, λ by other call le ready. elim (cases_lt by (thread + 1)) [
-    | inl lt ↦ below.3 by other call (omega arith) ready
-    | inr ge ↦ absurd (none other call (at_thread thread by other call le ge ready))
-  ])
+  least_more thread None (Some j) below next = (
+    thread + 1,
+    next.0,
+    next.1,
+    λ by other call le ready. elim (cases_lt by (thread + 1)) [
+      | inl lt ↦ absurd (below by other call (omega arith) ready)
+      | inr ge ↦ omega (arith, same_step (thread + 1) j other next.0 call next.1 (at_thread thread by other call le ge ready))
+    ],
+  )
+  least_more thread (Some i) None below none = (
+    below.0,
+    below.1,
+    below.2,
+    λ by other call le ready. elim (cases_lt by (thread + 1)) [
+      | inl lt ↦ below.3 by other call (omega arith) ready
+      | inr ge ↦ absurd (none other call (at_thread thread by other call le ge ready))
+    ],
+  )
   least_more thread (Some i) (Some j) below next = elim (cases_lt i j) [
     | inl lt ↦
-      let first : min i j ≡ i = omega arith in
-      rw first (below.0, below.1, below.2, λ by other call le ready. elim (cases_lt by (thread + 1)) [
-        | inl under ↦ below.3 by other call (omega arith) ready
-        | inr ge ↦ omega (arith, lt, same_step (thread + 1) j other next.0 call next.1 (at_thread thread by other call le ge ready))
-      ])
+        let first : min i j ≡ i = omega arith in
+        rw first (
+          below.0,
+          below.1,
+          below.2,
+          λ by other call le ready. elim (cases_lt by (thread + 1)) [
+            | inl under ↦ below.3 by other call (omega arith) ready
+            | inr ge ↦ omega (arith, lt, same_step (thread + 1) j other next.0 call next.1 (at_thread thread by other call le ge ready))
+          ],
+        )
     | inr le_first ↦
-      let second : min i j ≡ j = omega arith in
-      rw second (thread + 1, next.0, next.1, λ by other call le ready. elim (cases_lt by (thread + 1)) [
-        | inl under ↦ omega (arith, le_first, below.3 by other call (omega arith) ready)
-        | inr ge ↦ omega (arith, same_step (thread + 1) j other next.0 call next.1 (at_thread thread by other call le ge ready))
-      ])
+        let second : min i j ≡ j = omega arith in
+        rw second (
+          thread + 1,
+          next.0,
+          next.1,
+          λ by other call le ready. elim (cases_lt by (thread + 1)) [
+            | inl under ↦ omega (arith, le_first, below.3 by other call (omega arith) ready)
+            | inr ge ↦ omega (arith, same_step (thread + 1) j other next.0 call next.1 (at_thread thread by other call le ge ready))
+          ],
+        )
   ]
 
   -- of all threads

@@ -1,5 +1,5 @@
 -- What a stage keeps, and how it goes on with one more entry.
-use Rattle.std.proofs.Common.{◌≡◌, ◌≢◌, ℕ, zero, suc, ◌+◌, ◌-◌, ◌<◌, ◌≤◌, ◌^◌, Bool, true, false, cond, eqb, ltb, List, [], ◌∷◌, ◌++◌, length, take, get_or, slice_get, slice_set, Option, Some, None, MatchBool, MatchOption, IfSome, refl, sym, ap, subst, ◌∙◌, arith, inl, inr, vec_len}
+use Rattle.std.proofs.Common.{◌≡◌, ◌≢◌, ℕ, zero, suc, ◌+◌, ◌-◌, ◌<◌, ◌≤◌, ◌^◌, true, false, eqb, ltb, List, [], ◌∷◌, length, take, get_or, slice_get, slice_set, Option, Some, None, MatchBool, MatchOption, IfSome, refl, sym, ap, subst, ◌∙◌, arith, inl, inr}
 use Rattle.std.specs.Prelude.{map, Vec, All}
 use Rattle.cml_board.specs.declared.entry.Reply.{Reply}
 use Rattle.cml_grammar.specs.declared.script.Step.{Step}
@@ -7,22 +7,21 @@ use Rattle.cml_grammar.specs.Names.{thread_count}
 use Rattle.cml_script.proofs.LineLemmas.{all_at, step_seated}
 use Rattle.std.specs.Global.{Global}
 use Rattle.std.specs.Borrow.{Bor}
-use Rattle.std.specs.Option.{option_map, option_and_then}
-use Rattle.std.proofs.lemmas.Option.{same_Some, none-some, slice_get_within, slice_get_past, slice_get-map, slice_get_read, get_or_from_slice_get, slice_get-get_or}
+use Rattle.std.specs.Option.{option_map}
+use Rattle.std.proofs.lemmas.Option.{same_Some, slice_get_within, slice_get_past, slice_get-map, slice_get_read, slice_get-get_or}
 use Rattle.std.proofs.lemmas.List.{length-set, length-map}
-use Rattle.std.proofs.lemmas.Bool.{eqb-true, eq-eqb, ne_eqb, cases_lt, cases_eq, le-ltb, lt-ltb}
+use Rattle.std.proofs.lemmas.Bool.{eqb-true, eq-eqb, ne_eqb, cases_eq, le-ltb, lt-ltb}
 use Rattle.cml_board.specs.declared.call.Call.{Call}
 use Rattle.cml_board.specs.declared.call.Kind.TheVariants as kind
-use Rattle.cml_board.specs.declared.entry.Who.{Who}
-use Rattle.cml_board.specs.declared.entry.Who.TheVariants.{Seat, Lane, Feed}
+use Rattle.cml_board.specs.declared.entry.Who.TheVariants.{Seat}
 use Rattle.cml_board.specs.declared.entry.Entry.{Entry}
-use Rattle.cml_board.specs.History.{answer, Fits, Lawful, kind_of}
+use Rattle.cml_board.specs.History.{answer, Fits, kind_of}
 use Rattle.cml_grammar.specs.Script.{SourceLine, Lines}
 use Rattle.cml_grammar.specs.Meaning.{names_of}
 use Rattle.cml_grammar.specs.Reading.{IsMailboxAt, source_of, ReadsStep}
 use Rattle.cml_script.specs.Counting.{one_if, how_many}
-use Rattle.cml_script.specs.Schedule.{History, IsReady, IsStep, IsDeclaration, Follows, is_seated, is_seat, is_by, is_object, earlier, performed, step_call, declared_count, object_of}
-use Rattle.cml_script.specs.Stage.{Play, Stands, AreNumbers, AreQueues, AreCounts, with_entry, items_of, positions_from, IsStepAt, IsLeast, NoneReadyOf, IsReadyOf}
+use Rattle.cml_script.specs.Schedule.{History, IsReady, IsStep, IsDeclaration, Follows, is_seated, is_seat, is_by, is_object, performed, step_call, declared_count, object_of}
+use Rattle.cml_script.specs.Stage.{Play, Stands, AreQueues, AreCounts, with_entry, items_of, positions_from, IsStepAt, IsLeast}
 use Rattle.cml_script.proofs.ListLemmas.{how_many-le, mapped_at}
 use Rattle.cml_script.proofs.KindLemmas.{object_declared, mailbox_kind, makes_declared, counted_below}
 
@@ -71,8 +70,8 @@ pub counts_declared : (history : History) (entry : Entry ℕ) (counts : List ℕ
 counts_declared history entry counts e c = record {
   seats = c.seats;
   each = λ thread lt.
-    let other : eqb 0 (thread + 1) ≡ false = ne_eqb 0 (thread + 1) (λ z. omega arith) in
-    c.each thread lt ∙ ap Some (sym (performed_by (thread + 1) entry history 0 e ∙ ap (λ t. one_if t + performed history (thread + 1)) other ∙ omega arith));
+      let other : eqb 0 (thread + 1) ≡ false = ne_eqb 0 (thread + 1) (λ z. omega arith) in
+      c.each thread lt ∙ ap Some (sym (performed_by (thread + 1) entry history 0 e ∙ ap (λ t. one_if t + performed history (thread + 1)) other ∙ omega arith));
 }
 
 slice_get-set_at : (xs : List ℕ) (i : ℕ) (y : ℕ) → i < length xs → slice_get (slice_set xs i y) i ≡ Some y
@@ -92,13 +91,13 @@ counts_performed history entry counts at n e lt same c = record {
   seats = length-set counts at (n + 1) ∙ c.seats;
   each = λ thread within. elim (cases_eq thread at) [
     | inl here ↦
-      let yes : eqb (at + 1) (at + 1) ≡ true = eq-eqb (at + 1) (at + 1) refl in
-      let more : performed (entry ∷ history) (at + 1) ≡ n + 1 = performed_by (at + 1) entry history (at + 1) e ∙ ap (λ t. one_if t + performed history (at + 1)) yes ∙ omega (arith, same) in
-      subst (λ t. slice_get (slice_set counts at (n + 1)) t ≡ Some (performed (entry ∷ history) (t + 1))) (sym here) (slice_get-set_at counts at (n + 1) (omega (arith, c.seats)) ∙ ap Some (sym more))
+        let yes : eqb (at + 1) (at + 1) ≡ true = eq-eqb (at + 1) (at + 1) refl in
+        let more : performed (entry ∷ history) (at + 1) ≡ n + 1 = performed_by (at + 1) entry history (at + 1) e ∙ ap (λ t. one_if t + performed history (at + 1)) yes ∙ omega (arith, same) in
+        subst (λ t. slice_get (slice_set counts at (n + 1)) t ≡ Some (performed (entry ∷ history) (t + 1))) (sym here) (slice_get-set_at counts at (n + 1) (omega (arith, c.seats)) ∙ ap Some (sym more))
     | inr other ↦
-      let no : eqb (at + 1) (thread + 1) ≡ false = ne_eqb (at + 1) (thread + 1) (λ z. other (omega arith)) in
-      let kept : performed (entry ∷ history) (thread + 1) ≡ performed history (thread + 1) = performed_by (thread + 1) entry history (at + 1) e ∙ ap (λ t. one_if t + performed history (thread + 1)) no ∙ omega arith in
-      slice_get-set_off counts at thread (n + 1) other ∙ c.each thread within ∙ ap Some (sym kept)
+        let no : eqb (at + 1) (thread + 1) ≡ false = ne_eqb (at + 1) (thread + 1) (λ z. other (omega arith)) in
+        let kept : performed (entry ∷ history) (thread + 1) ≡ performed history (thread + 1) = performed_by (thread + 1) entry history (at + 1) e ∙ ap (λ t. one_if t + performed history (thread + 1)) no ∙ omega arith in
+        slice_get-set_off counts at thread (n + 1) other ∙ c.each thread within ∙ ap Some (sym kept)
   ];
 }
 
@@ -194,15 +193,16 @@ is_performed p old items i d asked view lines reads few ready declared calls =
       high = seat_high p.script items i s reads found few;
       declared = subst (λ (r : Play). declared_count r.script ≤ length r.history) (sym view) declared;
       step = λ reply. step_at p.script p.history i s.seat asked reply l (seat_is p.script p.history items i s lines reads found l)
-        (subst (λ (r : Play). step_call r.script r.history i ≡ Some asked) (sym view) calls);
+          (subst (λ (r : Play). step_call r.script r.history i ≡ Some asked) (sym view) calls);
     }
 
 pub performs : (p old new : Play) (i : ℕ) (s : Step) (asked : Call ℕ) (reply : Reply ℕ) → p ≡ old → new ≡ with_entry p (record { who = Seat s.seat; call = asked; reply = reply }) → IsPerformed p i s asked → (entry : Entry ℕ) × (new ≡ with_entry old entry) × IsStepAt old.script old.history entry i × (entry.reply ≡ reply)
-performs p old new i s asked reply view e performed =
-    (record { who = Seat s.seat; call = asked; reply = reply },
-      e ∙ ap (λ (r : Play). with_entry r (record { who = Seat s.seat; call = asked; reply = reply })) view,
-      subst (λ (r : Play). IsStepAt r.script r.history (record { who = Seat s.seat; call = asked; reply = reply }) i) view (performed.step reply),
-      refl)
+performs p old new i s asked reply view e performed = (
+  record { who = Seat s.seat; call = asked; reply = reply },
+  e ∙ ap (λ (r : Play). with_entry r (record { who = Seat s.seat; call = asked; reply = reply })) view,
+  subst (λ (r : Play). IsStepAt r.script r.history (record { who = Seat s.seat; call = asked; reply = reply }) i) view (performed.step reply),
+  refl,
+)
 
 -- the object that a mailbox's name stands for, before all are made too
 pub made_kind : (play : Play) (numbers : List ℕ) (queues : List (List ℕ)) (counts : List ℕ) → Stands play numbers queues counts → (at n : ℕ) → IsMailboxAt (names_of play.script) at → n ≡ get_or numbers at n → n < length play.history → kind_of play.history n ≡ Some kind.Mailbox

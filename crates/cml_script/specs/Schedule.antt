@@ -1,8 +1,7 @@
 -- In which order a script's calls are made. A history is a list of entries, the newest first.
-use Rattle.std.specs.Prelude.{ℕ, ◌≡◌, ◌≢◌, ◌+◌, ◌-◌, ◌<◌, ◌≤◌, ◌==◌, ◌⊎◌, Bool, true, false, nat_lt, List, [], ◌∷◌, length, take, map, filter, slice_get, Option, Some, None, is_some, MatchBool, if◌then◌else◌, ⊤}
+use Rattle.std.specs.Prelude.{ℕ, ◌≡◌, ◌≢◌, ◌-◌, ◌<◌, ◌≤◌, ◌==◌, ◌⊎◌, Bool, true, false, nat_lt, List, [], ◌∷◌, length, take, filter, slice_get, Option, Some, None, is_some, MatchBool, if◌then◌else◌, ⊤}
 use Rattle.std.specs.Option.{option_map, option_map_or, option_and_then}
 use Rattle.cml_script.specs.Counting.{how_many}
-use Rattle.cml_board.specs.declared.call.Name.{Name}
 use Rattle.cml_board.specs.declared.call.Call.{Call}
 use Rattle.cml_board.specs.declared.call.Call.TheVariants as call
 use Rattle.cml_board.specs.declared.entry.Who.{Who}
@@ -62,7 +61,6 @@ is_seated script seat line = option_map_or (λ s. s == seat) (seat_of_step (name
 -- how many steps of that thread stand before the i-th step of the script
 abbrev pub earlier : Lines → ℕ → ℕ → ℕ
 earlier script seat i = how_many (is_seated script seat) (take i script.steps)
-
 
 abbrev pub is_seat : ℕ → Who → Bool
 is_seat seat (Seat s) = s == seat

@@ -7,28 +7,38 @@ use crate::read::Unread;
 use crate::stop::Stop;
 use cml_grammar::{Fault, What};
 use std::alloc::AllocError;
-use std::fmt;
+use thiserror::Error;
 
-/// How a run of a script ends.
-#[derive(Clone, Copy, Debug, PartialEq, Eq)]
+/// How a run of a script ends. It shows as the line for standard error; of a run that is done,
+/// stalled, full or held the report tells that.
+#[derive(Clone, Copy, Debug, PartialEq, Eq, Error)]
 pub enum Ending {
     /// Every step was performed.
+    #[error("cml: done")]
     Done,
     /// Steps are left, and none is ready.
+    #[error("cml: stalled")]
     Stalled,
     /// The script has a fault.
+    #[error("{0}")]
     Fault(Fault),
     /// The script could not be read, or its reader was asked too often.
+    #[error("cml: read failed")]
     ReadFault,
     /// The report could not be written.
+    #[error("cml: write failed")]
     WriteFault,
     /// There was no memory, and nothing was written.
+    #[error("cml: no memory")]
     NoMemory,
     /// The journal met its limit.
+    #[error("cml: full")]
     Full,
     /// The journal's entry at this position breaks the law.
+    #[error("cml: not lawful at {0}")]
     NotLawful(usize),
     /// A gate held a thread.
+    #[error("cml: held")]
     Held,
 }
 
@@ -86,19 +96,5 @@ pub fn status_of(ending: &Ending) -> u8
         Ending::NoMemory => 5,
         Ending::Full => 6,
         Ending::NotLawful(_) => 7,
-    }
-}
-
-/// The line for standard error. It is empty where the report says how the run ended.
-impl fmt::Display for Ending {
-    fn fmt<W: fmt::Write>(&self, f: &mut fmt::Formatter<W>) -> fmt::Result {
-        match self {
-            Ending::Fault(fault) => write!(f, "{fault}"),
-            Ending::ReadFault => write!(f, "cml: read failed"),
-            Ending::WriteFault => write!(f, "cml: write failed"),
-            Ending::NoMemory => write!(f, "cml: no memory"),
-            Ending::NotLawful(at) => write!(f, "cml: not lawful at {at}"),
-            Ending::Done | Ending::Stalled | Ending::Full | Ending::Held => Ok(()),
-        }
     }
 }

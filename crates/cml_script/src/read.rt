@@ -47,11 +47,7 @@ pub fn read_all<R: Read>(alloc: Global, reader: &mut R) -> Result<Vec<u8>, Unrea
 }
 
 /// Asks the reader once, adds what it gave, and answers whether it was at its end.
-fn read_more<R: Read>(
-    reader: &mut R,
-    room: &mut [u8],
-    bytes: &mut Vec<u8>,
-) -> Result<bool, Unread>
+fn read_more<R: Read>(reader: &mut R, room: &mut [u8], bytes: &mut Vec<u8>) -> Result<bool, Unread>
     requires short { length bytes.old.items < 1048577 }
     requires room { 0 < length room.old }
     ensures end { IfOk result (λ ended. IsTrue ended → IsAtEnd (R.remaining reader.new)) }

@@ -11,11 +11,7 @@ use cml_grammar::Named;
 use std::alloc::AllocError;
 
 /// Adds the line of a step and its reply.
-pub fn write_entry(
-    report: &mut String,
-    line: &str,
-    reply: &Reply<u64>,
-) -> Result<(), AllocError>
+pub fn write_entry(report: &mut String, line: &str, reply: &Reply<u64>) -> Result<(), AllocError>
     ensures { OnOk result (string_bytes report.new ≡ string_bytes report.old ++ (line.now ++ codes ": " ++ reply_word reply.now ++ line_end)) }
 {
     report.push_str(line)?;
@@ -82,7 +78,10 @@ fn write_mailbox(
     let sent = board.sent_count(object).unwrap();
     let got = board.got_count(object).unwrap();
     let waits = board.owed_count(object).unwrap();
-    writeln!(report, "mailbox {name}: sent {sent} got {got} waits {waits}")
+    writeln!(
+        report,
+        "mailbox {name}: sent {sent} got {got} waits {waits}"
+    )
 }
 
 /// Adds the last line.

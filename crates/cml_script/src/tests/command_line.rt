@@ -78,7 +78,9 @@ fn shows_help_on_standard_output(rt: HostRuntime) {
 
 #[test]
 fn help_says_what_is_read_and_written(rt: HostRuntime) {
-    let shown = format!(in rt.alloc(); "{}", error_of(&rt, &["cml", "replay", "--help"])).unwrap();
+    let shown = format!(in rt.alloc(); "{}", error_of(&rt, &["cml", "replay", "--help"])).expect(
+        &rt, "memory",
+    );
     let phrases = [
         "standard input",
         "standard output",
@@ -102,7 +104,7 @@ fn help_says_what_is_read_and_written(rt: HostRuntime) {
 
 #[test]
 fn the_name_alone_shows_how_to_use_it(rt: HostRuntime) {
-    let shown = format!(in rt.alloc(); "{}", error_of(&rt, &["cml"])).unwrap();
+    let shown = format!(in rt.alloc(); "{}", error_of(&rt, &["cml"])).expect(&rt, "memory");
     assert!(rt; shown.contains("Usage: cml <COMMAND>"));
     assert!(rt; shown.contains("replay"));
 }

@@ -1,11 +1,17 @@
 //! Scripts, their endings and their reports.
-use super::{LIMIT, replayed, shown};
+use super::{LIMIT, MAX_LIMIT, replayed, shown};
 use crate::{Ending, status_of};
 use std::str;
 use std::test::Fail;
 
 const PLAYED: [(&str, &str, u64, Ending, &str); 17] = [
-    ("nothing but a header", "cml 1\n", LIMIT, Ending::Done, "end: done 0\n"),
+    (
+        "nothing but a header",
+        "cml 1\n",
+        LIMIT,
+        Ending::Done,
+        "end: done 0\n",
+    ),
     (
         "one mailbox and two threads",
         "cml 1\nmailbox m\nthread A\nthread B\nA send m 5\nB recv m\nB poll m\n",
@@ -114,7 +120,7 @@ const PLAYED: [(&str, &str, u64, Ending, &str); 17] = [
     (
         "the largest limit",
         "cml 1\nmailbox m\n",
-        4_294_967_296,
+        MAX_LIMIT,
         Ending::Done,
         "mailbox m: sent 0 got 0 waits 0\nend: done 0\n",
     ),
@@ -132,18 +138,42 @@ fn replays_scripts(rt: HostRuntime) -> Result<(), Fail> {
 
 const FAULTS: [(&str, &str, &str); 14] = [
     ("nothing", "", "script: line 1: bad header"),
-    ("a header without line end", "cml 1", "script: line 1: no line end"),
+    (
+        "a header without line end",
+        "cml 1",
+        "script: line 1: no line end",
+    ),
     ("another header", "cml 3\n", "script: line 1: bad header"),
-    ("a name twice", "cml 1\nmailbox m\nmailbox m\n", "script: line 3: name taken"),
-    ("a reserved word", "cml 1\n# note\nthread port\n", "script: line 3: bad name"),
-    ("no such step", "cml 1\nthread A\nA jump\n", "script: line 3: unknown step"),
-    ("no message", "cml 1\nmailbox m\nthread A\nA send m\n", "script: line 4: word count"),
+    (
+        "a name twice",
+        "cml 1\nmailbox m\nmailbox m\n",
+        "script: line 3: name taken",
+    ),
+    (
+        "a reserved word",
+        "cml 1\n# note\nthread port\n",
+        "script: line 3: bad name",
+    ),
+    (
+        "no such step",
+        "cml 1\nthread A\nA jump\n",
+        "script: line 3: unknown step",
+    ),
+    (
+        "no message",
+        "cml 1\nmailbox m\nthread A\nA send m\n",
+        "script: line 4: word count",
+    ),
     (
         "a mailbox after a step",
         "cml 1\nmailbox m\nthread A\nA poll m\nmailbox k\n",
         "script: line 5: late declaration",
     ),
-    ("two spaces", "cml 1\nthread A\nA  recv m\n", "script: line 3: bad words"),
+    (
+        "two spaces",
+        "cml 1\nthread A\nA  recv m\n",
+        "script: line 3: bad words",
+    ),
     (
         "a number too large",
         "cml 1\nmailbox m\nthread A\nA send m 18446744073709551616\n",
@@ -159,7 +189,11 @@ const FAULTS: [(&str, &str, &str); 14] = [
         "cml 1\nmailbox m\nthread A\nA send m 5\nA send m 6\nA recv",
         "script: line 6: no line end",
     ),
-    ("a channel, which no script has yet", "cml 1\nchannel c\n", "script: line 2: unknown line"),
+    (
+        "a channel, which no script has yet",
+        "cml 1\nchannel c\n",
+        "script: line 2: unknown line",
+    ),
     (
         "a put, which no script has yet",
         "cml 1\nmailbox m\nthread A\nA put m 5\n",
@@ -181,13 +215,13 @@ fn tells_faults_and_writes_nothing(rt: HostRuntime) -> Result<(), Fail> {
 #[test]
 fn has_a_status_and_a_text_for_each_ending(rt: HostRuntime) -> Result<(), Fail> {
     let endings = [
-        (Ending::Done, 0, ""),
-        (Ending::Stalled, 1, ""),
-        (Ending::Held, 1, ""),
+        (Ending::Done, 0, "cml: done"),
+        (Ending::Stalled, 1, "cml: stalled"),
+        (Ending::Held, 1, "cml: held"),
         (Ending::ReadFault, 4, "cml: read failed"),
         (Ending::WriteFault, 4, "cml: write failed"),
         (Ending::NoMemory, 5, "cml: no memory"),
-        (Ending::Full, 6, ""),
+        (Ending::Full, 6, "cml: full"),
         (Ending::NotLawful(17), 7, "cml: not lawful at 17"),
     ];
     for (ending, status, text) in endings {

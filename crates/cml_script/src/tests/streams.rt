@@ -6,6 +6,7 @@ use std::str;
 use std::test::Fail;
 
 const SCRIPT: &str = "cml 1\nmailbox m\nthread A\nA send m 5\n";
+
 const REPORT: &str = "A send m 5: done\nmailbox m: sent 1 got 0 waits 1\nend: done 1\n";
 
 /// Gives one byte a call. Before each it is interrupted so often, and once it gave as many bytes as
@@ -75,7 +76,10 @@ struct Narrow {
 
 impl Write for Narrow {
     fn write(&mut self, buf: &[u8]) -> io::Result<usize> {
-        let n = buf.len().min(7).min(self.room.saturating_sub(self.got.len()));
+        let n = buf
+            .len()
+            .min(7)
+            .min(self.room.saturating_sub(self.got.len()));
         if n == 0 {
             return Err(ErrorKind::BrokenPipe.into());
         }
@@ -151,7 +155,12 @@ fn writes_a_report_in_parts(rt: HostRuntime) -> Result<(), Fail> {
 
 #[test]
 fn tells_a_write_that_fails_in_mid_stream(rt: HostRuntime) -> Result<(), Fail> {
-    for (room, flushes) in [(0, true), (10, true), (REPORT.len() - 1, true), (REPORT.len(), false)] {
+    for (room, flushes) in [
+        (0, true),
+        (10, true),
+        (REPORT.len() - 1, true),
+        (REPORT.len(), false),
+    ] {
         let mut reader = SCRIPT.as_bytes();
         let mut writer = Narrow {
             got: Vec::new(rt.alloc()),

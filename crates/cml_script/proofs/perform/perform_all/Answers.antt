@@ -1,4 +1,4 @@
-use Rattle.std.proofs.Common.{◌≡◌, ◌+◌, ◌<◌, ◌≤◌, ◌∙◌, ◌++◌, ℕ, length, sym, ap, subst, arith, slice_get, Some, map, string_bytes}
+use Rattle.std.proofs.Common.{◌<◌, ◌≤◌, ◌∙◌, ◌++◌, length, sym, ap, arith, string_bytes}
 use Rattle.std.specs.Prelude.{codes}
 use Rattle.std.proofs.lemmas.Bool.{iff_false}
 use Rattle.std.proofs.lemmas.List.{length-map}
@@ -51,14 +51,14 @@ loop-preserved c =
     let declared : declared_count stage.script ≤ length stage.history = omega (arith, c.loop.invariant.performed) in
     let text = c.as_str.ensures.value ∙ ap (λ (s : Step). string_bytes s.line.text) (sym c.index-steps-i.is) in
     let line = c.in_ok-write_entry.ensures
-      ∙ ap (λ t. string_bytes c.loop.report ++ (t ++ codes ": " ++ reply_word c.reply.result.now ++ line_end)) text
-      ∙ ap (λ r. string_bytes c.loop.report ++ (string_bytes c.index-steps-i.result.line.text ++ codes ": " ++ reply_word r ++ line_end)) (c.reply.ensures ∙ sym step.3)
-      ∙ ap (λ t. t ++ (string_bytes c.index-steps-i.result.line.text ++ codes ": " ++ reply_word step.0.reply ++ line_end)) c.loop.invariant.text in
+    ∙ ap (λ t. string_bytes c.loop.report ++ (t ++ codes ": " ++ reply_word c.reply.result.now ++ line_end)) text
+    ∙ ap (λ r. string_bytes c.loop.report ++ (string_bytes c.index-steps-i.result.line.text ++ codes ": " ++ reply_word r ++ line_end)) (c.reply.ensures ∙ sym step.3)
+    ∙ ap (λ t. t ++ (string_bytes c.index-steps-i.result.line.text ++ codes ": " ++ reply_word step.0.reply ++ line_end)) c.loop.invariant.text in
     record {
       script = ap (λ (p : Play). p.script) step.1 ∙ c.loop.invariant.script;
       limit = ap (λ (p : Play). p.limit) step.1 ∙ c.loop.invariant.limit;
       performed = omega (arith, c.loop.invariant.performed, ap (λ (p : Play). length p.history) step.1, ap (λ (p : Play). declared_count p.script) step.1);
       text = line
-        ∙ sym (step_line stage.script stage.history step.0 c.steps-steps.result.now c.in-Some.i c.index-steps-i.result declared step.2 lines found)
-        ∙ sym (ap (λ (p : Play). entry_lines p.script p.history) step.1);
+          ∙ sym (step_line stage.script stage.history step.0 c.steps-steps.result.now c.in-Some.i c.index-steps-i.result declared step.2 lines found)
+          ∙ sym (ap (λ (p : Play). entry_lines p.script p.history) step.1);
     }

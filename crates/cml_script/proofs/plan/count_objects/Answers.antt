@@ -1,4 +1,4 @@
-use Rattle.std.proofs.Common.{Bool, true, false, refl, ◌≡◌, ◌+◌, length, take, ap, ◌∙◌, arith, sym}
+use Rattle.std.proofs.Common.{◌≡◌, ◌+◌, take, ap, ◌∙◌, arith, sym}
 use Rattle.std.proofs.lemmas.List.{length-take}
 use Rattle.cml_grammar.specs.Reading.{source_of, ReadsDeclaration}
 use mir.Val.{bool_byte}

@@ -1,4 +1,4 @@
-use Rattle.std.proofs.Common.{Bool, true, false, refl, ◌≡◌, ◌++◌, ◌∷◌, [], ◌+◌, Some, slice_get, length, take, ap, ◌∙◌, arith, sym}
+use Rattle.std.proofs.Common.{◌≡◌, ◌++◌, ◌∷◌, [], ◌+◌, length, take, ap, ◌∙◌, arith, sym}
 use Rattle.std.proofs.lemmas.List.{length_push, length-take}
 use Rattle.cml_grammar.specs.Reading.{source_of, ReadsDeclaration}
 use mir.Val.{bool_byte}

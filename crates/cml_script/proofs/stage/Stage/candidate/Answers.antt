@@ -1,4 +1,4 @@
-use Rattle.std.proofs.Common.{◌+◌, ◌∙◌, ◌≡◌, ◌≢◌, sym, subst, None, false, true}
+use Rattle.std.proofs.Common.{◌+◌, ◌∙◌, ◌≡◌, sym, subst, None}
 use Rattle.std.proofs.lemmas.Bool.{false≢true}
 use Rattle.cml_board.specs.History.{answer, Fits}
 use Rattle.cml_script.specs.Stage.{Play}
@@ -23,6 +23,6 @@ pub returns : goal.returns
 returns c =
     ready_there c.args.self.now.script c.args.self.now.history (c.args.thread + 1) _ c.call.result (sym c.in_ok-i.ensures) c.call.ensures.call
     (λ waits.
-      let there = subst (λ (p : Play). answer p.history c.call.result ≡ None) (sym c.self.view_is) waits in
-      let fits = subst (λ (p : Play). Fits p.history c.call.result) (sym c.self.view_is) c.call.ensures.fits in
-      false≢true (sym c.if-would_wait.false ∙ c.would_wait.ensures.1 (fits, there)))
+    let there = subst (λ (p : Play). answer p.history c.call.result ≡ None) (sym c.self.view_is) waits in
+    let fits = subst (λ (p : Play). Fits p.history c.call.result) (sym c.self.view_is) c.call.ensures.fits in
+    false≢true (sym c.if-would_wait.false ∙ c.would_wait.ensures.1 (fits, there)))

@@ -1,4 +1,4 @@
-use Rattle.std.proofs.Common.{◌≡◌, ◌+◌, ◌∙◌, sym, ap, take, length, Some, slice_get, arith}
+use Rattle.std.proofs.Common.{◌+◌, ◌∙◌, sym, ap, take, length}
 use Rattle.std.proofs.lemmas.Bool.{MatchBool-at_true}
 use Rattle.cml_grammar.specs.Script.{Lines}
 use Rattle.cml_grammar.specs.Reading.{source_of, ReadsDeclaration}
@@ -36,6 +36,6 @@ loop-declaration-preserved c =
       script = c.in_ok-declare_next.ensures.script ∙ c.loop-declaration.invariant.script;
       limit = c.in_ok-declare_next.ensures.limit ∙ c.loop-declaration.invariant.limit;
       made =
-        grown ∙ ap (λ t. length c.loop-declaration.self.history + one_if t) (sym object) ∙ ap (λ n. n + one_if (is_object (source_of d.line))) c.loop-declaration.invariant.made
-        ∙ sym counted ∙ ap (λ (s : Lines). how_many is_object (take (i + 1) s.declarations)) (sym c.in_ok-declare_next.ensures.script);
+          grown ∙ ap (λ t. length c.loop-declaration.self.history + one_if t) (sym object) ∙ ap (λ n. n + one_if (is_object (source_of d.line))) c.loop-declaration.invariant.made
+          ∙ sym counted ∙ ap (λ (s : Lines). how_many is_object (take (i + 1) s.declarations)) (sym c.in_ok-declare_next.ensures.script);
     }

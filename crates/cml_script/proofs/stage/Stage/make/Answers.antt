@@ -8,7 +8,8 @@ use Rattle.cml_script.proofs.stage.Stage.make.Goals as goal
 pub returns-in-Answered-clause-made : goal.returns-in-Answered-clause-made
 returns-in-Answered-clause-made c =
     let adds = c.in-Answered.ensures.5 in
-    let entry : Entry ℕ = record { who = Seat 0; call = c.args.call; reply = c.in-Answered.field-0.reply } in
-    (c.in-Answered.field-0.reply,
+    let entry : Entry ℕ = record { who = Seat 0; call = c.args.call; reply = c.in-Answered.field-0.reply } in (
+      c.in-Answered.field-0.reply,
       new_play c.self.inside.script.now c.self.inside.board.history _ c.self.inside.board.limit _ entry adds.history adds.limit
-      ∙ ap (λ (p : Play). with_entry p entry) c.self.view_is)
+          ∙ ap (λ (p : Play). with_entry p entry) c.self.view_is,
+    )

@@ -1,4 +1,4 @@
-use Rattle.std.proofs.Common.{◌+◌, ◌∙◌, sym, ap, slice_get}
+use Rattle.std.proofs.Common.{◌+◌, ◌∙◌, ap, slice_get}
 use Rattle.cml_script.specs.Stage.{positions_from}
 use Rattle.cml_script.proofs.StandLemmas.{stands_at, queue_is, count_is, get_is}
 use Rattle.cml_script.proofs.stage.Stage.next_step.Goals as goal

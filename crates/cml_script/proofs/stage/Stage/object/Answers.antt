@@ -1,8 +1,7 @@
-use Rattle.std.proofs.Common.{ap, sym, arith, length, ◌<◌, ◌≤◌, ◌≡◌, ◌∙◌, ℕ, refl, Some}
+use Rattle.std.proofs.Common.{ap, sym, arith, length, ◌<◌, ◌≤◌, ℕ}
 use Rattle.std.proofs.lemmas.List.{length-reverse}
 use Rattle.std.specs.Option.{option_map}
 use Rattle.cml_board.specs.declared.call.Name.{Name}
-use Rattle.cml_script.specs.Schedule.{object_of}
 use Rattle.cml_script.specs.Stage.{Play}
 use Rattle.cml_script.proofs.StandLemmas.{stands_at, mailbox_within, made_kind, is_made, not_made}
 use Rattle.cml_script.proofs.stage.Stage.object.Goals as goal

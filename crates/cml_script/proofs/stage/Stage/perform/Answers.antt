@@ -1,7 +1,6 @@
 use Rattle.std.proofs.Common.{ℕ, get_or, refl, arith}
 use Rattle.cml_board.specs.declared.entry.Who.TheVariants.{Seat}
 use Rattle.cml_board.specs.declared.entry.Entry.{Entry}
-
 use Rattle.cml_script.proofs.StandLemmas.{new_play, is_performed, performs, stands_performed, count_fits}
 use Rattle.cml_script.proofs.stage.Stage.perform.Goals as goal
 
