@@ -8,22 +8,16 @@ use std::{fs, io};
 const LIMIT: u64 = 65_536;
 
 fn main(rt: HostRuntime) -> io::Result<ExitCode> {
-    let names = scripts(&rt)?;
-    let mut differing: u64 = 0;
-    for name in &names {
-        let verdict = if is_same(&rt, name.as_str())? {
-            "same"
+    let mut status = ExitCode::SUCCESS;
+    for name in &scripts(&rt)? {
+        if is_same(&rt, name.as_str())? {
+            println!(rt; "{name}: same")?;
         } else {
-            "differs"
-        };
-        println!(rt; "{name}: {verdict}")?;
-        differing += u64::from(verdict == "differs");
+            println!(rt; "{name}: differs")?;
+            status = ExitCode::FAILURE;
+        }
     }
-    Ok(if differing == 0 {
-        ExitCode::SUCCESS
-    } else {
-        ExitCode::FAILURE
-    })
+    Ok(status)
 }
 
 /// The names of the scripts, without their endings, in order.
