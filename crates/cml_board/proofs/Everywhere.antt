@@ -23,11 +23,11 @@ module _ {M : Type 0} where
   more : (earlier : List (Entry M)) (last : Entry M) → IsLawfulEverywhere (reverse earlier) → Fits earlier last.call → answer earlier last.call ≡ Some last.reply → IsLawfulEverywhere (reverse earlier ++ last ∷ [])
   more earlier last lawful fits answers k entry found = elim (pushed_cases (reverse earlier) last entry k found) [
     | inl old ↦
-      let there = lawful k entry old in
-      let within : k ≤ length (reverse earlier) = omega (arith, slice_get_within (reverse earlier) k entry old) in
-      at_same _ k entry (before (reverse earlier) k) (before_old (reverse earlier) last k within) there.fits there.answered
+        let there = lawful k entry old in
+        let within : k ≤ length (reverse earlier) = omega (arith, slice_get_within (reverse earlier) k entry old) in
+        at_same _ k entry (before (reverse earlier) k) (before_old (reverse earlier) last k within) there.fits there.answered
     | inr new ↦
-      rw (new.0, ← new.1) (at_same _ (length (reverse earlier)) last earlier (before_last earlier last) fits answers)
+        rw (new.0, ← new.1) (at_same _ (length (reverse earlier)) last earlier (before_last earlier last) fits answers)
   ]
 
   pub lawful_each : (history : List (Entry M)) → Lawful history → IsLawfulEverywhere (reverse history)

@@ -117,13 +117,13 @@ module _ {M : Type 0} where
     all = rw (append-nil (made history), length-set objects name.0 (with_message was message)) shows.all;
     each = λ k object at. elim (cases_eq k name.0) [
       | inl same ↦
-        let stands : slice_get (slice_set objects name.0 (with_message was message)) k ≡ Some (with_message was message) =
+          let stands : slice_get (slice_set objects name.0 (with_message was message)) k ≡ Some (with_message was message) =
           rw same (slice_get-set_same objects name.0 was (with_message was message) found) in
-        let new : with_message was message ≡ object = same_Some _ _ (sym stands ∙ at) in
-        rw (same, ← new) (shows_sent who history name message was lawful (shows.each name.0 was found))
+          let new : with_message was message ≡ object = same_Some _ _ (sym stands ∙ at) in
+          rw (same, ← new) (shows_sent who history name message was lawful (shows.each name.0 was found))
       | inr other ↦
-        shows_other who (Send name message) Done history k object refl (sent_by_other name message k other) refl
-        (shows.each k object (sym (slice_get-set_other objects name.0 k (with_message was message) other) ∙ at))
+          shows_other who (Send name message) Done history k object refl (sent_by_other name message k other) refl
+          (shows.each k object (sym (slice_get-set_other objects name.0 k (with_message was message) other) ∙ at))
     ];
   }
 
@@ -161,13 +161,13 @@ module _ {M : Type 0} where
     all = rw (takes.1 message, append-nil (made history), length-set objects name.0 (without_first was)) shows.all;
     each = λ k object at. elim (cases_eq k name.0) [
       | inl same ↦
-        let stands : slice_get (slice_set objects name.0 (without_first was)) k ≡ Some (without_first was) =
+          let stands : slice_get (slice_set objects name.0 (without_first was)) k ≡ Some (without_first was) =
           rw same (slice_get-set_same objects name.0 was (without_first was) found) in
-        let new : without_first was ≡ object = same_Some _ _ (sym stands ∙ at) in
-        rw (same, ← new) (shows_got who call history name message was takes (shows.each name.0 was found))
+          let new : without_first was ≡ object = same_Some _ _ (sym stands ∙ at) in
+          rw (same, ← new) (shows_got who call history name message was takes (shows.each name.0 was found))
       | inr other ↦
-        shows_other who call (Got message) history k object (takes.1 message) (takes.2 k) (takes.3 k (Got message) ∙ got_by_other name (Got message) k other)
-        (shows.each k object (sym (slice_get-set_other objects name.0 k (without_first was) other) ∙ at))
+          shows_other who call (Got message) history k object (takes.1 message) (takes.2 k) (takes.3 k (Got message) ∙ got_by_other name (Got message) k other)
+          (shows.each k object (sym (slice_get-set_other objects name.0 k (without_first was) other) ∙ at))
     ];
   }
 
@@ -350,8 +350,8 @@ module _ {M : Type 0} where
       → AddsEntry old (record { history = reverse later; limit = limit; objects = after }) who call told
   adds_entry {old} {journal} {reserved} {later} {limit} {objects} {after} who call noted reply told view noting same calls replies = record {
     history =
-      reverse_noted journal later (record { who = who; call = noted; reply = reply }) (noting ∙ ap (λ l. l ++ record { who = who; call = noted; reply = reply } ∷ []) same)
-      ∙ rw (calls, replies) (ap (λ (b : Shown M). record { who = who; call = call; reply = told } ∷ b.history) view);
+        reverse_noted journal later (record { who = who; call = noted; reply = reply }) (noting ∙ ap (λ l. l ++ record { who = who; call = noted; reply = reply } ∷ []) same)
+        ∙ rw (calls, replies) (ap (λ (b : Shown M). record { who = who; call = call; reply = told } ∷ b.history) view);
     limit = ap (λ (b : Shown M). b.limit) view;
   }
 

@@ -9,5 +9,4 @@ ghost use Rattle.cml_board.specs.Positions.{IsLawfulEverywhere};
 pub fn lawful_at_every_position<M>()
     ensures each { (history : List (Entry M)) → Lawful history → IsLawfulEverywhere (reverse history) }
     ensures only { (history : List (Entry M)) → IsLawfulEverywhere (reverse history) → Lawful history }
-{
-}
+{}

@@ -66,7 +66,12 @@ impl<M: Message> Board<M> {
             call: Call::NewMailbox,
             reply: Reply::Made(name),
         };
-        note(&mut self.journal, entry, Call::NewMailbox, Reply::Made(name))
+        note(
+            &mut self.journal,
+            entry,
+            Call::NewMailbox,
+            Reply::Made(name),
+        )
     }
 
     fn send(&mut self, who: Who, name: Name, message: M) -> Outcome<M>
@@ -88,7 +93,12 @@ impl<M: Message> Board<M> {
             call: Call::Send(name, noted),
             reply: Reply::Done,
         };
-        note(&mut self.journal, entry, Call::Send(name, message), Reply::Done)
+        note(
+            &mut self.journal,
+            entry,
+            Call::Send(name, message),
+            Reply::Done,
+        )
     }
 
     fn receive(&mut self, who: Who, name: Name) -> Outcome<M>
@@ -150,7 +160,12 @@ impl<M: Message> Board<M> {
             call: taking.call(name),
             reply: Reply::Got(noted),
         };
-        note(&mut self.journal, entry, taking.call(name), Reply::Got(message))
+        note(
+            &mut self.journal,
+            entry,
+            taking.call(name),
+            Reply::Got(message),
+        )
     }
 }
 

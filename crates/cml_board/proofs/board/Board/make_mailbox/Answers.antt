@@ -12,4 +12,4 @@ invariant_of-self-2 g c =
     (tt, tt)
     (made_name c.self.view_is c.self.invariant c.len.result (omega (arith, length-map old.items seen, old.ok.0)))
     (λ l s. rw (seen_pushed old.items c.push_reserved.new.self.items c.new.result pushed c.new.ensures)
-      (shows_made c.args.who _ (seen_all old.items) (record { 0 = c.len.result }) l s))
+    (shows_made c.args.who _ (seen_all old.items) (record { 0 = c.len.result }) l s))

@@ -16,7 +16,7 @@ invariant_of-self-2 g c =
     (fits_mailbox c.args.self.now.history c.args.name (Send c.args.name c.in-Ok.noted) c.requires.fits refl refl)
     refl
     (λ l s.
-      let stands = subst (λ (b : Shown g.row.M.Denot). StandsAt b.objects c.args.name.0) (sym c.self.view_is)
-      (stands_at c.args.self.now (keeps_at _ _ c.self.view_is c.self.invariant) c.args.name.0 c.requires.fits) in
-      rw (c.in-Ok-push_waiting.ensures.ok stands.mailbox stands.found, c.in-Ok.ensures.0, ← c.in-Ok.ensures.1)
-      (shows_send c.args.who _ _ c.args.name c.in-Ok.noted stands.mailbox l stands.found s))
+    let stands = subst (λ (b : Shown g.row.M.Denot). StandsAt b.objects c.args.name.0) (sym c.self.view_is)
+    (stands_at c.args.self.now (keeps_at _ _ c.self.view_is c.self.invariant) c.args.name.0 c.requires.fits) in
+    rw (c.in-Ok-push_waiting.ensures.ok stands.mailbox stands.found, c.in-Ok.ensures.0, ← c.in-Ok.ensures.1)
+    (shows_send c.args.who _ _ c.args.name c.in-Ok.noted stands.mailbox l stands.found s))

@@ -15,12 +15,11 @@ returns-in_default g c =
     (take_refused c.args.self.now (keeps_at _ _ c.self.view_is c.self.invariant) (taking_call c.args.taking c.args.name) c.args.taking c.args.name refl c.requires.fits c.requires.waits c.requires.room, c.call.ensures, refl)
 
 pub returns-then-is_err : goal.returns-then-is_err
-returns-then-is_err g c =
-    (
-      take_refused c.args.self.now (keeps_at _ _ c.self.view_is c.self.invariant) (taking_call c.args.taking c.args.name) c.args.taking c.args.name refl c.requires.fits c.requires.waits c.requires.room,
-      c.call-then-is_err.ensures,
-      ap (λ items. shown items c.self.inside.limit c.self.inside.objects.items) c.reserve.ensures.items ∙ c.self.view_is
-    )
+returns-then-is_err g c = (
+  take_refused c.args.self.now (keeps_at _ _ c.self.view_is c.self.invariant) (taking_call c.args.taking c.args.name) c.args.taking c.args.name refl c.requires.fits c.requires.waits c.requires.room,
+  c.call-then-is_err.ensures,
+  ap (λ items. shown items c.self.inside.limit c.self.inside.objects.items) c.reserve.ensures.items ∙ c.self.view_is,
+)
 
 pub take_first-message-requires : goal.take_first-message-requires
 take_first-message-requires g c = waits_shown c.self.view_is c.self.invariant c.args.name c.requires.fits c.requires.waits
@@ -33,7 +32,7 @@ invariant_of-self-2 g c =
     (fits_mailbox c.args.self.now.history c.args.name c.call-2.result c.requires.fits (taking_object _ c.args.taking c.args.name c.call-2.ensures) (taking_taken _ c.args.taking c.args.name c.call-2.ensures))
     (answers_taken c.self.view_is c.self.invariant c.call-2.result c.args.taking c.args.name c.in-Ok.noted waits c.call-2.ensures (c.in-Ok.ensures mailbox waits.stands.found))
     (λ l s. rw (c.take_first-message.ensures.rest mailbox waits.stands.found)
-      (shows_take c.args.who c.call-2.result _ _ c.args.name c.in-Ok.noted mailbox (taking_takes _ c.args.taking c.args.name c.call-2.ensures) waits.stands.found s))
+    (shows_take c.args.who c.call-2.result _ _ c.args.name c.in-Ok.noted mailbox (taking_takes _ c.args.taking c.args.name c.call-2.ensures) waits.stands.found s))
 
 pub returns : goal.returns
 returns g c =
