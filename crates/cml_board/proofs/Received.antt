@@ -1,14 +1,13 @@
 -- In a lawful history what was received from a mailbox is the front of what was sent to it.
-use Rattle.std.proofs.Common.{◌≡◌, ℕ, ◌+◌, ◌≤◌, Bool, true, false, cond, List, [], ◌∷◌, ◌++◌, length, drop, slice_get, Option, Some, None, unwrap_or, refl, sym, ap, ◌∙◌, arith, eqb}
+use Rattle.std.proofs.Common.{◌≡◌, ℕ, ◌≤◌, Bool, true, false, cond, List, [], ◌∷◌, ◌++◌, length, drop, slice_get, Option, Some, None, unwrap_or, refl, sym, ap, ◌∙◌, arith, eqb}
 use Rattle.std.specs.Option.{option_map}
 use Rattle.std.proofs.lemmas.List.{append-nil, append_assoc, drop_at, length-append}
 use Rattle.std.proofs.lemmas.Option.{same_Some, none-some}
 use Rattle.std.proofs.lemmas.Bool.{eqb-true}
-use Rattle.cml_board.specs.declared.call.Name.{Name}
 use Rattle.cml_board.specs.declared.call.Call.{Call}
 use Rattle.cml_board.specs.declared.call.Call.TheVariants.{NewMailbox, Send, Recv, Poll}
 use Rattle.cml_board.specs.declared.entry.Reply.{Reply}
-use Rattle.cml_board.specs.declared.entry.Reply.TheVariants.{Done, Made, Got, Nothing}
+use Rattle.cml_board.specs.declared.entry.Reply.TheVariants.{Got, Nothing}
 use Rattle.cml_board.specs.declared.entry.Entry.{Entry}
 use Rattle.cml_board.specs.History.{answer, sent, sent_by, got, got_by, owed, message_in, Lawful}
 

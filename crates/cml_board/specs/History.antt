@@ -1,8 +1,7 @@
 -- What a lawful history is. A history is a list of entries, the newest first: what stood before an entry is the tail
 -- behind it, so each definition goes back from the newest entry.
-use Rattle.std.specs.Prelude.{ℕ, ◌≡◌, ◌==◌, Bool, true, false, List, [], ◌∷◌, ◌++◌, length, drop, slice_get, Option, Some, None, unwrap_or, IsTrue, IsSome, IfSome, ⊤, if◌then◌else◌}
+use Rattle.std.specs.Prelude.{ℕ, ◌≡◌, ◌==◌, List, [], ◌∷◌, ◌++◌, length, drop, slice_get, Option, Some, unwrap_or, IsTrue, IsSome, IfSome, ⊤, if◌then◌else◌}
 use Rattle.std.specs.Option.{option_map}
-use Rattle.cml_board.specs.declared.call.Name.{Name}
 use Rattle.cml_board.specs.declared.call.Kind.{Kind}
 use Rattle.cml_board.specs.declared.call.Kind.TheVariants.{Mailbox}
 use Rattle.cml_board.specs.declared.call.Call.{Call}

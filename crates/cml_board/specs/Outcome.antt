@@ -1,9 +1,8 @@
 -- What a board is to those who call it, and what becomes of a call.
-use Rattle.std.specs.Prelude.{ℕ, ◌≡◌, ◌≢◌, ◌<◌, List, [], ◌∷◌, length, Option, Some, None}
+use Rattle.std.specs.Prelude.{◌≡◌, ◌≢◌, ◌<◌, ◌∷◌, length, Some, None}
 use Rattle.cml_board.specs.declared.call.Call.{Call}
 use Rattle.cml_board.specs.declared.entry.Who.{Who}
 use Rattle.cml_board.specs.declared.entry.Reply.{Reply}
-use Rattle.cml_board.specs.declared.entry.Entry.{Entry}
 use Rattle.cml_board.specs.declared.outcome.Refusal.{Refusal}
 use Rattle.cml_board.specs.declared.outcome.Refusal.TheVariants.{NoSuch, WrongKind, JournalFull, NoMemory}
 use Rattle.cml_board.specs.declared.outcome.Outcome.{Outcome}

@@ -1,7 +1,7 @@
 -- What lawful means, position by position in the journal.
-use Rattle.std.specs.Prelude.{ℕ, ◌≡◌, List, length, reverse, take, slice_get, Some}
+use Rattle.std.specs.Prelude.{ℕ, ◌≡◌, List, reverse, take, slice_get, Some}
 use Rattle.cml_board.specs.declared.entry.Entry.{Entry}
-use Rattle.cml_board.specs.History.{Fits, answer, Lawful}
+use Rattle.cml_board.specs.History.{Fits, answer}
 
 module _ {M : Type 0} where
   -- the entries before position k of a journal, newest first

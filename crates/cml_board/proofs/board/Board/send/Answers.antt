@@ -1,8 +1,8 @@
-use Rattle.std.proofs.Common.{refl, sym, ap, subst, ◌∙◌}
+use Rattle.std.proofs.Common.{refl, sym, subst}
 use Rattle.cml_board.specs.declared.call.Call.TheVariants.{Send}
 use Rattle.cml_board.specs.Shown.{Shown}
-use Rattle.cml_board.specs.Mailbox.{StandsAt, seen_all}
-use Rattle.cml_board.proofs.Showing.{keeps_at, keeps_noted, keeps_same, shows_send, stands_at, fits_mailbox}
+use Rattle.cml_board.specs.Mailbox.{StandsAt}
+use Rattle.cml_board.proofs.Showing.{keeps_at, keeps_noted, shows_send, stands_at, fits_mailbox}
 use Rattle.cml_board.proofs.board.Board.send.Goals as goal
 
 pub push_waiting-requires : goal.push_waiting-requires

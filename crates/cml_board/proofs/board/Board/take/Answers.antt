@@ -1,7 +1,6 @@
 use Rattle.std.proofs.Common.{refl, sym, ap, ◌∙◌, ◌≡◌}
 use Rattle.std.proofs.lemmas.Option.{same_Some}
 use Rattle.cml_board.specs.declared.entry.Reply.TheVariants.{Got}
-use Rattle.cml_board.specs.Mailbox.{seen_all}
 use Rattle.cml_board.specs.Taking.{taking_call}
 use Rattle.cml_board.specs.Keeps.{shown}
 use Rattle.cml_board.proofs.Showing.{keeps_at, keeps_noted, waits_shown, take_refused, answers_taken, shows_take, taking_takes, taking_object, taking_taken, fits_mailbox, applies_answered, adds_entry, noted_at}

@@ -1,6 +1,5 @@
-use Rattle.std.proofs.Common.{refl}
 use Rattle.std.proofs.lemmas.Result.{on_ok_weaker, on_err_weaker}
-use Rattle.cml_board.specs.Mailbox.{Seen, with_message}
+use Rattle.cml_board.specs.Mailbox.{with_message}
 use Rattle.cml_board.proofs.Showing.{seen_set, seen_kept}
 use Rattle.cml_board.proofs.board.apply.push_waiting.Goals as goal
 
