@@ -16,11 +16,13 @@ module _ {M : Type 0} where
   before_last : (earlier : List (Entry M)) (entry : Entry M) → before (reverse earlier ++ entry ∷ []) (length (reverse earlier)) ≡ earlier
   before_last earlier entry = ap reverse (take_at (reverse earlier) (entry ∷ []) (length (reverse earlier)) refl) ∙ reverse-reverse earlier
 
-  at_same : (journal : List (Entry M)) (k : ℕ) (entry : Entry M) (earlier : List (Entry M)) → before journal k ≡ earlier → Fits earlier entry.call → answer earlier entry.call ≡ Some entry.reply → IsLawfulAt journal k entry
+  at_same : (journal : List (Entry M)) (k : ℕ) (entry : Entry M) (earlier : List (Entry M)) → before journal k ≡ earlier
+      → Fits earlier entry.call → answer earlier entry.call ≡ Some entry.reply → IsLawfulAt journal k entry
   at_same journal k entry earlier e fits answers = record { fits = rw e fits; answered = rw e answers }
 
   -- one more entry at the journal's end
-  more : (earlier : List (Entry M)) (last : Entry M) → IsLawfulEverywhere (reverse earlier) → Fits earlier last.call → answer earlier last.call ≡ Some last.reply → IsLawfulEverywhere (reverse earlier ++ last ∷ [])
+  more : (earlier : List (Entry M)) (last : Entry M) → IsLawfulEverywhere (reverse earlier)
+      → Fits earlier last.call → answer earlier last.call ≡ Some last.reply → IsLawfulEverywhere (reverse earlier ++ last ∷ [])
   more earlier last lawful fits answers k entry found = elim (pushed_cases (reverse earlier) last entry k found) [
     | inl old ↦
         let there = lawful k entry old in

@@ -1,6 +1,8 @@
 -- The element at a place, after a write and after a push.
-use Rattle.std.proofs.Common.{◌≡◌, ◌≢◌, ℕ, zero, suc, ◌⊎◌, inl, inr, List, [], ◌∷◌, ◌++◌, length, slice_get, slice_set, Some, refl, ap}
+use Rattle.std.proofs.Common.{◌≡◌, ◌≢◌, ℕ, zero, suc, ◌⊎◌, inl, inr, List, [], ◌∷◌, ◌++◌, length, slice_get, slice_set, Some, Result, Ok, Err, OnOk, OnErr, false, refl, ap}
 use Rattle.std.proofs.lemmas.Option.{same_Some, none-some}
+use Rattle.std.proofs.lemmas.Bool.{true≢false}
+use Rattle.std.specs.Result.{is_err}
 
 module _ {X : Type 0} where
   pub slice_get-set_same : (xs : List X) (i : ℕ) (x y : X) → slice_get xs i ≡ Some x → slice_get (slice_set xs i y) i ≡ Some y
@@ -31,3 +33,13 @@ module _ {X : Type 0} where
   pub slice_get_pushed : (xs : List X) (y : X) → slice_get (xs ++ y ∷ []) (length xs) ≡ Some y
   slice_get_pushed [] y = refl
   slice_get_pushed (x ∷ xs) y = slice_get_pushed xs y
+
+-- what holds anyway holds of an error
+pub on_err_given : {X E P : Type 0} (r : Result X E) → P → OnErr r P
+on_err_given (Ok x) p = tt
+on_err_given (Err e) p = p
+
+-- what holds of a success holds where there is no error
+pub on_ok : {X E P : Type 0} (r : Result X E) → is_err r ≡ false → OnOk r P → P
+on_ok (Ok x) e p = p
+on_ok (Err error) e p = absurd (true≢false e)

@@ -1,106 +1,164 @@
--- In a lawful history what was received from a mailbox is the front of what was sent to it.
-use Rattle.std.proofs.Common.{◌≡◌, ℕ, ◌≤◌, Bool, true, false, cond, List, [], ◌∷◌, ◌++◌, length, drop, slice_get, Option, Some, None, unwrap_or, refl, sym, ap, ◌∙◌, arith, eqb}
-use Rattle.std.specs.Option.{option_map}
-use Rattle.std.proofs.lemmas.List.{append-nil, append_assoc, drop_at, length-append}
+-- In a lawful history what was received is how what is due begins.
+use Rattle.std.proofs.Common.{◌≡◌, ℕ, zero, suc, ◌<◌, ◌≤◌, inl, inr, Bool, true, false, cond, eqb, List, [], ◌∷◌, ◌++◌, length, drop, slice_get, Option, Some, None, unwrap_or, refl, sym, ap, subst, ◌∙◌, arith}
+use Rattle.std.proofs.lemmas.Bool.{eqb-true, cases_lt}
+use Rattle.std.proofs.lemmas.List.{append-nil, append_assoc, drop_at, length-append, length-drop}
 use Rattle.std.proofs.lemmas.Option.{same_Some, none-some}
-use Rattle.std.proofs.lemmas.Bool.{eqb-true}
 use Rattle.cml_board.specs.declared.call.Call.{Call}
-use Rattle.cml_board.specs.declared.call.Call.TheVariants.{NewMailbox, Send, Recv, Poll}
+use Rattle.cml_board.specs.declared.call.Call.TheVariants.{NewMailbox, NewChannel, NewPort, CopyPort, ClosePort, Send, Cast, Recv, Poll}
 use Rattle.cml_board.specs.declared.entry.Reply.{Reply}
-use Rattle.cml_board.specs.declared.entry.Reply.TheVariants.{Got, Nothing}
+use Rattle.cml_board.specs.declared.entry.Reply.TheVariants.{Got, Nothing, Closed}
 use Rattle.cml_board.specs.declared.entry.Entry.{Entry}
-use Rattle.cml_board.specs.History.{answer, sent, sent_by, got, got_by, owed, message_in, Lawful}
+use Rattle.cml_board.specs.Origins.{source_by, start_by}
+use Rattle.cml_board.specs.History.{Lawful, answer, made, if_made, begun_by, origin_of, is_open, sent, sent_by, got, got_by, message_in, due, owed, received, where_open}
+use Rattle.cml_board.proofs.Unmade.{untold, unmade_got}
+
+-- what stands in a list stays there where more follows
+slice_get-append_within : {X : Type 0} (xs ys : List X) (i : ℕ) → i < length xs → slice_get (xs ++ ys) i ≡ slice_get xs i
+slice_get-append_within [] ys i within = absurd (omega arith)
+slice_get-append_within (x ∷ xs) ys zero within = refl
+slice_get-append_within (x ∷ xs) ys (suc i) within = slice_get-append_within xs ys i (omega arith)
 
 module _ {M : Type 0} where
   -- one list is another and then some rest
   abbrev pub Begins : List M → List M → Type 0
   Begins front whole = (rest : List M) × (front ++ rest ≡ whole)
 
-  begins_nil : (front whole : List M) → Begins front whole → Begins (front ++ []) (whole ++ [])
-  begins_nil front whole b = (b.0, rw (append-nil front, append-nil whole) b.1)
+  begins_further : (front whole more : List M) → Begins front whole → Begins whole more → Begins front more
+  begins_further front whole more one two =
+      (one.0 ++ two.0, sym (append_assoc front one.0 two.0) ∙ ap (λ xs. xs ++ two.0) one.1 ∙ two.1)
 
-  begins_sent : (front whole : List M) (x : M) → Begins front whole → Begins (front ++ []) (whole ++ x ∷ [])
-  begins_sent front whole x b =
-      (b.0 ++ x ∷ [], rw (append-nil front) (sym (append_assoc front b.0 (x ∷ [])) ∙ ap (λ l. l ++ x ∷ []) b.1))
+  begins_nil : (front whole : List M) → Begins front whole → Begins (front ++ []) whole
+  begins_nil front whole begins = (begins.0, ap (λ xs. xs ++ begins.0) (append-nil front) ∙ begins.1)
 
-  -- what a receive and a poll answer where these messages are owed
-  abbrev first_reply : List M → Option (Reply M)
-  first_reply l = option_map Got (slice_get l 0)
+  -- what is left of a list where more follows
+  drop_grows : (n : ℕ) (xs ys : List M) → Begins (drop n xs) (drop n (xs ++ ys))
+  drop_grows zero xs ys = (ys, refl)
+  drop_grows (suc n) [] ys = (drop (suc n) ys, refl)
+  drop_grows (suc n) (x ∷ xs) ys = drop_grows n xs ys
 
-  abbrev poll_reply : List M → Reply M
-  poll_reply l = unwrap_or (first_reply l) Nothing
-
-  -- the first of what is owed is the next of what was sent
-  begins_got : (front whole : List M) (reply : Reply M) → Begins front whole → option_map Got (slice_get (drop (length front) whole) 0) ≡ Some reply → Begins (front ++ message_in reply) (whole ++ [])
-  begins_got front whole reply b first = by_rest b.0 b.1
+  -- the message of a receive's reply is the first that is owed
+  begins_received : (front whole : List M) (reply : Reply M) → Begins front whole → received (drop (length front) whole) ≡ Some reply
+      → Begins (front ++ message_in reply) whole
+  begins_received front whole reply begins first = by_rest begins.0 begins.1
     where
-      by_rest : (rest : List M) → front ++ rest ≡ whole → Begins (front ++ message_in reply) (whole ++ [])
-      by_rest [] e =
-          let owes : drop (length front) whole ≡ [] = ap (drop (length front)) (sym e) ∙ drop_at front [] (length front) refl in
-          let none : None ≡ Some reply = sym (ap first_reply owes) ∙ first in
-          absurd (none-some reply none)
-      by_rest (x ∷ xs) e =
-          let owes : drop (length front) whole ≡ x ∷ xs = ap (drop (length front)) (sym e) ∙ drop_at front (x ∷ xs) (length front) refl in
-          let gives : Got x ≡ reply = same_Some _ _ (sym (ap first_reply owes) ∙ first) in
-          (xs, rw (append-nil whole, ← gives) (append_assoc front (x ∷ []) xs ∙ e))
+      owes : (rest : List M) → front ++ rest ≡ whole → drop (length front) whole ≡ rest
+      owes rest is = ap (drop (length front)) (sym is) ∙ drop_at front rest (length front) refl
 
-  begins_polled : (front whole : List M) (reply : Reply M) → Begins front whole → unwrap_or (option_map Got (slice_get (drop (length front) whole) 0)) Nothing ≡ reply → Begins (front ++ message_in reply) (whole ++ [])
-  begins_polled front whole reply b first = by_rest b.0 b.1
+      by_rest : (rest : List M) → front ++ rest ≡ whole → Begins (front ++ message_in reply) whole
+      by_rest [] is = absurd (none-some reply (sym (ap received (owes [] is)) ∙ first))
+      by_rest (x ∷ xs) is =
+          let gives : Got x ≡ reply = same_Some _ _ (sym (ap received (owes (x ∷ xs) is)) ∙ first) in
+          subst (λ r. Begins (front ++ message_in r) whole) gives (xs, append_assoc front (x ∷ []) xs ∙ is)
+
+  -- and so is that of a poll's, if there is one
+  begins_polled : (front whole : List M) (reply : Reply M) → Begins front whole → unwrap_or (received (drop (length front) whole)) Nothing ≡ reply
+      → Begins (front ++ message_in reply) whole
+  begins_polled front whole reply begins is = by_first (received (drop (length front) whole)) refl is
     where
-      by_rest : (rest : List M) → front ++ rest ≡ whole → Begins (front ++ message_in reply) (whole ++ [])
-      by_rest [] e =
-          let owes : drop (length front) whole ≡ [] = ap (drop (length front)) (sym e) ∙ drop_at front [] (length front) refl in
-          let gives : Nothing ≡ reply = sym (ap poll_reply owes) ∙ first in
-          rw (← gives) (begins_nil front whole ([], e))
-      by_rest (x ∷ xs) e =
-          let owes : drop (length front) whole ≡ x ∷ xs = ap (drop (length front)) (sym e) ∙ drop_at front (x ∷ xs) (length front) refl in
-          let gives : Got x ≡ reply = sym (ap poll_reply owes) ∙ first in
-          (xs, rw (append-nil whole, ← gives) (append_assoc front (x ∷ []) xs ∙ e))
+      by_first : (first : Option (Reply M)) → received (drop (length front) whole) ≡ first → unwrap_or first Nothing ≡ reply
+          → Begins (front ++ message_in reply) whole
+      by_first None none is = subst (λ r. Begins (front ++ message_in r) whole) is (begins_nil front whole begins)
+      by_first (Some first) gives is = begins_received front whole reply begins (gives ∙ ap (λ r. Some r) is)
 
-  begins_step : (before : List (Entry M)) (call : Call M) (reply : Reply M) (o : ℕ) → answer before call ≡ Some reply → Begins (got before o) (sent before o) → Begins (got before o ++ got_by call reply o) (sent before o ++ sent_by call o)
-  begins_step before NewMailbox reply o a b = begins_nil _ _ b
-  begins_step before (Send name message) reply o a b =
-      elim (eqb name.0 o) as (λ t. Begins (got before o ++ []) (sent before o ++ cond t (message ∷ []) [])) [ true ↦ begins_sent _ _ message b | false ↦ begins_nil _ _ b ]
-  begins_step before (Recv name) reply o a b = by_name (eqb name.0 o) refl
+  -- a closed port gives no message
+  begins_open : (front whole : List M) (opened : Bool) (given : Option (Reply M)) (reply : Reply M) → Begins front whole
+      → (given ≡ Some reply → Begins (front ++ message_in reply) whole)
+      → cond opened given (Some Closed) ≡ Some reply → Begins (front ++ message_in reply) whole
+  begins_open front whole true given reply begins gives is = gives is
+  begins_open front whole false given reply begins gives is =
+      subst (λ r. Begins (front ++ message_in r) whole) (same_Some Closed reply is) (begins_nil front whole begins)
+
+  -- a reply at another name is no message
+  begins_here : (name object : ℕ) (front whole messages : List M) → Begins front whole → (name ≡ object → Begins (front ++ messages) whole)
+      → Begins (front ++ cond (eqb name object) messages []) whole
+  begins_here name object front whole messages begins here = by_name (eqb name object) refl
     where
-      by_name : (t : Bool) → eqb name.0 o ≡ t → Begins (got before o ++ cond t (message_in reply) []) (sent before o ++ [])
-      by_name true e =
-          let here : name.0 ≡ o = eqb-true name.0 o e in
-          begins_got _ _ reply b (ap (λ n. first_reply (owed before n)) (sym here) ∙ a)
-      by_name false e = begins_nil _ _ b
-  begins_step before (Poll name) reply o a b = by_name (eqb name.0 o) refl
-    where
-      by_name : (t : Bool) → eqb name.0 o ≡ t → Begins (got before o ++ cond t (message_in reply) []) (sent before o ++ [])
-      by_name true e =
-          let here : name.0 ≡ o = eqb-true name.0 o e in
-          begins_polled _ _ reply b (ap (λ n. poll_reply (owed before n)) (sym here) ∙ same_Some _ _ a)
-      by_name false e = begins_nil _ _ b
+      by_name : (t : Bool) → eqb name object ≡ t → Begins (front ++ cond t messages []) whole
+      by_name true same = here (eqb-true name object same)
+      by_name false other = begins_nil front whole begins
 
-  pub begins_got_sent : (history : List (Entry M)) (o : ℕ) → Lawful history → Begins (got history o) (sent history o)
-  begins_got_sent [] o l = ([], refl)
-  begins_got_sent (entry ∷ before) o l =
-      begins_step before entry.call entry.reply o l.1 (begins_got_sent before o l.2)
+  -- so one more answer goes on in what was due before
+  begins_answered : (before : List (Entry M)) (call : Call M) (reply : Reply M) (o : ℕ) → answer before call ≡ Some reply
+      → Begins (got before o) (due before o) → Begins (got before o ++ got_by call reply o) (due before o)
+  begins_answered before NewMailbox reply o answered begins = begins_nil (got before o) (due before o) begins
+  begins_answered before NewChannel reply o answered begins = begins_nil (got before o) (due before o) begins
+  begins_answered before (NewPort name) reply o answered begins = begins_nil (got before o) (due before o) begins
+  begins_answered before (CopyPort name) reply o answered begins = begins_nil (got before o) (due before o) begins
+  begins_answered before (ClosePort name) reply o answered begins = begins_nil (got before o) (due before o) begins
+  begins_answered before (Send name message) reply o answered begins = begins_nil (got before o) (due before o) begins
+  begins_answered before (Cast name message) reply o answered begins = begins_nil (got before o) (due before o) begins
+  begins_answered before (Recv name) reply o answered begins =
+      begins_here name.0 o (got before o) (due before o) (message_in reply) begins (λ here.
+      begins_open (got before o) (due before o) (is_open before o) (received (owed before o)) reply begins
+      (begins_received (got before o) (due before o) reply begins)
+      (ap (λ n. where_open before n (received (owed before n))) (sym here) ∙ answered))
+  begins_answered before (Poll name) reply o answered begins =
+      begins_here name.0 o (got before o) (due before o) (message_in reply) begins (λ here.
+      begins_open (got before o) (due before o) (is_open before o) (Some (unwrap_or (received (owed before o)) Nothing)) reply begins
+      (λ given. begins_polled (got before o) (due before o) reply begins (same_Some _ _ given))
+      (ap (λ n. where_open before n (Some (unwrap_or (received (owed before n)) Nothing))) (sym here) ∙ answered))
 
-  -- what was received followed by what is owed is what was sent
-  pub got-append-owed : (history : List (Entry M)) (o : ℕ) → Lawful history → got history o ++ owed history o ≡ sent history o
-  got-append-owed history o l =
-      let b = begins_got_sent history o l in
-      let owes : owed history o ≡ b.0 = ap (drop (length (got history o))) (sym b.1) ∙ drop_at (got history o) b.0 (length (got history o)) refl in
-      rw owes b.1
+  -- what is due to an object that was made only grows
+  due_grows : (entry : Entry M) (before : List (Entry M)) (o : ℕ) → o < length (made before) → Begins (due before o) (due (entry ∷ before) o)
+  due_grows entry before o was =
+      let same : origin_of (entry ∷ before) o ≡ origin_of before o =
+      slice_get-append_within (made before) (if_made entry.reply (begun_by (made before) before entry.call)) o was in
+      subst (λ origin. Begins (due before o) (drop (start_by origin) (sent (entry ∷ before) (source_by o origin)))) (sym same)
+      (drop_grows (start_by (origin_of before o)) (sent before (source_by o (origin_of before o)))
+      (sent_by entry.call (source_by o (origin_of before o))))
 
-  pub got_within : (history : List (Entry M)) (o : ℕ) → Lawful history → length (got history o) ≤ length (sent history o)
-  got_within history o l =
-      let b = begins_got_sent history o l in
-      omega (arith, length-append (got history o) b.0, ap length b.1)
+  -- what was received is how what is due begins
+  pub got_begins_due : (h : List (Entry M)) (o : ℕ) → Lawful h → (rest : List M) × (got h o ++ rest ≡ due h o)
+  got_begins_due [] o lawful = (due {M = M} [] o, refl)
+  got_begins_due (entry ∷ before) o lawful = elim (cases_lt o (length (made before))) [
+    | inl was ↦
+        begins_further (got (entry ∷ before) o) (due before o) (due (entry ∷ before) o)
+        (begins_answered before entry.call entry.reply o lawful.1 (got_begins_due before o lawful.2)) (due_grows entry before o was)
+    | inr past ↦
+        let none : got (entry ∷ before) o ≡ [] =
+        ap (λ xs. xs ++ got_by entry.call entry.reply o) (unmade_got before o lawful.2 past)
+        ∙ (untold before entry.call entry.reply o lawful.0.0 past).1 in
+        (due (entry ∷ before) o, ap (λ xs. xs ++ due (entry ∷ before) o) none)
+  ]
+
+  -- what was received, followed by what is owed, is what is due
+  pub got_append_owed : (h : List (Entry M)) (o : ℕ) → Lawful h → got h o ++ owed h o ≡ due h o
+  got_append_owed h o lawful =
+      let begins = got_begins_due h o lawful in
+      let owes : owed h o ≡ begins.0 =
+      ap (drop (length (got h o))) (sym begins.1) ∙ drop_at (got h o) begins.0 (length (got h o)) refl in
+      ap (λ xs. got h o ++ xs) owes ∙ begins.1
+
+  one_at_most : (t : Bool) (message : M) → length (cond t (message ∷ []) []) ≤ 1
+  one_at_most true message = omega arith
+  one_at_most false message = omega arith
 
   length-sent_by : (call : Call M) (o : ℕ) → length (sent_by call o) ≤ 1
   length-sent_by NewMailbox o = omega arith
-  length-sent_by (Send name message) o =
-      elim (eqb name.0 o) as (λ t. length (cond t (message ∷ []) []) ≤ 1) [ true ↦ omega arith | false ↦ omega arith ]
+  length-sent_by NewChannel o = omega arith
+  length-sent_by (NewPort name) o = omega arith
+  length-sent_by (CopyPort name) o = omega arith
+  length-sent_by (ClosePort name) o = omega arith
+  length-sent_by (Send name message) o = one_at_most (eqb name.0 o) message
+  length-sent_by (Cast name message) o = one_at_most (eqb name.0 o) message
   length-sent_by (Recv name) o = omega arith
   length-sent_by (Poll name) o = omega arith
 
-  pub sent_within : (history : List (Entry M)) (o : ℕ) → length (sent history o) ≤ length history
+  -- each entry sends one message at most
+  pub sent_within : (h : List (Entry M)) (o : ℕ) → length (sent h o) ≤ length h
   sent_within [] o = omega arith
   sent_within (entry ∷ before) o =
       omega (arith, length-append (sent before o) (sent_by entry.call o), length-sent_by entry.call o, sent_within before o)
+
+  -- so no more was received than there are entries
+  pub got_within : (h : List (Entry M)) (o : ℕ) → Lawful h → length (got h o) ≤ length h
+  got_within h o lawful =
+      let begins = got_begins_due h o lawful in
+      let origin = origin_of h o in
+      omega (
+        arith,
+        length-append (got h o) begins.0,
+        ap length begins.1,
+        length-drop (start_by origin) (sent h (source_by o origin)),
+        sent_within h (source_by o origin),
+      )

@@ -1,35 +1,115 @@
 -- What a lawful history is. A history is a list of entries, the newest first: what stood before an entry is the tail
 -- behind it, so each definition goes back from the newest entry.
-use Rattle.std.specs.Prelude.{ℕ, ◌≡◌, ◌==◌, List, [], ◌∷◌, ◌++◌, length, drop, slice_get, Option, Some, unwrap_or, IsTrue, IsSome, IfSome, ⊤, if◌then◌else◌}
+use Rattle.std.specs.Prelude.{ℕ, ◌≡◌, ◌==◌, ◌+◌, Bool, true, false, not, ◌&&◌, List, [], ◌∷◌, ◌++◌, length, drop, slice_get, Option, Some, unwrap_or, IsTrue, IsSome, IfSome, ⊤, if◌then◌else◌}
 use Rattle.std.specs.Option.{option_map}
 use Rattle.cml_board.specs.declared.call.Kind.{Kind}
-use Rattle.cml_board.specs.declared.call.Kind.TheVariants.{Mailbox}
 use Rattle.cml_board.specs.declared.call.Call.{Call}
-use Rattle.cml_board.specs.declared.call.Call.TheVariants.{NewMailbox, Send, Recv, Poll}
+use Rattle.cml_board.specs.declared.call.Call.TheVariants.{NewMailbox, NewChannel, NewPort, CopyPort, ClosePort, Send, Cast, Recv, Poll}
 use Rattle.cml_board.specs.declared.entry.Reply.{Reply}
-use Rattle.cml_board.specs.declared.entry.Reply.TheVariants.{Done, Made, Got, Nothing}
+use Rattle.cml_board.specs.declared.entry.Reply.TheVariants.{Done, Made, Got, Nothing, Closed}
 use Rattle.cml_board.specs.declared.entry.Entry.{Entry}
+use Rattle.cml_board.specs.Origins.{Origin, mailbox, channel, port, kind_by, source_by, start_by, copy_of}
 use Rattle.cml_board.specs.Objects.{object_in, takes}
 
 module _ {M : Type 0} where
-  -- the object that an entry made, by its kind
-  abbrev pub made_by : Call M → Reply M → List Kind
-  made_by NewMailbox Done = []
-  made_by NewMailbox (Made name) = Mailbox ∷ []
-  made_by NewMailbox (Got message) = []
-  made_by NewMailbox Nothing = []
-  made_by (Send name message) reply = []
-  made_by (Recv name) reply = []
-  made_by (Poll name) reply = []
+  -- the message that a call sends to a mailbox or casts on a channel
+  abbrev pub sent_by : Call M → ℕ → List M
+  sent_by NewMailbox object = []
+  sent_by NewChannel object = []
+  sent_by (NewPort name) object = []
+  sent_by (CopyPort name) object = []
+  sent_by (ClosePort name) object = []
+  sent_by (Send name message) object = if name.0 == object then message ∷ [] else []
+  sent_by (Cast name message) object = if name.0 == object then message ∷ [] else []
+  sent_by (Recv name) object = []
+  sent_by (Poll name) object = []
 
-  -- the objects made so far, in order: an object's name is its position here
-  abbrev pub made : List (Entry M) → List Kind
+  -- all messages sent to a mailbox, or multicast on a channel, in order
+  abbrev pub sent : List (Entry M) → ℕ → List M
+  sent [] object = []
+  sent (entry ∷ before) object = sent before object ++ sent_by entry.call object
+
+  -- the message in a reply
+  abbrev pub message_in : Reply M → List M
+  message_in Done = []
+  message_in (Made name) = []
+  message_in (Got message) = message ∷ []
+  message_in Nothing = []
+  message_in Closed = []
+
+  -- the message that an entry received from a mailbox or a port
+  abbrev pub got_by : Call M → Reply M → ℕ → List M
+  got_by NewMailbox reply object = []
+  got_by NewChannel reply object = []
+  got_by (NewPort name) reply object = []
+  got_by (CopyPort name) reply object = []
+  got_by (ClosePort name) reply object = []
+  got_by (Send name message) reply object = []
+  got_by (Cast name message) reply object = []
+  got_by (Recv name) reply object = if name.0 == object then message_in reply else []
+  got_by (Poll name) reply object = if name.0 == object then message_in reply else []
+
+  -- all messages received from a mailbox or a port, in order
+  abbrev pub got : List (Entry M) → ℕ → List M
+  got [] object = []
+  got (entry ∷ before) object = got before object ++ got_by entry.call entry.reply object
+
+  abbrev pub is_done : Reply M → Bool
+  is_done Done = true
+  is_done (Made name) = false
+  is_done (Got message) = false
+  is_done Nothing = false
+  is_done Closed = false
+
+  -- an entry closed this port
+  abbrev pub closes : Call M → Reply M → ℕ → Bool
+  closes NewMailbox reply object = false
+  closes NewChannel reply object = false
+  closes (NewPort name) reply object = false
+  closes (CopyPort name) reply object = false
+  closes (ClosePort name) reply object = if name.0 == object then is_done reply else false
+  closes (Send name message) reply object = false
+  closes (Cast name message) reply object = false
+  closes (Recv name) reply object = false
+  closes (Poll name) reply object = false
+
+  -- no entry closed it
+  abbrev pub is_open : List (Entry M) → ℕ → Bool
+  is_open [] object = true
+  is_open (entry ∷ before) object = is_open before object && not (closes entry.call entry.reply object)
+
+  -- how the object began that a call makes, where these were made before: a new port starts behind all that was
+  -- multicast on its channel, and a copy where its original stands
+  abbrev pub begun_by : List Origin → List (Entry M) → Call M → List Origin
+  begun_by origins before NewMailbox = mailbox ∷ []
+  begun_by origins before NewChannel = channel ∷ []
+  begun_by origins before (NewPort name) = port name.0 (length (sent before name.0)) ∷ []
+  begun_by origins before (CopyPort name) = copy_of (slice_get origins name.0) (length (got before name.0))
+  begun_by origins before (ClosePort name) = []
+  begun_by origins before (Send name message) = []
+  begun_by origins before (Cast name message) = []
+  begun_by origins before (Recv name) = []
+  begun_by origins before (Poll name) = []
+
+  abbrev pub if_made : Reply M → List Origin → List Origin
+  if_made Done origins = []
+  if_made (Made name) origins = origins
+  if_made (Got message) origins = []
+  if_made Nothing origins = []
+  if_made Closed origins = []
+
+  -- how each object began that was made so far, in order: an object's name is its position here
+  abbrev pub made : List (Entry M) → List Origin
   made [] = []
-  made (entry ∷ before) = made before ++ made_by entry.call entry.reply
+  made (entry ∷ before) = made before ++ if_made entry.reply (begun_by (made before) before entry.call)
+
+  -- how an object began, if it was made
+  abbrev pub origin_of : List (Entry M) → ℕ → Option Origin
+  origin_of history object = slice_get (made history) object
 
   -- the kind of an object, if it was made
   abbrev pub kind_of : List (Entry M) → ℕ → Option Kind
-  kind_of history object = slice_get (made history) object
+  kind_of history object = option_map kind_by (origin_of history object)
 
   -- the call's object was made
   abbrev pub IsMade : List (Entry M) → Call M → Type 0
@@ -42,47 +122,42 @@ module _ {M : Type 0} where
   abbrev pub Fits : List (Entry M) → Call M → Type 0
   Fits history call = IsMade history call × IsTaken history call
 
-  -- the message that a call sends to a mailbox
-  abbrev pub sent_by : Call M → ℕ → List M
-  sent_by NewMailbox mailbox = []
-  sent_by (Send name message) mailbox = if name.0 == mailbox then message ∷ [] else []
-  sent_by (Recv name) mailbox = []
-  sent_by (Poll name) mailbox = []
+  -- what a mailbox or a port is to give, in order: what was sent to the mailbox, or what was multicast on the port's
+  -- channel from the port's start on
+  abbrev pub due : List (Entry M) → ℕ → List M
+  due history object =
+      let origin = origin_of history object in
+      drop (start_by origin) (sent history (source_by object origin))
 
-  -- all messages sent to a mailbox, in order
-  abbrev pub sent : List (Entry M) → ℕ → List M
-  sent [] mailbox = []
-  sent (entry ∷ before) mailbox = sent before mailbox ++ sent_by entry.call mailbox
-
-  -- the message in a reply
-  abbrev pub message_in : Reply M → List M
-  message_in Done = []
-  message_in (Made name) = []
-  message_in (Got message) = message ∷ []
-  message_in Nothing = []
-
-  -- the message that an entry received from a mailbox
-  abbrev pub got_by : Call M → Reply M → ℕ → List M
-  got_by NewMailbox reply object = []
-  got_by (Send name message) reply object = []
-  got_by (Recv name) reply object = if name.0 == object then message_in reply else []
-  got_by (Poll name) reply object = if name.0 == object then message_in reply else []
-
-  -- all messages received from a mailbox, in order
-  abbrev pub got : List (Entry M) → ℕ → List M
-  got [] object = []
-  got (entry ∷ before) object = got before object ++ got_by entry.call entry.reply object
-
-  -- what was sent and not yet received
+  -- what is due and was not received yet
   abbrev pub owed : List (Entry M) → ℕ → List M
-  owed history object = drop (length (got history object)) (sent history object)
+  owed history object = drop (length (got history object)) (due history object)
+
+  -- where a mailbox or a port stands in the list of all that was sent or multicast
+  abbrev pub place : List (Entry M) → ℕ → ℕ
+  place history object = start_by (origin_of history object) + length (got history object)
+
+  -- what a receive answers where this is owed; none where it waits
+  abbrev pub received : List M → Option (Reply M)
+  received messages = option_map Got (slice_get messages 0)
+
+  abbrev pub new_name : List (Entry M) → Reply M
+  new_name history = Made (record { 0 = length (made history) })
+
+  abbrev pub where_open : List (Entry M) → ℕ → Option (Reply M) → Option (Reply M)
+  where_open history object reply = if is_open history object then reply else Some Closed
 
   -- the answer of a call that fits; none where it waits
   abbrev pub answer : List (Entry M) → Call M → Option (Reply M)
-  answer history NewMailbox = Some (Made (record { 0 = length (made history) }))
+  answer history NewMailbox = Some (new_name history)
+  answer history NewChannel = Some (new_name history)
+  answer history (NewPort name) = Some (new_name history)
+  answer history (CopyPort name) = where_open history name.0 (Some (new_name history))
+  answer history (ClosePort name) = where_open history name.0 (Some Done)
   answer history (Send name message) = Some Done
-  answer history (Recv name) = option_map Got (slice_get (owed history name.0) 0)
-  answer history (Poll name) = Some (unwrap_or (option_map Got (slice_get (owed history name.0) 0)) Nothing)
+  answer history (Cast name message) = Some Done
+  answer history (Recv name) = where_open history name.0 (received (owed history name.0))
+  answer history (Poll name) = where_open history name.0 (Some (unwrap_or (received (owed history name.0)) Nothing))
 
   -- each call fits what stood before it, and its reply is the answer there, which isn't a wait
   abbrev pub Lawful : List (Entry M) → Type 0

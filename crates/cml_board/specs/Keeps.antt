@@ -1,30 +1,48 @@
 -- What a board always keeps.
-use Rattle.std.specs.Prelude.{ℕ, ◌≡◌, ◌≤◌, ◌^◌, List, length, reverse, slice_get, Some}
-use Rattle.cml_board.specs.declared.call.Kind.TheVariants as kind
+use Rattle.std.specs.Prelude.{ℕ, ◌≡◌, ◌<◌, ◌≤◌, ◌^◌, true, false, List, length, reverse, slice_get, Some}
+use Rattle.cml_log.specs.Log.{Log, place_at}
+use Rattle.cml_log.specs.Holds.{Holds}
 use Rattle.cml_board.specs.declared.entry.Entry.{Entry}
-use Rattle.cml_board.specs.declared.mailbox.Mailbox.{Mailbox}
-use Rattle.cml_board.specs.History.{Lawful, made, kind_of, sent, got, owed}
-use Rattle.cml_board.specs.Mailbox.{Seen, seen_all}
+use Rattle.cml_board.specs.declared.object.Object.{Object}
+use Rattle.cml_board.specs.declared.object.Object.TheVariants.{Mailbox, Channel, Port}
+use Rattle.cml_board.specs.declared.object.Reading.{Reading}
+use Rattle.cml_board.specs.declared.object.Reading.TheVariants.{Open, Closed}
+use Rattle.cml_board.specs.Origins.{mailbox, channel, port}
+use Rattle.cml_board.specs.History.{Lawful, made}
+use Rattle.cml_board.specs.Facts.{Facts, facts_of, place_by}
+use Rattle.cml_board.specs.Holdings.{seen_all, log_at, cursor_at}
 use Rattle.cml_board.specs.Shown.{Shown}
 
 module _ {M : Type 0} where
-  -- a mailbox holds what is owed, and counts what was sent and received
-  pub record ShowsMailbox (history : List (Entry M)) (name : ℕ) (mailbox : Seen M) : Type 0 where
-    pub is_mailbox : kind_of history name ≡ Some kind.Mailbox
-    pub holds_owed : mailbox.waiting ≡ owed history name
-    pub counts_sent : mailbox.sent ≡ length (sent history name)
-    pub counts_got : mailbox.got ≡ length (got history name)
+  -- a closed port knows how much it had received
+  abbrev pub AgreesReading : Facts M → Reading → Type 0
+  AgreesReading facts (Open key) = facts.opened ≡ true
+  AgreesReading facts (Closed got) = (facts.opened ≡ false) × (got ≡ length facts.got)
 
-  -- the objects are those made, each showing its history
-  pub record Shows (history : List (Entry M)) (objects : List (Seen M)) : Type 0 where
-    pub all : length objects ≡ length (made history)
-    pub each : (name : ℕ) (object : Seen M) → slice_get objects name ≡ Some object → ShowsMailbox history name object
+  -- the object is what the history made under its name
+  abbrev pub Agrees : {A : Type 0} → Facts M → Object A → Type 0
+  Agrees facts (Mailbox log key) = (facts.origin ≡ Some mailbox) × (facts.opened ≡ true)
+  Agrees facts (Channel log) = facts.origin ≡ Some channel
+  Agrees facts (Port p) = (facts.origin ≡ Some (port p.channel.0 p.start)) × AgreesReading facts p.reading
 
-  pub record Keeps (board : Shown M) : Type 0 where
+  -- the objects are those made, and each log holds what was sent, with one cursor for each that reads it, at its place
+  pub record Shows (chunk count : ℕ) (facts : ℕ → Facts M) (objects : List (Object (Log M))) : Type 0 where
+    pub all : length objects ≡ count
+    pub each : (name : ℕ) (object : Object (Log M)) → slice_get objects name ≡ Some object → Agrees (facts name) object
+    pub logs : (name : ℕ) (log : Log M) → log_at objects name ≡ Some log → Holds chunk log (facts name).sent
+    pub cursors : (name source key : ℕ) → cursor_at objects name ≡ Some (source, key)
+        → (log : Log M) × (log_at objects source ≡ Some log) × (place_at log key ≡ Some (place_by (facts name)))
+    pub owners : (source : ℕ) (log : Log M) (key at : ℕ) → log_at objects source ≡ Some log → place_at log key ≡ Some at
+        → (name : ℕ) × (cursor_at objects name ≡ Some (source, key))
+    pub distinct : (name other source key : ℕ) → cursor_at objects name ≡ Some (source, key) → cursor_at objects other ≡ Some (source, key) → name ≡ other
+
+  pub record Keeps (chunk : ℕ) (board : Shown M) : Type 0 where
     pub lawful : Lawful board.history
-    pub shows : Shows board.history board.objects
+    pub shows : Shows chunk (length (made board.history)) (facts_of board.history) board.objects
     pub room : length board.history ≤ board.limit
     pub bounded : board.limit ≤ 2 ^ 32
+    pub holds_one : 0 < chunk
+    pub small : chunk ≤ 1024
 
-  abbrev pub shown : List (Entry M) → ℕ → List (Mailbox M) → Shown M
-  shown journal limit objects = record { history = reverse journal; limit = limit; objects = seen_all objects }
+  abbrev pub shown : {A : Type 0} → (A → Log M) → List (Entry M) → ℕ → List (Object A) → Shown M
+  shown log journal limit objects = record { history = reverse journal; limit = limit; objects = seen_all log objects }

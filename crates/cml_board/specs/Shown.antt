@@ -1,17 +1,42 @@
 -- What a board shows of itself, and what always holds of it.
-use Rattle.std.specs.Prelude.{ℕ, ◌≡◌, List, ◌++◌, slice_get, Some}
+use Rattle.std.specs.Prelude.{ℕ, ◌≡◌, ◌≤◌, true, false, List, ◌++◌, Some}
+use Rattle.cml_log.specs.Log.{Log, next_of, owed_items}
 use Rattle.cml_board.specs.declared.call.Kind.TheVariants.{Mailbox}
 use Rattle.cml_board.specs.declared.entry.Entry.{Entry}
-use Rattle.cml_board.specs.History.{kind_of, sent, got}
-use Rattle.cml_board.specs.Mailbox.{Seen}
+use Rattle.cml_board.specs.declared.object.Object.{Object}
+use Rattle.cml_board.specs.Origins.{port}
+use Rattle.cml_board.specs.History.{kind_of, origin_of, is_open, sent, got, due, place}
+use Rattle.cml_board.specs.Holdings.{log_at, cursor_at}
 
 -- the journal, newest entry first; its limit; and by name what each object really holds
 pub record Shown (M : Type 0) : Type 0 where
   pub history : List (Entry M)
   pub limit : ℕ
-  pub objects : List (Seen M)
+  pub objects : List (Object (Log M))
 
--- for every mailbox, what was received followed by what waits in it is what was sent to it, in order, each once
-abbrev pub KeepsMessages : {M : Type 0} → Shown M → Type 0
-KeepsMessages {M} board = (name : ℕ) → kind_of board.history name ≡ Some Mailbox
-    → (mailbox : Seen M) × (slice_get board.objects name ≡ Some mailbox) × (got board.history name ++ mailbox.waiting ≡ sent board.history name)
+module _ {M : Type 0} where
+  -- the log that an object reads, with its cursor there: no chunk is given back that the cursor's place is in, nor any
+  -- behind it
+  pub record Reads (board : Shown M) (object source : ℕ) : Type 0 where
+    pub key : ℕ
+    pub log : Log M
+    pub reads : cursor_at board.objects object ≡ Some (source, key)
+    pub found : log_at board.objects source ≡ Some log
+    pub kept : log.first ≤ place board.history object
+    pub within : place board.history object ≤ next_of log
+
+  -- for every mailbox, what was received followed by what really waits in it is what was sent to it, in order, each once
+  abbrev pub KeepsMailboxes : Shown M → Type 0
+  KeepsMailboxes board = (name : ℕ) → kind_of board.history name ≡ Some Mailbox
+      → (own : Reads board name name) × (got board.history name ++ owed_items own.log own.key ≡ sent board.history name)
+
+  -- for every open port, what was received followed by what its channel really keeps from its place on is what was
+  -- multicast since its start
+  abbrev pub KeepsPorts : Shown M → Type 0
+  KeepsPorts board = (name channel start : ℕ) → origin_of board.history name ≡ Some (port channel start) → is_open board.history name ≡ true
+      → (own : Reads board name channel) × (got board.history name ++ owed_items own.log own.key ≡ due board.history name)
+
+  -- for every closed port, what was received is how that began
+  abbrev pub KeepsClosed : Shown M → Type 0
+  KeepsClosed board = (name channel start : ℕ) → origin_of board.history name ≡ Some (port channel start) → is_open board.history name ≡ false
+      → (rest : List M) × (got board.history name ++ rest ≡ due board.history name)

@@ -1,48 +1,57 @@
-ghost use Rattle.std.specs.Prelude.{◌≡◌, ◌≢◌, ℕ, ◌+◌, ◌-◌, ◌*◌, ◌^◌, ◌<◌, ◌≤◌, ◌↔◌, List, [], ◌∷◌, ◌++◌, length, reverse, slice_get, None, Some, Ok, IfOk, OnOk, OnErr, IfErr, IsTrue, IsNone, MatchOption, IfSome, IsSome, vec_len, vec_capacity};
-ghost use Rattle.cml_board.specs.History.{IsMade, IsTaken, Fits, answer, Lawful, kind_of, sent, got, owed, made};
-ghost use Rattle.cml_board.specs.Outcome.{Applies, Refuses, HasRoom};
-ghost use Rattle.cml_board.specs.Keeps.{ShowsMailbox};
-ghost use Rattle.cml_board.specs.Mailbox.{seen};
-ghost use Rattle.cml_board.specs.Shown.{KeepsMessages};
-ghost use Rattle.std.specs.Option.{SomeIff};
+ghost use Rattle.std.specs.Prelude.{◌≡◌, ◌^◌, ◌<◌, ◌≤◌, ◌↔◌, ◌&&◌, false, [], length, reverse, Some, None, IfOk, IsTrue, MatchOption};
+ghost use Rattle.cml_board.specs.Objects.{is_receiver};
+ghost use Rattle.cml_board.specs.History.{Fits, answer, Lawful, origin_of, kind_of, is_open};
+ghost use Rattle.cml_board.specs.Counts.{is_a, sent_count, got_count, owed_count, channel_of, start_of, first_of, kept_count, port_is_open};
+ghost use Rattle.cml_board.specs.Holdings.{map_log, log_at, HasLog};
+ghost use Rattle.cml_board.specs.Standing.{ReadsAt, Stands};
+ghost use Rattle.cml_board.specs.Shown.{KeepsMailboxes, KeepsPorts, KeepsClosed};
 
 mod apply;
+mod making;
+mod messages;
+mod note;
+mod objects;
 
-use crate::answer::Answer;
 use crate::call::{Call, Kind, Name};
-use crate::entry::{Entry, Reply, Who};
-use crate::mailbox::Mailbox;
+use crate::entry::Entry;
 use crate::message::Message;
-use crate::outcome::{Outcome, Refusal};
+use crate::object::{self, Object, Reading};
+use cml_log::{Key, MessageLog, PlainLog};
+use objects::log_at;
 use std::alloc::{AllocError, Global};
 use std::marker::Model;
 
+/// The log that boards are made with: chunks of four messages.
+pub type BoardLog<M> = PlainLog<M, 4>;
+
 /// The objects, and the journal of all accepted calls.
 #[derive(Drop)]
-pub struct Board<M> {
+pub struct Board<M, L: MessageLog<M>> {
     alloc: Global,
     limit: u64,
     journal: Vec<Entry<M>>,
-    objects: Vec<Mailbox<M>>,
+    objects: Vec<Object<L>>,
 }
 
-impl<M> Model for Board<M> {
+impl<M, L: MessageLog<M>> Model for Board<M, L> {
     ghost use Rattle.cml_board.specs.Shown.{Shown};
 
     ghost Value = { Shown M };
 
     ghost use Rattle.cml_board.specs.Keeps.{shown, Keeps};
 
-    ghost view = { λ b. shown b.journal.items b.limit b.objects.items };
+    ghost view = { λ b. shown L.log b.journal.items b.limit b.objects.items };
 
-    ghost invariant = { λ b. Keeps (shown b.journal.items b.limit b.objects.items) };
+    ghost invariant = { λ b. Keeps L.CHUNK (shown L.log b.journal.items b.limit b.objects.items) };
 }
 
-impl<M: Message> Board<M> {
+impl<M: Message, L: MessageLog<M>> Board<M, L> {
     /// A board with no objects, whose journal takes `limit` entries.
-    pub fn new(alloc: Global, limit: u64) -> Result<Board<M>, AllocError>
+    pub fn new(alloc: Global, limit: u64) -> Result<Board<M, L>, AllocError>
         requires least { 1 ≤ limit }
         requires most { limit ≤ 2 ^ 32 }
+        requires holds_one { 0 < L.CHUNK }
+        requires small { L.CHUNK ≤ 1024 }
         ensures history { IfOk result (λ board. board.history ≡ []) }
         ensures limit { IfOk result (λ board. board.limit ≡ limit) }
         ensures objects { IfOk result (λ board. board.objects ≡ []) }
@@ -62,48 +71,6 @@ impl<M: Message> Board<M> {
         self.limit
     }
 
-    /// The object's kind.
-    pub fn kind(&self, name: Name) -> Option<Kind>
-        ensures { result ≡ kind_of self.now.history name.0 }
-    {
-        self.mailbox_at(name).map(|_| Kind::Mailbox)
-    }
-
-    /// How many messages were sent to a mailbox.
-    pub fn sent_count(&self, name: Name) -> Option<u64>
-        ensures { SomeIff result (kind_of self.now.history name.0 ≡ Some Kind.Mailbox)
-            (length (sent self.now.history name.0)) }
-    {
-        self.mailbox_at(name).map(|mailbox| mailbox.sent)
-    }
-
-    /// How many messages were received from a mailbox.
-    pub fn got_count(&self, name: Name) -> Option<u64>
-        ensures { SomeIff result (kind_of self.now.history name.0 ≡ Some Kind.Mailbox)
-            (length (got self.now.history name.0)) }
-    {
-        self.mailbox_at(name).map(|mailbox| mailbox.got)
-    }
-
-    /// How many messages wait in a mailbox.
-    pub fn owed_count(&self, name: Name) -> Option<u64>
-        ensures { SomeIff result (kind_of self.now.history name.0 ≡ Some Kind.Mailbox)
-            (length (owed self.now.history name.0)) }
-    {
-        self.mailbox_at(name)
-            .map(|mailbox| mailbox.waiting.len() as u64)
-    }
-
-    /// Whether the call's object is there and can take the call, and the call would wait now.
-    pub fn would_wait(&self, call: &Call<M>) -> bool
-        ensures { IsTrue result ↔ (Fits self.now.history call.now × (answer self.now.history call.now ≡ None)) }
-    {
-        match call {
-            Call::NewMailbox | Call::Send(_, _) | Call::Poll(_) => false,
-            Call::Recv(name) => self.owed_count(*name) == Some(0),
-        }
-    }
-
     /// The accepted calls, oldest first.
     pub fn journal(&self) -> &[Entry<M>]
         ensures entries { result.now ≡ reverse self.now.history }
@@ -113,15 +80,142 @@ impl<M: Message> Board<M> {
         ensures lawful { Lawful self.now.history }
 
         // What was received from a mailbox, followed by what really waits in it, is what was sent to it.
-        ensures mailboxes { KeepsMessages self.now }
+        ensures mailboxes { KeepsMailboxes self.now }
+
+        // What was received from a port, followed by what is really kept for it, is what was multicast since its start.
+        ensures ports { KeepsPorts self.now }
+        ensures closed { KeepsClosed self.now }
     {
         self.journal.as_slice()
     }
 
-    fn mailbox_at(&self, name: Name) -> Option<&Mailbox<M>>
-        ensures { MatchOption result (kind_of self.now.history name.0 ≡ None)
-            (λ mailbox. ShowsMailbox self.now.history name.0 (seen mailbox.now)) }
+    /// The object's kind.
+    pub fn kind(&self, name: Name) -> Option<Kind>
+        ensures { result ≡ kind_of self.now.history name.0 }
+    {
+        match self.object(name)? {
+            Object::Mailbox(_, _) => Some(Kind::Mailbox),
+            Object::Channel(_) => Some(Kind::Channel),
+            Object::Port(_) => Some(Kind::Port),
+        }
+    }
+
+    /// How many messages were sent to a mailbox, or multicast on a channel.
+    pub fn sent_count(&self, name: Name) -> Option<u64>
+        ensures { result ≡ sent_count self.now.history name.0 }
+    {
+        match self.object(name)? {
+            Object::Mailbox(log, _) => Some(log.next()),
+            Object::Channel(log) => Some(log.next()),
+            Object::Port(_) => None,
+        }
+    }
+
+    /// How many messages were received from a mailbox or a port.
+    pub fn got_count(&self, name: Name) -> Option<u64>
+        ensures { result ≡ got_count self.now.history name.0 }
+    {
+        match self.object(name)? {
+            Object::Mailbox(log, key) => Some(log.place(*key)),
+            Object::Channel(_) => None,
+            Object::Port(port) => match port.reading {
+                Reading::Open(key) => Some(self.log(port.channel).place(key) - port.start),
+                Reading::Closed(received) => Some(received),
+            },
+        }
+    }
+
+    /// How many messages wait in a mailbox, or are owed to an open port.
+    pub fn owed_count(&self, name: Name) -> Option<u64>
+        ensures { result ≡ owed_count self.now.history name.0 }
+    {
+        let (source, key) = self.cursor(name)?;
+        Some(self.log(source).owed(key))
+    }
+
+    /// A port's channel.
+    pub fn channel_of(&self, name: Name) -> Option<Name>
+        ensures { result ≡ channel_of self.now.history name.0 }
+    {
+        match self.object(name)? {
+            Object::Mailbox(_, _) | Object::Channel(_) => None,
+            Object::Port(port) => Some(port.channel),
+        }
+    }
+
+    /// How many messages had been multicast on a port's channel before the first that the port is to receive.
+    pub fn start_of(&self, name: Name) -> Option<u64>
+        ensures { result ≡ start_of self.now.history name.0 }
+    {
+        match self.object(name)? {
+            Object::Mailbox(_, _) | Object::Channel(_) => None,
+            Object::Port(port) => Some(port.start),
+        }
+    }
+
+    /// The place of the first message of a mailbox or a channel that is kept.
+    pub fn first_of(&self, name: Name) -> Option<u64>
+        ensures { result ≡ first_of L.CHUNK self.now.history name.0 }
+    {
+        match self.object(name)? {
+            Object::Mailbox(log, _) => Some(log.first()),
+            Object::Channel(log) => Some(log.first()),
+            Object::Port(_) => None,
+        }
+    }
+
+    /// How many messages of a mailbox or a channel are kept.
+    pub fn kept_count(&self, name: Name) -> Option<u64>
+        ensures { result ≡ kept_count L.CHUNK self.now.history name.0 }
+    {
+        match self.object(name)? {
+            Object::Mailbox(log, _) => Some(log.next() - log.first()),
+            Object::Channel(log) => Some(log.next() - log.first()),
+            Object::Port(_) => None,
+        }
+    }
+
+    /// Whether a port is open.
+    pub fn is_open(&self, name: Name) -> Option<bool>
+        ensures { result ≡ port_is_open self.now.history name.0 }
+    {
+        match self.object(name)? {
+            Object::Mailbox(_, _) | Object::Channel(_) => None,
+            Object::Port(port) => Some(matches!(port.reading, Reading::Open(_))),
+        }
+    }
+
+    /// Whether the call's object is there and can take the call, and the call would wait now.
+    pub fn would_wait(&self, call: &Call<M>) -> bool
+        ensures { IsTrue result ↔ (Fits self.now.history call.now × (answer self.now.history call.now ≡ None)) }
+    {
+        match call {
+            Call::Recv(name) => self.owed_count(*name) == Some(0),
+            Call::NewMailbox | Call::NewChannel | Call::NewPort(_) => false,
+            Call::CopyPort(_) | Call::ClosePort(_) => false,
+            Call::Send(_, _) | Call::Cast(_, _) | Call::Poll(_) => false,
+        }
+    }
+
+    fn object(&self, name: Name) -> Option<&Object<L>>
+        ensures { MatchOption result (origin_of self.now.history name.0 ≡ None)
+            (λ object. Stands L.CHUNK self.now name.0 (map_log L.log object.now)) }
     {
         self.objects.get(name.0 as usize)
+    }
+
+    /// Where a mailbox or an open port reads: the object with its log, and its cursor there.
+    fn cursor(&self, name: Name) -> Option<(Name, Key)>
+        ensures { MatchOption result ((is_a is_receiver self.now.history name.0 && is_open self.now.history name.0) ≡ false)
+            (λ cursor. ReadsAt self.now name.0 cursor.0.0 cursor.1) }
+    {
+        object::cursor_in(self.object(name)?, name)
+    }
+
+    fn log(&self, source: Name) -> &L
+        requires { HasLog self.now.objects source.0 }
+        ensures { log_at self.now.objects source.0 ≡ Some (L.log result.now) }
+    {
+        log_at(&self.objects, source)
     }
 }

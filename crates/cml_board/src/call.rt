@@ -1,5 +1,5 @@
 ghost use Rattle.std.specs.Prelude.{◌≡◌, ◌↔◌, IsTrue};
-ghost use Rattle.cml_board.specs.Objects.{object_in, takes};
+ghost use Rattle.cml_board.specs.Objects.{object_in, takes, is_receiver};
 
 /// An object's name: how many objects were made before it.
 #[derive(Clone, Copy, Debug, PartialEq, Eq, Hash)]
@@ -9,6 +9,8 @@ pub struct Name(pub u64);
 #[derive(Clone, Copy, Debug, PartialEq, Eq, Hash)]
 pub enum Kind {
     Mailbox,
+    Channel,
+    Port,
 }
 
 /// A call on a board. The CML manual's call stands behind each.
@@ -16,24 +18,34 @@ pub enum Kind {
 pub enum Call<M> {
     /// `Mailbox.mailbox`: makes a mailbox.
     NewMailbox,
+    /// `Multicast.mChannel`: makes a channel.
+    NewChannel,
+    /// `Multicast.port`: makes a port of a channel, which receives what is multicast from now on.
+    NewPort(Name),
+    /// `Multicast.copy`: makes a port that stands where this one does.
+    CopyPort(Name),
+    /// Closes a port. The manual has no such call; its ports are collected.
+    ClosePort(Name),
     /// `Mailbox.send`: adds a message, and never waits.
     Send(Name, M),
-    /// `Mailbox.recv`: takes the next message, and waits while there is none.
+    /// `Multicast.multicast`: sends a message to every port of a channel.
+    Cast(Name, M),
+    /// `Mailbox.recv` and `Multicast.recv`: takes the next message, and waits while there is none.
     Recv(Name),
-    /// `Mailbox.recvPoll`: takes the next message, or answers that there is none.
+    /// `Mailbox.recvPoll`, and the like of it on a port: takes the next message, or answers that there is none.
     Poll(Name),
 }
 
 impl<M> Call<M> {
-    /// The object that the call is made on, unless it makes one.
+    /// The object that the call is made on, unless it makes a mailbox or a channel.
     pub fn object(&self) -> Option<Name>
         ensures { result ≡ object_in self.now }
     {
         match self {
-            Call::NewMailbox => None,
-            Call::Send(name, _) => Some(*name),
-            Call::Recv(name) => Some(*name),
-            Call::Poll(name) => Some(*name),
+            Call::NewMailbox | Call::NewChannel => None,
+            Call::NewPort(name) | Call::CopyPort(name) | Call::ClosePort(name) => Some(*name),
+            Call::Send(name, _) | Call::Cast(name, _) => Some(*name),
+            Call::Recv(name) | Call::Poll(name) => Some(*name),
         }
     }
 }
@@ -43,11 +55,22 @@ impl Kind {
     pub fn takes<M>(self, call: &Call<M>) -> bool
         ensures { result ≡ takes self call.now }
     {
-        match (self, call) {
-            (Kind::Mailbox, Call::NewMailbox) => false,
-            (Kind::Mailbox, Call::Send(_, _)) => true,
-            (Kind::Mailbox, Call::Recv(_)) => true,
-            (Kind::Mailbox, Call::Poll(_)) => true,
+        match call {
+            Call::NewMailbox | Call::NewChannel => false,
+            Call::NewPort(_) | Call::Cast(_, _) => self == Kind::Channel,
+            Call::CopyPort(_) | Call::ClosePort(_) => self == Kind::Port,
+            Call::Send(_, _) => self == Kind::Mailbox,
+            Call::Recv(_) | Call::Poll(_) => self.is_receiver(),
+        }
+    }
+
+    /// Whether messages are received from an object of this kind.
+    fn is_receiver(self) -> bool
+        ensures { result ≡ is_receiver self }
+    {
+        match self {
+            Kind::Mailbox | Kind::Port => true,
+            Kind::Channel => false,
         }
     }
 }

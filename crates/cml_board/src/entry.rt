@@ -17,6 +17,8 @@ pub enum Reply<M> {
     Got(M),
     /// A poll found nothing.
     Nothing,
+    /// The port was closed before.
+    Closed,
 }
 
 /// One accepted call in the journal.

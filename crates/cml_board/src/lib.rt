@@ -1,4 +1,4 @@
-//! Mailboxes on one board, and the journal of every call that it accepted.
+//! Mailboxes, and channels with their ports, on one board, and the journal of every call that it accepted.
 #![tactic(auto)]
 
 mod answer;
@@ -6,14 +6,14 @@ mod board;
 mod call;
 mod entry;
 mod laws;
-mod mailbox;
 mod message;
+mod object;
 mod outcome;
 #[cfg(test)]
 mod tests;
 
 pub use answer::Answer;
-pub use board::Board;
+pub use board::{Board, BoardLog};
 pub use call::{Call, Kind, Name};
 pub use entry::{Entry, Reply, Who};
 pub use laws::lawful_at_every_position;

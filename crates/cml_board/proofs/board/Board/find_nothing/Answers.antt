@@ -1,12 +1,25 @@
-use Rattle.std.proofs.Common.{refl}
+use Rattle.std.proofs.Common.{refl, reverse}
 use Rattle.cml_board.specs.declared.call.Call.TheVariants.{Poll}
-use Rattle.cml_board.proofs.Showing.{keeps_noted, shows_nothing, fits_mailbox, polls_nothing}
+use Rattle.cml_board.specs.declared.entry.Reply.TheVariants.{Nothing}
+use Rattle.cml_board.specs.declared.board.note.Taking.TheVariants.{Polling}
+use Rattle.cml_board.specs.Holdings.{seen_all}
+use Rattle.cml_board.proofs.Noting.{keeps_call, applies_answered, adds_entry, noted_at}
+use Rattle.cml_board.proofs.Answering.{answer_nothing, fits_taking}
+use Rattle.cml_board.proofs.Stepping.{step_nothing}
 use Rattle.cml_board.proofs.board.Board.find_nothing.Goals as goal
 
 pub invariant_of-self-2 : goal.invariant_of-self-2
 invariant_of-self-2 g c =
-    let history = c.args.self.now.history in
-    keeps_noted c.self.view_is c.self.invariant c.note.ensures.entries c.reserve.ensures.items c.requires.room
-    (fits_mailbox history c.args.name (Poll c.args.name) c.requires.fits refl refl)
-    (polls_nothing history c.args.name c.requires.empty)
-    (λ _ s. shows_nothing c.args.who _ _ c.args.name s)
+    let h = c.args.self.now.history in
+    keeps_call g.L.MessageLog.CHUNK c.args.who (Poll c.args.name) (Poll c.args.name) Nothing Nothing c.self.view_is c.self.invariant c.note.ensures.entries c.reserve.ensures.items
+    refl refl c.requires.room (fits_taking h Polling c.args.name c.requires.fits) (answer_nothing h c.args.name c.requires.opened c.requires.empty)
+    (λ lawful shows. step_nothing g.L.MessageLog.CHUNK c.args.who c.args.name (reverse c.self.inside.journal.items) (seen_all g.L.MessageLog.log c.self.inside.objects.items) shows)
+
+pub returns : goal.returns
+returns g c =
+    let h = c.args.self.now.history in
+    applies_answered c.args.self.now _ c.args.who (Poll c.args.name) c.note.result _ c.note.ensures.answer
+    (fits_taking h Polling c.args.name c.requires.fits) c.requires.room (answer_nothing h c.args.name c.requires.opened c.requires.empty)
+    refl
+    (noted_at c.self.view_is c.reserve.ensures.items)
+    (adds_entry c.args.who (Poll c.args.name) (Poll c.args.name) Nothing Nothing c.self.view_is c.note.ensures.entries c.reserve.ensures.items refl refl)

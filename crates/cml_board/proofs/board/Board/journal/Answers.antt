@@ -1,5 +1,12 @@
-use Rattle.cml_board.proofs.Showing.{keeps_at, keeps_messages}
+use Rattle.cml_board.proofs.Noting.{keeps_at}
+use Rattle.cml_board.proofs.Messages.{keeps_mailboxes, keeps_ports, keeps_closed}
 use Rattle.cml_board.proofs.board.Board.journal.Goals as goal
 
 pub returns-clause-mailboxes : goal.returns-clause-mailboxes
-returns-clause-mailboxes g c = keeps_messages c.args.self.now (keeps_at _ _ c.self.view_is c.self.invariant)
+returns-clause-mailboxes g c = keeps_mailboxes g.L.MessageLog.CHUNK c.args.self.now (keeps_at g.L.MessageLog.CHUNK c.self.view_is c.self.invariant)
+
+pub returns-clause-ports : goal.returns-clause-ports
+returns-clause-ports g c = keeps_ports g.L.MessageLog.CHUNK c.args.self.now (keeps_at g.L.MessageLog.CHUNK c.self.view_is c.self.invariant)
+
+pub returns-clause-closed : goal.returns-clause-closed
+returns-clause-closed g c = keeps_closed g.L.MessageLog.CHUNK c.args.self.now (keeps_at g.L.MessageLog.CHUNK c.self.view_is c.self.invariant)

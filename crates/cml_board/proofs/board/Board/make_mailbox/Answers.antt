@@ -1,15 +1,22 @@
-use Rattle.std.proofs.Common.{arith, ap, ◌∙◌, ◌++◌, ◌∷◌, []}
+use Rattle.std.proofs.Common.{refl, sym, ap, ◌∙◌, arith, reverse, Some}
 use Rattle.std.proofs.lemmas.List.{length-map}
-use Rattle.cml_board.specs.Mailbox.{seen, seen_all}
-use Rattle.cml_board.proofs.Showing.{keeps_noted, shows_made, made_name, seen_pushed}
+use Rattle.cml_board.proofs.ListLemmas.{on_ok}
+use Rattle.cml_board.specs.declared.call.Call.TheVariants.{NewMailbox}
+use Rattle.cml_board.specs.declared.entry.Reply.TheVariants.{Made}
+use Rattle.cml_board.specs.Holdings.{map_log, seen_all}
+use Rattle.cml_board.proofs.Noting.{keeps_call, made_name}
+use Rattle.cml_board.proofs.Stepping.{step_mailbox}
 use Rattle.cml_board.proofs.board.Board.make_mailbox.Goals as goal
+
+pub note-requires : goal.note-requires
+note-requires g c =
+    omega (arith, on_ok c.reserve.result (sym c.is_err.ensures.value ∙ c.if-is_err.false) c.reserve.ensures.ok, c.reserve.ensures.len)
 
 pub invariant_of-self-2 : goal.invariant_of-self-2
 invariant_of-self-2 g c =
-    let old = c.self.inside.objects in
-    let pushed = c.push_reserved.ensures.items ∙ ap (λ l. l ++ c.new.result ∷ []) c.reserve-2.ensures.items in
-    keeps_noted c.self.view_is c.self.invariant c.note.ensures.entries c.reserve.ensures.items c.requires
-    (tt, tt)
-    (made_name c.self.view_is c.self.invariant c.len.result (omega (arith, length-map old.items seen, old.ok.0)))
-    (λ l s. rw (seen_pushed old.items c.push_reserved.new.self.items c.new.result pushed c.new.ensures)
-    (shows_made c.args.who _ (seen_all old.items) (record { 0 = c.len.result }) l s))
+    let chunk = g.L.MessageLog.CHUNK in
+    let log = g.L.MessageLog.log in
+    keeps_call chunk c.args.who NewMailbox NewMailbox (Made (record { 0 = c.len.result })) (Made (record { 0 = c.len.result })) c.self.view_is c.self.invariant c.note.ensures.entries c.reserve.ensures.items
+    refl refl c.requires (tt, tt)
+    (ap Some (made_name chunk c.self.view_is c.self.invariant c.len.result (omega (arith, c.len.ensures, length-map c.self.inside.objects.items (map_log log), c.self.inside.objects.ok.0))))
+    (λ lawful shows. step_mailbox chunk c.args.who (record { 0 = c.len.result }) (reverse c.self.inside.journal.items) (seen_all log c.self.inside.objects.items) (seen_all log c.add_mailbox.new.objects.items) lawful shows c.in-Ok.ensures.ok)

@@ -1,0 +1,65 @@
+-- What calls are answered, and which fit.
+use Rattle.std.proofs.Common.{◌≡◌, ◌≢◌, true, false, Bool, List, [], ◌∷◌, slice_get, Option, Some, None, IsTrue, IsSome, IfSome, refl, ◌∙◌}
+use Rattle.std.specs.Option.{option_map_or}
+use Rattle.std.proofs.lemmas.Bool.{false≢true}
+use Rattle.cml_board.specs.declared.call.Name.{Name}
+use Rattle.cml_board.specs.declared.call.Kind.{Kind}
+use Rattle.cml_board.specs.declared.call.Call.{Call}
+use Rattle.cml_board.specs.declared.call.Call.TheVariants.{CopyPort, ClosePort, Recv, Poll}
+use Rattle.cml_board.specs.declared.entry.Reply.TheVariants.{Done, Got, Nothing, Closed}
+use Rattle.cml_board.specs.declared.entry.Entry.{Entry}
+use Rattle.cml_board.specs.declared.board.note.Taking.{Taking}
+use Rattle.cml_board.specs.declared.board.note.Taking.TheVariants as taking
+use Rattle.cml_board.specs.declared.board.note.Putting.{Putting}
+use Rattle.cml_board.specs.declared.board.note.Putting.TheVariants as putting
+use Rattle.cml_board.specs.declared.board.note.Asking.{Asking}
+use Rattle.cml_board.specs.declared.board.note.Asking.TheVariants as asking
+use Rattle.cml_board.specs.Calls.{taking_call, putting_call, asking_call}
+use Rattle.cml_board.specs.Objects.{object_in, takes, is_receiver}
+use Rattle.cml_board.specs.History.{Fits, kind_of, is_open, owed, answer, new_name}
+use Rattle.cml_board.specs.Counts.{is_a}
+
+module _ {M : Type 0} where
+  pub answer_put : (h : List (Entry M)) (putting : Putting) (name : Name) (message : M) → answer h (putting_call putting name message) ≡ Some Done
+  answer_put h putting.Sending name message = refl
+  answer_put h putting.Casting name message = refl
+
+  pub answer_closed : (h : List (Entry M)) (asking : Asking) (name : Name) → is_open h name.0 ≡ false → answer h (asking_call asking name) ≡ Some Closed
+  answer_closed h asking.Receive name closed = rw closed refl
+  answer_closed h asking.Poll name closed = rw closed refl
+  answer_closed h asking.Copy name closed = rw closed refl
+  answer_closed h asking.Close name closed = rw closed refl
+
+  pub answer_nothing : (h : List (Entry M)) (name : Name) → is_open h name.0 ≡ true → owed h name.0 ≡ [] → answer h (Poll name) ≡ Some Nothing
+  answer_nothing h name opened none = rw (opened, none) refl
+
+  pub answer_waits : (h : List (Entry M)) (name : Name) → is_open h name.0 ≡ true → owed h name.0 ≡ [] → answer h (Recv name) ≡ None
+  answer_waits h name opened none = rw (opened, none) refl
+
+  pub answer_taken : (h : List (Entry M)) (taking : Taking) (name : Name) (message : M) → is_open h name.0 ≡ true → slice_get (owed h name.0) 0 ≡ Some message → answer h (taking_call taking name) ≡ Some (Got message)
+  answer_taken h taking.Waiting name message opened first = rw (opened, first) refl
+  answer_taken h taking.Polling name message opened first = rw (opened, first) refl
+
+  -- a message that is owed is there to be taken
+  pub some_owed : (messages : List M) → messages ≢ [] → (message : M) × (slice_get messages 0 ≡ Some message)
+  some_owed [] owes = absurd (owes refl)
+  some_owed (message ∷ messages) owes = (message, refl)
+
+  pub answer_copied : (h : List (Entry M)) (name : Name) → is_open h name.0 ≡ true → answer h (CopyPort name) ≡ Some (new_name h)
+  answer_copied h name opened = rw opened refl
+
+  pub answer_shut : (h : List (Entry M)) (name : Name) → is_open h name.0 ≡ true → answer h (ClosePort name) ≡ Some Done
+  answer_shut h name opened = rw opened refl
+
+  -- an object of the right kind takes the call
+  fits_kind : (test : Kind → Bool) (kind : Option Kind) (call : Call M) → ((k : Kind) → takes k call ≡ test k) → option_map_or test kind false ≡ true
+      → IsSome kind × IfSome kind (λ k. IsTrue (takes k call))
+  fits_kind test None call same is = absurd (false≢true is)
+  fits_kind test (Some k) call same is = (refl, same k ∙ is)
+
+  pub fits_by : (test : Kind → Bool) (h : List (Entry M)) (name : Name) (call : Call M) → object_in call ≡ Some name → ((k : Kind) → takes k call ≡ test k) → is_a test h name.0 ≡ true → Fits h call
+  fits_by test h name call on same is = rw on (fits_kind test (kind_of h name.0) call same is)
+
+  pub fits_taking : (h : List (Entry M)) (taking : Taking) (name : Name) → is_a is_receiver h name.0 ≡ true → Fits h (taking_call taking name)
+  fits_taking h taking.Waiting name is = fits_by is_receiver h name (Recv name) refl (λ k. refl) is
+  fits_taking h taking.Polling name is = fits_by is_receiver h name (Poll name) refl (λ k. refl) is

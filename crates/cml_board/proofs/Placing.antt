@@ -1,0 +1,96 @@
+-- A change of one object is a change of the list of all.
+use Rattle.std.proofs.Common.{◌≡◌, ℕ, zero, suc, ◌-◌, ◌<◌, List, [], ◌∷◌, ◌++◌, length, get_or, slice_get, slice_set, Some, sym, ap, ◌∙◌, arith}
+use Rattle.std.specs.Option.{option_and_then}
+use Rattle.std.proofs.lemmas.List.{map-append, map-set}
+use Rattle.std.proofs.lemmas.Option.{same_Some, none-some}
+use Rattle.cml_log.specs.Log.{Log, place_of}
+use Rattle.cml_board.specs.declared.object.Object.{Object}
+use Rattle.cml_board.specs.declared.object.Object.TheVariants.{Port}
+use Rattle.cml_board.specs.declared.object.Reading.TheVariants.{Open, Closed}
+use Rattle.cml_board.specs.declared.call.Name.{Name}
+use Rattle.cml_board.specs.Holdings.{map_log, seen_all, log_in, log_at, on_log, shut, HasLog, OpensIn, OpensAt, AddsPort, ClosesPort, open_port, closed_port}
+
+module _ {A B : Type 0} where
+  pub seen_set : (log : A → B) (f : B → B) (xs : List (Object A)) (i : ℕ) (x y : Object A) → i < length xs → x ≡ get_or xs i x
+      → map_log log y ≡ map_log f (map_log log x) → seen_all log (slice_set xs i y) ≡ on_log f (seen_all log xs) i
+  seen_set log f [] i x y within read changed = absurd (omega arith)
+  seen_set log f (z ∷ xs) zero x y within read changed =
+      ap (λ o. o ∷ seen_all log xs) (changed ∙ ap (λ o. map_log f (map_log log o)) read)
+  seen_set log f (z ∷ xs) (suc i) x y within read changed =
+      ap (λ os. map_log log z ∷ os) (seen_set log f xs i x y (omega arith) read changed)
+
+  pub seen_kept : (log : A → B) (xs : List (Object A)) (i : ℕ) (x y : Object A) → i < length xs → x ≡ get_or xs i x
+      → map_log log y ≡ map_log log x → seen_all log (slice_set xs i y) ≡ seen_all log xs
+  seen_kept log [] i x y within read same = absurd (omega arith)
+  seen_kept log (z ∷ xs) zero x y within read same =
+      ap (λ o. o ∷ seen_all log xs) (same ∙ ap (map_log log) read)
+  seen_kept log (z ∷ xs) (suc i) x y within read same =
+      ap (λ os. map_log log z ∷ os) (seen_kept log xs i x y (omega arith) read same)
+
+  pub seen_read : (log : A → B) (xs : List (Object A)) (i : ℕ) (x : Object A) → i < length xs → x ≡ get_or xs i x
+      → slice_get (seen_all log xs) i ≡ Some (map_log log x)
+  seen_read log [] i x within read = absurd (omega arith)
+  seen_read log (z ∷ xs) zero x within read = ap (λ o. Some (map_log log o)) (sym read)
+  seen_read log (z ∷ xs) (suc i) x within read = seen_read log xs i x (omega arith) read
+
+  pub log_read : (log : A → B) (xs : List (Object A)) (i : ℕ) (x : Object A) → i < length xs → x ≡ get_or xs i x
+      → log_at (seen_all log xs) i ≡ log_in (map_log log x)
+  log_read log xs i x within read = ap (option_and_then log_in) (seen_read log xs i x within read)
+
+  pub seen_pushed : (log : A → B) (xs ys : List (Object A)) (x : Object A) → ys ≡ xs ++ x ∷ [] → seen_all log ys ≡ seen_all log xs ++ map_log log x ∷ []
+  seen_pushed log xs ys x pushed = ap (seen_all log) pushed ∙ map-append (map_log log) xs (x ∷ [])
+
+module _ {A M : Type 0} where
+  -- one more cursor in an object's log is one more in the list
+  pub opens_at : (log : A → Log M) (xs : List (Object A)) (i : ℕ) (x y : Object A) (key : ℕ) (from : Log M → ℕ) → i < length xs → x ≡ get_or xs i x
+      → OpensIn (map_log log x) (map_log log y) key from → OpensAt (seen_all log xs) (seen_all log (slice_set xs i y)) i key from
+  opens_at log xs i x y key from within read opens = record {
+    stands = record { log = opens.was; found = log_read log xs i x within read ∙ opens.found };
+    log = opens.log;
+    opens = opens.opens;
+    changed = seen_set log (λ _. opens.log) xs i x y within read opens.changed;
+  }
+
+  -- a port was added behind it
+  pub adds_port : (log : A → Log M) (xs ys : List (Object A)) (source : Name) (x y : Object A) (key start : ℕ) (from : Log M → ℕ) (was : Log M)
+      → source.0 < length xs → x ≡ get_or xs source.0 x → OpensIn (map_log log x) (map_log log y) key from → log_in (map_log log x) ≡ Some was → start ≡ from was
+      → ys ≡ slice_set xs source.0 y ++ Port (record { channel = source; start = start; reading = Open key }) ∷ []
+      → AddsPort (seen_all log xs) (seen_all log ys) source.0 from
+  unfolding opens_at
+  adds_port log xs ys source x y key start from was within read opens found starts pushed =
+      let after = slice_set xs source.0 y in
+      let same : was ≡ opens.was = same_Some _ _ (sym found ∙ opens.found) in
+      record {
+        key = key;
+        after = seen_all log after;
+        opens = opens_at log xs source.0 x y key from within read opens;
+        changed =
+            seen_pushed log after ys (Port (record { channel = source; start = start; reading = Open key })) pushed
+            ∙ ap (λ s. seen_all log after ++ open_port source.0 s key ∷ []) (starts ∙ ap from same);
+      }
+
+  -- a port was closed
+  pub closes_port : (chunk : ℕ) (log : A → Log M) (xs : List (Object A)) (name source : Name) (x y : Object A) (start key place : ℕ) (was : Log M)
+      → source.0 < length xs → x ≡ get_or xs source.0 x → log_in (map_log log x) ≡ Some was → place ≡ place_of was key
+      → map_log log y ≡ map_log (shut chunk key) (map_log log x)
+      → ClosesPort chunk (seen_all log xs)
+      (seen_all log (slice_set (slice_set xs source.0 y) name.0 (Port (record { channel = source; start = start; reading = Closed (place - start) }))))
+      name.0 source.0 start key
+  closes_port chunk log xs name source x y start key place was within read found at changed =
+      let shut_log = slice_set xs source.0 y in
+      record {
+        log = was;
+        found = log_read log xs source.0 x within read ∙ found;
+        changed =
+            map-set (map_log log) shut_log name.0 (Port (record { channel = source; start = start; reading = Closed (place - start) }))
+            ∙ ap (λ os. slice_set os name.0 (closed_port source.0 start (place - start))) (seen_set log (shut chunk key) xs source.0 x y within read changed)
+            ∙ ap (λ p. slice_set (on_log (shut chunk key) (seen_all log xs) source.0) name.0 (closed_port source.0 start (p - start))) at;
+      }
+
+  pub log_within : (log : A → Log M) (xs : List (Object A)) (i : ℕ) → HasLog (seen_all log xs) i → i < length xs
+  log_within log xs i stands = by_length xs i stands.log stands.found
+    where
+      by_length : (xs : List (Object A)) (i : ℕ) (l : Log M) → log_at (seen_all log xs) i ≡ Some l → i < length xs
+      by_length [] i l found = absurd (none-some l found)
+      by_length (x ∷ xs) zero l found = omega arith
+      by_length (x ∷ xs) (suc i) l found = omega (arith, by_length xs i l found)

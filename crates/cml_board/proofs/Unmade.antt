@@ -1,0 +1,79 @@
+-- Nothing was done with a name that was not made.
+use Rattle.std.proofs.Common.{◌≡◌, ℕ, ◌≤◌, true, false, not, ◌&&◌, cond, eqb, List, [], ◌∷◌, ◌++◌, length, None, IsSome, refl, ap, subst, ◌∙◌, arith}
+use Rattle.std.proofs.lemmas.Bool.{false≢true, ne_eqb}
+use Rattle.std.proofs.lemmas.List.{length-append}
+use Rattle.std.proofs.lemmas.Option.{slice_get_past}
+use Rattle.std.specs.Option.{option_map}
+use Rattle.cml_board.specs.declared.call.Call.{Call}
+use Rattle.cml_board.specs.declared.call.Call.TheVariants.{NewMailbox, NewChannel, NewPort, CopyPort, ClosePort, Send, Cast, Recv, Poll}
+use Rattle.cml_board.specs.declared.entry.Reply.{Reply}
+use Rattle.cml_board.specs.declared.entry.Entry.{Entry}
+use Rattle.cml_board.specs.Origins.{kind_by}
+use Rattle.cml_board.specs.History.{Lawful, IsMade, made, if_made, begun_by, kind_of, sent, sent_by, got, got_by, message_in, is_open, is_done, closes}
+use Rattle.cml_board.specs.Facts.{Facts, facts_of}
+
+module _ {M : Type 0} where
+  -- facts are equal part by part
+  pub facts_equal : (a b : Facts M) → a.origin ≡ b.origin → a.opened ≡ b.opened → a.sent ≡ b.sent → a.got ≡ b.got → a ≡ b
+  facts_equal a b origin opened sends gets =
+      ap (λ x. record a { origin = x }) origin ∙ ap (λ x. record a { origin = b.origin; opened = x }) opened
+      ∙ ap (λ x. record b { sent = x; got = a.got }) sends ∙ ap (λ x. record b { got = x }) gets
+
+  -- a call that fits is on another name
+  unmade_name : (history : List (Entry M)) (name k : ℕ) → IsSome (kind_of history name) → length (made history) ≤ k → eqb name k ≡ false
+  unmade_name history name k is_made past = ne_eqb name k (λ same.
+      let none : kind_of history name ≡ None =
+      ap (kind_of history) same ∙ ap (option_map kind_by) (slice_get_past (made history) k past) in
+      false≢true (subst (λ o. IsSome o) none is_made))
+
+  -- so it sends nothing to this one, receives nothing from it and doesn't close it
+  pub untold : (history : List (Entry M)) (call : Call M) (reply : Reply M) (k : ℕ) → IsMade history call → length (made history) ≤ k
+      → (sent_by call k ≡ []) × (got_by call reply k ≡ []) × (closes call reply k ≡ false)
+  untold history NewMailbox reply k is_made past = (refl, refl, refl)
+  untold history NewChannel reply k is_made past = (refl, refl, refl)
+  untold history (NewPort name) reply k is_made past = (refl, refl, refl)
+  untold history (CopyPort name) reply k is_made past = (refl, refl, refl)
+  untold history (ClosePort name) reply k is_made past =
+      (refl, refl, ap (λ t. cond t (is_done reply) false) (unmade_name history name.0 k is_made past))
+  untold history (Send name message) reply k is_made past =
+      (ap (λ t. cond t (message ∷ []) []) (unmade_name history name.0 k is_made past), refl, refl)
+  untold history (Cast name message) reply k is_made past =
+      (ap (λ t. cond t (message ∷ []) []) (unmade_name history name.0 k is_made past), refl, refl)
+  untold history (Recv name) reply k is_made past =
+      (refl, ap (λ t. cond t (message_in reply) []) (unmade_name history name.0 k is_made past), refl)
+  untold history (Poll name) reply k is_made past =
+      (refl, ap (λ t. cond t (message_in reply) []) (unmade_name history name.0 k is_made past), refl)
+
+  -- the names that were not made yet are among those that were not made before
+  pub unmade_before : (entry : Entry M) (before : List (Entry M)) (k : ℕ) → length (made (entry ∷ before)) ≤ k → length (made before) ≤ k
+  unmade_before entry before k past =
+      omega (arith, length-append (made before) (if_made entry.reply (begun_by (made before) before entry.call)))
+
+  -- so no entry told of it
+  unmade_opened : (history : List (Entry M)) (k : ℕ) → Lawful history → length (made history) ≤ k → is_open history k ≡ true
+  unmade_opened [] k lawful past = refl
+  unmade_opened (entry ∷ before) k lawful past =
+      let earlier = unmade_before entry before k past in
+      let told = untold before entry.call entry.reply k lawful.0.0 earlier in
+      ap (λ b. b && not (closes entry.call entry.reply k)) (unmade_opened before k lawful.2 earlier) ∙ ap (λ b. not b) told.2
+
+  unmade_sent : (history : List (Entry M)) (k : ℕ) → Lawful history → length (made history) ≤ k → sent history k ≡ []
+  unmade_sent [] k lawful past = refl
+  unmade_sent (entry ∷ before) k lawful past =
+      let earlier = unmade_before entry before k past in
+      let told = untold before entry.call entry.reply k lawful.0.0 earlier in
+      ap (λ xs. xs ++ sent_by entry.call k) (unmade_sent before k lawful.2 earlier) ∙ told.0
+
+  pub unmade_got : (history : List (Entry M)) (k : ℕ) → Lawful history → length (made history) ≤ k → got history k ≡ []
+  unmade_got [] k lawful past = refl
+  unmade_got (entry ∷ before) k lawful past =
+      let earlier = unmade_before entry before k past in
+      let told = untold before entry.call entry.reply k lawful.0.0 earlier in
+      ap (λ xs. xs ++ got_by entry.call entry.reply k) (unmade_got before k lawful.2 earlier) ∙ told.1
+
+  -- so its facts are those of no object
+  pub unmade : (history : List (Entry M)) (k : ℕ) → Lawful history → length (made history) ≤ k
+      → facts_of history k ≡ record { origin = None; opened = true; sent = []; got = [] }
+  unmade history k lawful past =
+      facts_equal (facts_of history k) (record { origin = None; opened = true; sent = []; got = [] }) (slice_get_past (made history) k past)
+      (unmade_opened history k lawful past) (unmade_sent history k lawful past) (unmade_got history k lawful past)

@@ -1,0 +1,24 @@
+-- All that a history tells of one object.
+use Rattle.std.specs.Prelude.{ℕ, ◌+◌, Bool, List, length, Option}
+use Rattle.cml_board.specs.declared.entry.Entry.{Entry}
+use Rattle.cml_board.specs.Origins.{Origin, start_by}
+use Rattle.cml_board.specs.History.{origin_of, is_open, sent, got}
+
+pub record Facts (M : Type 0) : Type 0 where
+  pub origin : Option Origin
+  pub opened : Bool
+  pub sent : List M
+  pub got : List M
+
+module _ {M : Type 0} where
+  abbrev pub facts_of : List (Entry M) → ℕ → Facts M
+  facts_of history object = record {
+    origin = origin_of history object;
+    opened = is_open history object;
+    sent = sent history object;
+    got = got history object;
+  }
+
+  -- where it stands in the list that it receives from
+  abbrev pub place_by : Facts M → ℕ
+  place_by facts = start_by facts.origin + length facts.got

@@ -1,0 +1,159 @@
+//! Calls that put a message into a log or take one out of it.
+ghost use Rattle.std.specs.Prelude.{◌≡◌, ◌≢◌, ◌<◌, true, false, [], length, Some, IfOk, slice_get};
+ghost use Rattle.cml_log.specs.Log.{IsOpen, owed_items};
+ghost use Rattle.cml_board.specs.Objects.{is_receiver};
+ghost use Rattle.cml_board.specs.Counts.{is_a};
+ghost use Rattle.cml_board.specs.History.{owed, is_open, Fits};
+ghost use Rattle.cml_board.specs.Calls.{taking_call, putting_call, asking_call};
+ghost use Rattle.cml_board.specs.Standing.{ReadsAt};
+ghost use Rattle.cml_board.specs.Outcome.{Applies, HasRoom};
+
+use super::Board;
+use super::note::{Asking, Putting, Taking, note};
+use super::objects::{advance_at, push_at};
+use crate::call::{Call, Name};
+use crate::entry::{Entry, Reply, Who};
+use crate::message::Message;
+use crate::outcome::{Outcome, Refusal};
+use cml_log::{Key, MessageLog};
+use std::alloc::{AllocError, Global};
+
+impl<M: Message, L: MessageLog<M>> Board<M, L> {
+    /// Sends a message to a mailbox, or multicasts it on a channel.
+    pub(super) fn put(&mut self, who: Who, name: Name, message: M, putting: Putting) -> Outcome<M>
+        requires fits { Fits self.old.history (putting_call putting name message) }
+        requires room { HasRoom self.old }
+        ensures { Applies self.old self.new who (putting_call putting name message) result }
+    {
+        let Ok((stored, noted)) = share_twice(self.alloc, &message) else {
+            return Outcome::Refused(Refusal::NoMemory, putting.call(name, message));
+        };
+        if self.journal.reserve(1).is_err() {
+            return Outcome::Refused(Refusal::NoMemory, putting.call(name, message));
+        }
+        let Ok(()) = push_at(&mut self.objects, name, stored) else {
+            return Outcome::Refused(Refusal::NoMemory, putting.call(name, message));
+        };
+        let entry = Entry {
+            who,
+            call: putting.call(name, noted),
+            reply: Reply::Done,
+        };
+        let call = putting.call(name, message);
+        note(&mut self.journal, entry, call, Reply::Done)
+    }
+
+    pub(super) fn receive(&mut self, who: Who, name: Name) -> Outcome<M>
+        requires fits { is_a is_receiver self.old.history name.0 ≡ true }
+        requires room { HasRoom self.old }
+        ensures { Applies self.old self.new who (Call.Recv name) result }
+    {
+        let Some((source, key)) = self.cursor(name) else {
+            return self.find_closed(who, name, Asking::Receive);
+        };
+        if self.log(source).owed(key) == 0 {
+            return Outcome::WouldWait(Call::Recv(name));
+        }
+        self.take(who, name, source, key, Taking::Waiting)
+    }
+
+    pub(super) fn poll(&mut self, who: Who, name: Name) -> Outcome<M>
+        requires fits { is_a is_receiver self.old.history name.0 ≡ true }
+        requires room { HasRoom self.old }
+        ensures { Applies self.old self.new who (Call.Poll name) result }
+    {
+        let Some((source, key)) = self.cursor(name) else {
+            return self.find_closed(who, name, Asking::Poll);
+        };
+        if self.log(source).owed(key) == 0 {
+            return self.find_nothing(who, name);
+        }
+        self.take(who, name, source, key, Taking::Polling)
+    }
+
+    /// A call on a port that was closed before.
+    pub(super) fn find_closed(&mut self, who: Who, name: Name, asking: Asking) -> Outcome<M>
+        requires fits { Fits self.old.history (asking_call asking name) }
+        requires closed { is_open self.old.history name.0 ≡ false }
+        requires room { HasRoom self.old }
+        ensures { Applies self.old self.new who (asking_call asking name) result }
+    {
+        if self.journal.reserve(1).is_err() {
+            return Outcome::Refused(Refusal::NoMemory, asking.call(name));
+        }
+        let entry = Entry {
+            who,
+            call: asking.call(name),
+            reply: Reply::Closed,
+        };
+        let call = asking.call(name);
+        note(&mut self.journal, entry, call, Reply::Closed)
+    }
+
+    /// A poll where nothing is owed.
+    fn find_nothing(&mut self, who: Who, name: Name) -> Outcome<M>
+        requires fits { is_a is_receiver self.old.history name.0 ≡ true }
+        requires opened { is_open self.old.history name.0 ≡ true }
+        requires empty { owed self.old.history name.0 ≡ [] }
+        requires room { HasRoom self.old }
+        ensures { Applies self.old self.new who (Call.Poll name) result }
+    {
+        if self.journal.reserve(1).is_err() {
+            return Outcome::Refused(Refusal::NoMemory, Call::Poll(name));
+        }
+        let entry = Entry {
+            who,
+            call: Call::Poll(name),
+            reply: Reply::Nothing,
+        };
+        note(&mut self.journal, entry, Call::Poll(name), Reply::Nothing)
+    }
+
+    /// Takes the first message that is owed.
+    fn take(&mut self, who: Who, name: Name, source: Name, key: Key, taking: Taking) -> Outcome<M>
+        requires reads { ReadsAt self.old name.0 source.0 key }
+        requires owed { owed self.old.history name.0 ≢ [] }
+        requires room { HasRoom self.old }
+        ensures { Applies self.old self.new who (taking_call taking name) result }
+    {
+        let Ok((message, noted)) = share_first(self.log(source), self.alloc, key) else {
+            return Outcome::Refused(Refusal::NoMemory, taking.call(name));
+        };
+        if self.journal.reserve(1).is_err() {
+            return Outcome::Refused(Refusal::NoMemory, taking.call(name));
+        }
+        advance_at(&mut self.objects, source, key);
+        let entry = Entry {
+            who,
+            call: taking.call(name),
+            reply: Reply::Got(noted),
+        };
+        let call = taking.call(name);
+        note(&mut self.journal, entry, call, Reply::Got(message))
+    }
+}
+
+fn share_twice<M: Message>(alloc: Global, message: &M) -> Result<(M, M), AllocError>
+    ensures { IfOk result (λ copies. (copies.0 ≡ message.now) × (copies.1 ≡ message.now)) }
+{
+    let first = message.share(alloc)?;
+    let second = message.share(alloc)?;
+    Ok((first, second))
+}
+
+/// Two messages equal to the one at a cursor's place.
+fn share_first<M: Message, L: MessageLog<M>>(
+    log: &L,
+    alloc: Global,
+    key: Key,
+) -> Result<(M, M), AllocError>
+    requires opened { IsOpen (L.log log.now) key }
+    requires owed { 0 < length (owed_items (L.log log.now) key) }
+    ensures { IfOk result (λ copies. (slice_get (owed_items (L.log log.now) key) 0 ≡ Some copies.0)
+        × (slice_get (owed_items (L.log log.now) key) 0 ≡ Some copies.1)) }
+{
+    match log.peek(key) {
+        Some(message) => share_twice(alloc, message),
+        None => unreachable!(),
+    }
+}

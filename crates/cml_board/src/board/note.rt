@@ -1,0 +1,82 @@
+//! An entry is added to the journal, and told of.
+ghost use Rattle.std.specs.Prelude.{◌≡◌, ◌<◌, [], ◌∷◌, ◌++◌, length, vec_len, vec_capacity};
+ghost use Rattle.cml_board.specs.Calls.{taking_call, asking_call, putting_call};
+
+use crate::answer::Answer;
+use crate::call::{Call, Name};
+use crate::entry::{Entry, Reply};
+use crate::outcome::Outcome;
+
+/// The calls that take a message: one waits for it.
+#[derive(Clone, Copy)]
+pub enum Taking {
+    Waiting,
+    Polling,
+}
+
+/// The calls that put a message to others.
+#[derive(Clone, Copy)]
+pub enum Putting {
+    Sending,
+    Casting,
+}
+
+/// The calls that a closed port answers.
+#[derive(Clone, Copy)]
+pub enum Asking {
+    Receive,
+    Poll,
+    Copy,
+    Close,
+}
+
+impl Taking {
+    pub fn call<M>(self, name: Name) -> Call<M>
+        ensures { result ≡ taking_call self name }
+    {
+        match self {
+            Taking::Waiting => Call::Recv(name),
+            Taking::Polling => Call::Poll(name),
+        }
+    }
+}
+
+impl Putting {
+    pub fn call<M>(self, name: Name, message: M) -> Call<M>
+        ensures { result ≡ putting_call self name message }
+    {
+        match self {
+            Putting::Sending => Call::Send(name, message),
+            Putting::Casting => Call::Cast(name, message),
+        }
+    }
+}
+
+impl Asking {
+    pub fn call<M>(self, name: Name) -> Call<M>
+        ensures { result ≡ asking_call self name }
+    {
+        match self {
+            Asking::Receive => Call::Recv(name),
+            Asking::Poll => Call::Poll(name),
+            Asking::Copy => Call::CopyPort(name),
+            Asking::Close => Call::ClosePort(name),
+        }
+    }
+}
+
+/// Adds an entry to a journal that has room for it, and tells of it.
+pub fn note<M>(
+    journal: &mut Vec<Entry<M>>,
+    entry: Entry<M>,
+    call: Call<M>,
+    reply: Reply<M>,
+) -> Outcome<M>
+    requires { vec_len journal.old < vec_capacity journal.old }
+    ensures entries { journal.new.items ≡ journal.old.items ++ entry ∷ [] }
+    ensures answer { result ≡ Outcome.Answered (record { call = call; reply = reply; at = length journal.old.items }) }
+{
+    let at = journal.len() as u64;
+    journal.push_reserved(entry);
+    Outcome::Answered(Answer::new(call, reply, at))
+}

@@ -1,0 +1,136 @@
+//! What a call does to the objects of a board, by their names.
+ghost use Rattle.std.specs.Prelude.{◌≡◌, ◌<◌, ◌≤◌, ◌++◌, ◌∷◌, [], Some, OnOk, OnErr};
+ghost use Rattle.cml_log.specs.Log.{empty_log, next_of, place_of};
+ghost use Rattle.cml_board.specs.declared.object.Object.TheVariants.{Channel};
+ghost use Rattle.cml_board.specs.Holdings.{seen_all, log_at, on_log, pushed, advanced, HasLog, HasRoomAt, HasCursor, HasOwed, HasPort, AddsMailbox, AddsPort, ClosesPort};
+
+use crate::call::Name;
+use crate::object::{self, Object, Port, Reading};
+use cml_log::{Back, Key, MessageLog};
+use std::alloc::{AllocError, Global};
+
+pub fn log_at<M, L: MessageLog<M>>(objects: &Vec<Object<L>>, name: Name) -> &L
+    requires { HasLog (seen_all L.log objects.now.items) name.0 }
+    ensures { log_at (seen_all L.log objects.now.items) name.0 ≡ Some (L.log result.now) }
+{
+    object::log_in(&objects[name.0 as usize])
+}
+
+/// Adds a message to a log, or hands it back.
+pub fn push_at<M, L: MessageLog<M>>(
+    objects: &mut Vec<Object<L>>,
+    name: Name,
+    message: M,
+) -> Result<(), Back<M>>
+    requires { HasRoomAt (seen_all L.log objects.old.items) name.0 }
+    ensures ok { OnOk result (seen_all L.log objects.new.items ≡ on_log (pushed L.CHUNK message) (seen_all L.log objects.old.items) name.0) }
+    ensures err { OnErr result (seen_all L.log objects.new.items ≡ seen_all L.log objects.old.items) }
+{
+    object::push(&mut objects[name.0 as usize], message)
+}
+
+/// Moves a log's cursor past the message at its place.
+pub fn advance_at<M, L: MessageLog<M>>(objects: &mut Vec<Object<L>>, name: Name, key: Key)
+    requires { HasOwed (seen_all L.log objects.old.items) name.0 key }
+    ensures { seen_all L.log objects.new.items ≡ on_log (advanced L.CHUNK key) (seen_all L.log objects.old.items) name.0 }
+{
+    object::advance(&mut objects[name.0 as usize], key)
+}
+
+pub fn add_mailbox<M, L: MessageLog<M>>(
+    objects: &mut Vec<Object<L>>,
+    alloc: Global,
+) -> Result<(), AllocError>
+    requires holds_one { 0 < L.CHUNK }
+    requires small { L.CHUNK ≤ 1024 }
+    ensures ok { OnOk result (AddsMailbox (seen_all L.log objects.old.items) (seen_all L.log objects.new.items)) }
+    ensures err { OnErr result (seen_all L.log objects.new.items ≡ seen_all L.log objects.old.items) }
+{
+    objects.reserve(1)?;
+    let mut log = L::new(alloc)?;
+    let key = log.open_cursor()?;
+    objects.push_reserved(Object::Mailbox(log, key));
+    Ok(())
+}
+
+pub fn add_channel<M, L: MessageLog<M>>(
+    objects: &mut Vec<Object<L>>,
+    alloc: Global,
+) -> Result<(), AllocError>
+    requires holds_one { 0 < L.CHUNK }
+    requires small { L.CHUNK ≤ 1024 }
+    ensures ok { OnOk result (seen_all L.log objects.new.items ≡ seen_all L.log objects.old.items ++ Channel empty_log ∷ []) }
+    ensures err { OnErr result (seen_all L.log objects.new.items ≡ seen_all L.log objects.old.items) }
+{
+    objects.reserve(1)?;
+    let log = L::new(alloc)?;
+    objects.push_reserved(Object::Channel(log));
+    Ok(())
+}
+
+/// Adds a port at the end of a channel.
+pub fn add_port<M, L: MessageLog<M>>(
+    objects: &mut Vec<Object<L>>,
+    channel: Name,
+) -> Result<(), AllocError>
+    requires { HasLog (seen_all L.log objects.old.items) channel.0 }
+    ensures ok { OnOk result (AddsPort (seen_all L.log objects.old.items) (seen_all L.log objects.new.items) channel.0 next_of) }
+    ensures err { OnErr result (seen_all L.log objects.new.items ≡ seen_all L.log objects.old.items) }
+{
+    objects.reserve(1)?;
+    let source = &mut objects[channel.0 as usize];
+    let start = object::log_in(source).next();
+    let key = object::open_cursor(source)?;
+    let reading = Reading::Open(key);
+    objects.push_reserved(Object::Port(Port {
+        channel,
+        start,
+        reading,
+    }));
+    Ok(())
+}
+
+/// Adds a port where a cursor of its channel stands.
+pub fn add_copy<M, L: MessageLog<M>>(
+    objects: &mut Vec<Object<L>>,
+    channel: Name,
+    key: Key,
+) -> Result<(), AllocError>
+    requires { HasCursor (seen_all L.log objects.old.items) channel.0 key }
+    ensures ok { OnOk result (AddsPort (seen_all L.log objects.old.items) (seen_all L.log objects.new.items) channel.0 (λ log. place_of log key)) }
+    ensures err { OnErr result (seen_all L.log objects.new.items ≡ seen_all L.log objects.old.items) }
+{
+    objects.reserve(1)?;
+    let source = &mut objects[channel.0 as usize];
+    let start = object::log_in(source).place(key);
+    let copy = object::copy_cursor(source, key)?;
+    let reading = Reading::Open(copy);
+    objects.push_reserved(Object::Port(Port {
+        channel,
+        start,
+        reading,
+    }));
+    Ok(())
+}
+
+/// Closes a port, which from then on knows how much it had received.
+pub fn close_port<M, L: MessageLog<M>>(
+    objects: &mut Vec<Object<L>>,
+    name: Name,
+    channel: Name,
+    start: u64,
+    key: Key,
+)
+    requires { HasPort (seen_all L.log objects.old.items) name.0 channel.0 start key }
+    ensures { ClosesPort L.CHUNK (seen_all L.log objects.old.items) (seen_all L.log objects.new.items) name.0 channel.0 start key }
+{
+    let source = &mut objects[channel.0 as usize];
+    let received = object::log_in(source).place(key) - start;
+    object::shut(source, key);
+    let reading = Reading::Closed(received);
+    objects[name.0 as usize] = Object::Port(Port {
+        channel,
+        start,
+        reading,
+    });
+}

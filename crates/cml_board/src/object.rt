@@ -1,0 +1,129 @@
+//! The objects of a board, and what a call does to one of them.
+ghost use Rattle.std.specs.Prelude.{◌≡◌, ℕ, ◌<◌, length, Some, IsSome, OnOk, OnErr, IfOk};
+ghost use Rattle.std.specs.Option.{option_map};
+ghost use Rattle.cml_log.specs.Log.{Log, next_of, IsOpen, place_of, owed_items, Opens};
+ghost use Rattle.cml_board.specs.Holdings.{map_log, log_in, cursor_in, pushed, advanced, shut, OpensIn};
+
+use crate::call::Name;
+use cml_log::{Back, Key, MessageLog};
+use std::alloc::AllocError;
+
+/// An object: the messages of a mailbox or of a channel, or a port.
+#[derive(Drop)]
+pub enum Object<L> {
+    /// The cursor stands at the next message to be received.
+    Mailbox(L, Key),
+    Channel(L),
+    Port(Port),
+}
+
+/// A port of a channel, and the place of the first message that it is to receive.
+#[derive(Clone, Copy)]
+pub struct Port {
+    pub channel: Name,
+    pub start: u64,
+    pub reading: Reading,
+}
+
+/// How a port reads its channel.
+#[derive(Clone, Copy)]
+pub enum Reading {
+    /// By this cursor of the channel's log.
+    Open(Key),
+    /// No more: it was closed when it had received so many messages.
+    Closed(u64),
+}
+
+/// The log of an object that has one.
+pub fn log_in<M, L: MessageLog<M>>(object: &Object<L>) -> &L
+    requires { IsSome (log_in (map_log L.log object.now)) }
+    ensures { log_in (map_log L.log object.now) ≡ Some (L.log result.now) }
+{
+    match object {
+        Object::Mailbox(log, _) => log,
+        Object::Channel(log) => log,
+        Object::Port(_) => unreachable!(),
+    }
+}
+
+/// Adds a message to the object's log, or hands it back.
+pub fn push<M, L: MessageLog<M>>(object: &mut Object<L>, message: M) -> Result<(), Back<M>>
+    requires stands { IsSome (log_in (map_log L.log object.old)) }
+    requires room { (log : Log M) → log_in (map_log L.log object.old) ≡ Some log → next_of log < 18446744073709551614 }
+    ensures ok { OnOk result (map_log L.log object.new ≡ map_log (pushed L.CHUNK message) (map_log L.log object.old)) }
+    ensures err { OnErr result (map_log L.log object.new ≡ map_log L.log object.old) }
+{
+    match object {
+        Object::Mailbox(log, _) => log.push(message),
+        Object::Channel(log) => log.push(message),
+        Object::Port(_) => unreachable!(),
+    }
+}
+
+/// Moves a cursor of the object's log past the message at its place.
+pub fn advance<M, L: MessageLog<M>>(object: &mut Object<L>, key: Key)
+    requires stands { IsSome (log_in (map_log L.log object.old)) }
+    requires opened { (log : Log M) → log_in (map_log L.log object.old) ≡ Some log → IsOpen log key }
+    requires owed { (log : Log M) → log_in (map_log L.log object.old) ≡ Some log → 0 < length (owed_items log key) }
+    ensures { map_log L.log object.new ≡ map_log (advanced L.CHUNK key) (map_log L.log object.old) }
+{
+    match object {
+        Object::Mailbox(log, _) => log.advance(key),
+        Object::Channel(log) => log.advance(key),
+        Object::Port(_) => unreachable!(),
+    }
+}
+
+/// Closes a cursor of the object's log.
+pub fn shut<M, L: MessageLog<M>>(object: &mut Object<L>, key: Key)
+    requires stands { IsSome (log_in (map_log L.log object.old)) }
+    requires opened { (log : Log M) → log_in (map_log L.log object.old) ≡ Some log → IsOpen log key }
+    ensures { map_log L.log object.new ≡ map_log (shut L.CHUNK key) (map_log L.log object.old) }
+{
+    match object {
+        Object::Mailbox(log, _) => log.close_cursor(key),
+        Object::Channel(log) => log.close_cursor(key),
+        Object::Port(_) => unreachable!(),
+    }
+}
+
+/// Opens a cursor at the end of a channel's log.
+pub fn open_cursor<M, L: MessageLog<M>>(object: &mut Object<L>) -> Result<Key, AllocError>
+    requires stands { IsSome (log_in (map_log L.log object.old)) }
+    ensures ok { IfOk result (λ key. OpensIn (map_log L.log object.old) (map_log L.log object.new) key next_of) }
+    ensures err { OnErr result (map_log L.log object.new ≡ map_log L.log object.old) }
+{
+    match object {
+        Object::Mailbox(log, _) => log.open_cursor(),
+        Object::Channel(log) => log.open_cursor(),
+        Object::Port(_) => unreachable!(),
+    }
+}
+
+/// Opens a cursor of a channel's log where another stands.
+pub fn copy_cursor<M, L: MessageLog<M>>(object: &mut Object<L>, key: Key) -> Result<Key, AllocError>
+    requires stands { IsSome (log_in (map_log L.log object.old)) }
+    requires opened { (log : Log M) → log_in (map_log L.log object.old) ≡ Some log → IsOpen log key }
+    ensures ok { IfOk result (λ copy. OpensIn (map_log L.log object.old) (map_log L.log object.new) copy (λ log. place_of log key)) }
+    ensures err { OnErr result (map_log L.log object.new ≡ map_log L.log object.old) }
+{
+    match object {
+        Object::Mailbox(log, _) => log.copy_cursor(key),
+        Object::Channel(log) => log.copy_cursor(key),
+        Object::Port(_) => unreachable!(),
+    }
+}
+
+/// Where the object of this name reads: the object whose log it is, and its cursor there.
+pub fn cursor_in<L>(object: &Object<L>, name: Name) -> Option<(Name, Key)>
+    ensures { option_map (λ cursor. (cursor.0.0, cursor.1)) result ≡ cursor_in name.0 object.now }
+{
+    match object {
+        Object::Mailbox(_, key) => Some((name, *key)),
+        Object::Channel(_) => None,
+        Object::Port(port) => match port.reading {
+            Reading::Open(key) => Some((port.channel, key)),
+            Reading::Closed(_) => None,
+        },
+    }
+}
