@@ -1,5 +1,5 @@
 -- The same, in the words of the code: what was inserted and pushed, and the value that was seen before.
-use Rattle.std.proofs.Common.{◌≡◌, ℕ, ◌+◌, List, [], ◌∷◌, ◌++◌, Some, None, String, string_bytes, sym, ap, ◌∙◌, subst}
+use Rattle.std.proofs.Common.{◌≡◌, ℕ, ◌+◌, List, [], ◌∷◌, ◌++◌, length, Some, None, String, string_bytes, sym, ap, ◌∙◌, subst}
 use Rattle.std.proofs.Common.{false}
 use Rattle.std.specs.Global.{Global}
 use Rattle.std.specs.String.{string_eq}
@@ -12,53 +12,70 @@ use Rattle.cml_grammar.specs.declared.forms.Verb.{Verb}
 use Rattle.cml_grammar.specs.declared.script.Declaration.{Declaration}
 use Rattle.cml_grammar.specs.declared.script.Step.{Step}
 use Rattle.cml_grammar.specs.Words.{words_of}
-use Rattle.cml_grammar.specs.Names.{is_given}
-use Rattle.cml_grammar.specs.Forms.{declaration, step, form_of, step_places}
+use Rattle.cml_grammar.specs.Names.{Given, is_given}
+use Rattle.cml_grammar.specs.Forms.{declaration, step, form_of, declared_places, step_places, fresh_word, named_by}
 use Rattle.cml_grammar.specs.Faults.{fault_in_words, after_words}
 use Rattle.cml_grammar.specs.Script.{Lines}
 use Rattle.cml_grammar.specs.Meaning.{scope_of, names_of, makes_by, action_by}
-use Rattle.cml_grammar.specs.Reading.{view_of, texts_of, UsesWell, IsReadSoFar, named_by, threads_by}
+use Rattle.cml_grammar.specs.Reading.{view_of, texts_of, UsesWell, IsMadeWell, IsReadSoFar, threads_by}
 use Rattle.cml_grammar.specs.Suiting.{AllSuit}
 use Rattle.cml_grammar.proofs.NameLemmas.{inserted_texts}
-use Rattle.cml_grammar.proofs.TableLemmas.{Passes, words_pass, all_suit-passes}
-use Rattle.cml_grammar.proofs.KeepingLemmas.{fresh_name, declared_scope, declared_so_far, asked_scope, asked_so_far}
+use Rattle.cml_grammar.proofs.TableLemmas.{Passes, words_pass, all_suit-passes, fresh_is_new}
+use Rattle.cml_grammar.proofs.KeepingLemmas.{declared_scope, declared_so_far, asked_scope, asked_so_far}
 
 abbrev Names : Type 0
 Names = IndexMap (String Global) Named (BuildHasherDefault FoldHasher)
 
+pub declared_suits : (now : Lines) (words : List (List ℕ)) (what : Declares) (rest : List (List ℕ)) → fault_in_words (scope_of now) words ≡ None → form_of (names_of now) words ≡ declaration what rest → AllSuit (names_of now) (declared_places what) rest
+declared_suits now words what rest fits form =
+    all_suit-passes (scope_of now) (declaration what rest) (subst (Passes (scope_of now)) form (words_pass (scope_of now) words fits).1)
+
+-- the same of the names that are kept
+pub kept_suits : (now script : Lines) (names : List Given) (words : List (List ℕ)) (what : Declares) (rest : List (List ℕ)) → script ≡ now → names ≡ names_of script → fault_in_words (scope_of now) words ≡ None → form_of (names_of now) words ≡ declaration what rest → AllSuit names (declared_places what) rest
+kept_suits now script names words what rest seen kept fits form =
+    subst (λ (gs : List Given). AllSuit gs (declared_places what) rest) (sym (kept ∙ ap names_of seen)) (declared_suits now words what rest fits form)
+
 -- what a declaration was read from
-pub record Declared (now : Lines) (d : Declaration) (what : Declares) (name : List ℕ) : Type 0 where
+pub record Declared (now : Lines) (d : Declaration) (what : Declares) (rest : List (List ℕ)) : Type 0 where
   pub fits : fault_in_words (scope_of now) (words_of (string_bytes d.line.text)) ≡ None
-  pub form : form_of (names_of now) (words_of (string_bytes d.line.text)) ≡ declaration what (name ∷ [])
-  pub makes : (rest : List (List ℕ)) → makes_by what rest ≡ Some d.makes
+  pub form : form_of (names_of now) (words_of (string_bytes d.line.text)) ≡ declaration what rest
 
 module _ (v : ℕ) (now : Lines) (m : Names) (ds ds' : List Declaration) (ss : List Step) (threads : ℕ)
-    (d : Declaration) (what : Declares) (name : List ℕ)
+    (d : Declaration) (what : Declares) (rest : List (List ℕ)) (name : List ℕ)
     (seen : view_of v ds ss ≡ now)
     (so_far : IsReadSoFar (view_of v ds ss) m.entries ds ss threads)
-    (read : Declared now d what name)
+    (read : Declared now d what rest)
+    (there : fresh_word (declared_places what) rest ≡ Some name)
+    (makes : makes_by (texts_of m.entries) what rest ≡ Some d.makes)
+    (well : IsMadeWell (texts_of m.entries) (length (texts_of m.entries)) d.makes)
     (pushed : ds' ≡ ds ++ d ∷ []) where
-  before : Declared (view_of v ds ss) d what name
-  before = subst (λ (s : Lines). Declared s d what name) (sym seen) read
+  before : Declared (view_of v ds ss) d what rest
+  before = subst (λ (s : Lines). Declared s d what rest) (sym seen) read
 
   fresh : is_given (texts_of m.entries) name ≡ false
   fresh =
       ap (λ gs. is_given gs name) so_far.names
-      ∙ fresh_name (scope_of (view_of v ds ss)) what name (subst (Passes (scope_of (view_of v ds ss))) before.form (words_pass (scope_of (view_of v ds ss)) (words_of (string_bytes d.line.text)) before.fits).1)
+      ∙ fresh_is_new (names_of (view_of v ds ss)) (declared_places what) rest name (declared_suits (view_of v ds ss) (words_of (string_bytes d.line.text)) what rest before.fits before.form) there
+
+  made : makes_by (names_of (view_of v ds ss)) what rest ≡ Some d.makes
+  made = ap (λ gs. makes_by gs what rest) (sym so_far.names) ∙ makes
+
+  made_well : IsMadeWell (names_of (view_of v ds ss)) (length (names_of (view_of v ds ss))) d.makes
+  made_well = subst (λ gs. IsMadeWell gs (length gs) d.makes) so_far.names well
 
   pub declared_closes : (es' : List (String Global × Named)) (threads' : ℕ) (key : String Global) (n : Named)
       → string_bytes key ≡ name → n ≡ named_by what threads → es' ≡ insert_entry string_eq m.entries key n → threads' ≡ threads + threads_by what
       → IsReadSoFar (view_of v ds' ss) es' ds' ss threads'
   declared_closes es' threads' key n same named inserted counted =
       let entries = ap texts_of inserted ∙ inserted_texts m key n name same fresh ∙ ap (λ k. texts_of m.entries ++ (name, k) ∷ []) named in
-      let whole = declared_so_far v m.entries ds ss threads d what name so_far before.fits before.form before.makes es' entries in
+      let whole = declared_so_far v m.entries ds ss threads d what rest name so_far before.fits before.form there made made_well es' entries in
       subst (λ (t : ℕ). IsReadSoFar (view_of v ds' ss) es' ds' ss t) (sym counted)
       (subst (λ (xs : List Declaration). IsReadSoFar (view_of v xs ss) es' xs ss (threads + threads_by what)) (sym pushed) whole)
 
   pub declared_scopes : scope_of (view_of v ds' ss) ≡ after_words (scope_of now) (words_of (string_bytes d.line.text))
   declared_scopes =
       ap (λ (xs : List Declaration). scope_of (view_of v xs ss)) pushed
-      ∙ declared_scope v m.entries ds ss threads d what name so_far before.fits before.form before.makes
+      ∙ declared_scope v m.entries ds ss threads d what rest name so_far before.fits before.form there made made_well
       ∙ ap (λ (s : Lines). after_words (scope_of s) (words_of (string_bytes d.line.text))) seen
 
 -- what a step was read from

@@ -2,7 +2,7 @@
 use Rattle.std.proofs.Common.{◌≡◌, ℕ, ◌+◌, ◌≤◌, ◌==◌, Bool, true, false, not, ◌&&◌, ◌||◌, List, [], ◌∷◌, ◌++◌, length, map, slice_get, nat_le, Option, Some, None, String, string_bytes, All, refl, sym, ap, ◌∙◌, subst, arith, inl, inr, ◌⊎◌}
 use Rattle.std.specs.Global.{Global}
 use Rattle.std.specs.Option.{option_map_or, option_and_then, option_map}
-use Rattle.std.proofs.lemmas.Bool.{or_right, or_parts, leb-false, ne_eqb}
+use Rattle.std.proofs.lemmas.Bool.{or_right, leb-false, ne_eqb}
 use Rattle.std.proofs.lemmas.List.{append-nil, length-append, length-map}
 use Rattle.std.proofs.lemmas.List.Sums.{sum_by_push}
 use Rattle.std.proofs.lemmas.List.Elements.{All-nil, All-push, All-weaker, All-get_or}
@@ -17,12 +17,13 @@ use Rattle.cml_grammar.specs.declared.forms.Makes.TheVariants as makes
 use Rattle.cml_grammar.specs.declared.script.Declaration.{Declaration}
 use Rattle.cml_grammar.specs.declared.script.Step.{Step}
 use Rattle.cml_grammar.specs.Words.{words_of}
-use Rattle.cml_grammar.specs.Names.{Given, thread_count, seat_in, seat_of, named, position_of, is_given}
-use Rattle.cml_grammar.specs.Forms.{unknown, no_step, declaration, step, form_of, step_form, declares_of, verb_of}
-use Rattle.cml_grammar.specs.Faults.{Scope, fault_in_words, after_words, gives, is_step, declares_thread}
+use Rattle.cml_grammar.specs.Names.{Given, thread_count, seat_in, seat_of, named, position_of}
+use Rattle.cml_grammar.specs.Forms.{unknown, no_step, declaration, step, form_of, step_form, declares_of, declared_places, verb_of, fresh_word, named_by}
+use Rattle.cml_grammar.specs.Faults.{Scope, fault_in_words, after_words, gives, given_as, is_step, declares_thread}
 use Rattle.cml_grammar.specs.Meaning.{scope_of, names_of, makes_by, makes_of, action_by, action_of, seat_of_step}
-use Rattle.cml_grammar.specs.Reading.{source_of, view_of, texts_of, IsSeatedWithin, GivesAt, Gives, GivesNames, ReadsDeclaration, ReadsStep, UsesWell, IsReadSoFar, named_by, threads_by}
-use Rattle.cml_grammar.proofs.ListLemmas.{slice_get-append, slice_get-push, slice_get-push-cases}
+use Rattle.cml_grammar.specs.Reading.{source_of, view_of, texts_of, IsSeatedWithin, GivesAt, Gives, GivesNames, IsMadeWell, ReadsDeclaration, ReadsStep, UsesWell, IsReadSoFar, declared_word, threads_by}
+use Rattle.cml_grammar.proofs.ListLemmas.{mapped_some, slice_get-push, each-push}
+use Rattle.cml_grammar.proofs.GrowingLemmas.{GivesAt-append, IsMadeWell-append, ReadsDeclaration-append}
 use Rattle.cml_grammar.proofs.TableLemmas.{Passes, words_pass}
 use Rattle.cml_grammar.proofs.ReadingLemmas.{no_steps, scope_of-with_words, view-declaration, view-step}
 
@@ -90,26 +91,23 @@ step_line names (word ∷ words) seat verb rest h =
       ]
     ]
 
--- the name that a declaration without fault gives does not stand yet
-pub fresh_name : (scope : Scope) (what : Declares) (name : List ℕ) → Passes scope (declaration what (name ∷ [])) → is_given scope.names name ≡ false
-fresh_name scope declares.Mailbox name p = (or_parts _ _ p.fresh).0
-fresh_name scope declares.Thread name p = (or_parts _ _ p.fresh).0
-
 -- ---- names with one more
 pub thread_count-push : (names : List Given) (word : List ℕ) (what : Declares) (threads : ℕ) → thread_count (names ++ (word, named_by what threads) ∷ []) ≡ thread_count names + threads_by what
 thread_count-push names word declares.Mailbox threads = sum_by_push _ names (word, called.Mailbox)
+thread_count-push names word declares.Channel threads = sum_by_push _ names (word, called.Channel)
+thread_count-push names word declares.Port threads = sum_by_push _ names (word, called.Port)
 thread_count-push names word declares.Thread threads = sum_by_push _ names (word, called.Thread (threads + 1))
-
-pub gives-one : (names : List Given) (word : List ℕ) (what : Declares) → gives names (declaration what (word ∷ [])) ≡ (word, named_by what (thread_count names)) ∷ []
-gives-one names word declares.Mailbox = refl
-gives-one names word declares.Thread = refl
 
 seated_more : (m n : ℕ) → m ≤ n → (k : Named) → IsSeatedWithin m k → IsSeatedWithin n k
 seated_more m n le (called.Thread seat) h = (h.0, omega (arith, h.1))
 seated_more m n le called.Mailbox h = tt
+seated_more m n le called.Channel h = tt
+seated_more m n le called.Port h = tt
 
 seated_new : (what : Declares) (threads : ℕ) → IsSeatedWithin (threads + threads_by what) (named_by what threads)
 seated_new declares.Mailbox threads = tt
+seated_new declares.Channel threads = tt
+seated_new declares.Port threads = tt
 seated_new declares.Thread threads = (omega arith, omega arith)
 
 seats_push : (names : List Given) (word : List ℕ) (what : Declares) → All (λ g. IsSeatedWithin (thread_count names) g.1) names
@@ -122,43 +120,45 @@ seats_push names word what seats =
     (All-weaker (λ (g : Given). IsSeatedWithin count g.1) (λ (g : Given). IsSeatedWithin (count + threads_by what) g.1) (λ g h. seated_more count (count + threads_by what) (omega arith) g.1 h) names seats)
     (seated_new what count))
 
-GivesAt-append : (names more : List Given) (at : ℕ) (word : List ℕ) (made : Makes) → GivesAt names at word made → GivesAt (names ++ more) at word made
-GivesAt-append names more at word makes.Thread h = (h.0, slice_get-append names more at _ h.1)
-GivesAt-append names more at word makes.Mailbox h = slice_get-append names more at _ h
-
-GivesAt-new : (names : List Given) (word : List ℕ) (what : Declares) (threads : ℕ) (made : Makes) (rest : List (List ℕ)) → makes_by what rest ≡ Some made → GivesAt (names ++ (word, named_by what threads) ∷ []) (length names) word made
+GivesAt-new : (names : List Given) (word : List ℕ) (what : Declares) (threads : ℕ) (made : Makes) (rest : List (List ℕ)) → makes_by names what rest ≡ Some made → GivesAt (names ++ (word, named_by what threads) ∷ []) (length names) word made
 GivesAt-new names word declares.Mailbox threads made rest h = subst (GivesAt (names ++ (word, called.Mailbox) ∷ []) (length names) word) (same_Some _ _ h) (slice_get-push names (word, called.Mailbox))
+GivesAt-new names word declares.Channel threads made rest h = subst (GivesAt (names ++ (word, called.Channel) ∷ []) (length names) word) (same_Some _ _ h) (slice_get-push names (word, called.Channel))
+GivesAt-new names word declares.Port threads made [] h = absurd (none-some made h)
+GivesAt-new names word declares.Port threads made (channel ∷ rest) h =
+    let found = mapped_some makes.Port (position_of names channel) made h in
+    subst (GivesAt (names ++ (word, called.Port) ∷ []) (length names) word) found.2 (slice_get-push names (word, called.Port))
 GivesAt-new names word declares.Thread threads made rest h = subst (GivesAt (names ++ (word, called.Thread (threads + 1)) ∷ []) (length names) word) (same_Some _ _ h) (threads + 1, slice_get-push names (word, called.Thread (threads + 1)))
 
 pub GivesNames-push : (names : List Given) (ds : List Declaration) (word : List ℕ) (what : Declares) (threads : ℕ) (d : Declaration) (rest : List (List ℕ))
-    → GivesNames names ds → slice_get (words_of (string_bytes d.line.text)) 1 ≡ Some word → makes_by what rest ≡ Some d.makes
+    → GivesNames names ds → declared_word (words_of (string_bytes d.line.text)) ≡ Some word → makes_by names what rest ≡ Some d.makes → IsMadeWell names (length names) d.makes
     → GivesNames (names ++ (word, named_by what threads) ∷ []) (ds ++ d ∷ [])
-GivesNames-push names ds word what threads d rest h second makes = record {
-  one_each = omega (arith, length-append names ((word, named_by what threads) ∷ []), length-append ds (d ∷ []), h.one_each);
-  each = λ i x found. elim (slice_get-push-cases ds d i x found) [
-    | inl before ↦ let g = h.each i x before in (g.0, g.1, GivesAt-append names _ i g.0 x.makes g.2)
-    | inr last ↦
-        subst (λ (n : ℕ). Gives (names ++ (word, named_by what threads) ∷ []) n x) (h.one_each ∙ sym last.0)
-        (subst (Gives (names ++ (word, named_by what threads) ∷ []) (length names)) (sym last.1)
-        (word, second, GivesAt-new names word what threads d.makes rest makes))
-  ];
-}
+GivesNames-push names ds word what threads d rest h there makes well =
+    let more : List Given = (word, named_by what threads) ∷ [] in
+    record {
+      one_each = omega (arith, length-append names more, length-append ds (d ∷ []), h.one_each);
+      each = each-push (Gives (names ++ more)) ds d (λ i x found. let g = h.each i x found in (g.0, g.1, GivesAt-append names more i g.0 x.makes g.2))
+          (subst (λ (n : ℕ). Gives (names ++ more) n d) h.one_each (word, there, GivesAt-new names word what threads d.makes rest makes));
+      made = each-push (λ i (x : Declaration). IsMadeWell (names ++ more) i x.makes) ds d (λ i x found. IsMadeWell-append names more i x.makes (h.made i x found))
+          (subst (λ (n : ℕ). IsMadeWell (names ++ more) n d.makes) h.one_each (IsMadeWell-append names more (length names) d.makes well));
+    }
 
 -- ---- the lines so far, with one more declaration
 module _ (v : ℕ) (es : List (String Global × Named)) (ds : List Declaration) (ss : List Step) (threads : ℕ)
-    (d : Declaration) (what : Declares) (name : List ℕ)
+    (d : Declaration) (what : Declares) (rest : List (List ℕ)) (name : List ℕ)
     (so_far : IsReadSoFar (view_of v ds ss) es ds ss threads)
     (none : fault_in_words (scope_of (view_of v ds ss)) (words_of (string_bytes d.line.text)) ≡ None)
-    (form : form_of (names_of (view_of v ds ss)) (words_of (string_bytes d.line.text)) ≡ declaration what (name ∷ []))
-    (makes : (rest : List (List ℕ)) → makes_by what rest ≡ Some d.makes) where
-  pub declared_passes : Passes (scope_of (view_of v ds ss)) (declaration what (name ∷ []))
+    (form : form_of (names_of (view_of v ds ss)) (words_of (string_bytes d.line.text)) ≡ declaration what rest)
+    (there : fresh_word (declared_places what) rest ≡ Some name)
+    (makes : makes_by (names_of (view_of v ds ss)) what rest ≡ Some d.makes)
+    (well : IsMadeWell (names_of (view_of v ds ss)) (length (names_of (view_of v ds ss))) d.makes) where
+  pub declared_passes : Passes (scope_of (view_of v ds ss)) (declaration what rest)
   declared_passes = subst (Passes (scope_of (view_of v ds ss))) form (words_pass (scope_of (view_of v ds ss)) (words_of (string_bytes d.line.text)) none).1
 
   sources_started : (scope_of (view_of v ds ss)).started ≡ not (length (view_of v ds ss).steps == 0)
   sources_started = so_far.started ∙ ap (λ n. not (n == 0)) (sym (length-map ss _))
 
   no_step_seen : ss ≡ []
-  no_step_seen = by ss (no_steps (view_of v ds ss) (declaration what (name ∷ [])) sources_started declared_passes refl)
+  no_step_seen = by ss (no_steps (view_of v ds ss) (declaration what rest) sources_started declared_passes refl)
     where
       by : (xs : List Step) → map (λ (s : Step). source_of s.line) xs ≡ [] → xs ≡ []
       by [] e = refl
@@ -166,14 +166,14 @@ module _ (v : ℕ) (es : List (String Global × Named)) (ds : List Declaration) 
 
   pub declared_scope : scope_of (view_of v (ds ++ d ∷ []) ss) ≡ after_words (scope_of (view_of v ds ss)) (words_of (string_bytes d.line.text))
   declared_scope =
-      ap scope_of (view-declaration v ds ss d (name ∷ []) what form)
+      ap scope_of (view-declaration v ds ss d rest what form)
       ∙ scope_of-with_words (view_of v ds ss) d.line.number (string_bytes d.line.text) sources_started none
 
   declared_names : names_of (view_of v (ds ++ d ∷ []) ss) ≡ names_of (view_of v ds ss) ++ (name, named_by what (thread_count (names_of (view_of v ds ss)))) ∷ []
   declared_names =
       ap (λ (s : Scope). s.names) declared_scope
       ∙ ap (λ f. names_of (view_of v ds ss) ++ gives (names_of (view_of v ds ss)) f) form
-      ∙ ap (λ gs. names_of (view_of v ds ss) ++ gs) (gives-one (names_of (view_of v ds ss)) name what)
+      ∙ ap (λ w. names_of (view_of v ds ss) ++ given_as (named_by what (thread_count (names_of (view_of v ds ss)))) w) there
 
   declared_started : (scope_of (view_of v (ds ++ d ∷ []) ss)).started ≡ not (length ss == 0)
   declared_started =
@@ -189,22 +189,29 @@ module _ (v : ℕ) (es : List (String Global × Named)) (ds : List Declaration) 
   room : threads + threads_by what ≤ 64
   room = by what declared_passes.room
     where
-      by : (w : Declares) → (declares_thread (declaration w (name ∷ [])) && nat_le 64 (thread_count (names_of (view_of v ds ss)))) ≡ false → threads + threads_by w ≤ 64
+      by : (w : Declares) → (declares_thread (declaration w rest) && nat_le 64 (thread_count (names_of (view_of v ds ss)))) ≡ false → threads + threads_by w ≤ 64
       by declares.Mailbox h = omega (arith, so_far.limit)
+      by declares.Channel h = omega (arith, so_far.limit)
+      by declares.Port h = omega (arith, so_far.limit)
       by declares.Thread h = omega (arith, so_far.count, leb-false 64 (thread_count (names_of (view_of v ds ss))) h)
 
-  line : IsDeclarationLine (words_of (string_bytes d.line.text)) what (name ∷ [])
-  line = declaration_line (names_of (view_of v ds ss)) (words_of (string_bytes d.line.text)) what (name ∷ []) form
+  line : IsDeclarationLine (words_of (string_bytes d.line.text)) what rest
+  line = declaration_line (names_of (view_of v ds ss)) (words_of (string_bytes d.line.text)) what rest form
 
-  reads : ReadsDeclaration d
-  reads = record { makes = ap makes_of line.is ∙ ap (option_and_then (λ w. makes_by w (name ∷ []))) line.declares ∙ makes (name ∷ []) }
+  reads : ReadsDeclaration (names_of (view_of v ds ss)) d
+  reads = record { makes = ap (makes_of (names_of (view_of v ds ss))) line.is ∙ ap (option_and_then (λ w. makes_by (names_of (view_of v ds ss)) w rest)) line.declares ∙ makes }
+
+  declared_there : declared_word (words_of (string_bytes d.line.text)) ≡ Some name
+  declared_there = ap declared_word line.is ∙ ap (option_and_then (λ w. fresh_word (declared_places w) rest)) line.declares ∙ there
 
   pub declared_so_far : (es' : List (String Global × Named)) → texts_of es' ≡ texts_of es ++ (name, named_by what threads) ∷ [] → IsReadSoFar (view_of v (ds ++ d ∷ []) ss) es' (ds ++ d ∷ []) ss (threads + threads_by what)
   declared_so_far es' entries = record {
     names = entries ∙ ap (λ gs. gs ++ (name, named_by what threads) ∷ []) so_far.names ∙ ap (λ n. names_of (view_of v ds ss) ++ (name, named_by what n) ∷ []) so_far.count ∙ sym declared_names;
     gives = subst (λ gs. GivesNames gs (ds ++ d ∷ [])) (sym declared_names)
-        (GivesNames-push (names_of (view_of v ds ss)) ds name what (thread_count (names_of (view_of v ds ss))) d (name ∷ []) so_far.gives (ap (λ ws. slice_get ws 1) line.is) (makes (name ∷ [])));
-    declarations = All-push ReadsDeclaration ds d so_far.declarations reads;
+        (GivesNames-push (names_of (view_of v ds ss)) ds name what (thread_count (names_of (view_of v ds ss))) d rest so_far.gives declared_there makes well);
+    declarations = subst (λ gs. All (ReadsDeclaration gs) (ds ++ d ∷ [])) (sym declared_names)
+        (All-weaker (ReadsDeclaration (names_of (view_of v ds ss))) (ReadsDeclaration (names_of (view_of v ds ss) ++ _)) (λ x h. ReadsDeclaration-append (names_of (view_of v ds ss)) _ x h) (ds ++ d ∷ [])
+        (All-push (ReadsDeclaration (names_of (view_of v ds ss))) ds d so_far.declarations reads));
     steps = subst (All (ReadsStep (names_of (view_of v (ds ++ d ∷ []) ss)))) (sym no_step_seen) (All-nil (ReadsStep (names_of (view_of v (ds ++ d ∷ []) ss))));
     count = ap (λ n. n + threads_by what) so_far.count ∙ sym (thread_count-push (names_of (view_of v ds ss)) name what (thread_count (names_of (view_of v ds ss)))) ∙ ap thread_count (sym declared_names);
     limit = room;
@@ -222,6 +229,8 @@ seated_from names n thread seat seats h =
     seat_within : (k : Named) → seat_in k ≡ Some seat → IsSeatedWithin n k → (1 ≤ seat) × (seat ≤ n)
     seat_within (called.Thread s) e w = subst (λ (m : ℕ). (1 ≤ m) × (m ≤ n)) (same_Some _ _ e) w
     seat_within called.Mailbox e w = absurd (none-some seat e)
+    seat_within called.Channel e w = absurd (none-some seat e)
+    seat_within called.Port e w = absurd (none-some seat e)
 
     within : (r : Option Given) (i : ℕ) (k : Named) → slice_get names i ≡ r → option_map (λ g. g.1) r ≡ Some k → seat_in k ≡ Some seat → (1 ≤ seat) × (seat ≤ n)
     within None i k at meant is = absurd (none-some k meant)
@@ -272,7 +281,7 @@ module _ (v : ℕ) (es : List (String Global × Named)) (ds : List Declaration) 
   asked_so_far = record {
     names = so_far.names ∙ sym asked_names;
     gives = subst (λ gs. GivesNames gs ds) (sym asked_names) so_far.gives;
-    declarations = so_far.declarations;
+    declarations = subst (λ gs. All (ReadsDeclaration gs) ds) (sym asked_names) so_far.declarations;
     steps = subst (λ gs. All (ReadsStep gs) (ss ++ s ∷ [])) (sym asked_names) (All-push (ReadsStep (names_of (view_of v ds ss))) ss s so_far.steps reads_step);
     count = so_far.count ∙ ap thread_count (sym asked_names);
     limit = so_far.limit;

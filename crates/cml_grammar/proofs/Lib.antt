@@ -1,4 +1,5 @@
 pub mod ClosingLemmas
+pub mod GrowingLemmas
 pub mod KeepingLemmas
 pub mod ListLemmas
 pub mod MeaningLemmas

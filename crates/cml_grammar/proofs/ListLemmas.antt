@@ -1,5 +1,5 @@
 -- What `list_any`, `position` and `slice_get` give on a mapped list, one item at a time, and on a longer list.
-use Rattle.std.proofs.Common.{◌≡◌, ℕ, zero, suc, ◌+◌, Bool, true, false, not, cond, ◌||◌, nat_lt, List, [], ◌∷◌, ◌++◌, length, map, slice_get, position, Option, Some, None, refl, sym, ap, ◌∙◌, arith, one-add, take, drop, ◌⊎◌, inl, inr}
+use Rattle.std.proofs.Common.{◌≡◌, ℕ, zero, suc, ◌+◌, Bool, true, false, not, cond, ◌||◌, nat_lt, List, [], ◌∷◌, ◌++◌, length, map, slice_get, position, Option, Some, None, refl, sym, ap, ◌∙◌, subst, arith, one-add, take, drop, ◌⊎◌, inl, inr}
 use Rattle.std.specs.List.{list_any, position_or_len, zip, slice_split, onto_first}
 use Rattle.std.specs.Option.{option_map}
 use Rattle.std.proofs.lemmas.Option.{none-some, same_Some, cond_some}
@@ -34,6 +34,21 @@ position-cons p x xs = by (p x)
     by true = ap (λ b. cond b (Some 0) None) (lt-ltb 0 (suc (length xs)) (omega arith))
     by false = ap (λ m. cond (nat_lt m (suc (length xs))) (Some (1 + n)) None) (one-add n) ∙ ap (λ b. cond b (Some (1 + n)) None) (nat_lt-suc n (length xs)) ∙ later (nat_lt n (length xs))
 
+-- and in a list with more items behind
+pub position-append : {X : Type 0} (p : X → Bool) (xs ys : List X) (i : ℕ) → position p xs ≡ Some i → position p (xs ++ ys) ≡ Some i
+position-append p [] ys i h = absurd (none-some i h)
+position-append p (x ∷ xs) ys i h = position-cons p x (xs ++ ys) ∙ by (p x) (position p xs) (position-append p xs ys) refl (sym (position-cons p x xs) ∙ h)
+  where
+    by : (b : Bool) (r : Option ℕ) → ((j : ℕ) → position p xs ≡ Some j → position p (xs ++ ys) ≡ Some j) → position p xs ≡ r → cond b (Some 0) (option_map suc r) ≡ Some i → cond b (Some 0) (option_map suc (position p (xs ++ ys))) ≡ Some i
+    by true r later e f = f
+    by false None later e f = absurd (none-some i f)
+    by false (Some j) later e f = ap (option_map suc) (later j e) ∙ f
+
+-- what an option was that was mapped to a value
+pub mapped_some : {X Y : Type 0} (f : X → Y) (o : Option X) (y : Y) → option_map f o ≡ Some y → (x : X) × (o ≡ Some x) × (f x ≡ y)
+mapped_some f None y h = absurd (none-some y h)
+mapped_some f (Some x) y h = (x, refl, same_Some (f x) y h)
+
 pub slice_get-append : {X : Type 0} (xs ys : List X) (i : ℕ) (x : X) → slice_get xs i ≡ Some x → slice_get (xs ++ ys) i ≡ Some x
 slice_get-append [] ys i x h = absurd (none-some x h)
 slice_get-append (y ∷ xs) ys zero x h = h
@@ -50,6 +65,13 @@ slice_get-push-cases [] x (suc i) y h = absurd (none-some y h)
 slice_get-push-cases (z ∷ xs) x zero y h = inl h
 slice_get-push-cases (z ∷ xs) x (suc i) y h =
     elim (slice_get-push-cases xs x i y h) [ inl a ↦ inl a | inr b ↦ inr (ap suc b.0, b.1) ]
+
+-- what holds of each item with its position, and of one more
+pub each-push : {X : Type 0} (P : ℕ → X → Type 0) (xs : List X) (x : X) → ((i : ℕ) (y : X) → slice_get xs i ≡ Some y → P i y) → P (length xs) x → (i : ℕ) (y : X) → slice_get (xs ++ x ∷ []) i ≡ Some y → P i y
+each-push P xs x before last i y found = elim (slice_get-push-cases xs x i y found) [
+  | inl a ↦ before i y a
+  | inr b ↦ subst (λ (n : ℕ). P n y) (sym b.0) (subst (P (length xs)) (sym b.1) last)
+]
 
 -- ---- how a list is split at the first item that passes
 pub slice_split-none : {X : Type 0} (p : X → Bool) (xs : List X) → position p xs ≡ None → slice_split p xs ≡ xs ∷ []

@@ -1,16 +1,22 @@
--- What a step's words mean where each suits its place.
-use Rattle.std.proofs.Common.{◌≡◌, ℕ, true, List, [], ◌∷◌, map, get_or, Some, is_some, sym, ap, ◌∙◌, subst, Bor}
+-- What the words of a line mean where each suits its place.
+use Rattle.std.proofs.Common.{◌≡◌, ℕ, true, List, [], ◌∷◌, map, length, slice_get, get_or, Option, Some, is_some, refl, sym, ap, ◌∙◌, subst, Bor, inl, inr, true≢false, arith}
 use Rattle.std.specs.Str.Parse.{digits_value}
 use Rattle.std.specs.Option.{option_map}
+use Rattle.std.specs.List.{find, zip}
 use Rattle.std.proofs.lemmas.Option.{same_Some}
+use Rattle.cml_grammar.specs.declared.names.Named.{Named}
+use Rattle.cml_grammar.specs.declared.names.Named.TheVariants as called
+use Rattle.cml_grammar.specs.declared.forms.Declares.{Declares}
+use Rattle.cml_grammar.specs.declared.forms.Declares.TheVariants as declares
 use Rattle.cml_grammar.specs.declared.forms.Verb.TheVariants as verb
-use Rattle.cml_grammar.specs.declared.forms.Place.TheVariants.{Mailbox}
+use Rattle.cml_grammar.specs.declared.forms.Place.{Place}
+use Rattle.cml_grammar.specs.declared.forms.Place.TheVariants.{Fresh, Mailbox, Channel, Port, Receiver, Number}
 use Rattle.cml_grammar.specs.declared.forms.Action.TheVariants as action
-use Rattle.cml_grammar.specs.Names.{Given, is_given, position_of}
-use Rattle.cml_grammar.specs.Forms.{step_places}
+use Rattle.cml_grammar.specs.Names.{Given, is_number, is_given, position_of}
+use Rattle.cml_grammar.specs.Forms.{declared_places, suits, is_fresh, fresh_word}
 use Rattle.cml_grammar.specs.Meaning.{action_by}
-use Rattle.cml_grammar.specs.Reading.{IsMailboxAt}
-use Rattle.cml_grammar.specs.Suiting.{Suits, AllSuit}
+use Rattle.cml_grammar.specs.Reading.{IsMailboxAt, IsChannelAt, IsPortAt, IsReceiverAt}
+use Rattle.cml_grammar.specs.Suiting.{IsSuitedAt, IsUsed, AllSuit}
 
 abbrev pub Words : Type 0
 Words = List (Bor (List ℕ))
@@ -21,37 +27,96 @@ bytes words = map (λ w. w.now) words
 abbrev pub word_at : Words → ℕ → List ℕ
 word_at words i = (get_or words i (record { ref_ptr = (0, 0); now = [] })).now
 
-pub first_suits : (names : List Given) (place : _) (places : List _) (words : Words) → AllSuit names (place ∷ places) (bytes words) → Suits names place (word_at words 0)
-first_suits names place places [] h = absurd h
-first_suits names place places (w ∷ ws) h = h.0
+-- a name that is used is given, for what its place is for
+pub used_given : (names : List Given) (place : Place) (word : List ℕ) → IsUsed names place word → is_given names word ≡ true
+used_given names place word h = ap is_some h.1
 
-pub second_suits : (names : List Given) (first place : _) (places : List _) (words : Words) → AllSuit names (first ∷ place ∷ places) (bytes words) → Suits names place (word_at words 1)
-second_suits names first place places [] h = absurd h
-second_suits names first place places (w ∷ []) h = absurd h.1
-second_suits names first place places (v ∷ w ∷ ws) h = h.1.0
+found_used : (names : List Given) (place : Place) (word : List ℕ) (at : ℕ) → IsUsed names place word → position_of names word ≡ Some at → IsSuitedAt names place at
+found_used names place word at h found = subst (IsSuitedAt names place) (same_Some _ _ (sym h.1 ∙ found)) h.2
 
--- the first word of a step that takes a mailbox is given
-pub mailbox_given : (names : List Given) (word : List ℕ) → Suits names Mailbox word → is_given names word ≡ true
-mailbox_given names word h = ap is_some h.1
+is_mailbox_at : (names : List Given) (at : ℕ) → IsSuitedAt names Mailbox at → IsMailboxAt names at
+is_mailbox_at names at h = by h.1 h.2 h.3
+  where
+    by : (n : Named) → slice_get names at ≡ Some (h.0, n) → suits Mailbox n ≡ true → IsMailboxAt names at
+    by called.Mailbox e t = (h.0, e)
+    by (called.Thread seat) e t = absurd (true≢false (sym t))
+    by called.Channel e t = absurd (true≢false (sym t))
+    by called.Port e t = absurd (true≢false (sym t))
 
-found_mailbox : (names : List Given) (word : List ℕ) (at : ℕ) → Suits names Mailbox word → position_of names word ≡ Some at → IsMailboxAt names at
-found_mailbox names word at h found = subst (IsMailboxAt names) (same_Some _ _ (sym h.1 ∙ found)) h.2
+is_channel_at : (names : List Given) (at : ℕ) → IsSuitedAt names Channel at → IsChannelAt names at
+is_channel_at names at h = by h.1 h.2 h.3
+  where
+    by : (n : Named) → slice_get names at ≡ Some (h.0, n) → suits Channel n ≡ true → IsChannelAt names at
+    by called.Channel e t = (h.0, e)
+    by (called.Thread seat) e t = absurd (true≢false (sym t))
+    by called.Mailbox e t = absurd (true≢false (sym t))
+    by called.Port e t = absurd (true≢false (sym t))
 
-pub send_means : (names : List Given) (words : Words) (at message : ℕ) → AllSuit names (step_places verb.Send) (bytes words) → position_of names (word_at words 0) ≡ Some at → message ≡ digits_value 10 (word_at words 1) → action_by names verb.Send (bytes words) ≡ Some (action.Send at message)
-send_means names [] at message h found value = absurd h
-send_means names (v ∷ []) at message h found value = absurd h.1
-send_means names (v ∷ w ∷ []) at message h found value = ap (option_map (λ i. action.Send i (digits_value 10 w.now))) found ∙ ap (λ m. Some (action.Send at m)) (sym value)
-send_means names (v ∷ w ∷ x ∷ xs) at message h found value = absurd h.1.1
+is_port_at : (names : List Given) (at : ℕ) → IsSuitedAt names Port at → IsPortAt names at
+is_port_at names at h = by h.1 h.2 h.3
+  where
+    by : (n : Named) → slice_get names at ≡ Some (h.0, n) → suits Port n ≡ true → IsPortAt names at
+    by called.Port e t = (h.0, e)
+    by (called.Thread seat) e t = absurd (true≢false (sym t))
+    by called.Mailbox e t = absurd (true≢false (sym t))
+    by called.Channel e t = absurd (true≢false (sym t))
 
-pub recv_means : (names : List Given) (words : Words) (at : ℕ) → AllSuit names (step_places verb.Recv) (bytes words) → position_of names (word_at words 0) ≡ Some at → action_by names verb.Recv (bytes words) ≡ Some (action.Recv at)
-recv_means names [] at h found = absurd h
-recv_means names (v ∷ []) at h found = ap (option_map action.Recv) found
-recv_means names (v ∷ w ∷ ws) at h found = absurd h.1
+is_receiver_at : (names : List Given) (at : ℕ) → IsSuitedAt names Receiver at → IsReceiverAt names at
+is_receiver_at names at h = by h.1 h.2 h.3
+  where
+    by : (n : Named) → slice_get names at ≡ Some (h.0, n) → suits Receiver n ≡ true → IsReceiverAt names at
+    by called.Mailbox e t = inl (h.0, e)
+    by called.Port e t = inr (h.0, e)
+    by (called.Thread seat) e t = absurd (true≢false (sym t))
+    by called.Channel e t = absurd (true≢false (sym t))
 
-pub poll_means : (names : List Given) (words : Words) (at : ℕ) → AllSuit names (step_places verb.Poll) (bytes words) → position_of names (word_at words 0) ≡ Some at → action_by names verb.Poll (bytes words) ≡ Some (action.Poll at)
-poll_means names [] at h found = absurd h
-poll_means names (v ∷ []) at h found = ap (option_map action.Poll) found
-poll_means names (v ∷ w ∷ ws) at h found = absurd h.1
+-- ---- a step's message
+pub number_alone : (names : List Given) (words : Words) → AllSuit names (Number ∷ []) (bytes words) → map (λ w. is_number w.now) words ≡ true ∷ []
+number_alone names [] h = absurd h
+number_alone names (w ∷ []) h = ap (λ t. t ∷ []) h.0
+number_alone names (v ∷ w ∷ ws) h = absurd h.1
 
-pub mailbox_at : (names : List Given) (words : Words) (places : List _) (at : ℕ) → AllSuit names (Mailbox ∷ places) (bytes words) → position_of names (word_at words 0) ≡ Some at → IsMailboxAt names at
-mailbox_at names words places at h found = found_mailbox names (word_at words 0) at (first_suits names Mailbox places words h) found
+module _ (names : List Given) (object : List ℕ) (words : Words) (at message : ℕ) (found : position_of names object ≡ Some at) (value : map (λ w. digits_value 10 w.now) words ≡ message ∷ []) where
+  pub send_means : action_by names verb.Send (object ∷ bytes words) ≡ Some (action.Send at message)
+  send_means = by words value
+    where
+      by : (ws : Words) → map (λ w. digits_value 10 w.now) ws ≡ message ∷ [] → action_by names verb.Send (object ∷ bytes ws) ≡ Some (action.Send at message)
+      by [] e = absurd (let f = ap length e in omega (arith, f))
+      by (w ∷ []) e = let same : digits_value 10 w.now ≡ message = cc in ap (option_map (λ i. action.Send i (digits_value 10 w.now))) found ∙ ap (λ m. Some (action.Send at m)) same
+      by (v ∷ w ∷ ws) e = absurd (let f = ap length e in omega (arith, f))
+
+  pub multicast_means : action_by names verb.Multicast (object ∷ bytes words) ≡ Some (action.Multicast at message)
+  multicast_means = by words value
+    where
+      by : (ws : Words) → map (λ w. digits_value 10 w.now) ws ≡ message ∷ [] → action_by names verb.Multicast (object ∷ bytes ws) ≡ Some (action.Multicast at message)
+      by [] e = absurd (let f = ap length e in omega (arith, f))
+      by (w ∷ []) e = let same : digits_value 10 w.now ≡ message = cc in ap (option_map (λ i. action.Multicast i (digits_value 10 w.now))) found ∙ ap (λ m. Some (action.Multicast at m)) same
+      by (v ∷ w ∷ ws) e = absurd (let f = ap length e in omega (arith, f))
+
+-- ---- the name that a declaration gives
+pub some_name : (names : List Given) (what : Declares) (rest : List (List ℕ)) → AllSuit names (declared_places what) rest → is_some (fresh_word (declared_places what) rest) ≡ true
+some_name names what [] h = by what h
+  where
+    by : (d : Declares) → AllSuit names (declared_places d) [] → is_some (fresh_word (declared_places d) []) ≡ true
+    by declares.Mailbox t = absurd t
+    by declares.Channel t = absurd t
+    by declares.Port t = absurd t
+    by declares.Thread t = absurd t
+some_name names declares.Mailbox (w ∷ ws) h = refl
+some_name names declares.Channel (w ∷ ws) h = refl
+some_name names declares.Port (w ∷ []) h = absurd h.1
+some_name names declares.Port (v ∷ w ∷ ws) h = refl
+some_name names declares.Thread (w ∷ ws) h = refl
+
+fresh_word-bytes : (places : List Place) (words : Words) → option_map (λ p. p.1.now) (find (λ p. is_fresh p.0) (zip places words)) ≡ fresh_word places (bytes words)
+fresh_word-bytes [] words = refl
+fresh_word-bytes (place ∷ places) [] = refl
+fresh_word-bytes (Fresh ∷ places) (w ∷ words) = refl
+fresh_word-bytes (Mailbox ∷ places) (w ∷ words) = fresh_word-bytes places words
+fresh_word-bytes (Channel ∷ places) (w ∷ words) = fresh_word-bytes places words
+fresh_word-bytes (Port ∷ places) (w ∷ words) = fresh_word-bytes places words
+fresh_word-bytes (Receiver ∷ places) (w ∷ words) = fresh_word-bytes places words
+fresh_word-bytes (Number ∷ places) (w ∷ words) = fresh_word-bytes places words
+
+pub fresh_found : (places : List Place) (words : Words) (found : Option (Place × Bor (List ℕ))) → found ≡ find (λ p. is_fresh p.0) (zip places words) → option_map (λ p. p.1.now) found ≡ fresh_word places (bytes words)
+fresh_found places words found e = ap (option_map (λ p. p.1.now)) e ∙ fresh_word-bytes places words

@@ -3,17 +3,15 @@ use Rattle.std.proofs.Common.{◌≡◌, ℕ, Bool, true, false, ◌&&◌, List,
 use Rattle.std.specs.List.{list_any, zip}
 use Rattle.std.specs.Option.{option_map, option_map_or, option_and_then}
 use Rattle.std.proofs.lemmas.Bool.{or_parts, not-false, true≢false, eqb-true}
-use Rattle.std.proofs.lemmas.Option.{none-some}
+use Rattle.std.proofs.lemmas.Option.{none-some, same_Some}
 use Rattle.cml_grammar.specs.declared.fault.What.{What}
 use Rattle.cml_grammar.specs.declared.forms.Place.{Place}
-use Rattle.cml_grammar.specs.declared.forms.Place.TheVariants.{Fresh, Mailbox, Number}
-use Rattle.cml_grammar.specs.declared.names.Named.{Named}
-use Rattle.cml_grammar.specs.declared.names.Named.TheVariants as called
-use Rattle.cml_grammar.specs.Names.{Given, thread_count, named, position_of}
+use Rattle.cml_grammar.specs.declared.forms.Place.TheVariants.{Fresh, Mailbox, Channel, Port, Receiver, Number}
+use Rattle.cml_grammar.specs.Names.{Given, thread_count, named, position_of, is_given}
 use Rattle.cml_grammar.specs.Words.{has_empty_word}
-use Rattle.cml_grammar.specs.Forms.{Form, form_of, places_of, rest_of, suits}
+use Rattle.cml_grammar.specs.Forms.{Form, form_of, places_of, rest_of, suits, fresh_word}
 use Rattle.cml_grammar.specs.Faults.{Scope, first_of, tests_of_form, fault_in_words, any_word, is_unknown, is_late, is_no_step, is_bad_name, is_taken, is_unknown_name, is_wrong_kind, is_bad_number, declares_thread}
-use Rattle.cml_grammar.specs.Suiting.{Suits, AllSuit}
+use Rattle.cml_grammar.specs.Suiting.{IsSuitedAt, IsUsed, Suits, AllSuit}
 
 -- each test of the table fails
 pub record Passes (scope : Scope) (form : Form) : Type 0 where
@@ -63,18 +61,14 @@ words_pass scope words h =
     let whole = not_first _ _ _ h in
     (whole.0, passes scope (form_of scope.names words) whole.1)
 
-mailbox_suits : (names : List Given) (word : List ℕ) → option_map_or (suits Mailbox) (named names word) false ≡ true → Suits names Mailbox word
-mailbox_suits names word h = by (position_of names word) refl h
+used_suits : (names : List Given) (place : Place) (word : List ℕ) → option_map_or (suits place) (named names word) false ≡ true → IsUsed names place word
+used_suits names place word h = by (position_of names word) refl h
   where
-    meant : (g : Option Given) (i : ℕ) → slice_get names i ≡ g → option_map_or (suits Mailbox) (option_map (λ g. g.1) g) false ≡ true → (w : List ℕ) × (slice_get names i ≡ Some (w, called.Mailbox))
+    meant : (g : Option Given) (i : ℕ) → slice_get names i ≡ g → option_map_or (suits place) (option_map (λ g. g.1) g) false ≡ true → IsSuitedAt names place i
     meant None i at t = absurd (true≢false (sym t))
-    meant (Some g) i at t = kind g.1 refl t
-      where
-        kind : (n : Named) → g.1 ≡ n → suits Mailbox n ≡ true → (w : List ℕ) × (slice_get names i ≡ Some (w, called.Mailbox))
-        kind called.Mailbox e u = (g.0, at ∙ ap (λ n. Some (g.0, n)) e)
-        kind (called.Thread seat) e u = absurd (true≢false (sym u))
+    meant (Some g) i at t = (g.0, g.1, at, t)
 
-    by : (r : Option ℕ) → position_of names word ≡ r → option_map_or (suits Mailbox) (option_and_then (λ i. option_map (λ g. g.1) (slice_get names i)) r) false ≡ true → Suits names Mailbox word
+    by : (r : Option ℕ) → position_of names word ≡ r → option_map_or (suits place) (option_and_then (λ i. option_map (λ g. g.1) (slice_get names i)) r) false ≡ true → IsUsed names place word
     by None found t = absurd (true≢false (sym t))
     by (Some i) found t = let m = meant (slice_get names i) i refl t in (i, found, m)
 
@@ -96,9 +90,23 @@ all_suit names (place ∷ places) (word ∷ words) count named fresh suited numb
   where
     one : (p : Place) → is_bad_name p word ≡ false → is_taken names p word ≡ false → is_wrong_kind names p word ≡ false → is_bad_number p word ≡ false → Suits names p word
     one Fresh n f s k = (not-false _ n, f)
-    one Mailbox n f s k = mailbox_suits names word (not-false _ s)
+    one Mailbox n f s k = used_suits names Mailbox word (not-false _ s)
+    one Channel n f s k = used_suits names Channel word (not-false _ s)
+    one Port n f s k = used_suits names Port word (not-false _ s)
+    one Receiver n f s k = used_suits names Receiver word (not-false _ s)
     one Number n f s k = not-false _ k
 
 -- and each word suits its place
 pub all_suit-passes : (scope : Scope) (form : Form) → Passes scope form → AllSuit scope.names (places_of form) (rest_of form)
 all_suit-passes scope form p = all_suit scope.names (places_of form) (rest_of form) p.count p.names p.fresh p.suited p.numbers
+
+-- a name that is given does not stand yet
+pub fresh_is_new : (names : List Given) (places : List Place) (words : List (List ℕ)) (word : List ℕ) → AllSuit names places words → fresh_word places words ≡ Some word → is_given names word ≡ false
+fresh_is_new names [] words word h e = absurd (none-some word e)
+fresh_is_new names (place ∷ places) [] word h e = absurd h
+fresh_is_new names (Fresh ∷ places) (w ∷ words) word h e = ap (is_given names) (sym (same_Some w word e)) ∙ h.0.1
+fresh_is_new names (Mailbox ∷ places) (w ∷ words) word h e = fresh_is_new names places words word h.1 e
+fresh_is_new names (Channel ∷ places) (w ∷ words) word h e = fresh_is_new names places words word h.1 e
+fresh_is_new names (Port ∷ places) (w ∷ words) word h e = fresh_is_new names places words word h.1 e
+fresh_is_new names (Receiver ∷ places) (w ∷ words) word h e = fresh_is_new names places words word h.1 e
+fresh_is_new names (Number ∷ places) (w ∷ words) word h e = fresh_is_new names places words word h.1 e

@@ -1,9 +1,9 @@
 -- What is wrong with a line, and with a text: the first test of the table that holds, on the least line.
-use Rattle.std.specs.Prelude.{ℕ, suc, ◌≡◌, ◌⊎◌, ◌==◌, ◌+◌, Bool, true, false, not, ◌&&◌, ◌||◌, nat_lt, nat_le, List, [], ◌∷◌, ◌++◌, length, Option, Some, None, if◌then◌else◌, codes}
-use Rattle.std.specs.Option.{option_map_or}
+use Rattle.std.specs.Prelude.{ℕ, suc, ◌≡◌, ◌⊎◌, ◌==◌, Bool, true, false, not, ◌&&◌, ◌||◌, nat_lt, nat_le, List, [], ◌∷◌, ◌++◌, length, Option, Some, None, if◌then◌else◌, codes}
+use Rattle.std.specs.Option.{option_map, option_map_or, option_to_list}
 use Rattle.std.specs.List.{list_any, zip}
 use Rattle.std.specs.Str.{bytes_eq}
-use Rattle.cml_grammar.specs.declared.names.Named.TheVariants as called
+use Rattle.cml_grammar.specs.declared.names.Named.{Named}
 use Rattle.cml_grammar.specs.declared.forms.Declares.TheVariants as declares
 use Rattle.cml_grammar.specs.declared.forms.Place.{Place}
 use Rattle.cml_grammar.specs.declared.fault.What.{What}
@@ -11,7 +11,7 @@ use Rattle.cml_grammar.specs.declared.fault.What.TheVariants.{NoLineEnd, BadByte
 use Rattle.cml_grammar.specs.declared.fault.Fault.{Fault}
 use Rattle.cml_grammar.specs.Words.{parts_of, words_of, is_bad_byte, is_skipped, has_empty_word}
 use Rattle.cml_grammar.specs.Names.{Given, is_name, is_number, is_given, named, thread_count}
-use Rattle.cml_grammar.specs.Forms.{Form, unknown, declaration, no_step, step, form_of, places_of, rest_of, is_name_place, is_fresh, is_used, is_number_place, suits}
+use Rattle.cml_grammar.specs.Forms.{Form, unknown, declaration, no_step, step, form_of, places_of, rest_of, is_name_place, is_fresh, is_used, is_number_place, suits, fresh_word, named_by, declared_places}
 
 -- what the lines so far leave: the names that stand, and whether a step was seen
 pub record Scope : Type 0 where
@@ -64,8 +64,8 @@ is_bad_number place word = is_number_place place && not (is_number word)
 
 abbrev pub declares_thread : Form → Bool
 declares_thread unknown = false
-declares_thread (declaration declares.Mailbox rest) = false
 declares_thread (declaration declares.Thread rest) = true
+declares_thread (declaration _ rest) = false
 declares_thread (no_step seat) = false
 declares_thread (step seat v rest) = false
 
@@ -104,12 +104,14 @@ fault_in scope k line =
     else if says k line then fault_in_words scope (words_of line)
     else None
 
+-- a name that is given, if one is
+abbrev pub given_as : Named → Option (List ℕ) → List Given
+given_as n word = option_to_list (option_map (λ w. (w, n)) word)
+
 -- the names that a line gives
 abbrev pub gives : List Given → Form → List Given
 gives names unknown = []
-gives names (declaration d []) = []
-gives names (declaration declares.Mailbox (word ∷ rest)) = (word, called.Mailbox) ∷ []
-gives names (declaration declares.Thread (word ∷ rest)) = (word, called.Thread (thread_count names + 1)) ∷ []
+gives names (declaration d rest) = given_as (named_by d (thread_count names)) (fresh_word (declared_places d) rest)
 gives names (no_step seat) = []
 gives names (step seat v rest) = []
 

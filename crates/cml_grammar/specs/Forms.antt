@@ -1,6 +1,7 @@
 -- The lines of a script: which words a declaration and a step have, and what may stand in each word's place.
-use Rattle.std.specs.Prelude.{ℕ, Bool, true, false, not, ◌&&◌, List, [], ◌∷◌, Option, Some, None, if◌then◌else◌, codes}
-use Rattle.std.specs.Option.{option_map_or}
+use Rattle.std.specs.Prelude.{ℕ, ◌+◌, Bool, true, false, not, ◌&&◌, List, [], ◌∷◌, Option, Some, None, if◌then◌else◌, codes}
+use Rattle.std.specs.Option.{option_map, option_map_or}
+use Rattle.std.specs.List.{find, zip}
 use Rattle.std.specs.Str.{bytes_eq}
 use Rattle.cml_grammar.specs.declared.names.Named.{Named}
 use Rattle.cml_grammar.specs.declared.names.Named.TheVariants as called
@@ -9,34 +10,42 @@ use Rattle.cml_grammar.specs.declared.forms.Declares.TheVariants as declares
 use Rattle.cml_grammar.specs.declared.forms.Verb.{Verb}
 use Rattle.cml_grammar.specs.declared.forms.Verb.TheVariants as verb
 use Rattle.cml_grammar.specs.declared.forms.Place.{Place}
-use Rattle.cml_grammar.specs.declared.forms.Place.TheVariants.{Fresh, Mailbox, Number}
+use Rattle.cml_grammar.specs.declared.forms.Place.TheVariants.{Fresh, Mailbox, Channel, Port, Receiver, Number}
 use Rattle.cml_grammar.specs.Names.{Given, seat_of}
 
 -- a declaration's first word
 abbrev pub declares_of : List ℕ → Option Declares
 declares_of word =
     if bytes_eq word (codes "mailbox") then Some declares.Mailbox
+    else if bytes_eq word (codes "channel") then Some declares.Channel
+    else if bytes_eq word (codes "port") then Some declares.Port
     else if bytes_eq word (codes "thread") then Some declares.Thread
     else None
 
 -- what stands after it
 abbrev pub declared_places : Declares → List Place
 declared_places declares.Mailbox = Fresh ∷ []
+declared_places declares.Channel = Fresh ∷ []
+declared_places declares.Port = Channel ∷ Fresh ∷ []
 declared_places declares.Thread = Fresh ∷ []
 
 -- a step's second word
 abbrev pub verb_of : List ℕ → Option Verb
 verb_of word =
     if bytes_eq word (codes "send") then Some verb.Send
+    else if bytes_eq word (codes "multicast") then Some verb.Multicast
     else if bytes_eq word (codes "recv") then Some verb.Recv
     else if bytes_eq word (codes "poll") then Some verb.Poll
+    else if bytes_eq word (codes "close") then Some verb.Close
     else None
 
 -- what stands after it
 abbrev pub step_places : Verb → List Place
 step_places verb.Send = Mailbox ∷ Number ∷ []
-step_places verb.Recv = Mailbox ∷ []
-step_places verb.Poll = Mailbox ∷ []
+step_places verb.Multicast = Channel ∷ Number ∷ []
+step_places verb.Recv = Receiver ∷ []
+step_places verb.Poll = Receiver ∷ []
+step_places verb.Close = Port ∷ []
 
 -- what kind of line it is, with the words that are left
 pub data Form : Type 0 where
@@ -70,26 +79,36 @@ rest_of (step seat v rest) = rest
 
 -- whether a place is a name's, is for a name that the line gives, or for one that it uses
 abbrev pub is_name_place : Place → Bool
-is_name_place Fresh = true
-is_name_place Mailbox = true
 is_name_place Number = false
+is_name_place _ = true
 
 abbrev pub is_fresh : Place → Bool
 is_fresh Fresh = true
-is_fresh Mailbox = false
-is_fresh Number = false
+is_fresh _ = false
 
 abbrev pub is_used : Place → Bool
 is_used place = is_name_place place && not (is_fresh place)
 
 abbrev pub is_number_place : Place → Bool
-is_number_place Fresh = false
-is_number_place Mailbox = false
 is_number_place Number = true
+is_number_place _ = false
 
 -- whether what is named may stand in a place
 abbrev pub suits : Place → Named → Bool
-suits Fresh n = false
 suits Mailbox called.Mailbox = true
-suits Mailbox (called.Thread seat) = false
-suits Number n = false
+suits Channel called.Channel = true
+suits Port called.Port = true
+suits Receiver called.Mailbox = true
+suits Receiver called.Port = true
+suits _ _ = false
+
+-- the word that stands in the place of a name that the line gives
+abbrev pub fresh_word : List Place → List (List ℕ) → Option (List ℕ)
+fresh_word places words = option_map (λ p. p.1) (find (λ p. is_fresh p.0) (zip places words))
+
+-- what a declaration's name names, where so many threads were declared before
+abbrev pub named_by : Declares → ℕ → Named
+named_by declares.Mailbox threads = called.Mailbox
+named_by declares.Channel threads = called.Channel
+named_by declares.Port threads = called.Port
+named_by declares.Thread threads = called.Thread (threads + 1)

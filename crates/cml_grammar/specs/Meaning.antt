@@ -28,24 +28,28 @@ scope_of script = scope_after start (script.declarations ++ script.steps)
 abbrev pub names_of : Lines → List Given
 names_of script = (scope_of script).names
 
--- what a declaration of these words makes
-abbrev pub makes_by : Declares → List (List ℕ) → Option Makes
-makes_by declares.Mailbox rest = Some makes.Mailbox
-makes_by declares.Thread rest = Some makes.Thread
+-- what a declaration of these words makes, its channel by its position among the names
+abbrev pub makes_by : List Given → Declares → List (List ℕ) → Option Makes
+makes_by names declares.Mailbox rest = Some makes.Mailbox
+makes_by names declares.Channel rest = Some makes.Channel
+makes_by names declares.Port (channel ∷ rest) = option_map makes.Port (position_of names channel)
+makes_by names declares.Port [] = None
+makes_by names declares.Thread rest = Some makes.Thread
 
-abbrev pub makes_of : List (List ℕ) → Option Makes
-makes_of [] = None
-makes_of (word ∷ rest) = option_and_then (λ d. makes_by d rest) (declares_of word)
+abbrev pub makes_of : List Given → List (List ℕ) → Option Makes
+makes_of names [] = None
+makes_of names (word ∷ rest) = option_and_then (λ d. makes_by names d rest) (declares_of word)
 
 -- what a step of these words asks for, its names by their positions among the script's
 abbrev pub action_by : List Given → Verb → List (List ℕ) → Option Action
 action_by names verb.Send (mailbox ∷ message ∷ []) =
     option_map (λ at. action.Send at (digits_value 10 message)) (position_of names mailbox)
+action_by names verb.Multicast (channel ∷ message ∷ []) =
+    option_map (λ at. action.Multicast at (digits_value 10 message)) (position_of names channel)
 action_by names verb.Recv (object ∷ []) = option_map action.Recv (position_of names object)
 action_by names verb.Poll (object ∷ []) = option_map action.Poll (position_of names object)
-action_by names verb.Send _ = None
-action_by names verb.Recv _ = None
-action_by names verb.Poll _ = None
+action_by names verb.Close (port ∷ []) = option_map action.Close (position_of names port)
+action_by names _ _ = None
 
 abbrev pub action_of : List Given → List (List ℕ) → Option Action
 action_of names (thread ∷ word ∷ rest) = option_and_then (λ v. action_by names v rest) (verb_of word)

@@ -5,7 +5,7 @@ use Rattle.std.specs.List.{list_any, list_all}
 use Rattle.std.specs.Str.{bytes_eq, all_ascii_digits}
 use Rattle.std.specs.Str.Parse.{digits_value}
 use Rattle.cml_grammar.specs.declared.names.Named.{Named}
-use Rattle.cml_grammar.specs.declared.names.Named.TheVariants.{Thread, Mailbox}
+use Rattle.cml_grammar.specs.declared.names.Named.TheVariants.{Thread}
 
 abbrev pub is_letter : ℕ → Bool
 is_letter b = (nat_le 65 b && nat_le b 90) || (nat_le 97 b && nat_le b 122)
@@ -53,7 +53,7 @@ named names word = option_and_then (λ i. option_map (λ g. g.1) (slice_get name
 
 abbrev pub seat_in : Named → Option ℕ
 seat_in (Thread seat) = Some seat
-seat_in Mailbox = None
+seat_in _ = None
 
 -- the seat of the thread with this name
 abbrev pub seat_of : List Given → List ℕ → Option ℕ

@@ -1,12 +1,13 @@
 -- How a script is kept, and what a reader of its lists may rely on.
-use Rattle.std.specs.Prelude.{ℕ, ◌+◌, ◌≡◌, ◌<◌, ◌≤◌, ◌==◌, ◌^◌, not, if◌then◌else◌, List, [], ◌++◌, length, map, Some, String, string_bytes, slice_get, All, ⊤}
+use Rattle.std.specs.Prelude.{ℕ, ◌≡◌, ◌<◌, ◌≤◌, ◌==◌, ◌^◌, not, if◌then◌else◌, List, [], ◌∷◌, ◌++◌, length, map, Option, Some, None, String, string_bytes, slice_get, All, ⊤, ◌⊎◌}
 use Rattle.std.specs.Global.{Global}
+use Rattle.std.specs.Option.{option_and_then}
 use Rattle.cml_grammar.specs.declared.names.Named.{Named}
 use Rattle.cml_grammar.specs.declared.names.Named.TheVariants as called
 use Rattle.cml_grammar.specs.declared.forms.Declares.{Declares}
 use Rattle.cml_grammar.specs.declared.forms.Declares.TheVariants as declares
 use Rattle.cml_grammar.specs.declared.forms.Action.{Action}
-use Rattle.cml_grammar.specs.declared.forms.Action.TheVariants.{Send, Recv, Poll}
+use Rattle.cml_grammar.specs.declared.forms.Action.TheVariants.{Send, Multicast, Recv, Poll, Close}
 use Rattle.cml_grammar.specs.declared.forms.Makes.{Makes}
 use Rattle.cml_grammar.specs.declared.forms.Makes.TheVariants as makes
 use Rattle.cml_grammar.specs.declared.script.Line.{Line}
@@ -14,7 +15,7 @@ use Rattle.cml_grammar.specs.declared.script.Declaration.{Declaration}
 use Rattle.cml_grammar.specs.declared.script.Step.{Step}
 use Rattle.cml_grammar.specs.Words.{words_of}
 use Rattle.cml_grammar.specs.Names.{Given, thread_count}
-use Rattle.cml_grammar.specs.Forms.{form_of}
+use Rattle.cml_grammar.specs.Forms.{declares_of, declared_places, form_of, fresh_word}
 use Rattle.cml_grammar.specs.Faults.{is_declaration, is_step, says}
 use Rattle.cml_grammar.specs.Script.{SourceLine, Lines, source, with_line}
 use Rattle.cml_grammar.specs.Meaning.{scope_of, names_of, makes_of, action_of, seat_of_step}
@@ -37,33 +38,60 @@ texts_of entries = map (λ e. (string_bytes e.0, e.1)) entries
 abbrev pub IsMailboxAt : List Given → ℕ → Type 0
 IsMailboxAt names at = (word : List ℕ) × (slice_get names at ≡ Some (word, called.Mailbox))
 
+-- .. a channel's
+abbrev pub IsChannelAt : List Given → ℕ → Type 0
+IsChannelAt names at = (word : List ℕ) × (slice_get names at ≡ Some (word, called.Channel))
+
+-- .. a port's
+abbrev pub IsPortAt : List Given → ℕ → Type 0
+IsPortAt names at = (word : List ℕ) × (slice_get names at ≡ Some (word, called.Port))
+
+-- .. and one's that can be received from
+abbrev pub IsReceiverAt : List Given → ℕ → Type 0
+IsReceiverAt names at = IsMailboxAt names at ⊎ IsPortAt names at
+
 -- each name that a step uses stands, for something that can take the step
 abbrev pub UsesWell : List Given → Action → Type 0
 UsesWell names (Send at message) = IsMailboxAt names at × (message < 2 ^ 64)
-UsesWell names (Recv at) = IsMailboxAt names at
-UsesWell names (Poll at) = IsMailboxAt names at
+UsesWell names (Multicast at message) = IsChannelAt names at × (message < 2 ^ 64)
+UsesWell names (Recv at) = IsReceiverAt names at
+UsesWell names (Poll at) = IsReceiverAt names at
+UsesWell names (Close at) = IsPortAt names at
+
+-- each name that the declaration at this position uses was given before it, for something that it can be made of
+abbrev pub IsMadeWell : List Given → ℕ → Makes → Type 0
+IsMadeWell names i (makes.Port channel) = IsChannelAt names channel × (channel < i)
+IsMadeWell names i _ = ⊤
 
 -- a thread's seat is one of the first n
 abbrev pub IsSeatedWithin : ℕ → Named → Type 0
 IsSeatedWithin n (called.Thread seat) = (1 ≤ seat) × (seat ≤ n)
-IsSeatedWithin n called.Mailbox = ⊤
+IsSeatedWithin n _ = ⊤
 
 -- the word is the name at this position, and names what the declaration makes
 abbrev pub GivesAt : List Given → ℕ → List ℕ → Makes → Type 0
 GivesAt names at word makes.Thread = (seat : ℕ) × (slice_get names at ≡ Some (word, called.Thread seat))
 GivesAt names at word makes.Mailbox = slice_get names at ≡ Some (word, called.Mailbox)
+GivesAt names at word makes.Channel = slice_get names at ≡ Some (word, called.Channel)
+GivesAt names at word (makes.Port channel) = slice_get names at ≡ Some (word, called.Port)
 
--- the i-th declaration gives the i-th name, its second word
+-- the word that stands in a declaration's line where a name is given
+abbrev pub declared_word : List (List ℕ) → Option (List ℕ)
+declared_word [] = None
+declared_word (word ∷ rest) = option_and_then (λ d. fresh_word (declared_places d) rest) (declares_of word)
+
+-- the i-th declaration gives the i-th name, the word that stands there for it
 abbrev pub Gives : List Given → ℕ → Declaration → Type 0
-Gives names i d = (word : List ℕ) × (slice_get (words_of (string_bytes d.line.text)) 1 ≡ Some word) × GivesAt names i word d.makes
+Gives names i d = (word : List ℕ) × (declared_word (words_of (string_bytes d.line.text)) ≡ Some word) × GivesAt names i word d.makes
 
 pub record GivesNames (names : List Given) (declared : List Declaration) : Type 0 where
   pub one_each : length names ≡ length declared
   pub each : (i : ℕ) (d : Declaration) → slice_get declared i ≡ Some d → Gives names i d
+  pub made : (i : ℕ) (d : Declaration) → slice_get declared i ≡ Some d → IsMadeWell names i d.makes
 
--- what a declaration was read as is what its words mean
-pub record ReadsDeclaration (d : Declaration) : Type 0 where
-  pub makes : makes_of (words_of (string_bytes d.line.text)) ≡ Some d.makes
+-- what a declaration was read as is what its words mean among the script's names
+pub record ReadsDeclaration (names : List Given) (d : Declaration) : Type 0 where
+  pub makes : makes_of names (words_of (string_bytes d.line.text)) ≡ Some d.makes
 
 -- what a step was read as is what its words mean among the script's names
 pub record ReadsStep (names : List Given) (s : Step) : Type 0 where
@@ -75,7 +103,7 @@ pub record ReadsStep (names : List Given) (s : Step) : Type 0 where
 pub record IsReading (script : Lines) (entries : List (String Global × Named)) (declared : List Declaration) (asked : List Step) : Type 0 where
   pub names : texts_of entries ≡ names_of script
   pub gives : GivesNames (names_of script) declared
-  pub declarations : All ReadsDeclaration declared
+  pub declarations : All (ReadsDeclaration (names_of script)) declared
   pub steps : All (ReadsStep (names_of script)) asked
   pub threads : thread_count (names_of script) ≤ 64
   pub few : length declared ≤ 1048576
@@ -85,21 +113,17 @@ pub record IsReading (script : Lines) (entries : List (String Global × Named)) 
 pub record IsReadSoFar (script : Lines) (entries : List (String Global × Named)) (declared : List Declaration) (asked : List Step) (threads : ℕ) : Type 0 where
   pub names : texts_of entries ≡ names_of script
   pub gives : GivesNames (names_of script) declared
-  pub declarations : All ReadsDeclaration declared
+  pub declarations : All (ReadsDeclaration (names_of script)) declared
   pub steps : All (ReadsStep (names_of script)) asked
   pub count : threads ≡ thread_count (names_of script)
   pub limit : threads ≤ 64
   pub seats : All (λ g. IsSeatedWithin (thread_count (names_of script)) g.1) (names_of script)
   pub started : (scope_of script).started ≡ not (length asked == 0)
 
--- what a declaration's name names, where so many threads were declared before, and how many threads it adds
-abbrev pub named_by : Declares → ℕ → Named
-named_by declares.Mailbox threads = called.Mailbox
-named_by declares.Thread threads = called.Thread (threads + 1)
-
+-- how many threads a declaration adds
 abbrev pub threads_by : Declares → ℕ
-threads_by declares.Mailbox = 0
 threads_by declares.Thread = 1
+threads_by _ = 0
 
 -- a script so far, and behind it a line of words
 abbrev pub with_words : Lines → ℕ → List ℕ → Lines

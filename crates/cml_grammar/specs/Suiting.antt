@@ -1,15 +1,24 @@
 -- Words that may stand in their places.
-use Rattle.std.specs.Prelude.{ℕ, ◌≡◌, true, false, List, [], ◌∷◌, Some, ⊤}
+use Rattle.std.specs.Prelude.{ℕ, ◌≡◌, true, false, List, [], ◌∷◌, slice_get, Some, ⊤}
 use Rattle.cml_grammar.specs.declared.forms.Place.{Place}
-use Rattle.cml_grammar.specs.declared.forms.Place.TheVariants.{Fresh, Mailbox, Number}
+use Rattle.cml_grammar.specs.declared.forms.Place.TheVariants.{Fresh, Number}
+use Rattle.cml_grammar.specs.declared.names.Named.{Named}
 use Rattle.cml_grammar.specs.Names.{Given, is_name, is_number, is_given, position_of}
-use Rattle.cml_grammar.specs.Reading.{IsMailboxAt}
+use Rattle.cml_grammar.specs.Forms.{suits}
 
--- a fresh name is none of those that stand, and a name that is used is given, for what the place is for
+-- what is named at this position may stand in the place
+abbrev pub IsSuitedAt : List Given → Place → ℕ → Type 0
+IsSuitedAt names place at = (word : List ℕ) × (n : Named) × (slice_get names at ≡ Some (word, n)) × (suits place n ≡ true)
+
+-- a name that is used stands, for what may stand in the place
+abbrev pub IsUsed : List Given → Place → List ℕ → Type 0
+IsUsed names place word = (at : ℕ) × (position_of names word ≡ Some at) × IsSuitedAt names place at
+
+-- a fresh name is none of those that stand
 abbrev pub Suits : List Given → Place → List ℕ → Type 0
 Suits names Fresh word = (is_name word ≡ true) × (is_given names word ≡ false)
-Suits names Mailbox word = (at : ℕ) × (position_of names word ≡ Some at) × IsMailboxAt names at
 Suits names Number word = is_number word ≡ true
+Suits names place word = IsUsed names place word
 
 -- as many words as places, each in its place
 abbrev pub AllSuit : List Given → List Place → List (List ℕ) → Type 0

@@ -1,7 +1,8 @@
 //! The tables of the lines: which words a declaration and a step have, and what may stand where.
 ghost use Rattle.std.specs.Prelude.{◌≡◌, ◌==◌, not, map, length};
+ghost use Rattle.std.specs.Option.{option_map};
 ghost use Rattle.cml_grammar.specs.Names.{seat_of};
-ghost use Rattle.cml_grammar.specs.Forms.{declares_of, declared_places, verb_of, step_places, step_form, form_of, places_of, rest_of, is_name_place, is_fresh, is_used, is_number_place, suits};
+ghost use Rattle.cml_grammar.specs.Forms.{declares_of, declared_places, verb_of, step_places, step_form, form_of, places_of, rest_of, is_name_place, is_fresh, is_used, is_number_place, suits, fresh_word};
 ghost use Rattle.cml_grammar.specs.Faults.{is_unknown, is_no_step, is_declaration, declares_thread};
 ghost use Rattle.cml_grammar.specs.Reading.{texts_of};
 ghost use Rattle.cml_grammar.specs.Shown.{shown};
@@ -13,6 +14,8 @@ use indexmap::IndexMap;
 #[derive(Clone, Copy, Debug, PartialEq, Eq)]
 pub enum Declares {
     Mailbox,
+    Channel,
+    Port,
     Thread,
 }
 
@@ -20,8 +23,10 @@ pub enum Declares {
 #[derive(Clone, Copy, Debug, PartialEq, Eq)]
 pub enum Verb {
     Send,
+    Multicast,
     Recv,
     Poll,
+    Close,
 }
 
 /// What may stand in a word's place.
@@ -31,23 +36,33 @@ pub enum Place {
     Fresh,
     /// A mailbox's name.
     Mailbox,
+    /// A channel's name.
+    Channel,
+    /// A port's name.
+    Port,
+    /// The name of a mailbox or a port.
+    Receiver,
     /// A message.
     Number,
 }
 
-/// What a declaration makes.
+/// What a declaration makes. A port's channel is a position in the script's list of names.
 #[derive(Clone, Copy, Debug, PartialEq, Eq)]
 pub enum Makes {
     Thread,
     Mailbox,
+    Channel,
+    Port(usize),
 }
 
 /// What a step asks for. Names are positions in the script's list of names.
 #[derive(Clone, Copy, Debug, PartialEq, Eq)]
 pub enum Action {
     Send(usize, u64),
+    Multicast(usize, u64),
     Recv(usize),
     Poll(usize),
+    Close(usize),
 }
 
 /// What kind of line it is, with the words that are left.
@@ -65,16 +80,19 @@ impl Declares {
     {
         match word {
             "mailbox" => Some(Declares::Mailbox),
+            "channel" => Some(Declares::Channel),
+            "port" => Some(Declares::Port),
             "thread" => Some(Declares::Thread),
             _ => None,
         }
     }
 
-    fn places(self) -> &'static [Place]
+    pub(crate) fn places(self) -> &'static [Place]
         ensures { result.now ≡ declared_places self }
     {
         match self {
-            Declares::Mailbox | Declares::Thread => &[Place::Fresh],
+            Declares::Mailbox | Declares::Channel | Declares::Thread => &[Place::Fresh],
+            Declares::Port => &[Place::Channel, Place::Fresh],
         }
     }
 }
@@ -85,8 +103,10 @@ impl Verb {
     {
         match word {
             "send" => Some(Verb::Send),
+            "multicast" => Some(Verb::Multicast),
             "recv" => Some(Verb::Recv),
             "poll" => Some(Verb::Poll),
+            "close" => Some(Verb::Close),
             _ => None,
         }
     }
@@ -96,7 +116,9 @@ impl Verb {
     {
         match self {
             Verb::Send => &[Place::Mailbox, Place::Number],
-            Verb::Recv | Verb::Poll => &[Place::Mailbox],
+            Verb::Multicast => &[Place::Channel, Place::Number],
+            Verb::Recv | Verb::Poll => &[Place::Receiver],
+            Verb::Close => &[Place::Port],
         }
     }
 }
@@ -105,10 +127,7 @@ impl Place {
     pub(crate) fn is_name_place(self) -> bool
         ensures { result ≡ is_name_place self }
     {
-        match self {
-            Place::Fresh | Place::Mailbox => true,
-            Place::Number => false,
-        }
+        self != Place::Number
     }
 
     pub(crate) fn is_fresh(self) -> bool
@@ -134,11 +153,23 @@ impl Place {
         ensures { result ≡ suits self named }
     {
         match (self, named) {
-            (Place::Mailbox, Named::Mailbox) => true,
-            (Place::Mailbox, Named::Thread(_)) => false,
-            (Place::Fresh | Place::Number, _) => false,
+            (Place::Mailbox | Place::Receiver, Named::Mailbox) => true,
+            (Place::Channel, Named::Channel) => true,
+            (Place::Port | Place::Receiver, Named::Port) => true,
+            _ => false,
         }
     }
+}
+
+/// The word that stands where the line gives a name, if it gives one.
+pub(crate) fn fresh_word<'a>(places: &[Place], words: &'a [&'a str]) -> Option<&'a str>
+    ensures { option_map (λ w. w.now) result ≡ fresh_word places.now (map (λ w. w.now) words.now) }
+{
+    let (_, word) = places
+        .iter()
+        .zip(words)
+        .find(|(place, _)| place.is_fresh())?;
+    Some(*word)
 }
 
 impl<'a> Form<'a> {

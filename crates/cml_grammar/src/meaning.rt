@@ -1,13 +1,13 @@
 //! What a line that is without fault asks for.
-ghost use Rattle.std.specs.Prelude.{◌≡◌, ℕ, ◌+◌, ◌^◌, ◌<◌, List, map, Some, true};
+ghost use Rattle.std.specs.Prelude.{◌≡◌, ◌+◌, ◌^◌, ◌<◌, [], ◌∷◌, length, map, Some, true};
 ghost use Rattle.std.specs.Str.Parse.{digits_value};
 ghost use Rattle.cml_grammar.specs.Names.{is_number, is_given, position_of};
-ghost use Rattle.cml_grammar.specs.Forms.{step_places};
+ghost use Rattle.cml_grammar.specs.Forms.{declared_places, step_places, fresh_word, named_by};
 ghost use Rattle.cml_grammar.specs.Meaning.{makes_by, action_by};
-ghost use Rattle.cml_grammar.specs.Reading.{texts_of, UsesWell, named_by, threads_by};
+ghost use Rattle.cml_grammar.specs.Reading.{texts_of, UsesWell, IsMadeWell, threads_by};
 ghost use Rattle.cml_grammar.specs.Suiting.{AllSuit};
 
-use crate::forms::{Action, Declares, Makes, Verb};
+use crate::forms::{Action, Declares, Makes, Verb, fresh_word};
 use crate::names::{Named, number_of, position_of};
 use indexmap::IndexMap;
 
@@ -19,21 +19,45 @@ fn given_position(names: &IndexMap<String, Named>, word: &str) -> usize
     position_of(names, word).unwrap()
 }
 
-fn message_of(word: &str) -> u64
-    requires { is_number word.now ≡ true }
-    ensures value { result ≡ digits_value 10 word.now }
+/// The message that the words are, a number alone.
+fn message_in(words: &[&str]) -> u64
+    requires { map (λ w. is_number w.now) words.now ≡ true ∷ [] }
+    ensures value { map (λ w. digits_value 10 w.now) words.now ≡ result ∷ [] }
     ensures fits { result < 2 ^ 64 }
 {
+    let Some(word) = words.first() else {
+        unreachable!();
+    };
     number_of(word).unwrap()
 }
 
-pub(crate) fn makes_by(declares: Declares) -> Makes
-    ensures { (rest : List (List ℕ)) → makes_by declares rest ≡ Some result }
+/// What a declaration makes whose words suit their places.
+pub(crate) fn makes_by(names: &IndexMap<String, Named>, declares: Declares, rest: &[&str]) -> Makes
+    requires { AllSuit (texts_of names.now.entries) (declared_places declares) (map (λ w. w.now) rest.now) }
+    ensures makes { makes_by (texts_of names.now.entries) declares (map (λ w. w.now) rest.now) ≡ Some result }
+    ensures uses { IsMadeWell (texts_of names.now.entries) (length (texts_of names.now.entries)) result }
 {
     match declares {
         Declares::Mailbox => Makes::Mailbox,
+        Declares::Channel => Makes::Channel,
+        Declares::Port => match rest.first() {
+            Some(channel) => Makes::Port(given_position(names, channel)),
+            None => unreachable!(),
+        },
         Declares::Thread => Makes::Thread,
     }
+}
+
+/// The name that a declaration gives whose words suit their places.
+pub(crate) fn name_by<'a>(
+    names: &IndexMap<String, Named>,
+    declares: Declares,
+    rest: &'a [&'a str],
+) -> &'a str
+    requires { AllSuit (texts_of names.now.entries) (declared_places declares) (map (λ w. w.now) rest.now) }
+    ensures { fresh_word (declared_places declares) (map (λ w. w.now) rest.now) ≡ Some result.now }
+{
+    fresh_word(declares.places(), rest).unwrap()
 }
 
 /// What the name of a declaration names, where so many threads were declared before.
@@ -43,6 +67,8 @@ pub(crate) fn named_by(declares: Declares, threads: u64) -> Named
 {
     match declares {
         Declares::Mailbox => Named::Mailbox,
+        Declares::Channel => Named::Channel,
+        Declares::Port => Named::Port,
         Declares::Thread => Named::Thread(threads + 1),
     }
 }
@@ -53,7 +79,7 @@ pub(crate) fn threads_with(declares: Declares, threads: u64) -> u64
     ensures { result ≡ threads + threads_by declares }
 {
     match declares {
-        Declares::Mailbox => threads,
+        Declares::Mailbox | Declares::Channel | Declares::Port => threads,
         Declares::Thread => threads + 1,
     }
 }
@@ -64,12 +90,15 @@ pub(crate) fn action_by(names: &IndexMap<String, Named>, verb: Verb, rest: &[&st
     ensures action { action_by (texts_of names.now.entries) verb (map (λ w. w.now) rest.now) ≡ Some result }
     ensures uses { UsesWell (texts_of names.now.entries) result }
 {
-    match (verb, rest) {
-        (Verb::Send, [mailbox, message]) => {
-            Action::Send(given_position(names, mailbox), message_of(message))
-        }
-        (Verb::Recv, [object]) => Action::Recv(given_position(names, object)),
-        (Verb::Poll, [object]) => Action::Poll(given_position(names, object)),
-        _ => unreachable!(),
+    let Some((object, more)) = rest.split_first() else {
+        unreachable!();
+    };
+    let at = given_position(names, object);
+    match verb {
+        Verb::Send => Action::Send(at, message_in(more)),
+        Verb::Multicast => Action::Multicast(at, message_in(more)),
+        Verb::Recv => Action::Recv(at),
+        Verb::Poll => Action::Poll(at),
+        Verb::Close => Action::Close(at),
     }
 }

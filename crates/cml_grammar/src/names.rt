@@ -12,6 +12,8 @@ pub enum Named {
     /// A thread, and its seat: the k-th declared thread, from 1, has seat k.
     Thread(u64),
     Mailbox,
+    Channel,
+    Port,
 }
 
 fn is_letter(byte: u8) -> bool
@@ -80,7 +82,7 @@ pub(crate) fn seat_of(names: &IndexMap<String, Named>, word: &str) -> Option<u64
 {
     match find_named(names, word)? {
         Named::Thread(seat) => Some(seat),
-        Named::Mailbox => None,
+        Named::Mailbox | Named::Channel | Named::Port => None,
     }
 }
 

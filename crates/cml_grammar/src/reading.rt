@@ -1,12 +1,12 @@
 //! The lines of a script so far, and how one more is read.
-ghost use Rattle.std.specs.Prelude.{◌≡◌, ◌+◌, ◌<◌, ◌≤◌, [], ◌∷◌, length, map, None, OnOk, IfErr};
+ghost use Rattle.std.specs.Prelude.{◌≡◌, ◌+◌, ◌<◌, ◌≤◌, [], length, map, None, OnOk, IfErr};
 ghost use Rattle.cml_grammar.specs.Words.{words_of, is_bad_byte};
 ghost use Rattle.cml_grammar.specs.Faults.{fault_in, fault_in_words, is_bad_header, says, after, after_words, IsWhat};
 
 use crate::checks::fault_in_form;
 use crate::fault::What;
 use crate::forms::{Declares, Form, Verb};
-use crate::meaning::{action_by, makes_by, named_by, threads_with};
+use crate::meaning::{action_by, makes_by, name_by, named_by, threads_with};
 use crate::names::Named;
 use crate::script::{Declaration, Line, Script, Step};
 use crate::words::{has_bad_byte, has_empty_word, is_skipped, split_words};
@@ -107,7 +107,7 @@ impl Reading {
         let text = String::from_str(alloc, text)?;
         let line = Line { number, text };
         match form {
-            Form::Declaration(declares, [name]) => self.declare(alloc, line, declares, name),
+            Form::Declaration(declares, rest) => self.declare(alloc, line, declares, rest),
             Form::Step(seat, verb, rest) => self.step(line, seat, verb, rest),
             _ => unreachable!(),
         }
@@ -119,18 +119,18 @@ impl Reading {
         alloc: Global,
         line: Line,
         declares: Declares,
-        name: &str,
+        rest: &[&str],
     ) -> Result<(), What>
         requires fits { fault_in_words (scope_of self.old) (words_of (string_bytes line.text)) ≡ None }
-        requires form { form_of (names_of self.old) (words_of (string_bytes line.text)) ≡ declaration declares (name.now ∷ []) }
+        requires form { form_of (names_of self.old) (words_of (string_bytes line.text)) ≡ declaration declares (map (λ w. w.now) rest.now) }
         ensures lines { OnOk result (self.new ≡ with_words self.old line.number (string_bytes line.text)) }
         ensures scope { OnOk result (scope_of self.new ≡ after_words (scope_of self.old) (words_of (string_bytes line.text))) }
         ensures memory { IfErr result (λ what. what ≡ What.Memory) }
     {
         let named = named_by(declares, self.threads);
         let threads = threads_with(declares, self.threads);
-        let makes = makes_by(declares);
-        let name = String::from_str(alloc, name)?;
+        let makes = makes_by(&self.names, declares, rest);
+        let name = String::from_str(alloc, name_by(&self.names, declares, rest))?;
         self.declarations.reserve(1)?;
         self.names.insert(name, named)?;
         self.declarations.push_reserved(Declaration { line, makes });

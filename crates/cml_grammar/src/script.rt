@@ -89,7 +89,7 @@ impl Script {
     /// The declarations in text order. The i-th gives the i-th name.
     pub fn declarations(&self) -> &[Declaration]
         ensures lines { map (λ d. source_of d.line) result.now ≡ self.now.declarations }
-        ensures makes { All ReadsDeclaration result.now }
+        ensures makes { All (ReadsDeclaration (names_of self.now)) result.now }
         ensures names { GivesNames (names_of self.now) result.now }
         ensures few { length result.now ≤ 1048576 }
     {

@@ -2,6 +2,7 @@
 mod faults;
 mod good;
 mod order;
+mod ports;
 mod sizes;
 
 use crate::{Fault, read_script};

@@ -25,7 +25,7 @@ const ORDER: [(&str, &str, &str); 12] = [
     ),
     (
         "no thread's line, where a declaration would be late",
-        "cml 1\nmailbox m\nthread A\nA poll m\nchannel c\n",
+        "cml 1\nmailbox m\nthread A\nA poll m\nlane A\n",
         "script: line 5: unknown line",
     ),
     (

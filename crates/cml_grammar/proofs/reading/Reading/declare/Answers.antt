@@ -1,21 +1,32 @@
-use Rattle.std.proofs.Common.{List, [], ◌∷◌, ◌++◌, ap, ◌∙◌}
+use Rattle.std.proofs.Common.{ℕ, List, [], ◌∷◌, ◌++◌, map, Bor, string_bytes, ap, ◌∙◌}
 use Rattle.cml_grammar.specs.declared.script.Declaration.{Declaration}
-use Rattle.cml_grammar.proofs.ClosingLemmas.{declared_closes, declared_scopes}
+use Rattle.cml_grammar.specs.Words.{words_of}
+use Rattle.cml_grammar.proofs.ClosingLemmas.{kept_suits, declared_closes, declared_scopes}
 use Rattle.cml_grammar.proofs.reading.Reading.declare.Goals as goal
+
+pub makes_by-makes-requires : goal.makes_by-makes-requires
+makes_by-makes-requires c =
+    let rest : List (List ℕ) = map (λ (w : Bor (List ℕ)). w.now) c.args.rest.now in
+    kept_suits c.args.self.now _ _ (words_of (string_bytes c.args.line.text)) c.args.declares rest c.self.view_is c.self.invariant.names c.requires.fits c.requires.form
+
+pub name_by-requires : goal.name_by-requires
+name_by-requires c =
+    let rest : List (List ℕ) = map (λ (w : Bor (List ℕ)). w.now) c.args.rest.now in
+    kept_suits c.args.self.now _ _ (words_of (string_bytes c.args.line.text)) c.args.declares rest c.self.view_is c.self.invariant.names c.requires.fits c.requires.form
 
 pub returns-clause-scope : goal.returns-clause-scope
 returns-clause-scope c =
     let i = c.self.inside in
     let d : Declaration = record { line = c.args.line; makes = c.makes_by-makes.result } in
-    declared_scopes 1 c.args.self.now i.names i.declarations.items _ i.steps.items i.threads d c.args.declares c.args.name.now c.self.view_is c.self.invariant
-    (record { fits = c.requires.fits; form = c.requires.form; makes = c.makes_by-makes.ensures })
+    declared_scopes 1 c.args.self.now i.names i.declarations.items _ i.steps.items i.threads d c.args.declares (map (λ (w : Bor (List ℕ)). w.now) c.args.rest.now) c.name_by.result.now c.self.view_is c.self.invariant
+    (record { fits = c.requires.fits; form = c.requires.form }) c.name_by.ensures c.makes_by-makes.ensures.makes c.makes_by-makes.ensures.uses
     (c.push_reserved.ensures.items ∙ ap (λ (xs : List Declaration). xs ++ d ∷ []) c.reserve.ensures.items)
 
 pub invariant_of-self-2 : goal.invariant_of-self-2
 invariant_of-self-2 c =
     let i = c.self.inside in
     let d : Declaration = record { line = c.args.line; makes = c.makes_by-makes.result } in
-    declared_closes 1 c.args.self.now i.names i.declarations.items _ i.steps.items i.threads d c.args.declares c.args.name.now c.self.view_is c.self.invariant
-    (record { fits = c.requires.fits; form = c.requires.form; makes = c.makes_by-makes.ensures })
+    declared_closes 1 c.args.self.now i.names i.declarations.items _ i.steps.items i.threads d c.args.declares (map (λ (w : Bor (List ℕ)). w.now) c.args.rest.now) c.name_by.result.now c.self.view_is c.self.invariant
+    (record { fits = c.requires.fits; form = c.requires.form }) c.name_by.ensures c.makes_by-makes.ensures.makes c.makes_by-makes.ensures.uses
     (c.push_reserved.ensures.items ∙ ap (λ (xs : List Declaration). xs ++ d ∷ []) c.reserve.ensures.items)
     _ _ c.in_ok-name.name c.named_by-named.result c.in_ok-name.ensures.ok c.named_by-named.ensures c.in_ok-insert.ensures.entries c.threads_with-threads.ensures
