@@ -1,66 +1,117 @@
 -- The declared objects are the first that are made, each of its kind.
-use Rattle.std.proofs.Common.{◌≡◌, ℕ, zero, suc, ◌+◌, ◌<◌, ◌≤◌, Bool, true, false, cond, ltb, List, [], ◌∷◌, length, take, filter, slice_get, Option, Some, None, MatchBool, IfSome, refl, sym, ap, subst, ◌∙◌, arith, inl, inr}
-use Rattle.std.specs.Option.{option_and_then}
-use Rattle.std.proofs.lemmas.Option.{same_Some, none-some, option_and_then_some, slice_get_within}
-use Rattle.std.proofs.lemmas.List.{length_push}
+use Rattle.std.proofs.Common.{◌≡◌, ℕ, zero, suc, ◌+◌, ◌<◌, ◌≤◌, ◌⊎◌, Bool, true, false, cond, ltb, List, [], ◌∷◌, ◌++◌, length, take, filter, slice_get, Option, Some, None, MatchBool, refl, sym, ap, subst, ◌∙◌, arith, inl, inr}
+use Rattle.std.specs.Option.{option_map, option_map_or, option_and_then}
+use Rattle.std.proofs.lemmas.Option.{same_Some, none-some}
+use Rattle.std.proofs.lemmas.List.{length_push, length-append}
 use Rattle.std.proofs.lemmas.Bool.{lt-ltb, cases_lt}
 use Rattle.cml_board.specs.declared.call.Call.{Call}
 use Rattle.cml_board.specs.declared.call.Call.TheVariants as call
+use Rattle.cml_board.specs.declared.call.Kind.{Kind}
 use Rattle.cml_board.specs.declared.call.Kind.TheVariants as kind
-use Rattle.cml_board.specs.declared.entry.Reply.TheVariants as reply
 use Rattle.cml_board.specs.declared.entry.Entry.{Entry}
-use Rattle.cml_board.specs.History.{Lawful, made, made_by, kind_of, answer}
+use Rattle.cml_board.specs.Origins.{Origin, mailbox, channel, port, kind_by}
+use Rattle.cml_board.specs.History.{Lawful, made, begun_by, if_made, new_name, kind_of, answer, sent}
+use Rattle.cml_grammar.specs.declared.names.Named.TheVariants as called
 use Rattle.cml_grammar.specs.declared.forms.Makes.{Makes}
 use Rattle.cml_grammar.specs.declared.forms.Makes.TheVariants as makes
 use Rattle.cml_grammar.specs.Script.{SourceLine, Lines}
-use Rattle.cml_grammar.specs.Meaning.{makes_of}
-use Rattle.std.specs.Prelude.{is_some}
+use Rattle.cml_grammar.specs.Meaning.{names_of, makes_of}
 use Rattle.cml_grammar.specs.declared.script.Declaration.{Declaration}
-use Rattle.cml_grammar.specs.Reading.{source_of, ReadsDeclaration}
-use Rattle.cml_script.specs.Stage.{Play, IsNextObject}
-use Rattle.cml_script.proofs.LineLemmas.{declaration_call, declaration_object}
+use Rattle.cml_grammar.specs.Reading.{source_of, ReadsDeclaration, IsMadeWell}
+use Rattle.cml_script.specs.Stage.{Play, IsNextObject, IsNext, NamesObjects, kind_made, kind_declared}
 use Rattle.cml_script.specs.Counting.{one_if, how_many}
-use Rattle.cml_script.specs.Schedule.{History, Follows, IsDeclaration, IsStep, declared_count, objects_of, call_in, making_call, is_object, object_of}
+use Rattle.cml_script.specs.Schedule.{History, Follows, IsDeclaration, IsStep, declared_count, objects_of, call_in, making_call, makes_object, is_object, object_of}
 use Rattle.cml_script.proofs.ListLemmas.{slice_get-append_left, slice_get_pushed, filter_at}
 
--- a declared object is made by this call
-making_is : (m : Makes) (c : Call ℕ) → making_call m ≡ Some c → c ≡ call.NewMailbox
-making_is makes.Thread c e = absurd (none-some c e)
-making_is makes.Mailbox c e = sym (same_Some _ _ e)
+-- what is made behind a list of objects, by a call that makes one
+pub record MakesOne (before : History) (entry : Entry ℕ) (k : Option Kind) : Type 0 where
+  pub origin : Origin
+  pub made : if_made entry.reply (begun_by (made before) before entry.call) ≡ origin ∷ []
+  pub kind : Some (kind_by origin) ≡ k
 
-declared_is : (line : Option SourceLine) (c : Call ℕ) → option_and_then call_in line ≡ Some c → c ≡ call.NewMailbox
-declared_is None c e = absurd (none-some c e)
-declared_is (Some line) c e = option_and_then_some making_call (makes_of line.words) c e (λ m _ made. making_is m c made)
+reply_is : (before : History) (entry : Entry ℕ) (c : Call ℕ) → c ≡ entry.call → answer before c ≡ Some (new_name before) → answer before entry.call ≡ Some entry.reply → new_name before ≡ entry.reply
+reply_is before entry c e new answers = same_Some _ _ (sym new ∙ ap (answer before) e ∙ answers)
 
--- behind a list of objects one more mailbox
-made_more : (before : History) (entry : Entry ℕ) → entry.call ≡ call.NewMailbox → answer before entry.call ≡ Some entry.reply → made_by entry.call entry.reply ≡ kind.Mailbox ∷ []
-made_more before entry e answers =
-    let reply : reply.Made (record { 0 = length (made before) }) ≡ entry.reply = same_Some _ _ (subst (λ c. answer before c ≡ Some entry.reply) e answers) in
-    rw (e, ← reply) refl
+makes_begun : (before : History) (entry : Entry ℕ) (c : Call ℕ) (origin : Origin) → c ≡ entry.call → begun_by (made before) before c ≡ origin ∷ [] → new_name before ≡ entry.reply → MakesOne before entry (Some (kind_by origin))
+makes_begun before entry c origin e begun reply = record {
+  origin = origin;
+  made = ap (λ r. if_made r (begun_by (made before) before entry.call)) (sym reply) ∙ ap (begun_by (made before) before) (sym e) ∙ begun;
+  kind = refl;
+}
+
+-- a declared object is of its kind
+makes_one : (before : History) (entry : Entry ℕ) (object : ℕ → Option ℕ) (m : Makes) → making_call object m ≡ Some entry.call → answer before entry.call ≡ Some entry.reply → MakesOne before entry (kind_made m)
+makes_one before entry object makes.Thread e answers = absurd (none-some entry.call e)
+makes_one before entry object makes.Mailbox e answers =
+    let same = same_Some _ _ e in makes_begun before entry call.NewMailbox mailbox same refl (reply_is before entry call.NewMailbox same refl answers)
+makes_one before entry object makes.Channel e answers =
+    let same = same_Some _ _ e in makes_begun before entry call.NewChannel channel same refl (reply_is before entry call.NewChannel same refl answers)
+makes_one before entry object (makes.Port source) e answers = by_source (object source) e
+  where
+    by_source : (o : Option ℕ) → option_map (λ n. call.NewPort (record { 0 = n })) o ≡ Some entry.call → MakesOne before entry (Some kind.Port)
+    by_source None none = absurd (none-some entry.call none)
+    by_source (Some n) some =
+        let same = same_Some _ _ some in
+        makes_begun before entry (call.NewPort (record { 0 = n })) (port n (length (sent before n))) same refl (reply_is before entry (call.NewPort (record { 0 = n })) same refl answers)
+
+declared_one : (script : Lines) (before : History) (entry : Entry ℕ) (line : Option SourceLine) → option_and_then (call_in script before) line ≡ Some entry.call → answer before entry.call ≡ Some entry.reply
+    → MakesOne before entry (option_and_then (kind_declared script) line)
+declared_one script before entry None e answers = absurd (none-some entry.call e)
+declared_one script before entry (Some line) e answers = by_makes (makes_of (names_of script) line.words) e
+  where
+    by_makes : (m : Option Makes) → option_and_then (making_call (object_of script before)) m ≡ Some entry.call → MakesOne before entry (option_and_then kind_made m)
+    by_makes None none = absurd (none-some entry.call none)
+    by_makes (Some m) some = makes_one before entry (object_of script before) m some answers
+
+-- the kind of the k-th declared object
+abbrev pub kind_at : Lines → ℕ → Option Kind
+kind_at script k = option_and_then (kind_declared script) (slice_get (objects_of script) k)
 
 pub record MakesDeclared (script : Lines) (history : History) : Type 0 where
   pub short : length history ≤ declared_count script → length (made history) ≡ length history
-  pub each : (k : ℕ) → k < length history → k < declared_count script → kind_of history k ≡ Some kind.Mailbox
+  pub each : (k : ℕ) → k < length history → k < declared_count script → kind_of history k ≡ kind_at script k
+
+-- an object that was made stays of its kind
+kind_kept : (before : History) (entry : Entry ℕ) (k : ℕ) → k < length (made before) → kind_of (entry ∷ before) k ≡ kind_of before k
+kind_kept before entry k lt =
+    ap (option_map kind_by) (slice_get-append_left (made before) (if_made entry.reply (begun_by (made before) before entry.call)) k lt)
 
 declared_next : (script : Lines) (before : History) (entry : Entry ℕ) → length before < declared_count script → IsDeclaration script before entry → answer before entry.call ≡ Some entry.reply → MakesDeclared script before → MakesDeclared script (entry ∷ before)
 declared_next script before entry within declares answers m =
-    let new = made_more before entry (declared_is (slice_get (objects_of script) (length before)) entry.call declares.makes) answers in
+    let one = declared_one script before entry (slice_get (objects_of script) (length before)) declares.makes answers in
     let all : length (made before) ≡ length before = m.short (omega arith) in
+    let last : slice_get (made (entry ∷ before)) (length before) ≡ Some one.origin =
+    ap (λ os. slice_get (made before ++ os) (length before)) one.made ∙ slice_get_pushed (made before) one.origin (length before) (omega (arith, all)) in
     record {
-      short = λ _. rw new (omega (arith, all, length_push (made before) kind.Mailbox));
-      each = λ k lt low. rw new (elim (cases_lt k (length before)) [
-        | inl older ↦ slice_get-append_left (made before) (kind.Mailbox ∷ []) k (omega (arith, all)) ∙ m.each k older low
-        | inr last ↦ slice_get_pushed (made before) kind.Mailbox k (omega (arith, all))
-      ]);
+      short = λ _. ap (λ os. length (made before ++ os)) one.made ∙ length_push (made before) one.origin ∙ omega (arith, all);
+      each = λ k lt low. elim (cases_lt k (length before)) [
+        | inl older ↦ kind_kept before entry k (omega (arith, all)) ∙ m.each k older low
+        | inr ge ↦
+            let here : length before ≡ k = omega (arith, ge, lt) in
+            ap (kind_of (entry ∷ before)) (sym here) ∙ ap (option_map kind_by) last ∙ one.kind ∙ ap (kind_at script) here
+      ];
     }
 
-kept_next : (script : Lines) (before : History) (entry : Entry ℕ) → declared_count script ≤ length before → MakesDeclared script before → MakesDeclared script (entry ∷ before)
-kept_next script before entry declared m = record {
+kept_next : (script : Lines) (before : History) (entry : Entry ℕ) → declared_count script ≤ length before → declared_count script ≤ length (made before) → MakesDeclared script before → MakesDeclared script (entry ∷ before)
+kept_next script before entry declared many m = record {
   short = λ le. absurd (omega (arith, le));
-  each = λ k lt low.
-      let there = m.each k (omega arith) low in
-      slice_get-append_left (made before) (made_by entry.call entry.reply) k (slice_get_within (made before) k kind.Mailbox there) ∙ there;
+  each = λ k lt low. kind_kept before entry k (omega arith) ∙ m.each k (omega arith) low;
 }
+
+-- as many are made as are declared, at least
+many_made : (script : Lines) (history : History) → Follows script history → Lawful history → length history ≤ length (made history) ⊎ declared_count script ≤ length (made history)
+many_made script [] follows lawful = inl (omega arith)
+many_made script (entry ∷ before) follows lawful = elim (many_made script before follows.1 lawful.2) [
+  | inr many ↦ inr (omega (arith, many, length-append (made before) (if_made entry.reply (begun_by (made before) before entry.call))))
+  | inl few ↦ elim (cases_lt (length before) (declared_count script)) [
+    | inr ge ↦ inr (omega (arith, few, ge, length-append (made before) (if_made entry.reply (begun_by (made before) before entry.call))))
+    | inl lt ↦
+        let test : ltb (length before) (declared_count script) ≡ true = lt-ltb (length before) (declared_count script) lt in
+        let declares = subst (λ t. MatchBool t (IsDeclaration script before entry) (IsStep script before entry)) test follows.0 in
+        let one = declared_one script before entry (slice_get (objects_of script) (length before)) declares.makes lawful.1 in
+        inl (omega (arith, few, length-append (made before) (if_made entry.reply (begun_by (made before) before entry.call)), ap length one.made))
+  ]
+]
 
 pub makes_declared : (script : Lines) (history : History) → Follows script history → Lawful history → MakesDeclared script history
 makes_declared script [] follows lawful = record { short = λ _. refl; each = λ k lt. absurd (omega (arith, lt)) }
@@ -70,7 +121,7 @@ makes_declared script (entry ∷ before) follows lawful =
       | inl lt ↦
           let test : ltb (length before) (declared_count script) ≡ true = lt-ltb (length before) (declared_count script) lt in
           declared_next script before entry lt (subst (λ t. MatchBool t (IsDeclaration script before entry) (IsStep script before entry)) test follows.0) lawful.1 earlier
-      | inr ge ↦ kept_next script before entry ge earlier
+      | inr ge ↦ kept_next script before entry ge (elim (many_made script before follows.1 lawful.2) [ inl few ↦ omega (arith, few) | inr many ↦ many ]) earlier
     ]
 
 -- fewer objects are declared before an object's declaration than in all
@@ -90,28 +141,76 @@ length_filter p (x ∷ xs) = by_test (p x) (length_filter p xs)
     by_test true ih = omega (arith, ih)
     by_test false ih = omega (arith, ih)
 
--- once all declared objects are made, an object's name stands for it
-pub object_declared : (script : Lines) (history : History) (at : ℕ) (line : SourceLine) → declared_count script ≤ length history → slice_get script.declarations at ≡ Some line → is_object line ≡ true → object_of script history at ≡ Some (how_many is_object (take at script.declarations))
-object_declared script history at line declared found object =
-    let low = counted_below is_object script.declarations at line found object in
-    let test : ltb (how_many is_object (take at script.declarations)) (length history) ≡ true = lt-ltb _ _ (omega (arith, low)) in
+-- what makes an object has a kind
+object_kind : (m : Option Makes) (k : Kind) → option_and_then kind_made m ≡ Some k → option_map_or makes_object m false ≡ true
+object_kind None k e = absurd (none-some k e)
+object_kind (Some makes.Thread) k e = absurd (none-some k e)
+object_kind (Some makes.Mailbox) k e = refl
+object_kind (Some makes.Channel) k e = refl
+object_kind (Some (makes.Port source)) k e = refl
+
+pub kind_object : (script : Lines) (line : SourceLine) (k : Kind) → kind_declared script line ≡ Some k → is_object script line ≡ true
+kind_object script line k e = object_kind (makes_of (names_of script) line.words) k e
+
+-- fewer objects are declared before a line than before a later one
+counted_mono : (p : SourceLine → Bool) (xs : List SourceLine) (i j : ℕ) (x : SourceLine) → i < j → slice_get xs i ≡ Some x → p x ≡ true → how_many p (take i xs) < how_many p (take j xs)
+counted_mono p [] i j x lt found passes = absurd (none-some x found)
+counted_mono p (y ∷ ys) zero zero x lt found passes = absurd (omega arith)
+counted_mono p (y ∷ ys) zero (suc j) x lt found passes =
+    let yes : p y ≡ true = ap p (same_Some y x found) ∙ passes in
+    rw yes (omega arith)
+counted_mono p (y ∷ ys) (suc i) zero x lt found passes = absurd (omega arith)
+counted_mono p (y ∷ ys) (suc i) (suc j) x lt found passes =
+    let ih = counted_mono p ys i j x (omega arith) found passes in omega (arith, ih)
+
+-- an object that was made stands for its name
+pub object_made : (script : Lines) (history : History) (at : ℕ) → how_many (is_object script) (take at script.declarations) < length history → object_of script history at ≡ Some (how_many (is_object script) (take at script.declarations))
+object_made script history at lt =
+    let test : ltb (how_many (is_object script) (take at script.declarations)) (length history) ≡ true = lt-ltb _ _ lt in
     rw test refl
 
-pub mailbox_kind : (script : Lines) (history : History) (at : ℕ) (line : SourceLine) → Follows script history → Lawful history → declared_count script ≤ length history → slice_get script.declarations at ≡ Some line → is_object line ≡ true → kind_of history (how_many is_object (take at script.declarations)) ≡ Some kind.Mailbox
-mailbox_kind script history at line follows lawful declared found object =
-    let low = counted_below is_object script.declarations at line found object in
-    (makes_declared script history follows lawful).each _ (omega (arith, low)) low
+-- once all declared objects are made, each name stands for its object
+pub declared_made : (script : Lines) (history : History) (at : ℕ) (line : SourceLine) (k : Kind) → declared_count script ≤ length history → slice_get script.declarations at ≡ Some line → kind_declared script line ≡ Some k
+    → how_many (is_object script) (take at script.declarations) < length history
+declared_made script history at line k declared found kinded =
+    omega (arith, counted_below (is_object script) script.declarations at line found (kind_object script line k kinded))
 
--- the object of a declaration is the next, where those before it are made
-pub next_object : (play : Play) (i : ℕ) (d : Declaration) → length play.history ≡ how_many is_object (take i play.script.declarations) → slice_get play.script.declarations i ≡ Some (source_of d.line) → ReadsDeclaration d → IfSome (making_call d.makes) (IsNextObject play)
-next_object play i d made found reads = by_call (making_call d.makes) refl
+pub object_kind_is : (script : Lines) (history : History) (at : ℕ) (line : SourceLine) (k : Kind) → Follows script history → Lawful history → how_many (is_object script) (take at script.declarations) < length history
+    → slice_get script.declarations at ≡ Some line → kind_declared script line ≡ Some k → kind_of history (how_many (is_object script) (take at script.declarations)) ≡ Some k
+object_kind_is script history at line k follows lawful made found kinded =
+    let object = kind_object script line k kinded in
+    let low = counted_below (is_object script) script.declarations at line found object in
+    (makes_declared script history follows lawful).each _ made low
+    ∙ ap (option_and_then (kind_declared script)) (filter_at (is_object script) script.declarations at line found object) ∙ kinded
+
+-- what a declaration makes is the next object, where those before it are made
+pub next_object : (play : Play) (names : NamesObjects play.script) (i : ℕ) (d : Declaration) → length play.history ≡ how_many (is_object play.script) (take i play.script.declarations)
+    → slice_get play.script.declarations i ≡ Some (source_of d.line) → ReadsDeclaration (names_of play.script) d → IsMadeWell (names_of play.script) i d.makes → IsNext play d.makes
+next_object play names i d made found reads uses = by_makes d.makes refl uses
   where
-    by_call : (o : Option (Call ℕ)) → making_call d.makes ≡ o → IfSome o (IsNextObject play)
-    by_call None e = tt
-    by_call (Some making) e =
-        let object : is_object (source_of d.line) ≡ true = declaration_object d reads ∙ ap is_some e in
-        let there = filter_at is_object play.script.declarations i (source_of d.line) found object in
+    line : SourceLine
+    line = source_of d.line
+
+    next : (m : Makes) (c : Call ℕ) → d.makes ≡ m → makes_object m ≡ true → making_call (object_of play.script play.history) m ≡ Some c → IsNextObject play c
+    next m c e object making =
+        let makes : makes_of (names_of play.script) line.words ≡ Some m = reads.makes ∙ ap Some e in
+        let is : is_object play.script line ≡ true = ap (λ o. option_map_or makes_object o false) makes ∙ object in
+        let there = filter_at (is_object play.script) play.script.declarations i line found is in
         record {
-          left = omega (arith, made, counted_below is_object play.script.declarations i (source_of d.line) found object);
-          makes = ap (λ n. option_and_then call_in (slice_get (objects_of play.script) n)) made ∙ ap (option_and_then call_in) there ∙ declaration_call d reads ∙ e;
+          left = omega (arith, made, counted_below (is_object play.script) play.script.declarations i line found is);
+          makes =
+              ap (λ n. option_and_then (call_in play.script play.history) (slice_get (objects_of play.script) n)) made
+              ∙ ap (option_and_then (call_in play.script play.history)) there
+              ∙ ap (option_and_then (making_call (object_of play.script play.history))) makes ∙ making;
         }
+
+    by_makes : (m : Makes) → d.makes ≡ m → IsMadeWell (names_of play.script) i m → IsNext play m
+    by_makes makes.Thread e uses = tt
+    by_makes makes.Mailbox e uses = next makes.Mailbox call.NewMailbox e refl refl
+    by_makes makes.Channel e uses = next makes.Channel call.NewChannel e refl refl
+    by_makes (makes.Port source) e (is_channel, earlier) =
+        let given = names source kind.Channel (is_channel.0, called.Channel, is_channel.1, refl) in
+        let below = counted_mono (is_object play.script) play.script.declarations source i given.0 earlier given.1 (kind_object play.script given.0 kind.Channel given.2) in
+        let object = object_made play.script play.history source (omega (arith, below, made)) in
+        let o : ℕ = how_many (is_object play.script) (take source play.script.declarations) in
+        (is_channel, o, object, next (makes.Port source) (call.NewPort (record { 0 = o })) e refl (ap (option_map (λ n. call.NewPort (record { 0 = n }))) object))

@@ -6,3 +6,5 @@ pub mod ReadyLemmas
 pub mod StandLemmas
 pub mod ReportLemmas
 pub mod CommandLineLemmas
+pub mod FitLemmas
+pub mod CountLemmas

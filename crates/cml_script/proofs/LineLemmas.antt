@@ -1,14 +1,16 @@
 -- What the lines of a script were read as.
 use Rattle.std.proofs.Common.{◌≡◌, ℕ, zero, suc, ◌<◌, ◌≤◌, Bool, true, false, eqb, [], ◌∷◌, arith, List, length, map, slice_get, Some, refl, sym, ap, subst, ◌∙◌}
-use Rattle.std.specs.Prelude.{All, is_some}
+use Rattle.std.specs.Prelude.{All}
 use Rattle.std.specs.Option.{option_and_then, option_map_or}
 use Rattle.std.proofs.lemmas.List.{length-map}
 use Rattle.std.proofs.lemmas.Bool.{eqb-true}
 use Rattle.cml_grammar.specs.declared.forms.Makes.{Makes}
 use Rattle.cml_grammar.specs.declared.forms.Makes.TheVariants as makes
+use Rattle.cml_grammar.specs.declared.names.Named.{Named}
 use Rattle.cml_grammar.specs.declared.names.Named.TheVariants as called
+use Rattle.cml_board.specs.declared.call.Kind.{Kind}
 use Rattle.cml_grammar.specs.Meaning.{names_of}
-use Rattle.cml_script.specs.Stage.{NamesObjects, HasSeats}
+use Rattle.cml_script.specs.Stage.{NamesObjects, HasSeats, IsObjectAt, kind_made, kind_named}
 use Rattle.std.proofs.lemmas.List.Elements.{All-get_or}
 use Rattle.std.proofs.lemmas.Option.{slice_get_within, get_or_from_slice_get, same_Some, some_pair_parts}
 use mir.Val.{bool_byte}
@@ -18,18 +20,15 @@ use Rattle.cml_grammar.specs.declared.script.Step.{Step}
 use Rattle.cml_grammar.specs.Names.{Given, thread_count}
 use Rattle.cml_grammar.specs.Script.{Lines}
 use Rattle.cml_grammar.specs.Reading.{source_of, ReadsDeclaration, ReadsStep, Gives, GivesAt, GivesNames}
-use Rattle.cml_script.specs.Schedule.{making_call, call_in, is_object, is_seated}
+use Rattle.cml_script.specs.Schedule.{makes_object, is_object, is_seated}
 use Rattle.cml_script.proofs.ListLemmas.{mapped_at}
 
 pub all_at : {X : Type 0} (P : X → Type 0) (xs : List X) (i : ℕ) (x : X) → All P xs → slice_get xs i ≡ Some x → P x
 all_at P xs i x all found =
     subst P (get_or_from_slice_get xs i x x found) (All-get_or P xs i x (slice_get_within xs i x found) all)
 
-pub declaration_call : (d : Declaration) → ReadsDeclaration d → call_in (source_of d.line) ≡ making_call d.makes
-declaration_call d reads = ap (option_and_then making_call) reads.makes
-
-pub declaration_object : (d : Declaration) → ReadsDeclaration d → is_object (source_of d.line) ≡ is_some (making_call d.makes)
-declaration_object d reads = ap is_some (declaration_call d reads)
+pub declaration_object : (script : Lines) (d : Declaration) → ReadsDeclaration (names_of script) d → is_object script (source_of d.line) ≡ makes_object d.makes
+declaration_object script d reads = ap (λ o. option_map_or makes_object o false) reads.makes
 
 -- the thread of a step
 pub step_seated : (script : Lines) (s : Step) (seat : ℕ) → ReadsStep (names_of script) s → is_seated script seat (source_of s.line) ≡ eqb s.seat seat
@@ -40,24 +39,27 @@ stands [] i lt = absurd (omega arith)
 stands (x ∷ xs) zero lt = (x, refl)
 stands (x ∷ xs) (suc i) lt = stands xs i (omega arith)
 
--- a mailbox's name is given by the declaration of an object
-gives_object : (names : List Given) (at : ℕ) (word : List ℕ) (d : Declaration) → slice_get names at ≡ Some (word, called.Mailbox) → Gives names at d → is_some (making_call d.makes) ≡ true
-gives_object names at word d mailbox gives = by_makes d.makes (gives.2)
+-- an object's name is given by the declaration of such an object
+gives_kind : (names : List Given) (at : ℕ) (k : Kind) (d : Declaration) → IsObjectAt names at k → Gives names at d → kind_made d.makes ≡ Some k
+gives_kind names at k d (word, n, found, kinded) gives = by_makes d.makes gives.2
   where
-    by_makes : (m : Makes) → GivesAt names at gives.0 m → is_some (making_call m) ≡ true
-    by_makes makes.Mailbox g = refl
-    by_makes makes.Thread g =
-        let clash : called.Mailbox ≡ called.Thread g.0 = (some_pair_parts word gives.0 called.Mailbox (called.Thread g.0) (sym mailbox ∙ g.1)).1 in
-        cc
+    same : (m : Named) → slice_get names at ≡ Some (gives.0, m) → kind_named m ≡ Some k
+    same m there = ap kind_named (sym (some_pair_parts word gives.0 n m (sym found ∙ there)).1) ∙ kinded
 
-pub names_objects : (script : Lines) (items : List Declaration) → map (λ d. source_of d.line) items ≡ script.declarations → GivesNames (names_of script) items → All ReadsDeclaration items → NamesObjects script
-names_objects script items lines gives reads = λ at (word, mailbox).
-    let within : at < length items = omega (arith, slice_get_within (names_of script) at (word, called.Mailbox) mailbox, gives.one_each) in
+    by_makes : (m : Makes) → GivesAt names at gives.0 m → kind_made m ≡ Some k
+    by_makes makes.Mailbox g = same called.Mailbox g
+    by_makes makes.Channel g = same called.Channel g
+    by_makes (makes.Port source) g = same called.Port g
+    by_makes makes.Thread g = same (called.Thread g.0) g.1
+
+pub names_objects : (script : Lines) (items : List Declaration) → map (λ d. source_of d.line) items ≡ script.declarations → GivesNames (names_of script) items → All (ReadsDeclaration (names_of script)) items → NamesObjects script
+names_objects script items lines gives reads = λ at k object.
+    let within : at < length items = omega (arith, slice_get_within (names_of script) at (object.0, object.1) object.2, gives.one_each) in
     let there = stands items at within in
     let d = there.0 in (
       source_of d.line,
       mapped_at (λ x. source_of x.line) items script.declarations at d lines there.1,
-      declaration_object d (all_at ReadsDeclaration items at d reads there.1) ∙ gives_object (names_of script) at word d mailbox (gives.each at d there.1),
+      ap (option_and_then kind_made) (all_at (ReadsDeclaration (names_of script)) items at d reads there.1).makes ∙ gives_kind (names_of script) at k d object (gives.each at d there.1),
     )
 
 pub has_seats : (script : Lines) (items : List Step) → map (λ s. source_of s.line) items ≡ script.steps → All (ReadsStep (names_of script)) items → thread_count (names_of script) ≤ 64 → HasSeats script

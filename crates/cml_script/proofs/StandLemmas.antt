@@ -1,5 +1,5 @@
 -- What a stage keeps, and how it goes on with one more entry.
-use Rattle.std.proofs.Common.{◌≡◌, ◌≢◌, ℕ, zero, suc, ◌+◌, ◌-◌, ◌<◌, ◌≤◌, ◌^◌, true, false, eqb, ltb, List, [], ◌∷◌, length, take, get_or, slice_get, slice_set, Option, Some, None, MatchBool, MatchOption, IfSome, refl, sym, ap, subst, ◌∙◌, arith, inl, inr}
+use Rattle.std.proofs.Common.{◌≡◌, ◌≢◌, ℕ, zero, suc, ◌+◌, ◌-◌, ◌<◌, ◌≤◌, ◌^◌, true, false, eqb, ltb, List, [], ◌∷◌, length, take, get_or, slice_get, slice_set, Option, Some, None, MatchBool, MatchOption, IfSome, IsSome, refl, sym, ap, subst, ◌∙◌, arith, inl, inr}
 use Rattle.std.specs.Prelude.{map, Vec, All}
 use Rattle.cml_board.specs.declared.entry.Reply.{Reply}
 use Rattle.cml_grammar.specs.declared.script.Step.{Step}
@@ -10,43 +10,72 @@ use Rattle.std.specs.Borrow.{Bor}
 use Rattle.std.specs.Option.{option_map}
 use Rattle.std.proofs.lemmas.Option.{same_Some, slice_get_within, slice_get_past, slice_get-map, slice_get_read, slice_get-get_or}
 use Rattle.std.proofs.lemmas.List.{length-set, length-map}
-use Rattle.std.proofs.lemmas.Bool.{eqb-true, eq-eqb, ne_eqb, cases_eq, le-ltb, lt-ltb}
+use Rattle.std.proofs.lemmas.Bool.{eqb-true, eq-eqb, ne_eqb, cases_eq, cases_lt, le-ltb, lt-ltb, false≢true}
 use Rattle.cml_board.specs.declared.call.Call.{Call}
-use Rattle.cml_board.specs.declared.call.Kind.TheVariants as kind
+use Rattle.cml_board.specs.declared.call.Kind.{Kind}
 use Rattle.cml_board.specs.declared.entry.Who.TheVariants.{Seat}
 use Rattle.cml_board.specs.declared.entry.Entry.{Entry}
 use Rattle.cml_board.specs.History.{answer, Fits, kind_of}
 use Rattle.cml_grammar.specs.Script.{SourceLine, Lines}
 use Rattle.cml_grammar.specs.Meaning.{names_of}
-use Rattle.cml_grammar.specs.Reading.{IsMailboxAt, source_of, ReadsStep}
+use Rattle.cml_grammar.specs.Reading.{source_of, ReadsStep}
 use Rattle.cml_script.specs.Counting.{one_if, how_many}
 use Rattle.cml_script.specs.Schedule.{History, IsReady, IsStep, IsDeclaration, Follows, is_seated, is_seat, is_by, is_object, performed, step_call, declared_count, object_of}
-use Rattle.cml_script.specs.Stage.{Play, Stands, AreQueues, AreCounts, with_entry, items_of, positions_from, IsStepAt, IsLeast}
+use Rattle.cml_script.specs.Stage.{Play, Stands, IsObject, IsObjectAt, AreQueues, AreCounts, with_entry, items_of, positions_from, IsStepAt, IsLeast}
 use Rattle.cml_script.proofs.ListLemmas.{how_many-le, mapped_at}
-use Rattle.cml_script.proofs.KindLemmas.{object_declared, mailbox_kind, makes_declared, counted_below}
+use Rattle.cml_script.proofs.KindLemmas.{object_made, object_kind_is, declared_made}
 
 pub stands_at : (p q : Play) (numbers : List ℕ) (queues : List (List ℕ)) (counts : List ℕ) → p ≡ q → Stands p numbers queues counts → Stands q numbers queues counts
 stands_at p q numbers queues counts e s = subst (λ r. Stands r numbers queues counts) e s
 
--- the mailbox that a name stands for
-pub record IsMailbox (play : Play) (at n : ℕ) : Type 0 where
+-- the object that a name stands for
+pub record IsObjectOf (play : Play) (at n : ℕ) : Type 0 where
   pub object : object_of play.script play.history at ≡ Some n
-  pub kind : kind_of play.history n ≡ Some kind.Mailbox
+  pub kind : (k : Kind) → IsObjectAt (names_of play.script) at k → kind_of play.history n ≡ Some k
 
 module _ (play : Play) (numbers : List ℕ) (queues : List (List ℕ)) (counts : List ℕ) (stands : Stands play numbers queues counts) where
-  pub mailbox_within : (at : ℕ) → IsMailboxAt (names_of play.script) at → at < length numbers
-  mailbox_within at mailbox =
-      let d = stands.named at mailbox in
+  pub object_within : (at : ℕ) → IsObject (names_of play.script) at → at < length numbers
+  object_within at object =
+      let d = stands.named at object.0 object.1 in
       omega (arith, slice_get_within play.script.declarations at d.0 d.1, stands.numbered.all)
 
-  pub mailbox_is : (at n : ℕ) → declared_count play.script ≤ length play.history → IsMailboxAt (names_of play.script) at → n ≡ get_or numbers at n → IsMailbox play at n
-  mailbox_is at n declared mailbox read =
-      let d = stands.named at mailbox in
-      let here : n ≡ how_many is_object (take at play.script.declarations) = same_Some _ _ (sym (slice_get_read numbers (length numbers) at n refl (mailbox_within at mailbox) read) ∙ stands.numbered.each at (mailbox_within at mailbox)) in
+  number_is : (at n : ℕ) → IsObject (names_of play.script) at → n ≡ get_or numbers at n → n ≡ how_many (is_object play.script) (take at play.script.declarations)
+  number_is at n object read =
+      same_Some _ _ (sym (slice_get_read numbers (length numbers) at n refl (object_within at object) read) ∙ stands.numbered.each at (object_within at object))
+
+  -- an object that was made
+  pub object_is : (at n : ℕ) → n < length play.history → IsObject (names_of play.script) at → n ≡ get_or numbers at n → IsObjectOf play at n
+  unfolding number_is
+  object_is at n made object read =
+      let here = number_is at n object read in
+      let lt : how_many (is_object play.script) (take at play.script.declarations) < length play.history = omega (arith, here, made) in
       record {
-        object = object_declared play.script play.history at d.0 declared d.1 d.2 ∙ ap Some (sym here);
-        kind = rw here (mailbox_kind play.script play.history at d.0 stands.follows stands.lawful declared d.1 d.2);
+        object = object_made play.script play.history at lt ∙ ap Some (sym here);
+        kind = λ k is.
+            let d = stands.named at k is in
+            ap (kind_of play.history) here ∙ object_kind_is play.script play.history at d.0 k stands.follows stands.lawful lt d.1 d.2;
       }
+
+  pub not_made : (at n : ℕ) → length play.history ≤ n → IsObject (names_of play.script) at → n ≡ get_or numbers at n → object_of play.script play.history at ≡ None
+  unfolding number_is
+  not_made at n unmade object read =
+      let here = number_is at n object read in
+      let test : ltb (how_many (is_object play.script) (take at play.script.declarations)) (length play.history) ≡ false = le-ltb _ _ (omega (arith, here, unmade)) in
+      rw test refl
+
+  -- a name that stands for an object has its number below those of objects that are not made
+  pub stands_made : (at n : ℕ) → IsSome (object_of play.script play.history at) → IsObject (names_of play.script) at → n ≡ get_or numbers at n → n < length play.history
+  unfolding not_made
+  stands_made at n made object read = elim (cases_lt n (length play.history)) [
+    | inl lt ↦ lt
+    | inr ge ↦ absurd (false≢true (subst IsSome (not_made at n ge object read) made))
+  ]
+
+  -- once all are made, each name stands for its object
+  pub declared_stands : (at : ℕ) → declared_count play.script ≤ length play.history → IsObject (names_of play.script) at → IsSome (object_of play.script play.history at)
+  declared_stands at declared object =
+      let d = stands.named at object.0 object.1 in
+      subst IsSome (sym (object_made play.script play.history at (declared_made play.script play.history at d.0 object.0 declared d.1 d.2))) refl
 
   pub count_is : (thread n : ℕ) → thread < 64 → n ≡ get_or counts thread n → n ≡ performed play.history (thread + 1)
   count_is thread n lt read =
@@ -203,29 +232,3 @@ performs p old new i s asked reply view e performed = (
   subst (λ (r : Play). IsStepAt r.script r.history (record { who = Seat s.seat; call = asked; reply = reply }) i) view (performed.step reply),
   refl,
 )
-
--- the object that a mailbox's name stands for, before all are made too
-pub made_kind : (play : Play) (numbers : List ℕ) (queues : List (List ℕ)) (counts : List ℕ) → Stands play numbers queues counts → (at n : ℕ) → IsMailboxAt (names_of play.script) at → n ≡ get_or numbers at n → n < length play.history → kind_of play.history n ≡ Some kind.Mailbox
-made_kind play numbers queues counts stands at n mailbox read made =
-    let d = stands.named at mailbox in
-    let within = mailbox_within play numbers queues counts stands at mailbox in
-    let here : n ≡ how_many is_object (take at play.script.declarations) = same_Some _ _ (sym (slice_get_read numbers (length numbers) at n refl within read) ∙ stands.numbered.each at within) in
-    let low = counted_below is_object play.script.declarations at d.0 d.1 d.2 in
-    (makes_declared play.script play.history stands.follows stands.lawful).each n made (omega (arith, here, low))
-
-number_is : (play : Play) (numbers : List ℕ) (queues : List (List ℕ)) (counts : List ℕ) → Stands play numbers queues counts → (at n : ℕ) → IsMailboxAt (names_of play.script) at → n ≡ get_or numbers at n → n ≡ how_many is_object (take at play.script.declarations)
-number_is play numbers queues counts stands at n mailbox read =
-    let within = mailbox_within play numbers queues counts stands at mailbox in
-    same_Some _ _ (sym (slice_get_read numbers (length numbers) at n refl within read) ∙ stands.numbered.each at within)
-
-pub is_made : (play : Play) (numbers : List ℕ) (queues : List (List ℕ)) (counts : List ℕ) → Stands play numbers queues counts → (at n : ℕ) → IsMailboxAt (names_of play.script) at → n ≡ get_or numbers at n → n < length play.history → object_of play.script play.history at ≡ Some n
-is_made play numbers queues counts stands at n mailbox read made =
-    let here = number_is play numbers queues counts stands at n mailbox read in
-    let test : ltb (how_many is_object (take at play.script.declarations)) (length play.history) ≡ true = lt-ltb _ _ (omega (arith, here)) in
-    rw test (ap Some (sym here))
-
-pub not_made : (play : Play) (numbers : List ℕ) (queues : List (List ℕ)) (counts : List ℕ) → Stands play numbers queues counts → (at n : ℕ) → IsMailboxAt (names_of play.script) at → n ≡ get_or numbers at n → length play.history ≤ n → object_of play.script play.history at ≡ None
-not_made play numbers queues counts stands at n mailbox read unmade =
-    let here = number_is play numbers queues counts stands at n mailbox read in
-    let test : ltb (how_many is_object (take at play.script.declarations)) (length play.history) ≡ false = le-ltb _ _ (omega (arith, here)) in
-    rw test refl

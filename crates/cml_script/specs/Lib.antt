@@ -2,6 +2,7 @@ pub use Rattle.cml_grammar.specs.Script
 pub use Rattle.cml_grammar.specs.Meaning
 pub use Rattle.cml_grammar.specs.Faults
 pub use Rattle.cml_board.specs.History
+pub use Rattle.cml_board.specs.Kept
 pub mod Counting
 pub mod Schedule
 pub mod Report

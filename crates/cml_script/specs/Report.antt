@@ -8,9 +8,11 @@ use Rattle.cml_board.specs.declared.entry.Who.TheVariants.{Seat, Lane, Feed}
 use Rattle.cml_board.specs.declared.entry.Reply.{Reply}
 use Rattle.cml_board.specs.declared.entry.Reply.TheVariants as reply
 use Rattle.cml_board.specs.declared.entry.Entry.{Entry}
-use Rattle.cml_board.specs.History.{sent, got, owed}
+use Rattle.cml_board.specs.Origins.{start_by}
+use Rattle.cml_board.specs.History.{origin_of, sent, got, owed, is_open}
+use Rattle.cml_board.specs.Kept.{kept_from, kept_size}
 use Rattle.cml_grammar.specs.declared.names.Named.{Named}
-use Rattle.cml_grammar.specs.declared.names.Named.TheVariants.{Thread, Mailbox}
+use Rattle.cml_grammar.specs.declared.names.Named.TheVariants.{Thread, Mailbox, Channel, Port}
 use Rattle.cml_grammar.specs.Names.{Given}
 use Rattle.cml_grammar.specs.Script.{SourceLine, Lines}
 use Rattle.cml_grammar.specs.Meaning.{names_of}
@@ -29,6 +31,7 @@ reply_word reply.Done = codes "done"
 reply_word (reply.Made name) = codes "made"
 reply_word (reply.Got message) = decimal message
 reply_word reply.Nothing = codes "none"
+reply_word reply.Closed = codes "closed"
 
 -- the step's line as it stands in the script
 abbrev pub line_text : SourceLine → List ℕ
@@ -57,6 +60,21 @@ mailbox_counts history object =
     codes ": sent " ++ decimal (length (sent history object)) ++ codes " got " ++ decimal (length (got history object))
     ++ codes " waits " ++ decimal (length (owed history object))
 
+-- a chunk holds four messages
+abbrev pub channel_counts : History → ℕ → List ℕ
+channel_counts history object =
+    codes ": sent " ++ decimal (length (sent history object)) ++ codes " kept " ++ decimal (kept_size 4 history object)
+    ++ codes " first " ++ decimal (kept_from 4 history object)
+
+abbrev pub owed_or_closed : History → ℕ → List ℕ
+owed_or_closed history object =
+    if is_open history object then codes " owed " ++ decimal (length (owed history object)) else codes " closed"
+
+abbrev pub port_counts : History → ℕ → List ℕ
+port_counts history object =
+    codes ": start " ++ decimal (start_by (origin_of history object)) ++ codes " got " ++ decimal (length (got history object))
+    ++ owed_or_closed history object
+
 abbrev pub counts_or_not_made : (ℕ → List ℕ) → Option ℕ → List ℕ
 counts_or_not_made counts None = codes ": not made"
 counts_or_not_made counts (Some object) = counts object
@@ -65,6 +83,10 @@ abbrev pub named_line : Lines → History → ℕ → List ℕ → Named → Lis
 named_line script history at name (Thread seat) = []
 named_line script history at name Mailbox =
     codes "mailbox " ++ name ++ counts_or_not_made (mailbox_counts history) (object_of script history at) ++ line_end
+named_line script history at name Channel =
+    codes "channel " ++ name ++ counts_or_not_made (channel_counts history) (object_of script history at) ++ line_end
+named_line script history at name Port =
+    codes "port " ++ name ++ counts_or_not_made (port_counts history) (object_of script history at) ++ line_end
 
 -- the line of the name at this position
 abbrev pub object_line : Lines → History → ℕ → Given → List ℕ

@@ -1,5 +1,5 @@
 -- In which order a script's calls are made. A history is a list of entries, the newest first.
-use Rattle.std.specs.Prelude.{ℕ, ◌≡◌, ◌≢◌, ◌-◌, ◌<◌, ◌≤◌, ◌==◌, ◌⊎◌, Bool, true, false, nat_lt, List, [], ◌∷◌, length, take, filter, slice_get, Option, Some, None, is_some, MatchBool, if◌then◌else◌, ⊤}
+use Rattle.std.specs.Prelude.{ℕ, ◌≡◌, ◌≢◌, ◌-◌, ◌<◌, ◌≤◌, ◌==◌, ◌⊎◌, Bool, true, false, nat_lt, List, [], ◌∷◌, length, take, filter, slice_get, Option, Some, None, MatchBool, if◌then◌else◌, ⊤}
 use Rattle.std.specs.Option.{option_map, option_map_or, option_and_then}
 use Rattle.cml_script.specs.Counting.{how_many}
 use Rattle.cml_board.specs.declared.call.Call.{Call}
@@ -22,37 +22,46 @@ History = List (Entry ℕ)
 
 -- Declarations.
 
--- the call that makes what a declaration makes; a thread is made by none
-abbrev pub making_call : Makes → Option (Call ℕ)
-making_call makes.Thread = None
-making_call makes.Mailbox = Some call.NewMailbox
+-- a declaration makes an object, or names a thread
+abbrev pub makes_object : Makes → Bool
+makes_object makes.Thread = false
+makes_object _ = true
 
-abbrev pub call_in : SourceLine → Option (Call ℕ)
-call_in line = option_and_then making_call (makes_of line.words)
-
-abbrev pub is_object : SourceLine → Bool
-is_object line = is_some (call_in line)
+abbrev pub is_object : Lines → SourceLine → Bool
+is_object script line = option_map_or makes_object (makes_of (names_of script) line.words) false
 
 -- the declarations of objects, and how many they are
 abbrev pub objects_of : Lines → List SourceLine
-objects_of script = filter is_object script.declarations
+objects_of script = filter (is_object script) script.declarations
 
 abbrev pub declared_count : Lines → ℕ
-declared_count script = how_many is_object script.declarations
+declared_count script = how_many (is_object script) script.declarations
 
 -- the object that a name stands for, by the name's position among the script's: the k-th declared object is the k-th made
 abbrev pub object_of : Lines → History → ℕ → Option ℕ
 object_of script history at =
-    let object = how_many is_object (take at script.declarations) in
+    let object = how_many (is_object script) (take at script.declarations) in
     if nat_lt object (length history) then Some object else None
+
+-- the call that makes what a declaration makes, of the objects that its names stand for
+abbrev pub making_call : (ℕ → Option ℕ) → Makes → Option (Call ℕ)
+making_call object makes.Thread = None
+making_call object makes.Mailbox = Some call.NewMailbox
+making_call object makes.Channel = Some call.NewChannel
+making_call object (makes.Port channel) = option_map (λ o. call.NewPort (record { 0 = o })) (object channel)
+
+abbrev pub call_in : Lines → History → SourceLine → Option (Call ℕ)
+call_in script history line = option_and_then (making_call (object_of script history)) (makes_of (names_of script) line.words)
 
 -- Steps.
 
 -- what a step asks of the objects that its names stand for
 abbrev pub call_of : (ℕ → Option ℕ) → Action → Option (Call ℕ)
 call_of object (action.Send at message) = option_map (λ o. call.Send (record { 0 = o }) message) (object at)
+call_of object (action.Multicast at message) = option_map (λ o. call.Cast (record { 0 = o }) message) (object at)
 call_of object (action.Recv at) = option_map (λ o. call.Recv (record { 0 = o })) (object at)
 call_of object (action.Poll at) = option_map (λ o. call.Poll (record { 0 = o })) (object at)
+call_of object (action.Close at) = option_map (λ o. call.ClosePort (record { 0 = o })) (object at)
 
 -- a step of the thread with this seat
 abbrev pub is_seated : Lines → ℕ → SourceLine → Bool
@@ -103,7 +112,7 @@ pub record IsStep (script : Lines) (before : History) (entry : Entry ℕ) : Type
 -- the entry makes the next declared object, by seat 0
 pub record IsDeclaration (script : Lines) (before : History) (entry : Entry ℕ) : Type 0 where
   pub by : entry.who ≡ Seat 0
-  pub makes : option_and_then call_in (slice_get (objects_of script) (length before)) ≡ Some entry.call
+  pub makes : option_and_then (call_in script before) (slice_get (objects_of script) (length before)) ≡ Some entry.call
 
 -- each entry is the one that comes next: the declared objects first, and then always the least step that is ready
 abbrev pub Follows : Lines → History → Type 0

@@ -1,17 +1,25 @@
 -- A script under way: what its stage shows, and what it keeps.
-use Rattle.std.specs.Prelude.{ℕ, suc, ◌≡◌, ◌+◌, ◌<◌, List, [], ◌∷◌, ◌≤◌, ◌^◌, true, length, min, take, map, slice_get, Option, Some, None, if◌then◌else◌}
+use Rattle.std.specs.Prelude.{ℕ, suc, ◌≡◌, ◌+◌, ◌<◌, List, [], ◌∷◌, ◌≤◌, ◌^◌, true, length, min, take, map, slice_get, Option, Some, None, if◌then◌else◌, ⊤}
 use Rattle.std.specs.Global.{Global}
 use Rattle.std.specs.Option.{option_and_then}
 use Rattle.cml_script.specs.Counting.{how_many}
 use Rattle.std.specs.Prelude.{Vec}
 use Rattle.cml_board.specs.declared.call.Call.{Call}
+use Rattle.cml_board.specs.declared.call.Call.TheVariants as call
 use Rattle.cml_board.specs.declared.entry.Who.TheVariants.{Seat}
 use Rattle.cml_board.specs.declared.entry.Entry.{Entry}
 use Rattle.cml_grammar.specs.Script.{SourceLine, Lines}
 use Rattle.cml_board.specs.History.{Lawful}
-use Rattle.cml_grammar.specs.Meaning.{names_of}
-use Rattle.cml_grammar.specs.Reading.{IsMailboxAt}
-use Rattle.cml_script.specs.Schedule.{objects_of, declared_count, call_in, History, is_object, is_seated, performed, Follows, IsReady}
+use Rattle.cml_grammar.specs.Meaning.{names_of, makes_of}
+use Rattle.cml_grammar.specs.Names.{Given}
+use Rattle.cml_grammar.specs.declared.names.Named.{Named}
+use Rattle.cml_grammar.specs.declared.names.Named.TheVariants as called
+use Rattle.cml_grammar.specs.declared.forms.Makes.{Makes}
+use Rattle.cml_grammar.specs.declared.forms.Makes.TheVariants as makes
+use Rattle.cml_grammar.specs.Reading.{IsChannelAt}
+use Rattle.cml_board.specs.declared.call.Kind.{Kind}
+use Rattle.cml_board.specs.declared.call.Kind.TheVariants as kind
+use Rattle.cml_script.specs.Schedule.{objects_of, object_of, declared_count, call_in, History, is_object, is_seated, performed, Follows, IsReady}
 
 -- the script, what was performed of it, newest first, and how many entries there may be
 pub record Play : Type 0 where
@@ -28,7 +36,7 @@ positions_from script seat k (line ∷ lines) =
 -- by name, how many objects are declared before it
 pub record AreNumbers (script : Lines) (numbers : List ℕ) : Type 0 where
   pub all : length numbers ≡ length script.declarations
-  pub each : (at : ℕ) → at < length numbers → slice_get numbers at ≡ Some (how_many is_object (take at script.declarations))
+  pub each : (at : ℕ) → at < length numbers → slice_get numbers at ≡ Some (how_many (is_object script) (take at script.declarations))
 
 -- by thread, the positions of its steps among these
 pub record AreQueues (script : Lines) (steps : List SourceLine) (queues : List (List ℕ)) : Type 0 where
@@ -40,9 +48,32 @@ pub record AreCounts (history : History) (counts : List ℕ) : Type 0 where
   pub seats : length counts ≡ 64
   pub each : (thread : ℕ) → thread < 64 → slice_get counts thread ≡ Some (performed history (thread + 1))
 
--- each mailbox's name is given by the declaration of an object
+-- the kind of object that a name names, and that a declaration makes
+abbrev pub kind_named : Named → Option Kind
+kind_named (called.Thread seat) = None
+kind_named called.Mailbox = Some kind.Mailbox
+kind_named called.Channel = Some kind.Channel
+kind_named called.Port = Some kind.Port
+
+abbrev pub kind_made : Makes → Option Kind
+kind_made makes.Thread = None
+kind_made makes.Mailbox = Some kind.Mailbox
+kind_made makes.Channel = Some kind.Channel
+kind_made (makes.Port channel) = Some kind.Port
+
+abbrev pub kind_declared : Lines → SourceLine → Option Kind
+kind_declared script line = option_and_then kind_made (makes_of (names_of script) line.words)
+
+-- the name at this position is an object's of this kind
+abbrev pub IsObjectAt : List Given → ℕ → Kind → Type 0
+IsObjectAt names at k = (word : List ℕ) × (n : Named) × (slice_get names at ≡ Some (word, n)) × (kind_named n ≡ Some k)
+
+abbrev pub IsObject : List Given → ℕ → Type 0
+IsObject names at = (k : Kind) × IsObjectAt names at k
+
+-- each object's name is given by the declaration of such an object
 abbrev pub NamesObjects : Lines → Type 0
-NamesObjects script = (at : ℕ) → IsMailboxAt (names_of script) at → (line : SourceLine) × (slice_get script.declarations at ≡ Some line) × (is_object line ≡ true)
+NamesObjects script = (at : ℕ) (k : Kind) → IsObjectAt (names_of script) at k → (line : SourceLine) × (slice_get script.declarations at ≡ Some line) × (kind_declared script line ≡ Some k)
 
 -- each step is a thread's, whose seat is 1 to 64
 abbrev pub HasSeats : Lines → Type 0
@@ -107,4 +138,13 @@ next_position play seat = slice_get (positions_from play.script seat 0 play.scri
 -- the call makes the next declared object
 pub record IsNextObject (play : Play) (making : Call ℕ) : Type 0 where
   pub left : length play.history < declared_count play.script
-  pub makes : option_and_then call_in (slice_get (objects_of play.script) (length play.history)) ≡ Some making
+  pub makes : option_and_then (call_in play.script play.history) (slice_get (objects_of play.script) (length play.history)) ≡ Some making
+
+-- the next object is what this declaration makes, of objects that are made
+abbrev pub IsNext : Play → Makes → Type 0
+IsNext play makes.Thread = ⊤
+IsNext play makes.Mailbox = IsNextObject play call.NewMailbox
+IsNext play makes.Channel = IsNextObject play call.NewChannel
+IsNext play (makes.Port channel) =
+    IsChannelAt (names_of play.script) channel
+    × (o : ℕ) × (object_of play.script play.history channel ≡ Some o) × IsNextObject play (call.NewPort (record { 0 = o }))

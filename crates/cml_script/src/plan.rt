@@ -1,6 +1,6 @@
 //! What is known of a script before any of it is performed.
-ghost use Rattle.std.specs.Prelude.{◌≡◌, List, [], length, All, IfOk, is_some};
-ghost use Rattle.cml_script.specs.Schedule.{making_call, declared_count};
+ghost use Rattle.std.specs.Prelude.{◌≡◌, List, [], length, All, IfOk};
+ghost use Rattle.cml_script.specs.Schedule.{makes_object, declared_count};
 ghost use Rattle.cml_script.specs.Stage.{AreNumbers, AreQueues, NamesObjects, HasSeats, items_of};
 
 use cml_grammar::{Makes, Script};
@@ -36,11 +36,11 @@ pub fn count_objects(script: &Script) -> usize
 }
 
 fn makes_object(makes: Makes) -> bool
-    ensures { result ≡ is_some (making_call makes) }
+    ensures { result ≡ makes_object makes }
 {
     match makes {
         Makes::Thread => false,
-        Makes::Mailbox => true,
+        Makes::Mailbox | Makes::Channel | Makes::Port(_) => true,
     }
 }
 

@@ -28,6 +28,7 @@ fn write_reply(report: &mut String, reply: &Reply<u64>) -> Result<(), AllocError
         Reply::Made(_) => report.push_str("made"),
         Reply::Got(message) => write!(report, "{message}"),
         Reply::Nothing => report.push_str("none"),
+        Reply::Closed => report.push_str("closed"),
     }
 }
 
@@ -58,6 +59,8 @@ fn write_object(
     match named {
         Named::Thread(_) => Ok(()),
         Named::Mailbox => write_mailbox(report, stage, at, name),
+        Named::Channel => write_channel(report, stage, at, name),
+        Named::Port => write_port(report, stage, at, name),
     }
 }
 
@@ -82,6 +85,51 @@ fn write_mailbox(
         report,
         "mailbox {name}: sent {sent} got {got} waits {waits}"
     )
+}
+
+fn write_channel(
+    report: &mut String,
+    stage: &Stage<'_>,
+    at: usize,
+    name: &str,
+) -> Result<(), AllocError>
+    requires { slice_get (names_of stage.now.script) at ≡ Some (name.now, called.Channel) }
+    ensures { OnOk result (string_bytes report.new
+        ≡ string_bytes report.old ++ named_line stage.now.script stage.now.history at name.now called.Channel) }
+{
+    let Some(object) = stage.object(at) else {
+        return writeln!(report, "channel {name}: not made");
+    };
+    let board = stage.board();
+    let sent = board.sent_count(object).unwrap();
+    let kept = board.kept_count(object).unwrap();
+    let first = board.first_of(object).unwrap();
+    writeln!(
+        report,
+        "channel {name}: sent {sent} kept {kept} first {first}"
+    )
+}
+
+fn write_port(
+    report: &mut String,
+    stage: &Stage<'_>,
+    at: usize,
+    name: &str,
+) -> Result<(), AllocError>
+    requires { slice_get (names_of stage.now.script) at ≡ Some (name.now, called.Port) }
+    ensures { OnOk result (string_bytes report.new
+        ≡ string_bytes report.old ++ named_line stage.now.script stage.now.history at name.now called.Port) }
+{
+    let Some(object) = stage.object(at) else {
+        return writeln!(report, "port {name}: not made");
+    };
+    let board = stage.board();
+    let start = board.start_of(object).unwrap();
+    let got = board.got_count(object).unwrap();
+    match board.owed_count(object) {
+        Some(owed) => writeln!(report, "port {name}: start {start} got {got} owed {owed}"),
+        None => writeln!(report, "port {name}: start {start} got {got} closed"),
+    }
 }
 
 /// Adds the last line.

@@ -1,19 +1,19 @@
 //! A script under way on a board.
-ghost use Rattle.std.specs.Prelude.{◌≡◌, ◌≢◌, ◌↔◌, ℕ, ◌+◌, ◌-◌, ◌<◌, ◌≤◌, ◌^◌, List, [], ◌∷◌, length, slice_get, Some, None, IfOk, OnErr, MatchOption, MatchBool, IsTrue, IfSome, is_some};
+ghost use Rattle.std.specs.Prelude.{◌≡◌, ◌≢◌, ◌↔◌, ℕ, ◌+◌, ◌-◌, ◌<◌, ◌≤◌, ◌^◌, List, [], ◌∷◌, length, slice_get, Some, None, IfOk, OnErr, MatchOption, MatchBool, IsTrue, IfSome, IsSome};
 ghost use Rattle.std.specs.Option.{option_map};
 ghost use Rattle.cml_board.specs.History.{Fits, Lawful, kind_of};
-ghost use Rattle.cml_board.specs.declared.call.Kind.TheVariants as kind;
+ghost use Rattle.cml_board.specs.declared.call.Kind.{Kind};
 ghost use Rattle.cml_board.specs.declared.entry.Reply.{Reply};
 ghost use Rattle.cml_board.specs.declared.entry.Entry.{Entry};
 ghost use Rattle.cml_grammar.specs.Meaning.{names_of};
-ghost use Rattle.cml_grammar.specs.Reading.{IsMailboxAt};
-ghost use Rattle.cml_script.specs.Schedule.{NoneReady, Follows, left, declared_count, making_call, object_of, step_call};
+ghost use Rattle.cml_grammar.specs.Reading.{UsesWell};
+ghost use Rattle.cml_script.specs.Schedule.{NoneReady, Follows, left, declared_count, makes_object, object_of, call_of, step_call};
 ghost use Rattle.cml_script.specs.Report.{performed_count};
 ghost use Rattle.cml_script.specs.Counting.{one_if};
-ghost use Rattle.cml_script.specs.Stage.{with_entry, IsNextObject, next_position, earlier_of, IsLeast, IsReadyOf, NoneReadyOf, IsStepAt};
+ghost use Rattle.cml_script.specs.Stage.{with_entry, IsObject, IsObjectAt, IsNextObject, IsNext, next_position, earlier_of, IsLeast, IsReadyOf, NoneReadyOf, IsStepAt};
 
 use crate::plan::{THREADS, count_objects, number_objects, queue_steps};
-use cml_board::{Answer, Board, Call, Entry, Name, Outcome, Refusal, Who};
+use cml_board::{Answer, Board, BoardLog, Call, Entry, Name, Outcome, Refusal, Who};
 use cml_grammar::{Action, Makes, Script};
 use std::alloc::{AllocError, Global};
 use std::marker::Model;
@@ -22,7 +22,7 @@ use std::marker::Model;
 #[derive(Drop)]
 pub struct Stage<'a> {
     script: &'a Script,
-    board: Board<u64>,
+    board: Board<u64, BoardLog<u64>>,
     // By name, how many objects are declared before it.
     numbers: Vec<u64>,
     // By thread, the positions of its steps in the script, and how many of them were performed.
@@ -58,9 +58,10 @@ impl<'a> Stage<'a> {
         })
     }
 
-    pub fn board(&self) -> &Board<u64>
+    pub fn board(&self) -> &Board<u64, BoardLog<u64>>
         ensures history { result.now.history ≡ self.now.history }
         ensures limit { result.now.limit ≡ self.now.limit }
+        ensures lawful { Lawful self.now.history }
     {
         &self.board
     }
@@ -105,11 +106,11 @@ impl<'a> Stage<'a> {
         self.board.journal().len() as u64 == self.board.limit()
     }
 
-    /// The mailbox that a name stands for, where it was made.
+    /// The object that a name stands for, where it was made.
     pub fn object(&self, at: usize) -> Option<Name>
-        requires { IsMailboxAt (names_of self.now.script) at }
+        requires { IsObject (names_of self.now.script) at }
         ensures object { result ≡ option_map (λ o. record { 0 = o }) (object_of self.now.script self.now.history at) }
-        ensures kind { IfSome result (λ name. kind_of self.now.history name.0 ≡ Some kind.Mailbox) }
+        ensures kind { IfSome result (λ name. (k : Kind) → IsObjectAt (names_of self.now.script) at k → kind_of self.now.history name.0 ≡ Some k) }
     {
         let object = self.numbers[at];
         if object < self.board.journal().len() as u64 {
@@ -139,16 +140,18 @@ impl<'a> Stage<'a> {
 
     /// Makes what the next declaration makes, and answers false where the journal is full.
     fn declare_next(&mut self, makes: Makes) -> Result<bool, AllocError>
-        requires { IfSome (making_call makes) (IsNextObject self.old) }
+        requires { IsNext self.old makes }
         ensures script { self.new.script ≡ self.old.script }
         ensures limit { self.new.limit ≡ self.old.limit }
         ensures made { IfOk result (λ made. MatchBool made
-            (length self.new.history ≡ length self.old.history + one_if (is_some (making_call makes)))
+            (length self.new.history ≡ length self.old.history + one_if (makes_object makes))
             ((length self.new.history ≡ self.new.limit) × (length self.new.history < declared_count self.new.script))) }
     {
         match makes {
             Makes::Thread => Ok(true),
             Makes::Mailbox => self.make(Call::NewMailbox),
+            Makes::Channel => self.make(Call::NewChannel),
+            Makes::Port(channel) => self.make(Call::NewPort(self.made_object(channel))),
         }
     }
 
@@ -213,19 +216,42 @@ impl<'a> Stage<'a> {
         ensures call { step_call self.now.script self.now.history i ≡ Some result }
         ensures fits { Fits self.now.history result }
     {
-        match self.script.steps()[i].action {
-            Action::Send(at, message) => Call::Send(self.mailbox(at), message),
-            Action::Recv(at) => Call::Recv(self.mailbox(at)),
-            Action::Poll(at) => Call::Poll(self.mailbox(at)),
+        self.call_for(self.script.steps()[i].action)
+    }
+
+    /// The call that asks for this.
+    fn call_for(&self, action: Action) -> Call<u64>
+        requires uses { UsesWell (names_of self.now.script) action }
+        requires declared { declared_count self.now.script ≤ length self.now.history }
+        ensures call { call_of (object_of self.now.script self.now.history) action ≡ Some result }
+        ensures fits { Fits self.now.history result }
+    {
+        match action {
+            Action::Send(at, message) => Call::Send(self.declared_object(at), message),
+            Action::Multicast(at, message) => Call::Cast(self.declared_object(at), message),
+            Action::Recv(at) => Call::Recv(self.declared_object(at)),
+            Action::Poll(at) => Call::Poll(self.declared_object(at)),
+            Action::Close(at) => Call::ClosePort(self.declared_object(at)),
         }
     }
 
-    /// The mailbox with this name, which is made.
-    fn mailbox(&self, at: usize) -> Name
-        requires mailbox { IsMailboxAt (names_of self.now.script) at }
+    /// The object of this name, where all declared ones are made.
+    fn declared_object(&self, at: usize) -> Name
+        requires object { IsObject (names_of self.now.script) at }
         requires declared { declared_count self.now.script ≤ length self.now.history }
         ensures object { object_of self.now.script self.now.history at ≡ Some result.0 }
-        ensures kind { kind_of self.now.history result.0 ≡ Some kind.Mailbox }
+        ensures kind { (k : Kind) → IsObjectAt (names_of self.now.script) at k → kind_of self.now.history result.0 ≡ Some k }
+    {
+        let _ = &self.counts;
+        self.made_object(at)
+    }
+
+    /// The object of this name, which is made.
+    fn made_object(&self, at: usize) -> Name
+        requires object { IsObject (names_of self.now.script) at }
+        requires made { IsSome (object_of self.now.script self.now.history at) }
+        ensures object { object_of self.now.script self.now.history at ≡ Some result.0 }
+        ensures kind { (k : Kind) → IsObjectAt (names_of self.now.script) at k → kind_of self.now.history result.0 ≡ Some k }
     {
         Name(self.numbers[at])
     }

@@ -190,8 +190,8 @@ const FAULTS: [(&str, &str, &str); 14] = [
         "script: line 6: no line end",
     ),
     (
-        "a channel, which no script has yet",
-        "cml 1\nchannel c\n",
+        "a variable, which no script has yet",
+        "cml 1\nivar i\n",
         "script: line 2: unknown line",
     ),
     (

@@ -1,5 +1,6 @@
 use Rattle.std.proofs.Common.{◌≡◌, ◌+◌, take, ap, ◌∙◌, arith, sym}
 use Rattle.std.proofs.lemmas.List.{length-take}
+use Rattle.cml_grammar.specs.Meaning.{names_of}
 use Rattle.cml_grammar.specs.Reading.{source_of, ReadsDeclaration}
 use mir.Val.{bool_byte}
 use Rattle.cml_script.specs.Counting.{how_many, one_if}
@@ -15,11 +16,11 @@ loop-declaration-preserved c =
     let d = c.declaration-item.result in
     let here = read_at items i d c.loop-declaration-test.true c.declaration-item.is in
     let line = mapped_at _ items c.args.script.now.declarations i d c.declarations-declaration-items.ensures.lines here in
-    let object = declaration_object d (all_at ReadsDeclaration items i d c.declarations-declaration-items.ensures.makes here) in
-    let counted = count_taken is_object c.args.script.now.declarations i (source_of d.line) line in
-    let one : c.from-objects.result ≡ one_if (is_object (source_of d.line)) = c.from-objects.ensures ∙ ap bool_byte (c.makes_object.ensures ∙ sym object) ∙ byte_one (is_object (source_of d.line)) in
-    let objects : c.loop-declaration.objects + c.from-objects.result ≡ how_many is_object (take (i + 1) c.args.script.now.declarations) = omega (arith, counted, c.loop-declaration.invariant.objects, one) in
+    let object = declaration_object c.args.script.now d (all_at (ReadsDeclaration (names_of c.args.script.now)) items i d c.declarations-declaration-items.ensures.makes here) in
+    let counted = count_taken (is_object c.args.script.now) c.args.script.now.declarations i (source_of d.line) line in
+    let one : c.from-objects.result ≡ one_if (is_object c.args.script.now (source_of d.line)) = c.from-objects.ensures ∙ ap bool_byte (c.makes_object.ensures ∙ sym object) ∙ byte_one (is_object c.args.script.now (source_of d.line)) in
+    let objects : c.loop-declaration.objects + c.from-objects.result ≡ how_many (is_object c.args.script.now) (take (i + 1) c.args.script.now.declarations) = omega (arith, counted, c.loop-declaration.invariant.objects, one) in
     record {
       objects = objects;
-      few = omega (arith, objects, how_many-le is_object (take (i + 1) c.args.script.now.declarations), length-take (i + 1) c.args.script.now.declarations);
+      few = omega (arith, objects, how_many-le (is_object c.args.script.now) (take (i + 1) c.args.script.now.declarations), length-take (i + 1) c.args.script.now.declarations);
     }

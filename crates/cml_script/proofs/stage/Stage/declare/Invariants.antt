@@ -7,5 +7,5 @@ abbrev pub invariant-loop-declaration : goal.invariant-loop-declaration
 invariant-loop-declaration l = record {
   script : l.self.script ≡ l.fn.self.script;
   limit : l.self.limit ≡ l.fn.self.limit;
-  made : length l.self.history ≡ how_many is_object (take l.declaration-index l.self.script.declarations);
+  made : length l.self.history ≡ how_many (is_object l.self.script) (take l.declaration-index l.self.script.declarations);
 }

@@ -1,0 +1,32 @@
+-- What a board's readers tell of an object of a known kind.
+use Rattle.std.proofs.Common.{◌≡◌, ℕ, Bool, true, false, ◌&&◌, Option, Some, None, IsSome, refl, ap, ◌∙◌}
+use Rattle.std.specs.Option.{option_map, option_map_or}
+use Rattle.std.proofs.lemmas.Option.{none-some, same_Some}
+use Rattle.cml_board.specs.declared.call.Kind.{Kind}
+use Rattle.cml_board.specs.declared.call.Kind.TheVariants as kind
+use Rattle.cml_board.specs.Origins.{Origin, mailbox, channel, port, kind_by}
+use Rattle.cml_board.specs.Counts.{only_if, start_in}
+use Rattle.cml_board.specs.History.{Lawful, kind_of, is_open}
+use Rattle.cml_board.proofs.Closing.{mailbox_open}
+use Rattle.cml_script.specs.Schedule.{History}
+
+-- an object of the right kind has the number
+pub some_count : (test : Kind → Bool) (o : Option Kind) (k : Kind) (n : ℕ) (r : Option ℕ) → r ≡ only_if (option_map_or test o false) n → o ≡ Some k → test k ≡ true → IsSome r
+some_count test o k n r told is passes = rw (told, is, passes) refl
+
+-- and an open one has what it is owed
+pub some_owed : (test : Kind → Bool) (o : Option Kind) (k : Kind) (opened : Bool) (n : ℕ) (r : Option ℕ) → r ≡ only_if (option_map_or test o false && opened) n → o ≡ Some k → test k ≡ true → opened ≡ true → IsSome r
+some_owed test o k opened n r told is passes e = rw (told, is, passes, e) refl
+
+pub some_start : (o : Option Origin) (r : Option ℕ) → r ≡ start_in o → option_map kind_by o ≡ Some kind.Port → IsSome r
+some_start None r told is = absurd (none-some kind.Port is)
+some_start (Some mailbox) r told is = absurd (let clash : kind.Mailbox ≡ kind.Port = same_Some _ _ is in cc)
+some_start (Some channel) r told is = absurd (let clash : kind.Channel ≡ kind.Port = same_Some _ _ is in cc)
+some_start (Some (port source start)) r told is = rw told refl
+
+-- the kind of an object of a board that shows this history
+pub kind_there : (a b : History) (name : ℕ) (k : Kind) → a ≡ b → kind_of b name ≡ Some k → kind_of a name ≡ Some k
+kind_there a b name k same is = ap (λ h. kind_of h name) same ∙ is
+
+pub open_there : (a b : History) (name : ℕ) → a ≡ b → Lawful b → kind_of b name ≡ Some kind.Mailbox → is_open a name ≡ true
+open_there a b name same lawful is = ap (λ h. is_open h name) same ∙ mailbox_open b name lawful is

@@ -1,0 +1,63 @@
+-- Names that stand for an object of a kind, and the calls that it takes.
+use Rattle.std.proofs.Common.{◌≡◌, ℕ, true, inl, inr, List, map, slice_get, Some, refl, ap, ◌∙◌}
+use Rattle.std.specs.Prelude.{All}
+use Rattle.std.specs.Option.{option_and_then}
+use Rattle.cml_board.specs.declared.call.Name.{Name}
+use Rattle.cml_board.specs.declared.call.Kind.{Kind}
+use Rattle.cml_board.specs.declared.call.Kind.TheVariants as kind
+use Rattle.cml_board.specs.declared.call.Call.{Call}
+use Rattle.cml_board.specs.Objects.{object_in, takes}
+use Rattle.cml_board.specs.History.{Fits, kind_of}
+use Rattle.cml_grammar.specs.declared.names.Named.TheVariants as called
+use Rattle.cml_grammar.specs.declared.script.Step.{Step}
+use Rattle.cml_grammar.specs.Names.{Given}
+use Rattle.cml_grammar.specs.Meaning.{names_of, action_of}
+use Rattle.cml_grammar.specs.Script.{Lines}
+use Rattle.cml_grammar.specs.Reading.{IsMailboxAt, IsChannelAt, IsPortAt, IsReceiverAt, source_of, ReadsStep}
+use Rattle.cml_script.specs.Schedule.{History, call_of, object_of, step_call}
+use Rattle.cml_script.specs.Stage.{IsObject, IsObjectAt}
+use Rattle.cml_script.proofs.ListLemmas.{mapped_at}
+use Rattle.cml_script.proofs.LineLemmas.{all_at}
+
+module _ (names : List Given) (at : ℕ) where
+  pub mailbox_at : IsMailboxAt names at → IsObjectAt names at kind.Mailbox
+  mailbox_at (word, found) = (word, called.Mailbox, found, refl)
+
+  pub channel_at : IsChannelAt names at → IsObjectAt names at kind.Channel
+  channel_at (word, found) = (word, called.Channel, found, refl)
+
+  pub port_at : IsPortAt names at → IsObjectAt names at kind.Port
+  port_at (word, found) = (word, called.Port, found, refl)
+
+  pub mailbox_object : IsMailboxAt names at → IsObject names at
+  mailbox_object (word, found) = (kind.Mailbox, (word, called.Mailbox, found, refl))
+
+  pub channel_object : IsChannelAt names at → IsObject names at
+  channel_object (word, found) = (kind.Channel, (word, called.Channel, found, refl))
+
+  pub port_object : IsPortAt names at → IsObject names at
+  port_object (word, found) = (kind.Port, (word, called.Port, found, refl))
+
+  pub receiver_object : IsReceiverAt names at → IsObject names at
+  receiver_object (inl (word, found)) = (kind.Mailbox, (word, called.Mailbox, found, refl))
+  receiver_object (inr (word, found)) = (kind.Port, (word, called.Port, found, refl))
+
+-- a call on an object of a kind that takes it
+pub fits_kind : (history : History) (name : Name) (k : Kind) (c : Call ℕ) → kind_of history name.0 ≡ Some k → object_in c ≡ Some name → takes k c ≡ true → Fits history c
+fits_kind history name k c is on taken = rw (on, is) (refl, taken)
+
+-- a receive or a poll on a mailbox or a port
+pub fits_receiver : (names : List Given) (at : ℕ) (history : History) (name : Name) (c : Call ℕ) → IsReceiverAt names at → ((k : Kind) → IsObjectAt names at k → kind_of history name.0 ≡ Some k)
+    → object_in c ≡ Some name → takes kind.Mailbox c ≡ true → takes kind.Port c ≡ true → Fits history c
+fits_receiver names at history name c (inl (word, found)) kinds on by_mailbox by_port =
+    fits_kind history name kind.Mailbox c (kinds kind.Mailbox (word, called.Mailbox, found, refl)) on by_mailbox
+fits_receiver names at history name c (inr (word, found)) kinds on by_mailbox by_port =
+    fits_kind history name kind.Port c (kinds kind.Port (word, called.Port, found, refl)) on by_port
+
+-- the call of a step is what it was read as
+pub step_calls : (script : Lines) (history : History) (items : List Step) (i : ℕ) (s : Step) (c : Call ℕ) → map (λ x. source_of x.line) items ≡ script.steps → All (ReadsStep (names_of script)) items → slice_get items i ≡ Some s
+    → call_of (object_of script history) s.action ≡ Some c → step_call script history i ≡ Some c
+step_calls script history items i s c lines reads found calls =
+    ap (option_and_then (λ line. option_and_then (call_of (object_of script history)) (action_of (names_of script) line.words))) (mapped_at (λ x. source_of x.line) items script.steps i s lines found)
+    ∙ ap (option_and_then (call_of (object_of script history))) (all_at (ReadsStep (names_of script)) items i s reads found).action
+    ∙ calls

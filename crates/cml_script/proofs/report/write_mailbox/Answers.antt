@@ -1,0 +1,20 @@
+use Rattle.std.proofs.Common.{refl}
+use Rattle.cml_board.specs.declared.call.Kind.TheVariants as kind
+use Rattle.cml_board.specs.Objects.{is_source, is_receiver}
+use Rattle.cml_grammar.specs.Meaning.{names_of}
+use Rattle.cml_script.proofs.FitLemmas.{mailbox_at}
+use Rattle.cml_script.proofs.CountLemmas.{some_count, some_owed, kind_there, open_there}
+use Rattle.cml_script.proofs.report.write_mailbox.Goals as goal
+
+pub unwrap-sent-requires : goal.unwrap-sent-requires
+unwrap-sent-requires c = some_count is_source _ kind.Mailbox _ c.sent_count.result c.sent_count.ensures (kind_there _ _ c.in-Some.object.0 kind.Mailbox c.board-board.ensures.history (c.in-Some.ensures.kind kind.Mailbox (mailbox_at (names_of c.args.stage.now.script) c.args.at (_, c.requires)))) refl
+
+pub unwrap-got-requires : goal.unwrap-got-requires
+unwrap-got-requires c = some_count is_receiver _ kind.Mailbox _ c.got_count.result c.got_count.ensures (kind_there _ _ c.in-Some.object.0 kind.Mailbox c.board-board.ensures.history (c.in-Some.ensures.kind kind.Mailbox (mailbox_at (names_of c.args.stage.now.script) c.args.at (_, c.requires)))) refl
+
+pub unwrap-waits-requires : goal.unwrap-waits-requires
+unwrap-waits-requires c =
+    let is = c.in-Some.ensures.kind kind.Mailbox (mailbox_at (names_of c.args.stage.now.script) c.args.at (_, c.requires)) in
+    some_owed is_receiver _ kind.Mailbox _ _ c.owed_count.result c.owed_count.ensures
+    (kind_there _ _ c.in-Some.object.0 kind.Mailbox c.board-board.ensures.history is) refl
+    (open_there _ _ c.in-Some.object.0 c.board-board.ensures.history c.board-board.ensures.lawful is)

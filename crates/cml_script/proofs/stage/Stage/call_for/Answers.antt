@@ -1,0 +1,37 @@
+use Rattle.std.proofs.Common.{refl, subst}
+use Rattle.cml_board.specs.declared.call.Call.TheVariants as call
+use Rattle.cml_board.specs.declared.call.Kind.TheVariants as kind
+use Rattle.cml_grammar.specs.Meaning.{names_of}
+use Rattle.cml_grammar.specs.Reading.{UsesWell}
+use Rattle.cml_script.proofs.FitLemmas.{fits_kind, fits_receiver, mailbox_at, channel_at, port_at}
+use Rattle.cml_script.proofs.stage.Stage.call_for.Goals as goal
+
+pub returns-in-Send-clause-fits : goal.returns-in-Send-clause-fits
+returns-in-Send-clause-fits c =
+    let names = names_of c.args.self.now.script in
+    let uses = subst (UsesWell names) c.in-Send.is c.requires.uses in
+    fits_kind c.args.self.now.history c.declared_object.result kind.Mailbox (call.Send c.declared_object.result c.in-Send.message) (c.declared_object.ensures.kind kind.Mailbox (mailbox_at names c.in-Send.at uses.0)) refl refl
+
+pub returns-in-Multicast-clause-fits : goal.returns-in-Multicast-clause-fits
+returns-in-Multicast-clause-fits c =
+    let names = names_of c.args.self.now.script in
+    let uses = subst (UsesWell names) c.in-Multicast.is c.requires.uses in
+    fits_kind c.args.self.now.history c.declared_object-in-Multicast.result kind.Channel (call.Cast c.declared_object-in-Multicast.result c.in-Multicast.message) (c.declared_object-in-Multicast.ensures.kind kind.Channel (channel_at names c.in-Multicast.at uses.0)) refl refl
+
+pub returns-in-Recv-clause-fits : goal.returns-in-Recv-clause-fits
+returns-in-Recv-clause-fits c =
+    let names = names_of c.args.self.now.script in
+    let uses = subst (UsesWell names) c.in-Recv.is c.requires.uses in
+    fits_receiver names c.in-Recv.at c.args.self.now.history c.declared_object-in-Recv.result (call.Recv c.declared_object-in-Recv.result) uses c.declared_object-in-Recv.ensures.kind refl refl refl
+
+pub returns-in-Poll-clause-fits : goal.returns-in-Poll-clause-fits
+returns-in-Poll-clause-fits c =
+    let names = names_of c.args.self.now.script in
+    let uses = subst (UsesWell names) c.in-Poll.is c.requires.uses in
+    fits_receiver names c.in-Poll.at c.args.self.now.history c.declared_object-in-Poll.result (call.Poll c.declared_object-in-Poll.result) uses c.declared_object-in-Poll.ensures.kind refl refl refl
+
+pub returns-in-Close-clause-fits : goal.returns-in-Close-clause-fits
+returns-in-Close-clause-fits c =
+    let names = names_of c.args.self.now.script in
+    let uses = subst (UsesWell names) c.in-Close.is c.requires.uses in
+    fits_kind c.args.self.now.history c.declared_object-in-Close.result kind.Port (call.ClosePort c.declared_object-in-Close.result) (c.declared_object-in-Close.ensures.kind kind.Port (port_at names c.in-Close.at uses)) refl refl
