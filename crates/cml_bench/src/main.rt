@@ -1,0 +1,184 @@
+//! `cml_bench [N]`: with a number it tells how long a board's calls take, each workload done N times; without, what
+//! each came to when it was done a few times.
+#![tactic(auto)]
+
+use cml_board::{Board, BoardLog, Call, Name, Outcome, Reply, Who};
+use std::alloc::Global;
+use std::process::ExitCode;
+use std::time::{Duration, Instant};
+use std::{env, io};
+
+const SEAT: Who = Who::Seat(0);
+
+/// What all calls but those that make the object are made on.
+const OBJECT: Name = Name(0);
+
+const PORTS: u64 = 8;
+
+const FEW: u64 = 100;
+
+/// So many multicasts, each with its receives, are within a journal's limit.
+const MOST: u64 = 400_000_000;
+
+const LIMIT: u64 = 4_294_967_296;
+
+/// What the program's words ask for.
+enum Order {
+    Sums,
+    Times(u64),
+    Usage,
+}
+
+#[derive(Clone, Copy)]
+enum Workload {
+    Pairs,
+    Burst,
+    Cast,
+}
+
+/// A workload under way: its board, and a sum over the messages that were received, which their order changes.
+#[derive(Drop)]
+struct Run {
+    board: Board<u64, BoardLog<u64>>,
+    sum: u64,
+}
+
+fn main(rt: HostRuntime) -> io::Result<ExitCode> {
+    match asked(&rt)? {
+        Order::Sums => print_sums(&rt)?,
+        Order::Times(count) => print_times(&rt, count)?,
+        Order::Usage => {
+            eprintln!(rt; "usage: cml_bench [N], N from 1 to {MOST}")?;
+            return Ok(ExitCode::from(2));
+        }
+    }
+    Ok(ExitCode::SUCCESS)
+}
+
+fn asked(rt: &HostRuntime) -> io::Result<Order> {
+    let words = env::args(rt)?.collect::<Vec<String>>(rt.alloc())?;
+    Ok(match words.as_slice() {
+        [] | [_] => Order::Sums,
+        [_, word] => match word.parse::<u64>() {
+            Ok(count) if 1 <= count && count <= MOST => Order::Times(count),
+            _ => Order::Usage,
+        },
+        _ => Order::Usage,
+    })
+}
+
+fn print_sums(rt: &HostRuntime) -> io::Result<()> {
+    for workload in [Workload::Pairs, Workload::Burst, Workload::Cast] {
+        let mut run = Run::new(rt.alloc())?;
+        run.perform(workload, FEW)?;
+        println!(rt; "{} {}", workload.name(), run.sum)?;
+    }
+    Ok(())
+}
+
+fn print_times(rt: &HostRuntime, count: u64) -> io::Result<()> {
+    for workload in [Workload::Pairs, Workload::Burst, Workload::Cast] {
+        let mut run = Run::new(rt.alloc())?;
+        let start = Instant::now(rt)?;
+        run.perform(workload, count)?;
+        let tenths = tenths_per_call(start.elapsed(rt)?, run.board.journal().len());
+        let name = workload.name();
+        println!(rt; "{name} seryugo_board {}.{}", tenths / 10, tenths % 10)?;
+    }
+    Ok(())
+}
+
+/// Tenths of a nanosecond that each of so many calls took.
+fn tenths_per_call(time: Duration, calls: usize) -> u128 {
+    let tenths = time.as_nanos().saturating_mul(10);
+    tenths.checked_div(calls as u128).unwrap_or(0)
+}
+
+impl Workload {
+    fn name(self) -> &'static str {
+        match self {
+            Workload::Pairs => "pairs1",
+            Workload::Burst => "burst1",
+            Workload::Cast => "cast8",
+        }
+    }
+}
+
+impl Run {
+    fn new(alloc: Global) -> io::Result<Run> {
+        let board = Board::new(alloc, LIMIT)?;
+        Ok(Run { board, sum: 0 })
+    }
+
+    fn perform(&mut self, workload: Workload, count: u64) -> io::Result<()> {
+        match workload {
+            Workload::Pairs => self.pairs(count),
+            Workload::Burst => self.burst(count),
+            Workload::Cast => self.cast(count),
+        }
+    }
+
+    /// One mailbox: a send and a receive in turn.
+    fn pairs(&mut self, count: u64) -> io::Result<()> {
+        self.make(Call::NewMailbox)?;
+        for message in 0..count {
+            self.make(Call::Send(OBJECT, message))?;
+            self.make(Call::Recv(OBJECT))?;
+        }
+        Ok(())
+    }
+
+    /// One mailbox: all sends, and then all receives.
+    fn burst(&mut self, count: u64) -> io::Result<()> {
+        self.make(Call::NewMailbox)?;
+        for message in 0..count {
+            self.make(Call::Send(OBJECT, message))?;
+        }
+        self.receive_all(count)
+    }
+
+    fn receive_all(&mut self, count: u64) -> io::Result<()> {
+        for _ in 0..count {
+            self.make(Call::Recv(OBJECT))?;
+        }
+        Ok(())
+    }
+
+    /// One channel with eight ports: a multicast, and then a receive of each port.
+    fn cast(&mut self, count: u64) -> io::Result<()> {
+        self.make(Call::NewChannel)?;
+        for _ in 0..PORTS {
+            self.make(Call::NewPort(OBJECT))?;
+        }
+        self.cast_on(count)
+    }
+
+    fn cast_on(&mut self, count: u64) -> io::Result<()> {
+        for message in 0..count {
+            self.make(Call::Cast(OBJECT, message))?;
+            self.receive_by_each()?;
+        }
+        Ok(())
+    }
+
+    fn receive_by_each(&mut self) -> io::Result<()> {
+        for port in 1..=PORTS {
+            self.make(Call::Recv(Name(port)))?;
+        }
+        Ok(())
+    }
+
+    /// Makes a call that is to be answered.
+    fn make(&mut self, call: Call<u64>) -> io::Result<()> {
+        match self.board.apply(SEAT, call) {
+            Outcome::Answered(answer) => {
+                if let Reply::Got(message) = answer.reply() {
+                    self.sum = self.sum.wrapping_mul(31).wrapping_add(*message);
+                }
+                Ok(())
+            }
+            Outcome::WouldWait(_) => Err(io::ErrorKind::WouldBlock.into()),
+            Outcome::Refused(_, _) => Err(io::ErrorKind::OutOfMemory.into()),
+        }
+    }
+}
