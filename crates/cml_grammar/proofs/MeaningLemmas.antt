@@ -1,19 +1,17 @@
 -- What the words of a line mean where each suits its place.
-use Rattle.std.proofs.Common.{◌≡◌, ℕ, true, List, [], ◌∷◌, map, length, slice_get, get_or, Option, Some, is_some, refl, sym, ap, ◌∙◌, subst, Bor, inl, inr, true≢false, arith}
+use Rattle.std.proofs.Common.{◌≡◌, ℕ, true, List, [], ◌∷◌, map, length, slice_get, get_or, Option, Some, refl, sym, ap, ◌∙◌, subst, Bor, inl, inr, true≢false, arith}
 use Rattle.std.specs.Str.Parse.{digits_value}
 use Rattle.std.specs.Option.{option_map}
 use Rattle.std.specs.List.{find, zip}
 use Rattle.std.proofs.lemmas.Option.{same_Some}
 use Rattle.cml_grammar.specs.declared.names.Named.{Named}
 use Rattle.cml_grammar.specs.declared.names.Named.TheVariants as called
-use Rattle.cml_grammar.specs.declared.forms.Declares.{Declares}
-use Rattle.cml_grammar.specs.declared.forms.Declares.TheVariants as declares
 use Rattle.cml_grammar.specs.declared.forms.Verb.TheVariants as verb
 use Rattle.cml_grammar.specs.declared.forms.Place.{Place}
 use Rattle.cml_grammar.specs.declared.forms.Place.TheVariants.{Fresh, Mailbox, Channel, Port, Receiver, Number}
 use Rattle.cml_grammar.specs.declared.forms.Action.TheVariants as action
 use Rattle.cml_grammar.specs.Names.{Given, is_number, position_of}
-use Rattle.cml_grammar.specs.Forms.{declared_places, suits, is_fresh, fresh_word}
+use Rattle.cml_grammar.specs.Forms.{suits, is_fresh, fresh_word}
 use Rattle.cml_grammar.specs.Meaning.{action_by}
 use Rattle.cml_grammar.specs.Reading.{IsPortAt, IsReceiverAt}
 use Rattle.cml_grammar.specs.Suiting.{IsSuitedAt, IsUsed, AllSuit}
@@ -78,21 +76,7 @@ module _ (names : List Given) (object : List ℕ) (words : Words) (at message : 
       by (w ∷ []) e = let same : digits_value 10 w.now ≡ message = cc in ap (option_map (λ i. action.Multicast i (digits_value 10 w.now))) found ∙ ap (λ m. Some (action.Multicast at m)) same
       by (v ∷ w ∷ ws) e = absurd (let f = ap length e in omega (arith, f))
 
--- ---- the name that a declaration gives
-pub some_name : (names : List Given) (what : Declares) (rest : List (List ℕ)) → AllSuit names (declared_places what) rest → is_some (fresh_word (declared_places what) rest) ≡ true
-some_name names what [] h = by what h
-  where
-    by : (d : Declares) → AllSuit names (declared_places d) [] → is_some (fresh_word (declared_places d) []) ≡ true
-    by declares.Mailbox t = absurd t
-    by declares.Channel t = absurd t
-    by declares.Port t = absurd t
-    by declares.Thread t = absurd t
-some_name names declares.Mailbox (w ∷ ws) h = refl
-some_name names declares.Channel (w ∷ ws) h = refl
-some_name names declares.Port (w ∷ []) h = absurd h.1
-some_name names declares.Port (v ∷ w ∷ ws) h = refl
-some_name names declares.Thread (w ∷ ws) h = refl
-
+-- ---- the word that stands where a name is given
 fresh_word-bytes : (places : List Place) (words : Words) → option_map (λ p. p.1.now) (find (λ p. is_fresh p.0) (zip places words)) ≡ fresh_word places (bytes words)
 fresh_word-bytes [] words = refl
 fresh_word-bytes (place ∷ places) [] = refl
