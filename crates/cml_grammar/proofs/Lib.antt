@@ -1,5 +1,4 @@
 pub mod ClosingLemmas
-pub mod GivingLemmas
 pub mod GrowingLemmas
 pub mod KeepingLemmas
 pub mod ListLemmas
