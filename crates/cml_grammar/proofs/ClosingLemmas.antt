@@ -1,5 +1,6 @@
 -- The same, in the words of the code: what was inserted and pushed, and the value that was seen before.
-use Rattle.std.proofs.Common.{◌≡◌, ℕ, ◌+◌, List, [], ◌∷◌, ◌++◌, length, Some, None, String, string_bytes, sym, ap, ◌∙◌, subst}
+use Rattle.std.proofs.Common.{◌≡◌, ℕ, ◌+◌, List, [], ◌∷◌, ◌++◌, length, Some, None, String, string_bytes, sym, ap, ◌∙◌, subst, Option}
+use Rattle.std.proofs.lemmas.List.{append-nil}
 use Rattle.std.proofs.Common.{false}
 use Rattle.std.specs.Global.{Global}
 use Rattle.std.specs.String.{string_eq}
@@ -7,6 +8,8 @@ use Rattle.std.specs.declared.hash.FoldHasher.{FoldHasher}
 use Rattle.std.specs.declared.hash.BuildHasherDefault.{BuildHasherDefault}
 use Rattle.indexmap.specs.IndexMap.{IndexMap, insert_entry}
 use Rattle.cml_grammar.specs.declared.names.Named.{Named}
+use Rattle.cml_grammar.specs.declared.names.Named.TheVariants as called
+use Rattle.cml_grammar.specs.declared.names.Users.TheVariants as users
 use Rattle.cml_grammar.specs.declared.forms.Declares.{Declares}
 use Rattle.cml_grammar.specs.declared.forms.Verb.{Verb}
 use Rattle.cml_grammar.specs.declared.script.Declaration.{Declaration}
@@ -14,7 +17,7 @@ use Rattle.cml_grammar.specs.declared.script.Step.{Step}
 use Rattle.cml_grammar.specs.Words.{words_of}
 use Rattle.cml_grammar.specs.Names.{Given, is_given}
 use Rattle.cml_grammar.specs.Forms.{declaration, step, form_of, declared_places, step_places, fresh_word, named_by}
-use Rattle.cml_grammar.specs.Faults.{fault_in_words, after_words}
+use Rattle.cml_grammar.specs.Faults.{fault_in_words, after_words, given_as}
 use Rattle.cml_grammar.specs.Script.{Lines}
 use Rattle.cml_grammar.specs.Meaning.{scope_of, names_of, makes_by, action_by}
 use Rattle.cml_grammar.specs.Reading.{view_of, texts_of, UsesWell, IsMadeWell, IsReadSoFar, threads_by}
@@ -87,13 +90,13 @@ pub asked_suits : (now : Lines) (words : List (List ℕ)) (seat : ℕ) (verb : V
 asked_suits now words seat verb rest fits form =
     all_suit-passes (scope_of now) (step seat verb rest) (subst (Passes (scope_of now)) form (words_pass (scope_of now) words fits).1)
 
-module _ (v : ℕ) (now : Lines) (es : List (String Global × Named)) (ds : List Declaration) (ss ss' : List Step) (threads : ℕ)
+module _ (v : ℕ) (now : Lines) (m : Names) (ds : List Declaration) (ss ss' : List Step) (threads : ℕ)
     (s : Step) (verb : Verb) (rest : List (List ℕ))
     (seen : view_of v ds ss ≡ now)
-    (so_far : IsReadSoFar (view_of v ds ss) es ds ss threads)
+    (so_far : IsReadSoFar (view_of v ds ss) m.entries ds ss threads)
     (read : Asked now s verb rest)
-    (action : action_by (texts_of es) verb rest ≡ Some s.action)
-    (uses : UsesWell (texts_of es) s.action)
+    (action : action_by (texts_of m.entries) verb rest ≡ Some s.action)
+    (uses : UsesWell (texts_of m.entries) s.action)
     (pushed : ss' ≡ ss ++ s ∷ []) where
   before_step : Asked (view_of v ds ss) s verb rest
   before_step = subst (λ (x : Lines). Asked x s verb rest) (sym seen) read
@@ -101,13 +104,29 @@ module _ (v : ℕ) (now : Lines) (es : List (String Global × Named)) (ds : List
   means : action_by (names_of (view_of v ds ss)) verb rest ≡ Some s.action
   means = ap (λ gs. action_by gs verb rest) (sym so_far.names) ∙ action
 
-  pub asked_closes : IsReadSoFar (view_of v ds ss') es ds ss' threads
-  asked_closes =
-      subst (λ (xs : List Step). IsReadSoFar (view_of v ds xs) es ds xs threads) (sym pushed)
-      (asked_so_far v es ds ss threads s verb rest so_far before_step.fits before_step.form means (subst (λ gs. UsesWell gs s.action) so_far.names uses))
+  uses_well : UsesWell (names_of (view_of v ds ss)) s.action
+  uses_well = subst (λ gs. UsesWell gs s.action) so_far.names uses
+
+  closes : (es' : List (String Global × Named)) → texts_of es' ≡ texts_of m.entries ++ given_as (called.Port (users.One s.seat)) (fresh_word (step_places verb) rest) → IsReadSoFar (view_of v ds ss') es' ds ss' threads
+  closes es' entries =
+      subst (λ (xs : List Step). IsReadSoFar (view_of v ds xs) es' ds xs threads) (sym pushed)
+      (asked_so_far v m.entries ds ss threads s verb rest so_far before_step.fits before_step.form means uses_well es' entries)
+
+  -- a step that gives no name, and one that does
+  pub asked_closes : fresh_word (step_places verb) rest ≡ None → IsReadSoFar (view_of v ds ss') m.entries ds ss' threads
+  asked_closes none = closes m.entries (sym (ap (λ (o : Option (List ℕ)). texts_of m.entries ++ given_as (called.Port (users.One s.seat)) o) none ∙ append-nil (texts_of m.entries)))
+
+  pub giving_closes : (name : List ℕ) → fresh_word (step_places verb) rest ≡ Some name → (es' : List (String Global × Named)) (key : String Global)
+      → string_bytes key ≡ name → es' ≡ insert_entry string_eq m.entries key (called.Port (users.One s.seat)) → IsReadSoFar (view_of v ds ss') es' ds ss' threads
+  giving_closes name there es' key same inserted =
+      let free : is_given (texts_of m.entries) name ≡ false = ap (λ gs. is_given gs name) so_far.names ∙ fresh_is_new (names_of (view_of v ds ss)) (step_places verb) rest name (asked_suits (view_of v ds ss) (words_of (string_bytes s.line.text)) s.seat verb rest before_step.fits before_step.form) there in
+      closes es' (
+      ap texts_of inserted
+      ∙ inserted_texts m key (called.Port (users.One s.seat)) name same free
+      ∙ sym (ap (λ (o : Option (List ℕ)). texts_of m.entries ++ given_as (called.Port (users.One s.seat)) o) there))
 
   pub asked_scopes : scope_of (view_of v ds ss') ≡ after_words (scope_of now) (words_of (string_bytes s.line.text))
   asked_scopes =
       ap (λ (xs : List Step). scope_of (view_of v ds xs)) pushed
-      ∙ asked_scope v es ds ss threads s verb rest so_far before_step.fits before_step.form means (subst (λ gs. UsesWell gs s.action) so_far.names uses)
+      ∙ asked_scope v m.entries ds ss threads s verb rest so_far before_step.fits before_step.form means uses_well
       ∙ ap (λ (x : Lines). after_words (scope_of x) (words_of (string_bytes s.line.text))) seen

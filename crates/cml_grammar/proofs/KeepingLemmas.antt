@@ -1,29 +1,37 @@
 -- What holds of the lines so far holds with one more declaration, and with one more step.
-use Rattle.std.proofs.Common.{◌≡◌, ℕ, ◌+◌, ◌≤◌, ◌==◌, Bool, true, false, not, ◌&&◌, ◌||◌, List, [], ◌∷◌, ◌++◌, length, map, slice_get, nat_le, Option, Some, None, String, string_bytes, All, refl, sym, ap, ◌∙◌, subst, arith, inl, inr, ◌⊎◌}
+use Rattle.std.proofs.Common.{◌≡◌, ℕ, ◌+◌, ◌≤◌, ◌==◌, Bool, true, false, not, ◌&&◌, ◌||◌, List, [], ◌∷◌, ◌++◌, length, map, slice_get, nat_le, Option, Some, None, String, string_bytes, All, refl, sym, ap, ◌∙◌, subst, arith, inl, inr, ◌⊎◌, ◌<◌, count_by, cond, is_some}
 use Rattle.std.specs.Global.{Global}
 use Rattle.std.specs.Option.{option_map_or, option_and_then, option_map}
-use Rattle.std.proofs.lemmas.Bool.{or_right, leb-false, ne_eqb}
-use Rattle.std.proofs.lemmas.List.{append-nil, length-append, length-map}
+use Rattle.std.proofs.lemmas.Bool.{or_right, or_parts, leb-false, ne_eqb, not-false, eqb-true}
+use Rattle.std.proofs.lemmas.List.{append-nil, length-append, length-map, map-append}
 use Rattle.std.proofs.lemmas.List.Sums.{sum_by_push}
 use Rattle.std.proofs.lemmas.List.Elements.{All-nil, All-push, All-weaker, All-get_or}
 use Rattle.std.proofs.lemmas.Option.{none-some, same_Some, slice_get_within, get_or_from_slice_get, option_and_then_some}
 use Rattle.cml_grammar.specs.declared.names.Named.{Named}
 use Rattle.cml_grammar.specs.declared.names.Named.TheVariants as called
+use Rattle.cml_grammar.specs.declared.names.Users.{Users}
+use Rattle.cml_grammar.specs.declared.names.Users.TheVariants as users
 use Rattle.cml_grammar.specs.declared.forms.Declares.{Declares}
 use Rattle.cml_grammar.specs.declared.forms.Declares.TheVariants as declares
 use Rattle.cml_grammar.specs.declared.forms.Verb.{Verb}
+use Rattle.cml_grammar.specs.declared.forms.Verb.TheVariants as verb
+use Rattle.cml_grammar.specs.declared.forms.Action.{Action}
+use Rattle.cml_grammar.specs.declared.forms.Action.TheVariants as action
 use Rattle.cml_grammar.specs.declared.forms.Makes.{Makes}
 use Rattle.cml_grammar.specs.declared.forms.Makes.TheVariants as makes
 use Rattle.cml_grammar.specs.declared.script.Declaration.{Declaration}
 use Rattle.cml_grammar.specs.declared.script.Step.{Step}
 use Rattle.cml_grammar.specs.Words.{words_of}
 use Rattle.cml_grammar.specs.Names.{Given, thread_count, seat_in, seat_of, named, position_of}
-use Rattle.cml_grammar.specs.Forms.{unknown, no_step, declaration, step, form_of, step_form, declares_of, declared_places, verb_of, fresh_word, named_by}
-use Rattle.cml_grammar.specs.Faults.{Scope, fault_in_words, after_words, gives, given_as, is_step, declares_thread}
+use Rattle.cml_grammar.specs.Forms.{unknown, no_step, declaration, step, form_of, step_form, declares_of, declared_places, verb_of, fresh_word, named_by, step_places, is_others}
+use Rattle.cml_grammar.specs.Faults.{Scope, fault_in_words, after_words, gives, given_as, is_step, declares_thread, any_word, is_not_yours}
+use Rattle.cml_grammar.specs.Script.{SourceLine}
 use Rattle.cml_grammar.specs.Meaning.{scope_of, names_of, makes_by, makes_of, action_by, action_of, seat_of_step}
-use Rattle.cml_grammar.specs.Reading.{source_of, view_of, texts_of, IsSeatedWithin, GivesAt, Gives, GivesNames, IsMadeWell, ReadsDeclaration, ReadsStep, UsesWell, IsReadSoFar, declared_word, threads_by}
+use Rattle.cml_grammar.specs.Reading.{source_of, view_of, texts_of, IsSeatedWithin, IsReceiverAt, GivesAt, Gives, GivesNames, IsMadeWell, ReadsDeclaration, ReadsStep, UsesWell, UsesEarlier, MayUse, IsYours, used_by, IsReadSoFar, threads_by}
+use Rattle.cml_grammar.specs.Giving.{declared_word, asked_word, is_giving, names_before, NamesAreGiven}
 use Rattle.cml_grammar.proofs.ListLemmas.{mapped_some, slice_get-push, each-push}
-use Rattle.cml_grammar.proofs.GrowingLemmas.{GivesAt-append, IsMadeWell-append, ReadsDeclaration-append}
+use Rattle.cml_grammar.proofs.GrowingLemmas.{GivesAt-append, IsMadeWell-append, ReadsDeclaration-append, GivesNames-append, ReadsStep-append, Asks, step_asks}
+use Rattle.cml_grammar.proofs.GivingLemmas.{given-declaration, before_same, before_last, given-step}
 use Rattle.cml_grammar.proofs.TableLemmas.{Passes, words_pass}
 use Rattle.cml_grammar.proofs.ReadingLemmas.{no_steps, scope_of-with_words, view-declaration, view-step}
 
@@ -95,14 +103,14 @@ step_line names (word ∷ words) seat verb rest h =
 pub thread_count-push : (names : List Given) (word : List ℕ) (what : Declares) (threads : ℕ) → thread_count (names ++ (word, named_by what threads) ∷ []) ≡ thread_count names + threads_by what
 thread_count-push names word declares.Mailbox threads = sum_by_push _ names (word, called.Mailbox)
 thread_count-push names word declares.Channel threads = sum_by_push _ names (word, called.Channel)
-thread_count-push names word declares.Port threads = sum_by_push _ names (word, called.Port)
+thread_count-push names word declares.Port threads = sum_by_push _ names (word, called.Port users.Every)
 thread_count-push names word declares.Thread threads = sum_by_push _ names (word, called.Thread (threads + 1))
 
 seated_more : (m n : ℕ) → m ≤ n → (k : Named) → IsSeatedWithin m k → IsSeatedWithin n k
 seated_more m n le (called.Thread seat) h = (h.0, omega (arith, h.1))
 seated_more m n le called.Mailbox h = tt
 seated_more m n le called.Channel h = tt
-seated_more m n le called.Port h = tt
+seated_more m n le (called.Port whose) h = tt
 
 seated_new : (what : Declares) (threads : ℕ) → IsSeatedWithin (threads + threads_by what) (named_by what threads)
 seated_new declares.Mailbox threads = tt
@@ -126,20 +134,19 @@ GivesAt-new names word declares.Channel threads made rest h = subst (GivesAt (na
 GivesAt-new names word declares.Port threads made [] h = absurd (none-some made h)
 GivesAt-new names word declares.Port threads made (channel ∷ rest) h =
     let found = mapped_some makes.Port (position_of names channel) made h in
-    subst (GivesAt (names ++ (word, called.Port) ∷ []) (length names) word) found.2 (slice_get-push names (word, called.Port))
+    subst (GivesAt (names ++ (word, called.Port users.Every) ∷ []) (length names) word) found.2 (slice_get-push names (word, called.Port users.Every))
 GivesAt-new names word declares.Thread threads made rest h = subst (GivesAt (names ++ (word, called.Thread (threads + 1)) ∷ []) (length names) word) (same_Some _ _ h) (threads + 1, slice_get-push names (word, called.Thread (threads + 1)))
 
 pub GivesNames-push : (names : List Given) (ds : List Declaration) (word : List ℕ) (what : Declares) (threads : ℕ) (d : Declaration) (rest : List (List ℕ))
-    → GivesNames names ds → declared_word (words_of (string_bytes d.line.text)) ≡ Some word → makes_by names what rest ≡ Some d.makes → IsMadeWell names (length names) d.makes
+    → length names ≡ length ds → GivesNames names ds → declared_word (words_of (string_bytes d.line.text)) ≡ Some word → makes_by names what rest ≡ Some d.makes → IsMadeWell names (length names) d.makes
     → GivesNames (names ++ (word, named_by what threads) ∷ []) (ds ++ d ∷ [])
-GivesNames-push names ds word what threads d rest h there makes well =
+GivesNames-push names ds word what threads d rest same h there makes well =
     let more : List Given = (word, named_by what threads) ∷ [] in
     record {
-      one_each = omega (arith, length-append names more, length-append ds (d ∷ []), h.one_each);
       each = each-push (Gives (names ++ more)) ds d (λ i x found. let g = h.each i x found in (g.0, g.1, GivesAt-append names more i g.0 x.makes g.2))
-          (subst (λ (n : ℕ). Gives (names ++ more) n d) h.one_each (word, there, GivesAt-new names word what threads d.makes rest makes));
+          (subst (λ (n : ℕ). Gives (names ++ more) n d) same (word, there, GivesAt-new names word what threads d.makes rest makes));
       made = each-push (λ i (x : Declaration). IsMadeWell (names ++ more) i x.makes) ds d (λ i x found. IsMadeWell-append names more i x.makes (h.made i x found))
-          (subst (λ (n : ℕ). IsMadeWell (names ++ more) n d.makes) h.one_each (IsMadeWell-append names more (length names) d.makes well));
+          (subst (λ (n : ℕ). IsMadeWell (names ++ more) n d.makes) same (IsMadeWell-append names more (length names) d.makes well));
     }
 
 -- ---- the lines so far, with one more declaration
@@ -204,15 +211,35 @@ module _ (v : ℕ) (es : List (String Global × Named)) (ds : List Declaration) 
   declared_there : declared_word (words_of (string_bytes d.line.text)) ≡ Some name
   declared_there = ap declared_word line.is ∙ ap (option_and_then (λ w. fresh_word (declared_places w) rest)) line.declares ∙ there
 
+  -- the lines of the declarations and of the steps
+  abbrev declared_lines : List SourceLine
+  declared_lines = map (λ (x : Declaration). source_of x.line) ds
+
+  same_length : length (names_of (view_of v ds ss)) ≡ length ds
+  same_length =
+      let total : length (names_of (view_of v ds ss)) ≡ length declared_lines + 0 = so_far.given.total ∙ ap (λ (xs : List Step). length declared_lines + count_by is_giving (map (λ (x : Step). source_of x.line) xs)) no_step_seen in
+      omega (arith, total, length-map ds (λ (x : Declaration). source_of x.line))
+
+  declared_given : NamesAreGiven (names_of (view_of v (ds ++ d ∷ []) ss)) (view_of v (ds ++ d ∷ []) ss).declarations (view_of v (ds ++ d ∷ []) ss).steps
+  declared_given =
+      let more : List Given = (name, named_by what (thread_count (names_of (view_of v ds ss)))) ∷ [] in
+      subst (λ (gs : List Given). NamesAreGiven gs (map (λ (x : Declaration). source_of x.line) (ds ++ d ∷ [])) (map (λ (x : Step). source_of x.line) ss)) (sym declared_names)
+      (subst (λ (ls : List SourceLine). NamesAreGiven (names_of (view_of v ds ss) ++ more) ls (map (λ (x : Step). source_of x.line) ss)) (sym (map-append (λ (x : Declaration). source_of x.line) ds (d ∷ [])))
+      (subst (λ (xs : List Step). NamesAreGiven (names_of (view_of v ds ss) ++ more) (declared_lines ++ source_of d.line ∷ []) (map (λ (x : Step). source_of x.line) xs)) (sym no_step_seen)
+      (given-declaration (names_of (view_of v ds ss)) declared_lines (source_of d.line) name (named_by what (thread_count (names_of (view_of v ds ss))))
+      (subst (λ (xs : List Step). NamesAreGiven (names_of (view_of v ds ss)) declared_lines (map (λ (x : Step). source_of x.line) xs)) no_step_seen so_far.given) declared_there)))
+
   pub declared_so_far : (es' : List (String Global × Named)) → texts_of es' ≡ texts_of es ++ (name, named_by what threads) ∷ [] → IsReadSoFar (view_of v (ds ++ d ∷ []) ss) es' (ds ++ d ∷ []) ss (threads + threads_by what)
   declared_so_far es' entries = record {
     names = entries ∙ ap (λ gs. gs ++ (name, named_by what threads) ∷ []) so_far.names ∙ ap (λ n. names_of (view_of v ds ss) ++ (name, named_by what n) ∷ []) so_far.count ∙ sym declared_names;
     gives = subst (λ gs. GivesNames gs (ds ++ d ∷ [])) (sym declared_names)
-        (GivesNames-push (names_of (view_of v ds ss)) ds name what (thread_count (names_of (view_of v ds ss))) d rest so_far.gives declared_there makes well);
+        (GivesNames-push (names_of (view_of v ds ss)) ds name what (thread_count (names_of (view_of v ds ss))) d rest same_length so_far.gives declared_there makes well);
+    given = declared_given;
     declarations = subst (λ gs. All (ReadsDeclaration gs) (ds ++ d ∷ [])) (sym declared_names)
         (All-weaker (ReadsDeclaration (names_of (view_of v ds ss))) (ReadsDeclaration (names_of (view_of v ds ss) ++ _)) (λ x h. ReadsDeclaration-append (names_of (view_of v ds ss)) _ x h) (ds ++ d ∷ [])
         (All-push (ReadsDeclaration (names_of (view_of v ds ss))) ds d so_far.declarations reads));
     steps = subst (All (ReadsStep (names_of (view_of v (ds ++ d ∷ []) ss)))) (sym no_step_seen) (All-nil (ReadsStep (names_of (view_of v (ds ++ d ∷ []) ss))));
+    earlier = subst (UsesEarlier (view_of v (ds ++ d ∷ []) ss)) (sym no_step_seen) (λ k s found. absurd (none-some s found));
     count = ap (λ n. n + threads_by what) so_far.count ∙ sym (thread_count-push (names_of (view_of v ds ss)) name what (thread_count (names_of (view_of v ds ss)))) ∙ ap thread_count (sym declared_names);
     limit = room;
     seats = subst (λ gs. All (λ (g : Given). IsSeatedWithin (thread_count gs) g.1) gs) (sym declared_names) (seats_push (names_of (view_of v ds ss)) name what so_far.seats);
@@ -230,13 +257,58 @@ seated_from names n thread seat seats h =
     seat_within (called.Thread s) e w = subst (λ (m : ℕ). (1 ≤ m) × (m ≤ n)) (same_Some _ _ e) w
     seat_within called.Mailbox e w = absurd (none-some seat e)
     seat_within called.Channel e w = absurd (none-some seat e)
-    seat_within called.Port e w = absurd (none-some seat e)
+    seat_within (called.Port whose) e w = absurd (none-some seat e)
 
     within : (r : Option Given) (i : ℕ) (k : Named) → slice_get names i ≡ r → option_map (λ g. g.1) r ≡ Some k → seat_in k ≡ Some seat → (1 ≤ seat) × (seat ≤ n)
     within None i k at meant is = absurd (none-some k meant)
     within (Some g) i k at meant is =
         let here = All-get_or (λ (x : Given). IsSeatedWithin n x.1) names i g (slice_get_within names i g at) seats in
         seat_within k is (subst (IsSeatedWithin n) (same_Some _ _ meant) (subst (λ (x : Given). IsSeatedWithin n x.1) (get_or_from_slice_get names i g g at) here))
+
+-- a step is by the seat that may use what it uses
+may_use : (seat : ℕ) (n : Named) → is_others seat n ≡ false → MayUse seat n
+may_use seat (called.Port (users.One owner)) h = eqb-true owner seat (not-false _ h)
+may_use seat (called.Port users.Every) h = tt
+may_use seat (called.Thread other) h = tt
+may_use seat called.Mailbox h = tt
+may_use seat called.Channel h = tt
+
+not_others : (names : List Given) (seat : ℕ) (v : Verb) (object : List ℕ) (more : List (List ℕ)) → any_word (is_not_yours names seat) (step seat v (object ∷ more)) ≡ false → option_map_or (is_others seat) (named names object) false ≡ false
+not_others names seat verb.Send object more h = (or_parts _ _ h).0
+not_others names seat verb.Multicast object more h = (or_parts _ _ h).0
+not_others names seat verb.Recv object more h = (or_parts _ _ h).0
+not_others names seat verb.Poll object more h = (or_parts _ _ h).0
+not_others names seat verb.Port object more h = (or_parts _ _ h).0
+not_others names seat verb.Copy object more h = (or_parts _ _ h).0
+not_others names seat verb.Close object more h = (or_parts _ _ h).0
+
+receiver_stands : (names : List Given) (at : ℕ) → IsReceiverAt names at → (g : Given) × (slice_get names at ≡ Some g)
+receiver_stands names at h = elim h [ inl a ↦ (_, a.1) | inr b ↦ (_, b.2) ]
+
+used_stands : (names : List Given) (a : Action) → UsesWell names a → (g : Given) × (slice_get names (used_by a) ≡ Some g)
+used_stands names (action.Send at message) h = (_, h.0.1)
+used_stands names (action.Multicast at message) h = (_, h.0.1)
+used_stands names (action.Recv at) h = receiver_stands names at h
+used_stands names (action.Poll at) h = receiver_stands names at h
+used_stands names (action.Port at) h = (_, h.1)
+used_stands names (action.Copy at) h = (_, h.2)
+used_stands names (action.Close at) h = (_, h.2)
+
+is_yours : (names : List Given) (seat : ℕ) (v : Verb) (rest : List (List ℕ)) (a : Action) → any_word (is_not_yours names seat) (step seat v rest) ≡ false → Asks names v rest a → UsesWell names a → IsYours names seat (used_by a)
+is_yours names seat v rest a passes asks uses =
+    let there = used_stands names a uses in
+    let fits = not_others names seat v asks.object asks.more (subst (λ (ws : List (List ℕ)). any_word (is_not_yours names seat) (step seat v ws) ≡ false) asks.is passes) in
+    let meant : named names asks.object ≡ Some there.0.1 = ap (option_and_then (λ i. option_map (λ g. g.1) (slice_get names i))) asks.stands ∙ ap (option_map (λ (g : Given). g.1)) there.1 in
+    (there.0, there.1, may_use seat there.0.1 (sym (ap (λ (n : Option Named). option_map_or (is_others seat) n false) meant) ∙ fits))
+
+-- the names that a step gives are no threads
+thread_count-given : (names : List Given) (whose : Users) (o : Option (List ℕ)) → thread_count names ≡ thread_count (names ++ given_as (called.Port whose) o)
+thread_count-given names whose None = ap thread_count (sym (append-nil names))
+thread_count-given names whose (Some word) = let e = sum_by_push (λ (g : Given). cond (is_some (seat_in g.1)) 1 0) names (word, called.Port whose) in omega (arith, e)
+
+seats-given : (names : List Given) (n : ℕ) (whose : Users) (o : Option (List ℕ)) → All (λ g. IsSeatedWithin n g.1) names → All (λ g. IsSeatedWithin n g.1) (names ++ given_as (called.Port whose) o)
+seats-given names n whose None h = subst (All (λ (g : Given). IsSeatedWithin n g.1)) (sym (append-nil names)) h
+seats-given names n whose (Some word) h = All-push (λ (g : Given). IsSeatedWithin n g.1) names (word, called.Port whose) h tt
 
 module _ (v : ℕ) (es : List (String Global × Named)) (ds : List Declaration) (ss : List Step) (threads : ℕ)
     (s : Step) (verb : Verb) (rest : List (List ℕ))
@@ -253,11 +325,13 @@ module _ (v : ℕ) (es : List (String Global × Named)) (ds : List Declaration) 
       ap scope_of (view-step v ds ss s s.seat verb rest form)
       ∙ scope_of-with_words (view_of v ds ss) s.line.number (string_bytes s.line.text) asked_sources_started none
 
-  asked_names : names_of (view_of v ds (ss ++ s ∷ [])) ≡ names_of (view_of v ds ss)
+  abbrev pub given_more : List Given
+  given_more = given_as (called.Port (users.One s.seat)) (fresh_word (step_places verb) rest)
+
+  asked_names : names_of (view_of v ds (ss ++ s ∷ [])) ≡ names_of (view_of v ds ss) ++ given_more
   asked_names =
       ap (λ (x : Scope). x.names) asked_scope
       ∙ ap (λ f. names_of (view_of v ds ss) ++ gives (names_of (view_of v ds ss)) f) form
-      ∙ append-nil (names_of (view_of v ds ss))
 
   asked_started : (scope_of (view_of v ds (ss ++ s ∷ []))).started ≡ not (length (ss ++ s ∷ []) == 0)
   asked_started =
@@ -269,22 +343,71 @@ module _ (v : ℕ) (es : List (String Global × Named)) (ds : List Declaration) 
   asked_line : IsStepLine (names_of (view_of v ds ss)) (words_of (string_bytes s.line.text)) s.seat verb rest
   asked_line = step_line (names_of (view_of v ds ss)) (words_of (string_bytes s.line.text)) s.seat verb rest form
 
+  asks : Asks (names_of (view_of v ds ss)) verb rest s.action
+  asks = step_asks (names_of (view_of v ds ss)) verb rest s.action action
+
+  asked_passes : Passes (scope_of (view_of v ds ss)) (step s.seat verb rest)
+  asked_passes = subst (Passes (scope_of (view_of v ds ss))) form (words_pass (scope_of (view_of v ds ss)) (words_of (string_bytes s.line.text)) none).1
+
+  asked_there : asked_word (words_of (string_bytes s.line.text)) ≡ fresh_word (step_places verb) rest
+  asked_there = ap asked_word asked_line.is ∙ ap (option_and_then (λ w. fresh_word (step_places w) rest)) asked_line.does
+
+  asked_seat : seat_of_step (names_of (view_of v ds ss)) (words_of (string_bytes s.line.text)) ≡ Some s.seat
+  asked_seat = ap (seat_of_step (names_of (view_of v ds ss))) asked_line.is ∙ asked_line.seated
+
   reads_step : ReadsStep (names_of (view_of v ds ss)) s
   reads_step = record {
-    seat = ap (seat_of_step (names_of (view_of v ds ss))) asked_line.is ∙ asked_line.seated;
+    seat = asked_seat;
     seated = seated_from (names_of (view_of v ds ss)) (thread_count (names_of (view_of v ds ss))) asked_line.thread s.seat so_far.seats asked_line.seated;
     action = ap (action_of (names_of (view_of v ds ss))) asked_line.is ∙ ap (option_and_then (λ w. action_by (names_of (view_of v ds ss)) w rest)) asked_line.does ∙ action;
     uses = uses;
+    yours = is_yours (names_of (view_of v ds ss)) s.seat verb rest s.action asked_passes.yours asks uses;
+    gives = asks.gives ∙ ap is_some (sym asked_there);
   }
 
-  pub asked_so_far : IsReadSoFar (view_of v ds (ss ++ s ∷ [])) es ds (ss ++ s ∷ []) threads
-  asked_so_far = record {
-    names = so_far.names ∙ sym asked_names;
-    gives = subst (λ gs. GivesNames gs ds) (sym asked_names) so_far.gives;
-    declarations = subst (λ gs. All (ReadsDeclaration gs) ds) (sym asked_names) so_far.declarations;
-    steps = subst (λ gs. All (ReadsStep gs) (ss ++ s ∷ [])) (sym asked_names) (All-push (ReadsStep (names_of (view_of v ds ss))) ss s so_far.steps reads_step);
-    count = so_far.count ∙ ap thread_count (sym asked_names);
+  asked_given : NamesAreGiven (names_of (view_of v ds ss) ++ given_more) (view_of v ds ss).declarations ((view_of v ds ss).steps ++ source_of s.line ∷ [])
+  asked_given = given-step (names_of (view_of v ds ss)) (view_of v ds ss).declarations (view_of v ds ss).steps (source_of s.line) s.seat (fresh_word (step_places verb) rest) so_far.given asked_there asked_seat
+
+  asked_lines : (view_of v ds (ss ++ s ∷ [])).steps ≡ (view_of v ds ss).steps ++ source_of s.line ∷ []
+  asked_lines = map-append (λ (x : Step). source_of x.line) ss (s ∷ [])
+
+  -- before which names an earlier step and this one stand
+  before_same_step : (k : ℕ) → k ≤ length ss → names_before (view_of v ds ss).declarations (view_of v ds (ss ++ s ∷ [])).steps k ≡ names_before (view_of v ds ss).declarations (view_of v ds ss).steps k
+  before_same_step k le =
+      ap (λ ls. names_before (view_of v ds ss).declarations ls k) asked_lines
+      ∙ before_same (names_of (view_of v ds ss)) [] (view_of v ds ss).declarations (view_of v ds ss).steps (source_of s.line) so_far.given k (omega (arith, le, length-map ss (λ (x : Step). source_of x.line)))
+
+  before_this_step : names_before (view_of v ds ss).declarations (view_of v ds (ss ++ s ∷ [])).steps (length ss) ≡ length (names_of (view_of v ds ss))
+  before_this_step =
+      ap (λ ls. names_before (view_of v ds ss).declarations ls (length ss)) asked_lines
+      ∙ ap (names_before (view_of v ds ss).declarations ((view_of v ds ss).steps ++ source_of s.line ∷ [])) (sym (length-map ss (λ (x : Step). source_of x.line)))
+      ∙ before_last (names_of (view_of v ds ss)) [] (view_of v ds ss).declarations (view_of v ds ss).steps (source_of s.line) so_far.given
+
+  uses_earlier : UsesEarlier (view_of v ds (ss ++ s ∷ [])) (ss ++ s ∷ [])
+  uses_earlier =
+      each-push (λ k (x : Step). used_by x.action < names_before (view_of v ds ss).declarations (view_of v ds (ss ++ s ∷ [])).steps k) ss s
+      (λ k x found. subst (λ (n : ℕ). used_by x.action < n) (sym (before_same_step k (omega (arith, slice_get_within ss k x found)))) (so_far.earlier k x found))
+      (subst (λ (n : ℕ). used_by s.action < n) (sym before_this_step) (let there = used_stands (names_of (view_of v ds ss)) s.action uses in slice_get_within (names_of (view_of v ds ss)) (used_by s.action) there.0 there.1))
+
+  same_count : thread_count (names_of (view_of v ds ss)) ≡ thread_count (names_of (view_of v ds ss) ++ given_more)
+  same_count = thread_count-given (names_of (view_of v ds ss)) (users.One s.seat) (fresh_word (step_places verb) rest)
+
+  pub asked_so_far : (es' : List (String Global × Named)) → texts_of es' ≡ texts_of es ++ given_more → IsReadSoFar (view_of v ds (ss ++ s ∷ [])) es' ds (ss ++ s ∷ []) threads
+  asked_so_far es' entries = record {
+    names = entries ∙ ap (λ gs. gs ++ given_more) so_far.names ∙ sym asked_names;
+    gives = subst (λ gs. GivesNames gs ds) (sym asked_names) (GivesNames-append (names_of (view_of v ds ss)) given_more ds so_far.gives);
+    given = subst (λ gs. NamesAreGiven gs (view_of v ds ss).declarations (view_of v ds (ss ++ s ∷ [])).steps) (sym asked_names)
+        (subst (NamesAreGiven (names_of (view_of v ds ss) ++ given_more) (view_of v ds ss).declarations) (sym asked_lines) asked_given);
+    declarations = subst (λ gs. All (ReadsDeclaration gs) ds) (sym asked_names)
+        (All-weaker (ReadsDeclaration (names_of (view_of v ds ss))) (ReadsDeclaration (names_of (view_of v ds ss) ++ given_more)) (λ x h. ReadsDeclaration-append (names_of (view_of v ds ss)) given_more x h) ds so_far.declarations);
+    steps = subst (λ gs. All (ReadsStep gs) (ss ++ s ∷ [])) (sym asked_names)
+        (All-weaker (ReadsStep (names_of (view_of v ds ss))) (ReadsStep (names_of (view_of v ds ss) ++ given_more)) (λ x h. ReadsStep-append (names_of (view_of v ds ss)) given_more x same_count h) (ss ++ s ∷ [])
+        (All-push (ReadsStep (names_of (view_of v ds ss))) ss s so_far.steps reads_step));
+    earlier = uses_earlier;
+    count = so_far.count ∙ same_count ∙ ap thread_count (sym asked_names);
     limit = so_far.limit;
-    seats = subst (λ gs. All (λ (g : Given). IsSeatedWithin (thread_count gs) g.1) gs) (sym asked_names) so_far.seats;
+    seats = subst (λ gs. All (λ (g : Given). IsSeatedWithin (thread_count gs) g.1) gs) (sym asked_names)
+        (subst (λ (n : ℕ). All (λ (g : Given). IsSeatedWithin n g.1) (names_of (view_of v ds ss) ++ given_more)) same_count
+        (seats-given (names_of (view_of v ds ss)) (thread_count (names_of (view_of v ds ss))) (users.One s.seat) (fresh_word (step_places verb) rest) so_far.seats));
     started = asked_started;
   }

@@ -1,4 +1,5 @@
 pub mod ClosingLemmas
+pub mod GivingLemmas
 pub mod GrowingLemmas
 pub mod KeepingLemmas
 pub mod ListLemmas

@@ -1,21 +1,19 @@
 -- What the words of a line mean where each suits its place.
-use Rattle.std.proofs.Common.{◌≡◌, ℕ, true, List, [], ◌∷◌, map, length, slice_get, get_or, Option, Some, is_some, refl, sym, ap, ◌∙◌, subst, Bor, inl, inr, true≢false, arith}
+use Rattle.std.proofs.Common.{◌≡◌, ℕ, true, List, [], ◌∷◌, map, length, slice_get, get_or, Option, Some, refl, sym, ap, ◌∙◌, subst, Bor, inl, inr, true≢false, arith}
 use Rattle.std.specs.Str.Parse.{digits_value}
 use Rattle.std.specs.Option.{option_map}
 use Rattle.std.specs.List.{find, zip}
 use Rattle.std.proofs.lemmas.Option.{same_Some}
 use Rattle.cml_grammar.specs.declared.names.Named.{Named}
 use Rattle.cml_grammar.specs.declared.names.Named.TheVariants as called
-use Rattle.cml_grammar.specs.declared.forms.Declares.{Declares}
-use Rattle.cml_grammar.specs.declared.forms.Declares.TheVariants as declares
 use Rattle.cml_grammar.specs.declared.forms.Verb.TheVariants as verb
 use Rattle.cml_grammar.specs.declared.forms.Place.{Place}
 use Rattle.cml_grammar.specs.declared.forms.Place.TheVariants.{Fresh, Mailbox, Channel, Port, Receiver, Number}
 use Rattle.cml_grammar.specs.declared.forms.Action.TheVariants as action
-use Rattle.cml_grammar.specs.Names.{Given, is_number, is_given, position_of}
-use Rattle.cml_grammar.specs.Forms.{declared_places, suits, is_fresh, fresh_word}
+use Rattle.cml_grammar.specs.Names.{Given, is_number, position_of}
+use Rattle.cml_grammar.specs.Forms.{suits, is_fresh, fresh_word}
 use Rattle.cml_grammar.specs.Meaning.{action_by}
-use Rattle.cml_grammar.specs.Reading.{IsMailboxAt, IsChannelAt, IsPortAt, IsReceiverAt}
+use Rattle.cml_grammar.specs.Reading.{IsPortAt, IsReceiverAt}
 use Rattle.cml_grammar.specs.Suiting.{IsSuitedAt, IsUsed, AllSuit}
 
 abbrev pub Words : Type 0
@@ -27,36 +25,14 @@ bytes words = map (λ w. w.now) words
 abbrev pub word_at : Words → ℕ → List ℕ
 word_at words i = (get_or words i (record { ref_ptr = (0, 0); now = [] })).now
 
--- a name that is used is given, for what its place is for
-pub used_given : (names : List Given) (place : Place) (word : List ℕ) → IsUsed names place word → is_given names word ≡ true
-used_given names place word h = ap is_some h.1
-
 found_used : (names : List Given) (place : Place) (word : List ℕ) (at : ℕ) → IsUsed names place word → position_of names word ≡ Some at → IsSuitedAt names place at
 found_used names place word at h found = subst (IsSuitedAt names place) (same_Some _ _ (sym h.1 ∙ found)) h.2
-
-is_mailbox_at : (names : List Given) (at : ℕ) → IsSuitedAt names Mailbox at → IsMailboxAt names at
-is_mailbox_at names at h = by h.1 h.2 h.3
-  where
-    by : (n : Named) → slice_get names at ≡ Some (h.0, n) → suits Mailbox n ≡ true → IsMailboxAt names at
-    by called.Mailbox e t = (h.0, e)
-    by (called.Thread seat) e t = absurd (true≢false (sym t))
-    by called.Channel e t = absurd (true≢false (sym t))
-    by called.Port e t = absurd (true≢false (sym t))
-
-is_channel_at : (names : List Given) (at : ℕ) → IsSuitedAt names Channel at → IsChannelAt names at
-is_channel_at names at h = by h.1 h.2 h.3
-  where
-    by : (n : Named) → slice_get names at ≡ Some (h.0, n) → suits Channel n ≡ true → IsChannelAt names at
-    by called.Channel e t = (h.0, e)
-    by (called.Thread seat) e t = absurd (true≢false (sym t))
-    by called.Mailbox e t = absurd (true≢false (sym t))
-    by called.Port e t = absurd (true≢false (sym t))
 
 is_port_at : (names : List Given) (at : ℕ) → IsSuitedAt names Port at → IsPortAt names at
 is_port_at names at h = by h.1 h.2 h.3
   where
     by : (n : Named) → slice_get names at ≡ Some (h.0, n) → suits Port n ≡ true → IsPortAt names at
-    by called.Port e t = (h.0, e)
+    by (called.Port whose) e t = (h.0, whose, e)
     by (called.Thread seat) e t = absurd (true≢false (sym t))
     by called.Mailbox e t = absurd (true≢false (sym t))
     by called.Channel e t = absurd (true≢false (sym t))
@@ -66,9 +42,16 @@ is_receiver_at names at h = by h.1 h.2 h.3
   where
     by : (n : Named) → slice_get names at ≡ Some (h.0, n) → suits Receiver n ≡ true → IsReceiverAt names at
     by called.Mailbox e t = inl (h.0, e)
-    by called.Port e t = inr (h.0, e)
+    by (called.Port whose) e t = inr (h.0, whose, e)
     by (called.Thread seat) e t = absurd (true≢false (sym t))
     by called.Channel e t = absurd (true≢false (sym t))
+
+-- what is named at the position of a used name
+pub port_found : (names : List Given) (word : List ℕ) (at : ℕ) → IsUsed names Port word → position_of names word ≡ Some at → IsPortAt names at
+port_found names word at h found = is_port_at names at (found_used names Port word at h found)
+
+pub receiver_found : (names : List Given) (word : List ℕ) (at : ℕ) → IsUsed names Receiver word → position_of names word ≡ Some at → IsReceiverAt names at
+receiver_found names word at h found = is_receiver_at names at (found_used names Receiver word at h found)
 
 -- ---- a step's message
 pub number_alone : (names : List Given) (words : Words) → AllSuit names (Number ∷ []) (bytes words) → map (λ w. is_number w.now) words ≡ true ∷ []
@@ -93,21 +76,7 @@ module _ (names : List Given) (object : List ℕ) (words : Words) (at message : 
       by (w ∷ []) e = let same : digits_value 10 w.now ≡ message = cc in ap (option_map (λ i. action.Multicast i (digits_value 10 w.now))) found ∙ ap (λ m. Some (action.Multicast at m)) same
       by (v ∷ w ∷ ws) e = absurd (let f = ap length e in omega (arith, f))
 
--- ---- the name that a declaration gives
-pub some_name : (names : List Given) (what : Declares) (rest : List (List ℕ)) → AllSuit names (declared_places what) rest → is_some (fresh_word (declared_places what) rest) ≡ true
-some_name names what [] h = by what h
-  where
-    by : (d : Declares) → AllSuit names (declared_places d) [] → is_some (fresh_word (declared_places d) []) ≡ true
-    by declares.Mailbox t = absurd t
-    by declares.Channel t = absurd t
-    by declares.Port t = absurd t
-    by declares.Thread t = absurd t
-some_name names declares.Mailbox (w ∷ ws) h = refl
-some_name names declares.Channel (w ∷ ws) h = refl
-some_name names declares.Port (w ∷ []) h = absurd h.1
-some_name names declares.Port (v ∷ w ∷ ws) h = refl
-some_name names declares.Thread (w ∷ ws) h = refl
-
+-- ---- the word that stands where a name is given
 fresh_word-bytes : (places : List Place) (words : Words) → option_map (λ p. p.1.now) (find (λ p. is_fresh p.0) (zip places words)) ≡ fresh_word places (bytes words)
 fresh_word-bytes [] words = refl
 fresh_word-bytes (place ∷ places) [] = refl

@@ -9,8 +9,8 @@ use Rattle.cml_grammar.specs.declared.forms.Place.{Place}
 use Rattle.cml_grammar.specs.declared.forms.Place.TheVariants.{Fresh, Mailbox, Channel, Port, Receiver, Number}
 use Rattle.cml_grammar.specs.Names.{Given, thread_count, named, position_of, is_given}
 use Rattle.cml_grammar.specs.Words.{has_empty_word}
-use Rattle.cml_grammar.specs.Forms.{Form, form_of, places_of, rest_of, suits, fresh_word}
-use Rattle.cml_grammar.specs.Faults.{Scope, first_of, tests_of_form, fault_in_words, any_word, is_unknown, is_late, is_no_step, is_bad_name, is_taken, is_unknown_name, is_wrong_kind, is_bad_number, declares_thread}
+use Rattle.cml_grammar.specs.Forms.{Form, form_of, places_of, rest_of, suits, fresh_word, seat_of_form}
+use Rattle.cml_grammar.specs.Faults.{Scope, first_of, tests_of_form, fault_in_words, any_word, is_unknown, is_late, is_no_step, is_bad_name, is_taken, is_unknown_name, is_wrong_kind, is_not_yours, is_bad_number, declares_thread}
 use Rattle.cml_grammar.specs.Suiting.{IsSuitedAt, IsUsed, Suits, AllSuit}
 
 -- each test of the table fails
@@ -23,6 +23,7 @@ pub record Passes (scope : Scope) (form : Form) : Type 0 where
   pub fresh : any_word (is_taken scope.names) form ≡ false
   pub given : any_word (is_unknown_name scope.names) form ≡ false
   pub suited : any_word (is_wrong_kind scope.names) form ≡ false
+  pub yours : any_word (is_not_yours scope.names (seat_of_form form)) form ≡ false
   pub numbers : any_word is_bad_number form ≡ false
   pub room : (declares_thread form && nat_le 64 (thread_count scope.names)) ≡ false
 
@@ -42,6 +43,7 @@ passes scope form h =
     let j = not_first _ _ _ i.1 in
     let k = not_first _ _ _ j.1 in
     let l = not_first _ _ _ k.1 in
+    let m = not_first _ _ _ l.1 in
     record {
       known = a.0;
       in_time = b.0;
@@ -51,8 +53,9 @@ passes scope form h =
       fresh = g.0;
       given = i.0;
       suited = j.0;
-      numbers = k.0;
-      room = l.0;
+      yours = k.0;
+      numbers = l.0;
+      room = m.0;
     }
 
 -- a line of words without fault passes each test, and no word is empty

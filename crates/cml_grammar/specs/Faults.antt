@@ -4,14 +4,16 @@ use Rattle.std.specs.Option.{option_map, option_map_or, option_to_list}
 use Rattle.std.specs.List.{list_any, zip}
 use Rattle.std.specs.Str.{bytes_eq}
 use Rattle.cml_grammar.specs.declared.names.Named.{Named}
+use Rattle.cml_grammar.specs.declared.names.Named.TheVariants as called
+use Rattle.cml_grammar.specs.declared.names.Users.TheVariants as users
 use Rattle.cml_grammar.specs.declared.forms.Declares.TheVariants as declares
 use Rattle.cml_grammar.specs.declared.forms.Place.{Place}
 use Rattle.cml_grammar.specs.declared.fault.What.{What}
-use Rattle.cml_grammar.specs.declared.fault.What.TheVariants.{NoLineEnd, BadBytes, BadHeader, BadWords, UnknownLine, LateDeclaration, UnknownStep, WordCount, BadName, NameTaken, UnknownName, WrongKind, BadNumber, TooManyThreads, TooLong, Memory}
+use Rattle.cml_grammar.specs.declared.fault.What.TheVariants.{NoLineEnd, BadBytes, BadHeader, BadWords, UnknownLine, LateDeclaration, UnknownStep, WordCount, BadName, NameTaken, UnknownName, WrongKind, NotYours, BadNumber, TooManyThreads, TooLong, Memory}
 use Rattle.cml_grammar.specs.declared.fault.Fault.{Fault}
 use Rattle.cml_grammar.specs.Words.{parts_of, words_of, is_bad_byte, is_skipped, has_empty_word}
 use Rattle.cml_grammar.specs.Names.{Given, is_name, is_number, is_given, named, thread_count}
-use Rattle.cml_grammar.specs.Forms.{Form, unknown, declaration, no_step, step, form_of, places_of, rest_of, is_name_place, is_fresh, is_used, is_number_place, suits, fresh_word, named_by, declared_places}
+use Rattle.cml_grammar.specs.Forms.{Form, unknown, declaration, no_step, step, form_of, places_of, rest_of, is_name_place, is_fresh, is_used, is_number_place, suits, fresh_word, named_by, declared_places, seat_of_form, is_others, step_places}
 
 -- what the lines so far leave: the names that stand, and whether a step was seen
 pub record Scope : Type 0 where
@@ -59,6 +61,9 @@ is_unknown_name names place word = is_used place && not (is_given names word)
 abbrev pub is_wrong_kind : List Given → Place → List ℕ → Bool
 is_wrong_kind names place word = is_used place && not (option_map_or (suits place) (named names word) false)
 
+abbrev pub is_not_yours : List Given → ℕ → Place → List ℕ → Bool
+is_not_yours names seat place word = is_used place && option_map_or (is_others seat) (named names word) false
+
 abbrev pub is_bad_number : Place → List ℕ → Bool
 is_bad_number place word = is_number_place place && not (is_number word)
 
@@ -88,6 +93,7 @@ tests_of_form scope form =
     ∷ (any_word (is_taken scope.names) form, NameTaken)
     ∷ (any_word (is_unknown_name scope.names) form, UnknownName)
     ∷ (any_word (is_wrong_kind scope.names) form, WrongKind)
+    ∷ (any_word (is_not_yours scope.names (seat_of_form form)) form, NotYours)
     ∷ (any_word is_bad_number form, BadNumber)
     ∷ (declares_thread form && nat_le 64 (thread_count scope.names), TooManyThreads)
     ∷ []
@@ -113,7 +119,7 @@ abbrev pub gives : List Given → Form → List Given
 gives names unknown = []
 gives names (declaration d rest) = given_as (named_by d (thread_count names)) (fresh_word (declared_places d) rest)
 gives names (no_step seat) = []
-gives names (step seat v rest) = []
+gives names (step seat v rest) = given_as (called.Port (users.One seat)) (fresh_word (step_places v) rest)
 
 abbrev pub is_step : Form → Bool
 is_step unknown = false

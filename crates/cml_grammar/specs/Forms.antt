@@ -1,10 +1,11 @@
 -- The lines of a script: which words a declaration and a step have, and what may stand in each word's place.
-use Rattle.std.specs.Prelude.{ℕ, ◌+◌, Bool, true, false, not, ◌&&◌, List, [], ◌∷◌, Option, Some, None, if◌then◌else◌, codes}
+use Rattle.std.specs.Prelude.{ℕ, ◌+◌, ◌==◌, Bool, true, false, not, ◌&&◌, List, [], ◌∷◌, Option, Some, None, if◌then◌else◌, codes}
 use Rattle.std.specs.Option.{option_map, option_map_or}
 use Rattle.std.specs.List.{find, zip}
 use Rattle.std.specs.Str.{bytes_eq}
 use Rattle.cml_grammar.specs.declared.names.Named.{Named}
 use Rattle.cml_grammar.specs.declared.names.Named.TheVariants as called
+use Rattle.cml_grammar.specs.declared.names.Users.TheVariants as users
 use Rattle.cml_grammar.specs.declared.forms.Declares.{Declares}
 use Rattle.cml_grammar.specs.declared.forms.Declares.TheVariants as declares
 use Rattle.cml_grammar.specs.declared.forms.Verb.{Verb}
@@ -36,6 +37,8 @@ verb_of word =
     else if bytes_eq word (codes "multicast") then Some verb.Multicast
     else if bytes_eq word (codes "recv") then Some verb.Recv
     else if bytes_eq word (codes "poll") then Some verb.Poll
+    else if bytes_eq word (codes "port") then Some verb.Port
+    else if bytes_eq word (codes "copy") then Some verb.Copy
     else if bytes_eq word (codes "close") then Some verb.Close
     else None
 
@@ -45,6 +48,8 @@ step_places verb.Send = Mailbox ∷ Number ∷ []
 step_places verb.Multicast = Channel ∷ Number ∷ []
 step_places verb.Recv = Receiver ∷ []
 step_places verb.Poll = Receiver ∷ []
+step_places verb.Port = Channel ∷ Fresh ∷ []
+step_places verb.Copy = Port ∷ Fresh ∷ []
 step_places verb.Close = Port ∷ []
 
 -- what kind of line it is, with the words that are left
@@ -77,6 +82,13 @@ rest_of (declaration d rest) = rest
 rest_of (no_step seat) = []
 rest_of (step seat v rest) = rest
 
+-- the seat of the thread whose line it is, and 0 for the other lines
+abbrev pub seat_of_form : Form → ℕ
+seat_of_form unknown = 0
+seat_of_form (declaration d rest) = 0
+seat_of_form (no_step seat) = seat
+seat_of_form (step seat v rest) = seat
+
 -- whether a place is a name's, is for a name that the line gives, or for one that it uses
 abbrev pub is_name_place : Place → Bool
 is_name_place Number = false
@@ -97,10 +109,15 @@ is_number_place _ = false
 abbrev pub suits : Place → Named → Bool
 suits Mailbox called.Mailbox = true
 suits Channel called.Channel = true
-suits Port called.Port = true
+suits Port (called.Port whose) = true
 suits Receiver called.Mailbox = true
-suits Receiver called.Port = true
+suits Receiver (called.Port whose) = true
 suits _ _ = false
+
+-- whether what is named is a port of another seat
+abbrev pub is_others : ℕ → Named → Bool
+is_others seat (called.Port (users.One owner)) = not (owner == seat)
+is_others seat _ = false
 
 -- the word that stands in the place of a name that the line gives
 abbrev pub fresh_word : List Place → List (List ℕ) → Option (List ℕ)
@@ -110,5 +127,5 @@ fresh_word places words = option_map (λ p. p.1) (find (λ p. is_fresh p.0) (zip
 abbrev pub named_by : Declares → ℕ → Named
 named_by declares.Mailbox threads = called.Mailbox
 named_by declares.Channel threads = called.Channel
-named_by declares.Port threads = called.Port
+named_by declares.Port threads = called.Port users.Every
 named_by declares.Thread threads = called.Thread (threads + 1)

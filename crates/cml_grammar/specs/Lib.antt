@@ -4,6 +4,7 @@ pub mod Forms
 pub mod Faults
 pub mod Script
 pub mod Meaning
+pub mod Giving
 pub mod Reading
 pub mod Shown
 pub mod Flaws

@@ -48,6 +48,8 @@ action_by names verb.Multicast (channel ∷ message ∷ []) =
     option_map (λ at. action.Multicast at (digits_value 10 message)) (position_of names channel)
 action_by names verb.Recv (object ∷ []) = option_map action.Recv (position_of names object)
 action_by names verb.Poll (object ∷ []) = option_map action.Poll (position_of names object)
+action_by names verb.Port (channel ∷ name ∷ []) = option_map action.Port (position_of names channel)
+action_by names verb.Copy (port ∷ name ∷ []) = option_map action.Copy (position_of names port)
 action_by names verb.Close (port ∷ []) = option_map action.Close (position_of names port)
 action_by names _ _ = None
 

@@ -1,13 +1,14 @@
 -- How a script is kept, and what a reader of its lists may rely on.
-use Rattle.std.specs.Prelude.{ℕ, ◌≡◌, ◌<◌, ◌≤◌, ◌==◌, ◌^◌, not, if◌then◌else◌, List, [], ◌∷◌, ◌++◌, length, map, Option, Some, None, String, string_bytes, slice_get, All, ⊤, ◌⊎◌}
+use Rattle.std.specs.Prelude.{ℕ, ◌≡◌, ◌<◌, ◌≤◌, ◌==◌, ◌^◌, Bool, true, false, not, if◌then◌else◌, List, [], ◌++◌, length, map, Some, is_some, String, string_bytes, slice_get, All, ⊤, ◌⊎◌}
 use Rattle.std.specs.Global.{Global}
-use Rattle.std.specs.Option.{option_and_then}
 use Rattle.cml_grammar.specs.declared.names.Named.{Named}
 use Rattle.cml_grammar.specs.declared.names.Named.TheVariants as called
+use Rattle.cml_grammar.specs.declared.names.Users.{Users}
+use Rattle.cml_grammar.specs.declared.names.Users.TheVariants as users
 use Rattle.cml_grammar.specs.declared.forms.Declares.{Declares}
 use Rattle.cml_grammar.specs.declared.forms.Declares.TheVariants as declares
 use Rattle.cml_grammar.specs.declared.forms.Action.{Action}
-use Rattle.cml_grammar.specs.declared.forms.Action.TheVariants.{Send, Multicast, Recv, Poll, Close}
+use Rattle.cml_grammar.specs.declared.forms.Action.TheVariants.{Send, Multicast, Recv, Poll, Port, Copy, Close}
 use Rattle.cml_grammar.specs.declared.forms.Makes.{Makes}
 use Rattle.cml_grammar.specs.declared.forms.Makes.TheVariants as makes
 use Rattle.cml_grammar.specs.declared.script.Line.{Line}
@@ -15,10 +16,11 @@ use Rattle.cml_grammar.specs.declared.script.Declaration.{Declaration}
 use Rattle.cml_grammar.specs.declared.script.Step.{Step}
 use Rattle.cml_grammar.specs.Words.{words_of}
 use Rattle.cml_grammar.specs.Names.{Given, thread_count}
-use Rattle.cml_grammar.specs.Forms.{declares_of, declared_places, form_of, fresh_word}
+use Rattle.cml_grammar.specs.Forms.{form_of}
 use Rattle.cml_grammar.specs.Faults.{is_declaration, is_step, says}
 use Rattle.cml_grammar.specs.Script.{SourceLine, Lines, source, with_line}
 use Rattle.cml_grammar.specs.Meaning.{scope_of, names_of, makes_of, action_of, seat_of_step}
+use Rattle.cml_grammar.specs.Giving.{declared_word, asked_word, names_before, NamesAreGiven}
 
 abbrev pub source_of : Line → SourceLine
 source_of line = record { number = line.number; words = words_of (string_bytes line.text) }
@@ -44,7 +46,7 @@ IsChannelAt names at = (word : List ℕ) × (slice_get names at ≡ Some (word, 
 
 -- .. a port's
 abbrev pub IsPortAt : List Given → ℕ → Type 0
-IsPortAt names at = (word : List ℕ) × (slice_get names at ≡ Some (word, called.Port))
+IsPortAt names at = (word : List ℕ) × (whose : Users) × (slice_get names at ≡ Some (word, called.Port whose))
 
 -- .. and one's that can be received from
 abbrev pub IsReceiverAt : List Given → ℕ → Type 0
@@ -56,7 +58,34 @@ UsesWell names (Send at message) = IsMailboxAt names at × (message < 2 ^ 64)
 UsesWell names (Multicast at message) = IsChannelAt names at × (message < 2 ^ 64)
 UsesWell names (Recv at) = IsReceiverAt names at
 UsesWell names (Poll at) = IsReceiverAt names at
+UsesWell names (Port at) = IsChannelAt names at
+UsesWell names (Copy at) = IsPortAt names at
 UsesWell names (Close at) = IsPortAt names at
+
+-- the position of the name that a step uses
+abbrev pub used_by : Action → ℕ
+used_by (Send at message) = at
+used_by (Multicast at message) = at
+used_by (Recv at) = at
+used_by (Poll at) = at
+used_by (Port at) = at
+used_by (Copy at) = at
+used_by (Close at) = at
+
+-- a port of one seat is that seat's alone
+abbrev pub MayUse : ℕ → Named → Type 0
+MayUse seat (called.Port (users.One owner)) = owner ≡ seat
+MayUse seat _ = ⊤
+
+-- the name at this position is for this seat
+abbrev pub IsYours : List Given → ℕ → ℕ → Type 0
+IsYours names seat at = (g : Given) × (slice_get names at ≡ Some g) × MayUse seat g.1
+
+-- whether a step gives a name
+abbrev pub gives_name : Action → Bool
+gives_name (Port at) = true
+gives_name (Copy at) = true
+gives_name _ = false
 
 -- each name that the declaration at this position uses was given before it, for something that it can be made of
 abbrev pub IsMadeWell : List Given → ℕ → Makes → Type 0
@@ -73,19 +102,13 @@ abbrev pub GivesAt : List Given → ℕ → List ℕ → Makes → Type 0
 GivesAt names at word makes.Thread = (seat : ℕ) × (slice_get names at ≡ Some (word, called.Thread seat))
 GivesAt names at word makes.Mailbox = slice_get names at ≡ Some (word, called.Mailbox)
 GivesAt names at word makes.Channel = slice_get names at ≡ Some (word, called.Channel)
-GivesAt names at word (makes.Port channel) = slice_get names at ≡ Some (word, called.Port)
-
--- the word that stands in a declaration's line where a name is given
-abbrev pub declared_word : List (List ℕ) → Option (List ℕ)
-declared_word [] = None
-declared_word (word ∷ rest) = option_and_then (λ d. fresh_word (declared_places d) rest) (declares_of word)
+GivesAt names at word (makes.Port channel) = slice_get names at ≡ Some (word, called.Port users.Every)
 
 -- the i-th declaration gives the i-th name, the word that stands there for it
 abbrev pub Gives : List Given → ℕ → Declaration → Type 0
 Gives names i d = (word : List ℕ) × (declared_word (words_of (string_bytes d.line.text)) ≡ Some word) × GivesAt names i word d.makes
 
 pub record GivesNames (names : List Given) (declared : List Declaration) : Type 0 where
-  pub one_each : length names ≡ length declared
   pub each : (i : ℕ) (d : Declaration) → slice_get declared i ≡ Some d → Gives names i d
   pub made : (i : ℕ) (d : Declaration) → slice_get declared i ≡ Some d → IsMadeWell names i d.makes
 
@@ -99,12 +122,20 @@ pub record ReadsStep (names : List Given) (s : Step) : Type 0 where
   pub seated : (1 ≤ s.seat) × (s.seat ≤ thread_count names)
   pub action : action_of names (words_of (string_bytes s.line.text)) ≡ Some s.action
   pub uses : UsesWell names s.action
+  pub yours : IsYours names s.seat (used_by s.action)
+  pub gives : gives_name s.action ≡ is_some (asked_word (words_of (string_bytes s.line.text)))
+
+-- each name that a step uses stands before it
+abbrev pub UsesEarlier : Lines → List Step → Type 0
+UsesEarlier script asked = (k : ℕ) (s : Step) → slice_get asked k ≡ Some s → used_by s.action < names_before script.declarations script.steps k
 
 pub record IsReading (script : Lines) (entries : List (String Global × Named)) (declared : List Declaration) (asked : List Step) : Type 0 where
   pub names : texts_of entries ≡ names_of script
   pub gives : GivesNames (names_of script) declared
+  pub given : NamesAreGiven (names_of script) script.declarations script.steps
   pub declarations : All (ReadsDeclaration (names_of script)) declared
   pub steps : All (ReadsStep (names_of script)) asked
+  pub earlier : UsesEarlier script asked
   pub threads : thread_count (names_of script) ≤ 64
   pub few : length declared ≤ 1048576
   pub short : length asked ≤ 1048576
@@ -113,8 +144,10 @@ pub record IsReading (script : Lines) (entries : List (String Global × Named)) 
 pub record IsReadSoFar (script : Lines) (entries : List (String Global × Named)) (declared : List Declaration) (asked : List Step) (threads : ℕ) : Type 0 where
   pub names : texts_of entries ≡ names_of script
   pub gives : GivesNames (names_of script) declared
+  pub given : NamesAreGiven (names_of script) script.declarations script.steps
   pub declarations : All (ReadsDeclaration (names_of script)) declared
   pub steps : All (ReadsStep (names_of script)) asked
+  pub earlier : UsesEarlier script asked
   pub count : threads ≡ thread_count (names_of script)
   pub limit : threads ≤ 64
   pub seats : All (λ g. IsSeatedWithin (thread_count (names_of script)) g.1) (names_of script)

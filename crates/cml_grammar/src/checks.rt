@@ -2,7 +2,7 @@
 ghost use Rattle.std.specs.Prelude.{◌≡◌, ◌&&◌, nat_le, false};
 ghost use Rattle.std.specs.Option.{option_map_or};
 ghost use Rattle.cml_grammar.specs.Names.{thread_count, named};
-ghost use Rattle.cml_grammar.specs.Forms.{suits};
+ghost use Rattle.cml_grammar.specs.Forms.{suits, is_others};
 ghost use Rattle.cml_grammar.specs.Faults.{is_late, declares_thread, first_of, any_word, tests_of_form};
 ghost use Rattle.cml_grammar.specs.Flaws.{has_flaw};
 ghost use Rattle.cml_grammar.specs.Reading.{texts_of};
@@ -23,6 +23,8 @@ enum Flaw {
     Taken,
     UnknownName,
     WrongKind,
+    /// It names a port of another seat than this one.
+    NotYours(u64),
     BadNumber,
 }
 
@@ -34,6 +36,7 @@ fn has_flaw(names: &IndexMap<String, Named>, flaw: Flaw, place: Place, word: &st
         Flaw::Taken => place.is_fresh() && is_given(names, word),
         Flaw::UnknownName => place.is_used() && !is_given(names, word),
         Flaw::WrongKind => place.is_used() && !names_suiting(names, place, word),
+        Flaw::NotYours(seat) => place.is_used() && names_others(names, seat, word),
         Flaw::BadNumber => place.is_number_place() && number_of(word).is_none(),
     }
 }
@@ -44,6 +47,16 @@ fn names_suiting(names: &IndexMap<String, Named>, place: Place, word: &str) -> b
 {
     match find_named(names, word) {
         Some(named) => place.suits(named),
+        None => false,
+    }
+}
+
+/// Whether the word names a port of another seat than this one.
+fn names_others(names: &IndexMap<String, Named>, seat: u64, word: &str) -> bool
+    ensures { result ≡ option_map_or (is_others seat) (named (texts_of names.now.entries) word.now) false }
+{
+    match find_named(names, word) {
+        Some(named) => named.is_others(seat),
         None => false,
     }
 }
@@ -93,6 +106,7 @@ pub(crate) fn fault_in_form(
     requires { threads ≡ thread_count (texts_of names.now.entries) }
     ensures { result ≡ first_of (tests_of_form (record { names = texts_of names.now.entries; started = started }) (shown form.now)) }
 {
+    let seat = form.seat();
     let tests = [
         (form.is_unknown(), What::UnknownLine),
         (is_late(started, form), What::LateDeclaration),
@@ -102,6 +116,7 @@ pub(crate) fn fault_in_form(
         (any_word(names, form, Flaw::Taken), What::NameTaken),
         (any_word(names, form, Flaw::UnknownName), What::UnknownName),
         (any_word(names, form, Flaw::WrongKind), What::WrongKind),
+        (any_word(names, form, Flaw::NotYours(seat)), What::NotYours),
         (any_word(names, form, Flaw::BadNumber), What::BadNumber),
         (is_thread_too_many(threads, form), What::TooManyThreads),
     ];

@@ -2,7 +2,7 @@
 ghost use Rattle.std.specs.Prelude.{◌≡◌, ◌==◌, not, map, length};
 ghost use Rattle.std.specs.Option.{option_map};
 ghost use Rattle.cml_grammar.specs.Names.{seat_of};
-ghost use Rattle.cml_grammar.specs.Forms.{declares_of, declared_places, verb_of, step_places, step_form, form_of, places_of, rest_of, is_name_place, is_fresh, is_used, is_number_place, suits, fresh_word};
+ghost use Rattle.cml_grammar.specs.Forms.{declares_of, declared_places, verb_of, step_places, step_form, form_of, places_of, rest_of, seat_of_form, is_name_place, is_fresh, is_used, is_number_place, suits, fresh_word};
 ghost use Rattle.cml_grammar.specs.Faults.{is_unknown, is_no_step, is_declaration, declares_thread};
 ghost use Rattle.cml_grammar.specs.Reading.{texts_of};
 ghost use Rattle.cml_grammar.specs.Shown.{shown};
@@ -26,6 +26,8 @@ pub enum Verb {
     Multicast,
     Recv,
     Poll,
+    Port,
+    Copy,
     Close,
 }
 
@@ -55,13 +57,15 @@ pub enum Makes {
     Port(usize),
 }
 
-/// What a step asks for. Names are positions in the script's list of names.
+/// What a step asks for. The name that it uses is a position in the script's list of names.
 #[derive(Clone, Copy, Debug, PartialEq, Eq)]
 pub enum Action {
     Send(usize, u64),
     Multicast(usize, u64),
     Recv(usize),
     Poll(usize),
+    Port(usize),
+    Copy(usize),
     Close(usize),
 }
 
@@ -106,18 +110,22 @@ impl Verb {
             "multicast" => Some(Verb::Multicast),
             "recv" => Some(Verb::Recv),
             "poll" => Some(Verb::Poll),
+            "port" => Some(Verb::Port),
+            "copy" => Some(Verb::Copy),
             "close" => Some(Verb::Close),
             _ => None,
         }
     }
 
-    fn places(self) -> &'static [Place]
+    pub(crate) fn places(self) -> &'static [Place]
         ensures { result.now ≡ step_places self }
     {
         match self {
             Verb::Send => &[Place::Mailbox, Place::Number],
             Verb::Multicast => &[Place::Channel, Place::Number],
             Verb::Recv | Verb::Poll => &[Place::Receiver],
+            Verb::Port => &[Place::Channel, Place::Fresh],
+            Verb::Copy => &[Place::Port, Place::Fresh],
             Verb::Close => &[Place::Port],
         }
     }
@@ -155,7 +163,7 @@ impl Place {
         match (self, named) {
             (Place::Mailbox | Place::Receiver, Named::Mailbox) => true,
             (Place::Channel, Named::Channel) => true,
-            (Place::Port | Place::Receiver, Named::Port) => true,
+            (Place::Port | Place::Receiver, Named::Port(_)) => true,
             _ => false,
         }
     }
@@ -216,6 +224,16 @@ impl<'a> Form<'a> {
         match self {
             Form::Unknown | Form::NoStep(_) => &[],
             Form::Declaration(_, rest) | Form::Step(_, _, rest) => rest,
+        }
+    }
+
+    /// The seat of the thread whose line it is, and 0 for the other lines.
+    pub(crate) fn seat(&self) -> u64
+        ensures { result ≡ seat_of_form (shown self.now) }
+    {
+        match self {
+            Form::Unknown | Form::Declaration(_, _) => 0,
+            Form::NoStep(seat) | Form::Step(seat, _, _) => *seat,
         }
     }
 

@@ -18,7 +18,7 @@ pub use laws::{
     faultless_texts_are_scripts, numbers_are_as_printed, scripts_have_no_fault,
     texts_are_one_script, words_make_lines,
 };
-pub use names::Named;
+pub use names::{Named, Users};
 pub use read::read_script;
 pub use script::{Declaration, Line, Script, Step};
 

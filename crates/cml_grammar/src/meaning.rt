@@ -1,5 +1,6 @@
 //! What a line that is without fault asks for.
 ghost use Rattle.std.specs.Prelude.{◌≡◌, ◌+◌, ◌^◌, ◌<◌, [], ◌∷◌, length, map, Some, true};
+ghost use Rattle.std.specs.Option.{option_map};
 ghost use Rattle.std.specs.Str.Parse.{digits_value};
 ghost use Rattle.cml_grammar.specs.Names.{is_number, is_given, position_of};
 ghost use Rattle.cml_grammar.specs.Forms.{declared_places, step_places, fresh_word, named_by};
@@ -8,7 +9,7 @@ ghost use Rattle.cml_grammar.specs.Reading.{texts_of, UsesWell, IsMadeWell, thre
 ghost use Rattle.cml_grammar.specs.Suiting.{AllSuit};
 
 use crate::forms::{Action, Declares, Makes, Verb, fresh_word};
-use crate::names::{Named, number_of, position_of};
+use crate::names::{Named, Users, number_of, position_of};
 use indexmap::IndexMap;
 
 /// The position of a name that was given.
@@ -68,9 +69,16 @@ pub(crate) fn named_by(declares: Declares, threads: u64) -> Named
     match declares {
         Declares::Mailbox => Named::Mailbox,
         Declares::Channel => Named::Channel,
-        Declares::Port => Named::Port,
+        Declares::Port => Named::Port(Users::Every),
         Declares::Thread => Named::Thread(threads + 1),
     }
+}
+
+/// The name that a step gives, if it gives one.
+pub(crate) fn name_given<'a>(verb: Verb, rest: &'a [&'a str]) -> Option<&'a str>
+    ensures { option_map (λ w. w.now) result ≡ fresh_word (step_places verb) (map (λ w. w.now) rest.now) }
+{
+    fresh_word(verb.places(), rest)
 }
 
 /// How many threads there are with the one that is declared, if it is one.
@@ -99,6 +107,8 @@ pub(crate) fn action_by(names: &IndexMap<String, Named>, verb: Verb, rest: &[&st
         Verb::Multicast => Action::Multicast(at, message_in(more)),
         Verb::Recv => Action::Recv(at),
         Verb::Poll => Action::Poll(at),
+        Verb::Port => Action::Port(at),
+        Verb::Copy => Action::Copy(at),
         Verb::Close => Action::Close(at),
     }
 }

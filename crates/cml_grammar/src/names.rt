@@ -2,9 +2,19 @@
 ghost use Rattle.std.specs.Prelude.{◌≡◌, ◌^◌, ◌<◌, Some, None, if◌then◌else◌};
 ghost use Rattle.std.specs.Str.Parse.{digits_value};
 ghost use Rattle.cml_grammar.specs.Names.{is_letter, is_name_byte, is_reserved, is_name, is_number, named, seat_of, position_of, is_given};
+ghost use Rattle.cml_grammar.specs.Forms.{is_others};
 ghost use Rattle.cml_grammar.specs.Reading.{texts_of};
 
 use indexmap::IndexMap;
+
+/// Who may use a port.
+#[derive(Clone, Copy, Debug, PartialEq, Eq)]
+pub enum Users {
+    /// Every thread: the port was declared.
+    Every,
+    /// The thread with this seat: one of its steps made the port.
+    One(u64),
+}
 
 /// What a name of a script names.
 #[derive(Clone, Copy, Debug, PartialEq, Eq)]
@@ -13,7 +23,19 @@ pub enum Named {
     Thread(u64),
     Mailbox,
     Channel,
-    Port,
+    Port(Users),
+}
+
+impl Named {
+    /// Whether it is a port of another seat than this one.
+    pub(crate) fn is_others(self, seat: u64) -> bool
+        ensures { result ≡ is_others seat self }
+    {
+        match self {
+            Named::Port(Users::One(owner)) => owner != seat,
+            _ => false,
+        }
+    }
 }
 
 fn is_letter(byte: u8) -> bool
@@ -82,7 +104,7 @@ pub(crate) fn seat_of(names: &IndexMap<String, Named>, word: &str) -> Option<u64
 {
     match find_named(names, word)? {
         Named::Thread(seat) => Some(seat),
-        Named::Mailbox | Named::Channel | Named::Port => None,
+        Named::Mailbox | Named::Channel | Named::Port(_) => None,
     }
 }
 

@@ -6,8 +6,8 @@ ghost use Rattle.cml_grammar.specs.Faults.{fault_in, fault_in_words, is_bad_head
 use crate::checks::fault_in_form;
 use crate::fault::What;
 use crate::forms::{Declares, Form, Verb};
-use crate::meaning::{action_by, makes_by, name_by, named_by, threads_with};
-use crate::names::Named;
+use crate::meaning::{action_by, makes_by, name_by, name_given, named_by, threads_with};
+use crate::names::{Named, Users};
 use crate::script::{Declaration, Line, Script, Step};
 use crate::words::{has_bad_byte, has_empty_word, is_skipped, split_words};
 use indexmap::IndexMap;
@@ -108,7 +108,7 @@ impl Reading {
         let line = Line { number, text };
         match form {
             Form::Declaration(declares, rest) => self.declare(alloc, line, declares, rest),
-            Form::Step(seat, verb, rest) => self.step(line, seat, verb, rest),
+            Form::Step(seat, verb, rest) => self.step(alloc, line, seat, verb, rest),
             _ => unreachable!(),
         }
     }
@@ -139,7 +139,14 @@ impl Reading {
     }
 
     /// Adds a step that is without fault. An `Err` is for want of memory, and changes nothing.
-    fn step(&mut self, line: Line, seat: u64, verb: Verb, rest: &[&str]) -> Result<(), What>
+    fn step(
+        &mut self,
+        alloc: Global,
+        line: Line,
+        seat: u64,
+        verb: Verb,
+        rest: &[&str],
+    ) -> Result<(), What>
         requires fits { fault_in_words (scope_of self.old) (words_of (string_bytes line.text)) ≡ None }
         requires form { form_of (names_of self.old) (words_of (string_bytes line.text)) ≡ step seat verb (map (λ w. w.now) rest.now) }
         ensures lines { OnOk result (self.new ≡ with_words self.old line.number (string_bytes line.text)) }
@@ -147,8 +154,20 @@ impl Reading {
         ensures memory { IfErr result (λ what. what ≡ What.Memory) }
     {
         let action = action_by(&self.names, verb, rest);
-        self.steps.push(Step { line, seat, action })?;
-        Ok(())
+        let step = Step { line, seat, action };
+        match name_given(verb, rest) {
+            None => {
+                self.steps.push(step)?;
+                return Ok(());
+            }
+            Some(name) => {
+                let name = String::from_str(alloc, name)?;
+                self.steps.reserve(1)?;
+                self.names.insert(name, Named::Port(Users::One(seat)))?;
+                self.steps.push_reserved(step);
+                return Ok(());
+            }
+        }
     }
 
     /// The script of these lines.

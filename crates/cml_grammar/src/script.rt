@@ -14,7 +14,7 @@ pub struct Line {
     pub text: String,
 }
 
-/// A declaration line, and what it makes. The i-th declaration gives the i-th name.
+/// A declaration line, and what it makes.
 #[derive(Debug, Drop)]
 pub struct Declaration {
     pub line: Line,
@@ -53,7 +53,8 @@ impl Model for Script {
 impl Script {
     ghost use Rattle.cml_grammar.specs.Names.{thread_count};
     ghost use Rattle.cml_grammar.specs.Meaning.{names_of};
-    ghost use Rattle.cml_grammar.specs.Reading.{source_of, view_of, texts_of, GivesNames, ReadsDeclaration, ReadsStep, IsReading};
+    ghost use Rattle.cml_grammar.specs.Giving.{NamesAreGiven};
+    ghost use Rattle.cml_grammar.specs.Reading.{source_of, view_of, texts_of, GivesNames, ReadsDeclaration, ReadsStep, UsesEarlier, IsReading};
 
     pub(crate) fn new(
         version: u64,
@@ -78,9 +79,11 @@ impl Script {
         self.version
     }
 
-    /// The names in text order, with what each names.
+    /// The names in text order, with what each names: the i-th declaration gives the i-th, and behind those stand the
+    /// names that steps give.
     pub fn names(&self) -> &IndexMap<String, Named>
         ensures names { texts_of result.now.entries ≡ names_of self.now }
+        ensures given { NamesAreGiven (names_of self.now) self.now.declarations self.now.steps }
         ensures threads { thread_count (names_of self.now) ≤ 64 }
     {
         &self.names
@@ -100,6 +103,7 @@ impl Script {
     pub fn steps(&self) -> &[Step]
         ensures lines { map (λ s. source_of s.line) result.now ≡ self.now.steps }
         ensures asked { All (ReadsStep (names_of self.now)) result.now }
+        ensures earlier { UsesEarlier self.now result.now }
         ensures threads { thread_count (names_of self.now) ≤ 64 }
         ensures few { length result.now ≤ 1048576 }
     {

@@ -1,6 +1,7 @@
 //! What no clause says: rows of the format, the order of the faults, and that a good script is read.
 mod faults;
 mod good;
+mod made;
 mod order;
 mod ports;
 mod sizes;

@@ -1,6 +1,6 @@
 //! Channels and declared ports: what their lines are read as, and what is wrong with them.
 use super::fault_text;
-use crate::{Action, Makes, Named, read_script};
+use crate::{Action, Makes, Named, Users, read_script};
 use std::test::Fail;
 
 const GOOD: &str =
@@ -16,9 +16,9 @@ fn reads_channels_and_ports(rt: HostRuntime) -> Result<(), Fail> {
         ("m", Named::Mailbox),
         ("c", Named::Channel),
         ("d", Named::Channel),
-        ("p", Named::Port),
+        ("p", Named::Port(Users::Every)),
         ("A", Named::Thread(1)),
-        ("q", Named::Port),
+        ("q", Named::Port(Users::Every)),
         ("B", Named::Thread(2)),
     ];
     assert_eq!(rt; script.names().len(), names.len());

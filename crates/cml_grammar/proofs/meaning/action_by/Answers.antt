@@ -1,11 +1,11 @@
 use Rattle.std.proofs.Common.{ap, subst, ◌∙◌}
 use Rattle.cml_grammar.specs.declared.forms.Verb.{Verb}
-use Rattle.cml_grammar.specs.declared.forms.Verb.TheVariants.{Send, Multicast}
+use Rattle.cml_grammar.specs.declared.forms.Verb.TheVariants.{Send, Multicast, Recv, Poll, Copy, Close}
 use Rattle.cml_grammar.specs.Forms.{step_places}
 use Rattle.cml_grammar.specs.Meaning.{action_by}
 use Rattle.cml_grammar.specs.Reading.{texts_of}
 use Rattle.cml_grammar.specs.Suiting.{AllSuit}
-use Rattle.cml_grammar.proofs.MeaningLemmas.{Words, bytes, number_alone, send_means, multicast_means}
+use Rattle.cml_grammar.proofs.MeaningLemmas.{Words, bytes, number_alone, send_means, multicast_means, receiver_found, port_found}
 use Rattle.cml_grammar.proofs.meaning.action_by.Goals as goal
 
 pub message_in-requires : goal.message_in-requires
@@ -33,3 +33,27 @@ returns-in-Multicast-clause-action c =
     ap (λ (v : Verb). action_by names v (bytes c.args.rest.now)) c.in-Multicast.is
     ∙ ap (λ (ws : Words). action_by names Multicast (bytes ws)) c.in-Some.ensures.cases.0
     ∙ multicast_means names c.in-Some.object.now.now c.in-Some.more.now _ _ c.given_position-at.ensures c.message_in-in-Multicast.ensures.value
+
+pub returns-in-Recv-clause-uses : goal.returns-in-Recv-clause-uses
+returns-in-Recv-clause-uses c =
+    let names = texts_of c.args.names.now.entries in
+    let suit = subst (λ (v : Verb). AllSuit names (step_places v) (bytes c.args.rest.now)) c.in-Recv.is c.requires in
+    receiver_found names c.in-Some.object.now.now _ (subst (λ (ws : Words). AllSuit names (step_places Recv) (bytes ws)) c.in-Some.ensures.cases.0 suit).0 c.given_position-at.ensures
+
+pub returns-in-Poll-clause-uses : goal.returns-in-Poll-clause-uses
+returns-in-Poll-clause-uses c =
+    let names = texts_of c.args.names.now.entries in
+    let suit = subst (λ (v : Verb). AllSuit names (step_places v) (bytes c.args.rest.now)) c.in-Poll.is c.requires in
+    receiver_found names c.in-Some.object.now.now _ (subst (λ (ws : Words). AllSuit names (step_places Poll) (bytes ws)) c.in-Some.ensures.cases.0 suit).0 c.given_position-at.ensures
+
+pub returns-in-Copy-clause-uses : goal.returns-in-Copy-clause-uses
+returns-in-Copy-clause-uses c =
+    let names = texts_of c.args.names.now.entries in
+    let suit = subst (λ (v : Verb). AllSuit names (step_places v) (bytes c.args.rest.now)) c.in-Copy.is c.requires in
+    port_found names c.in-Some.object.now.now _ (subst (λ (ws : Words). AllSuit names (step_places Copy) (bytes ws)) c.in-Some.ensures.cases.0 suit).0 c.given_position-at.ensures
+
+pub returns-in-Close-clause-uses : goal.returns-in-Close-clause-uses
+returns-in-Close-clause-uses c =
+    let names = texts_of c.args.names.now.entries in
+    let suit = subst (λ (v : Verb). AllSuit names (step_places v) (bytes c.args.rest.now)) c.in-Close.is c.requires in
+    port_found names c.in-Some.object.now.now _ (subst (λ (ws : Words). AllSuit names (step_places Close) (bytes ws)) c.in-Some.ensures.cases.0 suit).0 c.given_position-at.ensures

@@ -1,4 +1,5 @@
-use Rattle.std.proofs.Common.{ℕ, List, map, Bor, string_bytes, sym, subst}
+use Rattle.std.proofs.Common.{ℕ, List, [], ◌∷◌, ◌++◌, map, Bor, string_bytes, sym, ap, ◌∙◌, subst}
+use Rattle.std.specs.Option.{option_map}
 use Rattle.cml_grammar.specs.declared.script.Step.{Step}
 use Rattle.cml_grammar.specs.Words.{words_of}
 use Rattle.cml_grammar.specs.Names.{Given}
@@ -6,7 +7,7 @@ use Rattle.cml_grammar.specs.Forms.{step_places}
 use Rattle.cml_grammar.specs.Script.{Lines}
 use Rattle.cml_grammar.specs.Meaning.{names_of}
 use Rattle.cml_grammar.specs.Suiting.{AllSuit}
-use Rattle.cml_grammar.proofs.ClosingLemmas.{asked_suits, asked_closes, asked_scopes}
+use Rattle.cml_grammar.proofs.ClosingLemmas.{asked_suits, asked_closes, giving_closes, asked_scopes}
 use Rattle.cml_grammar.proofs.reading.Reading.step.Goals as goal
 
 pub action_by-action-requires : goal.action_by-action-requires
@@ -16,16 +17,36 @@ action_by-action-requires c =
     (subst (λ (s : Lines). AllSuit (names_of s) (step_places c.args.verb) rest) (sym c.self.view_is)
     (asked_suits c.args.self.now (words_of (string_bytes c.args.line.text)) c.args.seat c.args.verb rest c.requires.fits c.requires.form))
 
-pub returns-clause-scope : goal.returns-clause-scope
-returns-clause-scope c =
+pub returns-in-None-clause-scope : goal.returns-in-None-clause-scope
+returns-in-None-clause-scope c =
     let i = c.self.inside in
+    let rest : List (List ℕ) = map (λ (w : Bor (List ℕ)). w.now) c.args.rest.now in
     let s : Step = record { line = c.args.line; seat = c.args.seat; action = c.action_by-action.result } in
-    asked_scopes 1 c.args.self.now i.names.entries i.declarations.items i.steps.items _ i.threads s c.args.verb (map (λ (w : Bor (List ℕ)). w.now) c.args.rest.now) c.self.view_is c.self.invariant
-    (record { fits = c.requires.fits; form = c.requires.form }) c.action_by-action.ensures.action c.action_by-action.ensures.uses c.in_ok-push.ensures.items
+    asked_scopes 1 c.args.self.now i.names i.declarations.items i.steps.items _ i.threads s c.args.verb rest c.self.view_is c.self.invariant
+    (record { fits = c.requires.fits; form = c.requires.form }) c.action_by-action.ensures.action c.action_by-action.ensures.uses c.in_ok-push-in-None.ensures.items
 
-pub invariant_of-self-2 : goal.invariant_of-self-2
-invariant_of-self-2 c =
+pub invariant_of-self-in-None : goal.invariant_of-self-in-None
+invariant_of-self-in-None c =
     let i = c.self.inside in
+    let rest : List (List ℕ) = map (λ (w : Bor (List ℕ)). w.now) c.args.rest.now in
     let s : Step = record { line = c.args.line; seat = c.args.seat; action = c.action_by-action.result } in
-    asked_closes 1 c.args.self.now i.names.entries i.declarations.items i.steps.items _ i.threads s c.args.verb (map (λ (w : Bor (List ℕ)). w.now) c.args.rest.now) c.self.view_is c.self.invariant
-    (record { fits = c.requires.fits; form = c.requires.form }) c.action_by-action.ensures.action c.action_by-action.ensures.uses c.in_ok-push.ensures.items
+    asked_closes 1 c.args.self.now i.names i.declarations.items i.steps.items _ i.threads s c.args.verb rest c.self.view_is c.self.invariant
+    (record { fits = c.requires.fits; form = c.requires.form }) c.action_by-action.ensures.action c.action_by-action.ensures.uses c.in_ok-push-in-None.ensures.items
+    (sym c.name_given.ensures ∙ ap (option_map (λ (w : Bor (List ℕ)). w.now)) c.in-None.is)
+
+pub returns-in-Some-clause-scope : goal.returns-in-Some-clause-scope
+returns-in-Some-clause-scope c =
+    let i = c.self.inside in
+    let rest : List (List ℕ) = map (λ (w : Bor (List ℕ)). w.now) c.args.rest.now in
+    let s : Step = record { line = c.args.line; seat = c.args.seat; action = c.action_by-action.result } in
+    asked_scopes 1 c.args.self.now i.names i.declarations.items i.steps.items _ i.threads s c.args.verb rest c.self.view_is c.self.invariant
+    (record { fits = c.requires.fits; form = c.requires.form }) c.action_by-action.ensures.action c.action_by-action.ensures.uses (c.push_reserved.ensures.items ∙ ap (λ (xs : List Step). xs ++ s ∷ []) c.reserve.ensures.items)
+
+pub invariant_of-self-in-Some : goal.invariant_of-self-in-Some
+invariant_of-self-in-Some c =
+    let i = c.self.inside in
+    let rest : List (List ℕ) = map (λ (w : Bor (List ℕ)). w.now) c.args.rest.now in
+    let s : Step = record { line = c.args.line; seat = c.args.seat; action = c.action_by-action.result } in
+    giving_closes 1 c.args.self.now i.names i.declarations.items i.steps.items _ i.threads s c.args.verb rest c.self.view_is c.self.invariant
+    (record { fits = c.requires.fits; form = c.requires.form }) c.action_by-action.ensures.action c.action_by-action.ensures.uses (c.push_reserved.ensures.items ∙ ap (λ (xs : List Step). xs ++ s ∷ []) c.reserve.ensures.items)
+    c.in-Some.name.now (sym c.name_given.ensures ∙ ap (option_map (λ (w : Bor (List ℕ)). w.now)) c.in-Some.is) _ c.in_ok-name-in-Some.name c.in_ok-name-in-Some.ensures.ok c.in_ok-insert-in-Some.ensures.entries

@@ -1,0 +1,12 @@
+use Rattle.std.proofs.Common.{List, All, sym, subst}
+use Rattle.cml_grammar.specs.declared.script.Step.{Step}
+use Rattle.cml_grammar.specs.Script.{Lines}
+use Rattle.cml_grammar.specs.Meaning.{names_of}
+use Rattle.cml_grammar.specs.Reading.{view_of, ReadsStep}
+use Rattle.cml_grammar.proofs.script.Script.steps.Goals as goal
+
+pub returns-clause-asked : goal.returns-clause-asked
+returns-clause-asked c =
+    let i = c.self.inside in
+    subst (λ (s : Lines). All (ReadsStep (names_of s)) c.deref.result.now) c.self.view_is
+    (subst (λ (xs : List Step). All (ReadsStep (names_of (view_of i.version i.declarations.items i.steps.items))) xs) (sym c.deref.ensures.value) c.self.invariant.steps)
