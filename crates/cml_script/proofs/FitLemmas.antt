@@ -27,7 +27,7 @@ module _ (names : List Given) (at : ℕ) where
   channel_at (word, found) = (word, called.Channel, found, refl)
 
   pub port_at : IsPortAt names at → IsObjectAt names at kind.Port
-  port_at (word, found) = (word, called.Port, found, refl)
+  port_at (word, whose, found) = (word, called.Port whose, found, refl)
 
   pub mailbox_object : IsMailboxAt names at → IsObject names at
   mailbox_object (word, found) = (kind.Mailbox, (word, called.Mailbox, found, refl))
@@ -36,11 +36,11 @@ module _ (names : List Given) (at : ℕ) where
   channel_object (word, found) = (kind.Channel, (word, called.Channel, found, refl))
 
   pub port_object : IsPortAt names at → IsObject names at
-  port_object (word, found) = (kind.Port, (word, called.Port, found, refl))
+  port_object (word, whose, found) = (kind.Port, (word, called.Port whose, found, refl))
 
   pub receiver_object : IsReceiverAt names at → IsObject names at
   receiver_object (inl (word, found)) = (kind.Mailbox, (word, called.Mailbox, found, refl))
-  receiver_object (inr (word, found)) = (kind.Port, (word, called.Port, found, refl))
+  receiver_object (inr (word, whose, found)) = (kind.Port, (word, called.Port whose, found, refl))
 
 -- a call on an object of a kind that takes it
 pub fits_kind : (history : History) (name : Name) (k : Kind) (c : Call ℕ) → kind_of history name.0 ≡ Some k → object_in c ≡ Some name → takes k c ≡ true → Fits history c
@@ -51,8 +51,8 @@ pub fits_receiver : (names : List Given) (at : ℕ) (history : History) (name : 
     → object_in c ≡ Some name → takes kind.Mailbox c ≡ true → takes kind.Port c ≡ true → Fits history c
 fits_receiver names at history name c (inl (word, found)) kinds on by_mailbox by_port =
     fits_kind history name kind.Mailbox c (kinds kind.Mailbox (word, called.Mailbox, found, refl)) on by_mailbox
-fits_receiver names at history name c (inr (word, found)) kinds on by_mailbox by_port =
-    fits_kind history name kind.Port c (kinds kind.Port (word, called.Port, found, refl)) on by_port
+fits_receiver names at history name c (inr (word, whose, found)) kinds on by_mailbox by_port =
+    fits_kind history name kind.Port c (kinds kind.Port (word, called.Port whose, found, refl)) on by_port
 
 -- the call of a step is what it was read as
 pub step_calls : (script : Lines) (history : History) (items : List Step) (i : ℕ) (s : Step) (c : Call ℕ) → map (λ x. source_of x.line) items ≡ script.steps → All (ReadsStep (names_of script)) items → slice_get items i ≡ Some s

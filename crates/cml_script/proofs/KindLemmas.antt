@@ -1,7 +1,7 @@
 -- The declared objects are the first that are made, each of its kind.
 use Rattle.std.proofs.Common.{◌≡◌, ℕ, zero, suc, ◌+◌, ◌<◌, ◌≤◌, ◌⊎◌, Bool, true, false, cond, ltb, List, [], ◌∷◌, ◌++◌, length, take, filter, slice_get, Option, Some, None, MatchBool, refl, sym, ap, subst, ◌∙◌, arith, inl, inr}
 use Rattle.std.specs.Option.{option_map, option_map_or, option_and_then}
-use Rattle.std.proofs.lemmas.Option.{same_Some, none-some}
+use Rattle.std.proofs.lemmas.Option.{same_Some, none-some, slice_get_within}
 use Rattle.std.proofs.lemmas.List.{length_push, length-append}
 use Rattle.std.proofs.lemmas.Bool.{lt-ltb, cases_lt}
 use Rattle.cml_board.specs.declared.call.Call.{Call}
@@ -20,8 +20,8 @@ use Rattle.cml_grammar.specs.declared.script.Declaration.{Declaration}
 use Rattle.cml_grammar.specs.Reading.{source_of, ReadsDeclaration, IsMadeWell}
 use Rattle.cml_script.specs.Stage.{Play, IsNextObject, IsNext, NamesObjects, kind_made, kind_declared}
 use Rattle.cml_script.specs.Counting.{one_if, how_many}
-use Rattle.cml_script.specs.Schedule.{History, Follows, IsDeclaration, IsStep, declared_count, objects_of, call_in, making_call, makes_object, is_object, object_of}
-use Rattle.cml_script.proofs.ListLemmas.{slice_get-append_left, slice_get_pushed, filter_at}
+use Rattle.cml_script.specs.Schedule.{History, Follows, IsDeclaration, IsStep, declared_count, objects_of, call_in, making_call, makes_object, is_object, declared_object}
+use Rattle.cml_script.proofs.ListLemmas.{slice_get-append_left, slice_get_pushed, filter_at, counted_mono}
 
 -- what is made behind a list of objects, by a call that makes one
 pub record MakesOne (before : History) (entry : Entry ℕ) (k : Option Kind) : Type 0 where
@@ -59,9 +59,9 @@ declared_one : (script : Lines) (before : History) (entry : Entry ℕ) (line : O
 declared_one script before entry None e answers = absurd (none-some entry.call e)
 declared_one script before entry (Some line) e answers = by_makes (makes_of (names_of script) line.words) e
   where
-    by_makes : (m : Option Makes) → option_and_then (making_call (object_of script before)) m ≡ Some entry.call → MakesOne before entry (option_and_then kind_made m)
+    by_makes : (m : Option Makes) → option_and_then (making_call (declared_object script before)) m ≡ Some entry.call → MakesOne before entry (option_and_then kind_made m)
     by_makes None none = absurd (none-some entry.call none)
-    by_makes (Some m) some = makes_one before entry (object_of script before) m some answers
+    by_makes (Some m) some = makes_one before entry (declared_object script before) m some answers
 
 -- the kind of the k-th declared object
 abbrev pub kind_at : Lines → ℕ → Option Kind
@@ -152,19 +152,8 @@ object_kind (Some (makes.Port source)) k e = refl
 pub kind_object : (script : Lines) (line : SourceLine) (k : Kind) → kind_declared script line ≡ Some k → is_object script line ≡ true
 kind_object script line k e = object_kind (makes_of (names_of script) line.words) k e
 
--- fewer objects are declared before a line than before a later one
-counted_mono : (p : SourceLine → Bool) (xs : List SourceLine) (i j : ℕ) (x : SourceLine) → i < j → slice_get xs i ≡ Some x → p x ≡ true → how_many p (take i xs) < how_many p (take j xs)
-counted_mono p [] i j x lt found passes = absurd (none-some x found)
-counted_mono p (y ∷ ys) zero zero x lt found passes = absurd (omega arith)
-counted_mono p (y ∷ ys) zero (suc j) x lt found passes =
-    let yes : p y ≡ true = ap p (same_Some y x found) ∙ passes in
-    rw yes (omega arith)
-counted_mono p (y ∷ ys) (suc i) zero x lt found passes = absurd (omega arith)
-counted_mono p (y ∷ ys) (suc i) (suc j) x lt found passes =
-    let ih = counted_mono p ys i j x (omega arith) found passes in omega (arith, ih)
-
 -- an object that was made stands for its name
-pub object_made : (script : Lines) (history : History) (at : ℕ) → how_many (is_object script) (take at script.declarations) < length history → object_of script history at ≡ Some (how_many (is_object script) (take at script.declarations))
+pub object_made : (script : Lines) (history : History) (at : ℕ) → how_many (is_object script) (take at script.declarations) < length history → declared_object script history at ≡ Some (how_many (is_object script) (take at script.declarations))
 object_made script history at lt =
     let test : ltb (how_many (is_object script) (take at script.declarations)) (length history) ≡ true = lt-ltb _ _ lt in
     rw test refl
@@ -191,7 +180,7 @@ next_object play names i d made found reads uses = by_makes d.makes refl uses
     line : SourceLine
     line = source_of d.line
 
-    next : (m : Makes) (c : Call ℕ) → d.makes ≡ m → makes_object m ≡ true → making_call (object_of play.script play.history) m ≡ Some c → IsNextObject play c
+    next : (m : Makes) (c : Call ℕ) → d.makes ≡ m → makes_object m ≡ true → making_call (declared_object play.script play.history) m ≡ Some c → IsNextObject play c
     next m c e object making =
         let makes : makes_of (names_of play.script) line.words ≡ Some m = reads.makes ∙ ap Some e in
         let is : is_object play.script line ≡ true = ap (λ o. option_map_or makes_object o false) makes ∙ object in
@@ -201,7 +190,7 @@ next_object play names i d made found reads uses = by_makes d.makes refl uses
           makes =
               ap (λ n. option_and_then (call_in play.script play.history) (slice_get (objects_of play.script) n)) made
               ∙ ap (option_and_then (call_in play.script play.history)) there
-              ∙ ap (option_and_then (making_call (object_of play.script play.history))) makes ∙ making;
+              ∙ ap (option_and_then (making_call (declared_object play.script play.history))) makes ∙ making;
         }
 
     by_makes : (m : Makes) → d.makes ≡ m → IsMadeWell (names_of play.script) i m → IsNext play m
@@ -209,8 +198,9 @@ next_object play names i d made found reads uses = by_makes d.makes refl uses
     by_makes makes.Mailbox e uses = next makes.Mailbox call.NewMailbox e refl refl
     by_makes makes.Channel e uses = next makes.Channel call.NewChannel e refl refl
     by_makes (makes.Port source) e (is_channel, earlier) =
-        let given = names source kind.Channel (is_channel.0, called.Channel, is_channel.1, refl) in
+        let within : source < length play.script.declarations = omega (arith, earlier, slice_get_within play.script.declarations i line found) in
+        let given = names source kind.Channel within (is_channel.0, called.Channel, is_channel.1, refl) in
         let below = counted_mono (is_object play.script) play.script.declarations source i given.0 earlier given.1 (kind_object play.script given.0 kind.Channel given.2) in
         let object = object_made play.script play.history source (omega (arith, below, made)) in
         let o : ℕ = how_many (is_object play.script) (take source play.script.declarations) in
-        (is_channel, o, object, next (makes.Port source) (call.NewPort (record { 0 = o })) e refl (ap (option_map (λ n. call.NewPort (record { 0 = n }))) object))
+        (is_channel, within, o, object, next (makes.Port source) (call.NewPort (record { 0 = o })) e refl (ap (option_map (λ n. call.NewPort (record { 0 = n }))) object))

@@ -2,9 +2,12 @@ pub mod ListLemmas
 pub mod LineLemmas
 pub mod QueueLemmas
 pub mod KindLemmas
+pub mod GivingLemmas
+pub mod BindingLemmas
 pub mod ReadyLemmas
 pub mod StandLemmas
 pub mod ReportLemmas
 pub mod CommandLineLemmas
 pub mod FitLemmas
+pub mod UseLemmas
 pub mod CountLemmas

@@ -1,16 +1,18 @@
 -- What the lines of a script were read as.
-use Rattle.std.proofs.Common.{◌≡◌, ℕ, zero, suc, ◌<◌, ◌≤◌, Bool, true, false, eqb, [], ◌∷◌, arith, List, length, map, slice_get, Some, refl, sym, ap, subst, ◌∙◌}
+use Rattle.std.proofs.Common.{◌≡◌, ℕ, zero, suc, ◌<◌, ◌≤◌, Bool, true, false, eqb, [], ◌∷◌, arith, List, length, map, slice_get, Some, None, cond, refl, sym, ap, subst, ◌∙◌}
 use Rattle.std.specs.Prelude.{All}
 use Rattle.std.specs.Option.{option_and_then, option_map_or}
+use Rattle.std.specs.Bool.{then_some}
 use Rattle.std.proofs.lemmas.List.{length-map}
 use Rattle.std.proofs.lemmas.Bool.{eqb-true}
 use Rattle.cml_grammar.specs.declared.forms.Makes.{Makes}
 use Rattle.cml_grammar.specs.declared.forms.Makes.TheVariants as makes
 use Rattle.cml_grammar.specs.declared.names.Named.{Named}
 use Rattle.cml_grammar.specs.declared.names.Named.TheVariants as called
+use Rattle.cml_grammar.specs.declared.names.Users.TheVariants as users
 use Rattle.cml_board.specs.declared.call.Kind.{Kind}
-use Rattle.cml_grammar.specs.Meaning.{names_of}
-use Rattle.cml_script.specs.Stage.{NamesObjects, HasSeats, IsObjectAt, kind_made, kind_named}
+use Rattle.cml_grammar.specs.Meaning.{names_of, action_of}
+use Rattle.cml_script.specs.Stage.{NamesObjects, HasSeats, AsksForPorts, IsObjectAt, kind_made, kind_named}
 use Rattle.std.proofs.lemmas.List.Elements.{All-get_or}
 use Rattle.std.proofs.lemmas.Option.{slice_get_within, get_or_from_slice_get, same_Some, some_pair_parts}
 use mir.Val.{bool_byte}
@@ -18,8 +20,9 @@ use Rattle.cml_script.specs.Counting.{one_if}
 use Rattle.cml_grammar.specs.declared.script.Declaration.{Declaration}
 use Rattle.cml_grammar.specs.declared.script.Step.{Step}
 use Rattle.cml_grammar.specs.Names.{Given, thread_count}
-use Rattle.cml_grammar.specs.Script.{Lines}
-use Rattle.cml_grammar.specs.Reading.{source_of, ReadsDeclaration, ReadsStep, Gives, GivesAt, GivesNames}
+use Rattle.cml_grammar.specs.Script.{SourceLine, Lines}
+use Rattle.cml_grammar.specs.Giving.{is_giving}
+use Rattle.cml_grammar.specs.Reading.{source_of, ReadsDeclaration, ReadsStep, Gives, GivesAt, GivesNames, gives_name}
 use Rattle.cml_script.specs.Schedule.{makes_object, is_object, is_seated}
 use Rattle.cml_script.proofs.ListLemmas.{mapped_at}
 
@@ -49,18 +52,32 @@ gives_kind names at k d (word, n, found, kinded) gives = by_makes d.makes gives.
     by_makes : (m : Makes) → GivesAt names at gives.0 m → kind_made m ≡ Some k
     by_makes makes.Mailbox g = same called.Mailbox g
     by_makes makes.Channel g = same called.Channel g
-    by_makes (makes.Port source) g = same called.Port g
+    by_makes (makes.Port source) g = same (called.Port users.Every) g
     by_makes makes.Thread g = same (called.Thread g.0) g.1
 
 pub names_objects : (script : Lines) (items : List Declaration) → map (λ d. source_of d.line) items ≡ script.declarations → GivesNames (names_of script) items → All (ReadsDeclaration (names_of script)) items → NamesObjects script
-names_objects script items lines gives reads = λ at k object.
-    let within : at < length items = omega (arith, slice_get_within (names_of script) at (object.0, object.1) object.2, gives.one_each) in
+names_objects script items lines gives reads = λ at k declared object.
+    let within : at < length items = omega (arith, declared, ap length lines, length-map items (λ (d : Declaration). source_of d.line)) in
     let there = stands items at within in
     let d = there.0 in (
       source_of d.line,
       mapped_at (λ x. source_of x.line) items script.declarations at d lines there.1,
       ap (option_and_then kind_made) (all_at (ReadsDeclaration (names_of script)) items at d reads there.1).makes ∙ gives_kind (names_of script) at k d object (gives.each at d there.1),
     )
+
+-- just the steps that ask for a port give a name
+pub step_gives : (script : Lines) (s : Step) → ReadsStep (names_of script) s → gives_name s.action ≡ is_giving (source_of s.line)
+step_gives script s reads = reads.gives
+
+pub asks_for_ports : (script : Lines) (items : List Step) → map (λ s. source_of s.line) items ≡ script.steps → All (ReadsStep (names_of script)) items → AsksForPorts script
+asks_for_ports script items lines reads = λ i line asked found asks.
+    let within : i < length items = omega (arith, slice_get_within script.steps i line found, ap length lines, length-map items (λ (s : Step). source_of s.line)) in
+    let there = stands items i within in
+    let s = there.0 in
+    let same : source_of s.line ≡ line = same_Some _ _ (sym (mapped_at (λ x. source_of x.line) items script.steps i s lines there.1) ∙ found) in
+    let read = all_at (ReadsStep (names_of script)) items i s reads there.1 in
+    let one : s.action ≡ asked = same_Some _ _ (sym read.action ∙ ap (λ (l : SourceLine). action_of (names_of script) l.words) same ∙ asks) in
+    ap gives_name (sym one) ∙ step_gives script s read ∙ ap is_giving same
 
 pub has_seats : (script : Lines) (items : List Step) → map (λ s. source_of s.line) items ≡ script.steps → All (ReadsStep (names_of script)) items → thread_count (names_of script) ≤ 64 → HasSeats script
 has_seats script items lines reads few = λ i line seat found seated.
@@ -76,3 +93,11 @@ has_seats script items lines reads few = λ i line seat found seated.
 pub byte_one : (t : Bool) → bool_byte t ≡ one_if t
 byte_one true = refl
 byte_one false = refl
+
+pub one_le : (t : Bool) → one_if t ≤ 1
+one_le true = omega arith
+one_le false = omega arith
+
+pub then_is : (t : Bool) (n : ℕ) → then_some t n ≡ cond t (Some n) None
+then_is true n = refl
+then_is false n = refl

@@ -1,5 +1,5 @@
 -- The element at a place, and what is counted, filtered and taken up to it.
-use Rattle.std.proofs.Common.{◌≡◌, ℕ, zero, suc, ◌+◌, ◌<◌, ◌≤◌, inl, inr, Bool, true, false, cond, List, [], ◌∷◌, ◌++◌, length, get_or, one-add, zero-add, take, map, filter, slice_get, Some, refl, sym, ap, ◌∙◌, arith, add-one}
+use Rattle.std.proofs.Common.{◌≡◌, ◌≢◌, slice_set, ℕ, zero, suc, ◌+◌, ◌<◌, ◌≤◌, inl, inr, Bool, true, false, cond, List, [], ◌∷◌, ◌++◌, length, get_or, one-add, zero-add, take, map, filter, slice_get, Some, refl, sym, ap, ◌∙◌, arith, add-one}
 use Rattle.std.specs.Option.{option_map}
 use Rattle.std.proofs.lemmas.Option.{same_Some, none-some, slice_get-map, slice_get_read}
 use Rattle.std.proofs.lemmas.List.{length_push}
@@ -25,6 +25,25 @@ module _ {X : Type 0} where
   count_taken p xs i x found =
       ap (how_many p) (taken_more xs i x found) ∙ how_many-append p (take i xs) (x ∷ []) ∙ omega arith
 
+  -- fewer pass before an element that passes than before a later one
+  pub counted_mono : (p : X → Bool) (xs : List X) (i j : ℕ) (x : X) → i < j → slice_get xs i ≡ Some x → p x ≡ true → how_many p (take i xs) < how_many p (take j xs)
+  counted_mono p [] i j x lt found passes = absurd (none-some x found)
+  counted_mono p (y ∷ ys) zero zero x lt found passes = absurd (omega arith)
+  counted_mono p (y ∷ ys) zero (suc j) x lt found passes =
+      let yes : p y ≡ true = ap p (same_Some y x found) ∙ passes in
+      rw yes (omega arith)
+  counted_mono p (y ∷ ys) (suc i) zero x lt found passes = absurd (omega arith)
+  counted_mono p (y ∷ ys) (suc i) (suc j) x lt found passes =
+      let ih = counted_mono p ys i j x (omega arith) found passes in omega (arith, ih)
+
+  pub taken_count : (p : X → Bool) (xs : List X) (i j : ℕ) → i ≤ j → how_many p (take i xs) ≤ how_many p (take j xs)
+  taken_count p [] zero j le = omega arith
+  taken_count p [] (suc i) j le = omega arith
+  taken_count p (y ∷ ys) zero j le = omega arith
+  taken_count p (y ∷ ys) (suc i) zero le = absurd (omega arith)
+  taken_count p (y ∷ ys) (suc i) (suc j) le =
+      let ih = taken_count p ys i j (omega arith) in omega (arith, ih)
+
   -- what passes stands among all that pass behind those that passed before it
   pub filter_at : (p : X → Bool) (xs : List X) (i : ℕ) (x : X) → slice_get xs i ≡ Some x → p x ≡ true → slice_get (filter p xs) (how_many p (take i xs)) ≡ Some x
   filter_at p [] i x found passes = absurd (none-some x found)
@@ -47,6 +66,18 @@ module _ {X : Type 0} where
   slice_get_pushed [] y k e = rw e refl
   slice_get_pushed (x ∷ xs) y zero e = absurd (omega arith)
   slice_get_pushed (x ∷ xs) y (suc k) e = slice_get_pushed xs y k (omega arith)
+
+  pub set_at : (xs : List X) (i : ℕ) (y : X) → i < length xs → slice_get (slice_set xs i y) i ≡ Some y
+  set_at [] i y lt = absurd (omega arith)
+  set_at (x ∷ xs) zero y lt = refl
+  set_at (x ∷ xs) (suc i) y lt = set_at xs i y (omega arith)
+
+  pub set_off : (xs : List X) (i j : ℕ) (y : X) → j ≢ i → slice_get (slice_set xs i y) j ≡ slice_get xs j
+  set_off [] i j y other = refl
+  set_off (x ∷ xs) zero zero y other = absurd (other refl)
+  set_off (x ∷ xs) zero (suc j) y other = refl
+  set_off (x ∷ xs) (suc i) zero y other = refl
+  set_off (x ∷ xs) (suc i) (suc j) y other = set_off xs i j y (λ e. other (ap suc e))
 
   -- a value at each place, and one more
   pub each_pushed : (f : ℕ → X) (xs : List X) (y : X) → ((k : ℕ) → k < length xs → slice_get xs k ≡ Some (f k)) → y ≡ f (length xs) → (k : ℕ) → k < length (xs ++ y ∷ []) → slice_get (xs ++ y ∷ []) k ≡ Some (f k)

@@ -1,5 +1,5 @@
 -- The positions of a thread's steps.
-use Rattle.std.proofs.Common.{◌≡◌, ◌≢◌, ℕ, zero, suc, ◌+◌, ◌-◌, ◌<◌, ◌≤◌, inl, inr, None, Option, slice_set, get_or, map, Bool, true, false, cond, List, [], ◌∷◌, ◌++◌, length, take, slice_get, Some, refl, sym, ap, ◌∙◌, arith, add-zero, one-add, zero-add}
+use Rattle.std.proofs.Common.{◌≡◌, ℕ, zero, suc, ◌+◌, ◌-◌, ◌<◌, ◌≤◌, inl, inr, None, Option, slice_set, get_or, map, Bool, true, false, cond, List, [], ◌∷◌, ◌++◌, length, take, slice_get, Some, refl, sym, ap, ◌∙◌, arith, add-zero, one-add, zero-add}
 use Rattle.std.specs.Prelude.{Vec, All}
 use Rattle.std.specs.Global.{Global}
 use Rattle.std.specs.Option.{option_map}
@@ -13,21 +13,9 @@ use Rattle.cml_grammar.specs.Reading.{source_of, ReadsStep}
 use Rattle.cml_script.proofs.LineLemmas.{all_at, step_seated}
 use Rattle.cml_grammar.specs.Script.{SourceLine, Lines}
 use Rattle.cml_script.specs.Counting.{one_if, how_many}
-use Rattle.cml_script.specs.Schedule.{is_seated}
-use Rattle.cml_script.specs.Stage.{positions_from, AreQueues, items_of}
-use Rattle.cml_script.proofs.ListLemmas.{taken_more, mapped_at}
-
-set_at : {X : Type 0} (xs : List X) (i : ℕ) (y x : X) → slice_get xs i ≡ Some x → slice_get (slice_set xs i y) i ≡ Some y
-set_at [] i y x found = absurd (none-some x found)
-set_at (z ∷ xs) zero y x found = refl
-set_at (z ∷ xs) (suc i) y x found = set_at xs i y x found
-
-set_off : {X : Type 0} (xs : List X) (i j : ℕ) (y : X) → j ≢ i → slice_get (slice_set xs i y) j ≡ slice_get xs j
-set_off [] i j y other = refl
-set_off (x ∷ xs) zero zero y other = absurd (other refl)
-set_off (x ∷ xs) zero (suc j) y other = refl
-set_off (x ∷ xs) (suc i) zero y other = refl
-set_off (x ∷ xs) (suc i) (suc j) y other = set_off xs i j y (λ e. other (ap suc e))
+use Rattle.cml_script.specs.Schedule.{is_seated, positions_from}
+use Rattle.cml_script.specs.Stage.{AreQueues, items_of}
+use Rattle.cml_script.proofs.ListLemmas.{taken_more, mapped_at, set_at, set_off}
 
 module _ (script : Lines) (seat : ℕ) where
   -- one more step at the end
@@ -129,7 +117,7 @@ module _ (script : Lines) where
         seats = length-set (items_of vecs) (s.seat - 1) now.items ∙ queues.seats;
         each = λ thread queue at. elim (cases_eq thread (s.seat - 1)) [
           | inl same ↦
-              let here : slice_get (slice_set (items_of vecs) (s.seat - 1) now.items) thread ≡ Some now.items = ap (slice_get (slice_set (items_of vecs) (s.seat - 1) now.items)) same ∙ set_at (items_of vecs) (s.seat - 1) now.items was.items was_at in
+              let here : slice_get (slice_set (items_of vecs) (s.seat - 1) now.items) thread ≡ Some now.items = ap (slice_get (slice_set (items_of vecs) (s.seat - 1) now.items)) same ∙ set_at (items_of vecs) (s.seat - 1) now.items (omega (arith, within, length-map vecs items_at)) in
               let own : is_seated script (thread + 1) (source_of s.line) ≡ true = step_seated script s (thread + 1) reading ∙ eq-eqb s.seat (thread + 1) (omega (arith, seat)) in
               sym (same_Some _ _ (sym here ∙ at)) ∙ pushed
               ∙ ap (λ l. l ++ i ∷ []) (queues.each (s.seat - 1) was.items was_at ∙ ap (λ t. positions_from script (t + 1) 0 (take i script.steps)) (sym same))

@@ -1,7 +1,7 @@
 -- How the report's first part goes on with one more entry.
-use Rattle.std.proofs.Common.{◌≡◌, ℕ, zero, suc, ◌+◌, ◌≤◌, true, false, ltb, List, [], ◌∷◌, ◌++◌, length, drop, filter, slice_get, Some, refl, sym, ap, ◌∙◌, arith, add-one}
+use Rattle.std.proofs.Common.{◌≡◌, ℕ, zero, suc, ◌+◌, ◌≤◌, true, false, ltb, List, [], ◌∷◌, ◌++◌, length, drop, slice_get, Some, refl, sym, ap, ◌∙◌, arith, add-one}
 use Rattle.std.specs.Prelude.{map, string_bytes, codes}
-use Rattle.std.specs.Option.{option_map_or}
+use Rattle.std.specs.Option.{option_map_or, option_and_then}
 use Rattle.std.proofs.lemmas.Option.{same_Some, none-some}
 use Rattle.std.proofs.lemmas.List.{append_assoc, append-nil, drop_all}
 use Rattle.std.proofs.lemmas.List.Splits.{join_with_byte-slice_split}
@@ -11,10 +11,11 @@ use Rattle.cml_grammar.specs.declared.script.Step.{Step}
 use Rattle.cml_grammar.specs.Names.{Given}
 use Rattle.cml_grammar.specs.Script.{Lines}
 use Rattle.cml_grammar.specs.Reading.{source_of}
-use Rattle.cml_script.specs.Schedule.{History, declared_count, is_seated}
+use Rattle.cml_script.specs.Schedule.{History, declared_count}
 use Rattle.cml_script.specs.Stage.{IsStepAt}
 use Rattle.cml_script.specs.Report.{entry_lines, next_step, line_text, reply_word, line_end, object_lines_from, object_line}
-use Rattle.cml_script.proofs.ListLemmas.{filter_at, mapped_at}
+use Rattle.cml_script.proofs.ListLemmas.{mapped_at}
+use Rattle.cml_script.proofs.GivingLemmas.{next_is}
 
 dropped : (xs : List Given) (k : ℕ) (x : Given) → slice_get xs k ≡ Some x → drop k xs ≡ x ∷ drop (k + 1) xs
 dropped [] k x found = absurd (none-some x found)
@@ -33,9 +34,8 @@ module _ (script : Lines) where
   step_line before entry items i s declared at lines found =
       let test : ltb (length before) (declared_count script) ≡ false = le-ltb _ _ declared in
       let ready = at.least.ready in
-      let there = filter_at (is_seated script at.least.seat) script.steps i ready.line ready.found ready.seated in
       let next : next_step script before entry.who ≡ Some ready.line =
-      ap (next_step script before) at.who ∙ ap (slice_get (filter (is_seated script at.least.seat) script.steps)) (sym ready.next) ∙ there in
+      ap (next_step script before) at.who ∙ ap (option_and_then (slice_get script.steps)) (next_is script before at.least.seat i at.least.asked ready) ∙ ready.found in
       let same : ready.line ≡ source_of s.line = same_Some _ _ (sym ready.found ∙ mapped_at (λ x. source_of x.line) items script.steps i s lines found) in
       let text : line_text ready.line ≡ string_bytes s.line.text = ap line_text same ∙ join_with_byte-slice_split 32 (string_bytes s.line.text) in
       rw test (ap (λ o. entry_lines script before ++ (option_map_or line_text o [] ++ codes ": " ++ reply_word entry.reply ++ line_end)) next ∙ ap (λ t. entry_lines script before ++ (t ++ codes ": " ++ reply_word entry.reply ++ line_end)) text)

@@ -1,10 +1,9 @@
 -- What a report says of a script and its history.
-use Rattle.std.specs.Prelude.{ℕ, suc, ◌-◌, nat_lt, List, [], ◌∷◌, ◌++◌, length, filter, slice_get, Option, Some, None, if◌then◌else◌, codes}
-use Rattle.std.specs.Option.{option_map_or}
+use Rattle.std.specs.Prelude.{ℕ, suc, ◌-◌, nat_lt, List, [], ◌∷◌, ◌++◌, length, slice_get, Option, Some, None, if◌then◌else◌, codes}
+use Rattle.std.specs.Option.{option_map_or, option_and_then}
 use Rattle.std.specs.List.{join_with_byte}
 use Rattle.std.specs.Fmt.{decimal}
 use Rattle.cml_board.specs.declared.entry.Who.{Who}
-use Rattle.cml_board.specs.declared.entry.Who.TheVariants.{Seat, Lane, Feed}
 use Rattle.cml_board.specs.declared.entry.Reply.{Reply}
 use Rattle.cml_board.specs.declared.entry.Reply.TheVariants as reply
 use Rattle.cml_board.specs.declared.entry.Entry.{Entry}
@@ -18,7 +17,7 @@ use Rattle.cml_grammar.specs.Script.{SourceLine, Lines}
 use Rattle.cml_grammar.specs.Meaning.{names_of}
 use Rattle.cml_script.specs.declared.stop.Stop.{Stop}
 use Rattle.cml_script.specs.declared.stop.Stop.TheVariants.{Done, Stalled, Full}
-use Rattle.cml_script.specs.Schedule.{History, declared_count, is_seated, performed, object_of, left}
+use Rattle.cml_script.specs.Schedule.{History, declared_count, next_position, made_of, left}
 
 -- a line's end
 abbrev pub line_end : List ℕ
@@ -37,11 +36,9 @@ reply_word reply.Closed = codes "closed"
 abbrev pub line_text : SourceLine → List ℕ
 line_text line = join_with_byte 32 line.words
 
--- the step that the next call of a thread performs
+-- the step that the caller's next call performs
 abbrev pub next_step : Lines → History → Who → Option SourceLine
-next_step script history (Seat seat) = slice_get (filter (is_seated script seat) script.steps) (performed history seat)
-next_step script history (Lane l) = None
-next_step script history (Feed f) = None
+next_step script history who = option_and_then (slice_get script.steps) (next_position script history who)
 
 abbrev pub entry_line : Lines → History → Entry ℕ → List ℕ
 entry_line script before entry =
@@ -79,14 +76,17 @@ abbrev pub counts_or_not_made : (ℕ → List ℕ) → Option ℕ → List ℕ
 counts_or_not_made counts None = codes ": not made"
 counts_or_not_made counts (Some object) = counts object
 
+abbrev pub port_line : Lines → History → ℕ → List ℕ → List ℕ
+port_line script history at name =
+    codes "port " ++ name ++ counts_or_not_made (port_counts history) (made_of script history at) ++ line_end
+
 abbrev pub named_line : Lines → History → ℕ → List ℕ → Named → List ℕ
 named_line script history at name (Thread seat) = []
 named_line script history at name Mailbox =
-    codes "mailbox " ++ name ++ counts_or_not_made (mailbox_counts history) (object_of script history at) ++ line_end
+    codes "mailbox " ++ name ++ counts_or_not_made (mailbox_counts history) (made_of script history at) ++ line_end
 named_line script history at name Channel =
-    codes "channel " ++ name ++ counts_or_not_made (channel_counts history) (object_of script history at) ++ line_end
-named_line script history at name Port =
-    codes "port " ++ name ++ counts_or_not_made (port_counts history) (object_of script history at) ++ line_end
+    codes "channel " ++ name ++ counts_or_not_made (channel_counts history) (made_of script history at) ++ line_end
+named_line script history at name (Port whose) = port_line script history at name
 
 -- the line of the name at this position
 abbrev pub object_line : Lines → History → ℕ → Given → List ℕ

@@ -1,11 +1,13 @@
 -- In which order a script's calls are made. A history is a list of entries, the newest first.
-use Rattle.std.specs.Prelude.{ℕ, ◌≡◌, ◌≢◌, ◌-◌, ◌<◌, ◌≤◌, ◌==◌, ◌⊎◌, Bool, true, false, nat_lt, List, [], ◌∷◌, length, take, filter, slice_get, Option, Some, None, MatchBool, if◌then◌else◌, ⊤}
+use Rattle.std.specs.Prelude.{ℕ, suc, ◌≡◌, ◌≢◌, ◌-◌, ◌<◌, ◌≤◌, ◌==◌, ◌⊎◌, Bool, true, false, nat_lt, List, [], ◌∷◌, length, take, filter, slice_get, Option, Some, None, MatchBool, if◌then◌else◌, ⊤}
 use Rattle.std.specs.Option.{option_map, option_map_or, option_and_then}
 use Rattle.cml_script.specs.Counting.{how_many}
 use Rattle.cml_board.specs.declared.call.Call.{Call}
 use Rattle.cml_board.specs.declared.call.Call.TheVariants as call
 use Rattle.cml_board.specs.declared.entry.Who.{Who}
 use Rattle.cml_board.specs.declared.entry.Who.TheVariants.{Seat, Lane, Feed}
+use Rattle.cml_board.specs.declared.entry.Reply.{Reply}
+use Rattle.cml_board.specs.declared.entry.Reply.TheVariants as reply
 use Rattle.cml_board.specs.declared.entry.Entry.{Entry}
 use Rattle.cml_board.specs.History.{Lawful, answer}
 use Rattle.cml_grammar.specs.declared.forms.Makes.{Makes}
@@ -14,6 +16,9 @@ use Rattle.cml_grammar.specs.declared.forms.Action.{Action}
 use Rattle.cml_grammar.specs.declared.forms.Action.TheVariants as action
 use Rattle.cml_grammar.specs.Script.{SourceLine, Lines}
 use Rattle.cml_grammar.specs.Meaning.{names_of, makes_of, action_of, seat_of_step}
+use Rattle.cml_grammar.specs.Giving.{is_giving, names_before}
+use Rattle.cml_script.specs.declared.binding.Binding.{Binding}
+use Rattle.cml_script.specs.declared.binding.Binding.TheVariants as binding
 use Rattle.cml_script.specs.declared.stop.Stop.{Stop}
 use Rattle.cml_script.specs.declared.stop.Stop.TheVariants.{Done, Stalled, Full}
 
@@ -37,9 +42,9 @@ objects_of script = filter (is_object script) script.declarations
 abbrev pub declared_count : Lines → ℕ
 declared_count script = how_many (is_object script) script.declarations
 
--- the object that a name stands for, by the name's position among the script's: the k-th declared object is the k-th made
-abbrev pub object_of : Lines → History → ℕ → Option ℕ
-object_of script history at =
+-- the object that a declaration's name stands for, by the name's position: the k-th declared object is the k-th made
+abbrev pub declared_object : Lines → History → ℕ → Option ℕ
+declared_object script history at =
     let object = how_many (is_object script) (take at script.declarations) in
     if nat_lt object (length history) then Some object else None
 
@@ -51,17 +56,9 @@ making_call object makes.Channel = Some call.NewChannel
 making_call object (makes.Port channel) = option_map (λ o. call.NewPort (record { 0 = o })) (object channel)
 
 abbrev pub call_in : Lines → History → SourceLine → Option (Call ℕ)
-call_in script history line = option_and_then (making_call (object_of script history)) (makes_of (names_of script) line.words)
+call_in script history line = option_and_then (making_call (declared_object script history)) (makes_of (names_of script) line.words)
 
 -- Steps.
-
--- what a step asks of the objects that its names stand for
-abbrev pub call_of : (ℕ → Option ℕ) → Action → Option (Call ℕ)
-call_of object (action.Send at message) = option_map (λ o. call.Send (record { 0 = o }) message) (object at)
-call_of object (action.Multicast at message) = option_map (λ o. call.Cast (record { 0 = o }) message) (object at)
-call_of object (action.Recv at) = option_map (λ o. call.Recv (record { 0 = o })) (object at)
-call_of object (action.Poll at) = option_map (λ o. call.Poll (record { 0 = o })) (object at)
-call_of object (action.Close at) = option_map (λ o. call.ClosePort (record { 0 = o })) (object at)
 
 -- a step of the thread with this seat
 abbrev pub is_seated : Lines → ℕ → SourceLine → Bool
@@ -82,6 +79,79 @@ is_by seat entry = is_seat seat entry.who
 -- how many calls that thread has made
 abbrev pub performed : History → ℕ → ℕ
 performed history seat = how_many (is_by seat) history
+
+-- the positions from k on of the steps of the thread with this seat
+abbrev pub positions_from : Lines → ℕ → ℕ → List SourceLine → List ℕ
+positions_from script seat k [] = []
+positions_from script seat k (line ∷ lines) =
+    if is_seated script seat line then k ∷ positions_from script seat (suc k) lines else positions_from script seat (suc k) lines
+
+-- the position of the step that the caller's next call performs
+abbrev pub next_position : Lines → History → Who → Option ℕ
+next_position script history (Seat seat) = slice_get (positions_from script seat 0 script.steps) (performed history seat)
+next_position script history (Lane l) = None
+next_position script history (Feed f) = None
+
+-- What names stand for.
+
+-- the position of the name that a step gives, if it gives one
+abbrev pub given_by : Lines → ℕ → Option ℕ
+given_by script i =
+    if option_map_or is_giving (slice_get script.steps i) false then Some (names_before script.declarations script.steps i) else None
+
+-- a copy that is answered closed gives the name of the port that it was to copy
+abbrev pub closed_by : Call ℕ → Binding
+closed_by (call.CopyPort port) = binding.Closed port
+closed_by _ = binding.Unbound
+
+-- what a call and its reply give the name
+abbrev pub bound_by : Call ℕ → Reply ℕ → Binding
+bound_by asked (reply.Made name) = binding.Made name
+bound_by asked reply.Closed = closed_by asked
+bound_by asked _ = binding.Unbound
+
+-- the caller's next call gives the name at this position
+abbrev pub gives_next : Lines → History → Who → ℕ → Bool
+gives_next script history who at = option_map_or (λ given. given == at) (option_and_then (given_by script) (next_position script history who)) false
+
+-- what a step gave a name
+abbrev pub binding_of : Lines → History → ℕ → Binding
+binding_of script [] at = binding.Unbound
+binding_of script (entry ∷ before) at =
+    if gives_next script before entry.who at then bound_by entry.call entry.reply else binding_of script before at
+
+-- the port that a binding stands for, and the one that was made for it
+abbrev pub port_bound : Binding → Option ℕ
+port_bound binding.Unbound = None
+port_bound (binding.Made name) = Some name.0
+port_bound (binding.Closed name) = Some name.0
+
+abbrev pub port_made : Binding → Option ℕ
+port_made binding.Unbound = None
+port_made (binding.Made name) = Some name.0
+port_made (binding.Closed name) = None
+
+-- the object that a name stands for, by the name's position among the script's
+abbrev pub object_of : Lines → History → ℕ → Option ℕ
+object_of script history at =
+    if nat_lt at (length script.declarations) then declared_object script history at else port_bound (binding_of script history at)
+
+-- the object that was made for a name: none for that of a copy that was answered closed
+unfoldable pub made_of : Lines → History → ℕ → Option ℕ
+made_of script history at =
+    if nat_lt at (length script.declarations) then declared_object script history at else port_made (binding_of script history at)
+
+-- What comes next.
+
+-- what a step asks of the objects that its names stand for
+abbrev pub call_of : (ℕ → Option ℕ) → Action → Option (Call ℕ)
+call_of object (action.Send at message) = option_map (λ o. call.Send (record { 0 = o }) message) (object at)
+call_of object (action.Multicast at message) = option_map (λ o. call.Cast (record { 0 = o }) message) (object at)
+call_of object (action.Recv at) = option_map (λ o. call.Recv (record { 0 = o })) (object at)
+call_of object (action.Poll at) = option_map (λ o. call.Poll (record { 0 = o })) (object at)
+call_of object (action.Port at) = option_map (λ o. call.NewPort (record { 0 = o })) (object at)
+call_of object (action.Copy at) = option_map (λ o. call.CopyPort (record { 0 = o })) (object at)
+call_of object (action.Close at) = option_map (λ o. call.ClosePort (record { 0 = o })) (object at)
 
 -- the call of the i-th step, after this history
 abbrev pub step_call : Lines → History → ℕ → Option (Call ℕ)

@@ -1,5 +1,5 @@
 -- A script under way: what its stage shows, and what it keeps.
-use Rattle.std.specs.Prelude.{ℕ, suc, ◌≡◌, ◌+◌, ◌<◌, List, [], ◌∷◌, ◌≤◌, ◌^◌, true, length, min, take, map, slice_get, Option, Some, None, if◌then◌else◌, ⊤}
+use Rattle.std.specs.Prelude.{ℕ, ◌≡◌, ◌+◌, ◌<◌, List, ◌∷◌, ◌≤◌, ◌^◌, true, length, min, take, map, slice_get, slice_set, Option, Some, None, ⊤}
 use Rattle.std.specs.Global.{Global}
 use Rattle.std.specs.Option.{option_and_then}
 use Rattle.cml_script.specs.Counting.{how_many}
@@ -9,29 +9,26 @@ use Rattle.cml_board.specs.declared.call.Call.TheVariants as call
 use Rattle.cml_board.specs.declared.entry.Who.TheVariants.{Seat}
 use Rattle.cml_board.specs.declared.entry.Entry.{Entry}
 use Rattle.cml_grammar.specs.Script.{SourceLine, Lines}
-use Rattle.cml_board.specs.History.{Lawful}
-use Rattle.cml_grammar.specs.Meaning.{names_of, makes_of}
+use Rattle.cml_board.specs.History.{Lawful, kind_of}
+use Rattle.cml_grammar.specs.Meaning.{names_of, makes_of, action_of}
 use Rattle.cml_grammar.specs.Names.{Given}
 use Rattle.cml_grammar.specs.declared.names.Named.{Named}
 use Rattle.cml_grammar.specs.declared.names.Named.TheVariants as called
 use Rattle.cml_grammar.specs.declared.forms.Makes.{Makes}
 use Rattle.cml_grammar.specs.declared.forms.Makes.TheVariants as makes
-use Rattle.cml_grammar.specs.Reading.{IsChannelAt}
+use Rattle.cml_grammar.specs.Reading.{IsChannelAt, gives_name}
 use Rattle.cml_board.specs.declared.call.Kind.{Kind}
 use Rattle.cml_board.specs.declared.call.Kind.TheVariants as kind
-use Rattle.cml_script.specs.Schedule.{objects_of, object_of, declared_count, call_in, History, is_object, is_seated, performed, Follows, IsReady}
+use Rattle.cml_grammar.specs.declared.forms.Action.{Action}
+use Rattle.cml_grammar.specs.Giving.{is_giving, NamesAreGiven}
+use Rattle.cml_script.specs.declared.binding.Binding.{Binding}
+use Rattle.cml_script.specs.Schedule.{objects_of, object_of, declared_object, declared_count, call_in, History, is_object, is_seated, positions_from, next_position, given_by, binding_of, performed, Follows, IsReady}
 
 -- the script, what was performed of it, newest first, and how many entries there may be
 pub record Play : Type 0 where
   pub script : Lines
   pub history : History
   pub limit : ℕ
-
--- the positions from k on of the steps of the thread with this seat
-abbrev pub positions_from : Lines → ℕ → ℕ → List SourceLine → List ℕ
-positions_from script seat k [] = []
-positions_from script seat k (line ∷ lines) =
-    if is_seated script seat line then k ∷ positions_from script seat (suc k) lines else positions_from script seat (suc k) lines
 
 -- by name, how many objects are declared before it
 pub record AreNumbers (script : Lines) (numbers : List ℕ) : Type 0 where
@@ -53,7 +50,7 @@ abbrev pub kind_named : Named → Option Kind
 kind_named (called.Thread seat) = None
 kind_named called.Mailbox = Some kind.Mailbox
 kind_named called.Channel = Some kind.Channel
-kind_named called.Port = Some kind.Port
+kind_named (called.Port whose) = Some kind.Port
 
 abbrev pub kind_made : Makes → Option Kind
 kind_made makes.Thread = None
@@ -71,24 +68,46 @@ IsObjectAt names at k = (word : List ℕ) × (n : Named) × (slice_get names at 
 abbrev pub IsObject : List Given → ℕ → Type 0
 IsObject names at = (k : Kind) × IsObjectAt names at k
 
--- each object's name is given by the declaration of such an object
+-- each object's name that a declaration gives is that of such an object
 abbrev pub NamesObjects : Lines → Type 0
-NamesObjects script = (at : ℕ) (k : Kind) → IsObjectAt (names_of script) at k → (line : SourceLine) × (slice_get script.declarations at ≡ Some line) × (kind_declared script line ≡ Some k)
+NamesObjects script = (at : ℕ) (k : Kind) → at < length script.declarations → IsObjectAt (names_of script) at k → (line : SourceLine) × (slice_get script.declarations at ≡ Some line) × (kind_declared script line ≡ Some k)
 
 -- each step is a thread's, whose seat is 1 to 64
 abbrev pub HasSeats : Lines → Type 0
 HasSeats script = (i : ℕ) (line : SourceLine) (seat : ℕ) → slice_get script.steps i ≡ Some line → is_seated script seat line ≡ true → (1 ≤ seat) × (seat ≤ 64)
 
-pub record Stands (play : Play) (numbers : List ℕ) (queues : List (List ℕ)) (counts : List ℕ) : Type 0 where
+-- just the steps that ask for a port give a name
+abbrev pub AsksForPorts : Lines → Type 0
+AsksForPorts script = (i : ℕ) (line : SourceLine) (asked : Action) → slice_get script.steps i ≡ Some line → action_of (names_of script) line.words ≡ Some asked → gives_name asked ≡ is_giving line
+
+-- by step, the position of the name that it gives
+pub record AreGivings (script : Lines) (givings : List (Option ℕ)) : Type 0 where
+  pub all : length givings ≡ length script.steps
+  pub each : (i : ℕ) → i < length givings → slice_get givings i ≡ Some (given_by script i)
+
+-- by name, what a step gave it
+pub record AreBindings (script : Lines) (history : History) (bindings : List Binding) : Type 0 where
+  pub all : length bindings ≡ length (names_of script)
+  pub each : (at : ℕ) → at < length bindings → slice_get bindings at ≡ Some (binding_of script history at)
+
+-- what is known of a script before any of it is performed
+pub record IsPlanned (script : Lines) (numbers : List ℕ) (queues : List (List ℕ)) (givings : List (Option ℕ)) : Type 0 where
+  pub named : NamesObjects script
+  pub seats : HasSeats script
+  pub given : NamesAreGiven (names_of script) script.declarations script.steps
+  pub asks : AsksForPorts script
+  pub numbered : AreNumbers script numbers
+  pub queued : AreQueues script script.steps queues
+  pub giving : AreGivings script givings
+
+pub record Stands (play : Play) (numbers : List ℕ) (queues : List (List ℕ)) (givings : List (Option ℕ)) (counts : List ℕ) (bindings : List Binding) : Type 0 where
   pub lawful : Lawful play.history
   pub room : length play.history ≤ play.limit
   pub bounded : play.limit ≤ 2 ^ 32
-  pub named : NamesObjects play.script
-  pub seats : HasSeats play.script
   pub follows : Follows play.script play.history
-  pub numbered : AreNumbers play.script numbers
-  pub queued : AreQueues play.script play.script.steps queues
+  pub planned : IsPlanned play.script numbers queues givings
   pub counted : AreCounts play.history counts
+  pub bound : AreBindings play.script play.history bindings
 
 abbrev pub items_of : List (Vec ℕ Global) → List (List ℕ)
 items_of queues = map (λ queue. queue.items) queues
@@ -131,9 +150,21 @@ IsLeastBelow script history thread (Some i) =
     (seat : ℕ) × (asked : Call ℕ) × IsReady script history i seat asked
     × ((by other : ℕ) (call : Call ℕ) → by ≤ thread → IsReady script history other by call → i ≤ other)
 
--- the position of the thread's next step
-abbrev pub next_position : Play → ℕ → Option ℕ
-next_position play seat = slice_get (positions_from play.script seat 0 play.script.steps) (performed play.history seat)
+-- the step is its thread's next
+abbrev pub IsNextStep : Play → ℕ → Type 0
+IsNextStep play i = (seat : ℕ) × (next_position play.script play.history (Seat seat) ≡ Some i)
+
+-- the name is an object's, and stands for one of its kind
+pub record IsBound (play : Play) (at : ℕ) : Type 0 where
+  pub named : IsObject (names_of play.script) at
+  pub object : ℕ
+  pub stands : object_of play.script play.history at ≡ Some object
+  pub kind : (k : Kind) → IsObjectAt (names_of play.script) at k → kind_of play.history object ≡ Some k
+
+-- with what a step gave the name at this position, if it gave one
+abbrev pub with_binding : List Binding → Option ℕ → Binding → List Binding
+with_binding bindings None given = bindings
+with_binding bindings (Some at) given = slice_set bindings at given
 
 -- the call makes the next declared object
 pub record IsNextObject (play : Play) (making : Call ℕ) : Type 0 where
@@ -147,4 +178,4 @@ IsNext play makes.Mailbox = IsNextObject play call.NewMailbox
 IsNext play makes.Channel = IsNextObject play call.NewChannel
 IsNext play (makes.Port channel) =
     IsChannelAt (names_of play.script) channel
-    × (o : ℕ) × (object_of play.script play.history channel ≡ Some o) × IsNextObject play (call.NewPort (record { 0 = o }))
+    × (channel < length play.script.declarations) × (o : ℕ) × (declared_object play.script play.history channel ≡ Some o) × IsNextObject play (call.NewPort (record { 0 = o }))

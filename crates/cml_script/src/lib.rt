@@ -2,6 +2,7 @@
 #![tactic(auto)]
 
 mod asked;
+mod binding;
 mod command_line;
 mod ending;
 mod perform;

@@ -1,9 +1,10 @@
 //! What is known of a script before any of it is performed.
 ghost use Rattle.std.specs.Prelude.{◌≡◌, List, [], length, All, IfOk};
 ghost use Rattle.cml_script.specs.Schedule.{makes_object, declared_count};
-ghost use Rattle.cml_script.specs.Stage.{AreNumbers, AreQueues, NamesObjects, HasSeats, items_of};
+ghost use Rattle.cml_grammar.specs.Reading.{gives_name};
+ghost use Rattle.cml_script.specs.Stage.{AreNumbers, AreQueues, AreGivings, NamesObjects, HasSeats, AsksForPorts, items_of};
 
-use cml_grammar::{Makes, Script};
+use cml_grammar::{Action, Makes, Script};
 use std::alloc::{AllocError, Global};
 
 /// How many threads a script may have.
@@ -41,6 +42,31 @@ fn makes_object(makes: Makes) -> bool
     match makes {
         Makes::Thread => false,
         Makes::Mailbox | Makes::Channel | Makes::Port(_) => true,
+    }
+}
+
+/// By step, the position of the name that it gives.
+pub fn number_givings(alloc: Global, script: &Script) -> Result<Vec<Option<usize>>, AllocError>
+    ensures givings { IfOk result (λ givings. AreGivings script.now givings.items) }
+    ensures asks { IfOk result (λ _. AsksForPorts script.now) }
+{
+    let mut givings = Vec::new(alloc);
+    let mut names = script.declarations().len();
+    for step in script.steps() {
+        let gives = gives_name(step.action);
+        givings.push(gives.then_some(names))?;
+        names += usize::from(gives);
+    }
+    Ok(givings)
+}
+
+fn gives_name(action: Action) -> bool
+    ensures { result ≡ gives_name action }
+{
+    match action {
+        Action::Port(_) | Action::Copy(_) => true,
+        Action::Send(_, _) | Action::Multicast(_, _) | Action::Close(_) => false,
+        Action::Recv(_) | Action::Poll(_) => false,
     }
 }
 

@@ -2,7 +2,8 @@
 ghost use Rattle.std.specs.Prelude.{◌≡◌, ◌<◌, ◌++◌, List, length, slice_get, Some, OnOk, string_bytes, codes};
 ghost use Rattle.cml_grammar.specs.declared.names.Named.TheVariants as called;
 ghost use Rattle.cml_grammar.specs.Meaning.{names_of};
-ghost use Rattle.cml_script.specs.Report.{reply_word, line_end, named_line, object_lines_from, end_line};
+ghost use Rattle.cml_grammar.specs.Reading.{IsPortAt};
+ghost use Rattle.cml_script.specs.Report.{reply_word, line_end, port_line, named_line, object_lines_from, end_line};
 
 use crate::stage::Stage;
 use crate::stop::Stop;
@@ -60,7 +61,7 @@ fn write_object(
         Named::Thread(_) => Ok(()),
         Named::Mailbox => write_mailbox(report, stage, at, name),
         Named::Channel => write_channel(report, stage, at, name),
-        Named::Port => write_port(report, stage, at, name),
+        Named::Port(_) => write_port(report, stage, at, name),
     }
 }
 
@@ -116,9 +117,9 @@ fn write_port(
     at: usize,
     name: &str,
 ) -> Result<(), AllocError>
-    requires { slice_get (names_of stage.now.script) at ≡ Some (name.now, called.Port) }
+    requires { IsPortAt (names_of stage.now.script) at }
     ensures { OnOk result (string_bytes report.new
-        ≡ string_bytes report.old ++ named_line stage.now.script stage.now.history at name.now called.Port) }
+        ≡ string_bytes report.old ++ port_line stage.now.script stage.now.history at name.now) }
 {
     let Some(object) = stage.object(at) else {
         return writeln!(report, "port {name}: not made");

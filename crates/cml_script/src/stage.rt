@@ -1,18 +1,18 @@
 //! A script under way on a board.
 ghost use Rattle.std.specs.Prelude.{◌≡◌, ◌≢◌, ◌↔◌, ℕ, ◌+◌, ◌-◌, ◌<◌, ◌≤◌, ◌^◌, List, [], ◌∷◌, length, slice_get, Some, None, IfOk, OnErr, MatchOption, MatchBool, IsTrue, IfSome, IsSome};
-ghost use Rattle.std.specs.Option.{option_map};
 ghost use Rattle.cml_board.specs.History.{Fits, Lawful, kind_of};
 ghost use Rattle.cml_board.specs.declared.call.Kind.{Kind};
 ghost use Rattle.cml_board.specs.declared.entry.Reply.{Reply};
 ghost use Rattle.cml_board.specs.declared.entry.Entry.{Entry};
 ghost use Rattle.cml_grammar.specs.Meaning.{names_of};
-ghost use Rattle.cml_grammar.specs.Reading.{UsesWell};
-ghost use Rattle.cml_script.specs.Schedule.{NoneReady, Follows, left, declared_count, makes_object, object_of, call_of, step_call};
+ghost use Rattle.cml_grammar.specs.Reading.{UsesWell, used_by};
+ghost use Rattle.cml_script.specs.Schedule.{NoneReady, Follows, left, declared_count, makes_object, declared_object, object_of, made_of, next_position, call_of, step_call};
 ghost use Rattle.cml_script.specs.Report.{performed_count};
 ghost use Rattle.cml_script.specs.Counting.{one_if};
-ghost use Rattle.cml_script.specs.Stage.{with_entry, IsObject, IsObjectAt, IsNextObject, IsNext, next_position, earlier_of, IsLeast, IsReadyOf, NoneReadyOf, IsStepAt};
+ghost use Rattle.cml_script.specs.Stage.{with_entry, IsObject, IsObjectAt, IsNextObject, IsNext, IsNextStep, IsBound, earlier_of, IsLeast, IsReadyOf, NoneReadyOf, IsStepAt};
 
-use crate::plan::{THREADS, count_objects, number_objects, queue_steps};
+use crate::binding::{Binding, bind};
+use crate::plan::{THREADS, count_objects, number_givings, number_objects, queue_steps};
 use cml_board::{Answer, Board, BoardLog, Call, Entry, Name, Outcome, Refusal, Who};
 use cml_grammar::{Action, Makes, Script};
 use std::alloc::{AllocError, Global};
@@ -28,6 +28,9 @@ pub struct Stage<'a> {
     // By thread, the positions of its steps in the script, and how many of them were performed.
     queues: Vec<Vec<usize>>,
     counts: Vec<usize>,
+    // By step, the position of the name that it gives. By name, what a step gave it.
+    givings: Vec<Option<usize>>,
+    bindings: Vec<Binding>,
 }
 
 impl<'a> Model for Stage<'a> {
@@ -37,7 +40,7 @@ impl<'a> Model for Stage<'a> {
 
     ghost view = { λ s. record { script = s.script.now; history = s.board.history; limit = s.board.limit } };
 
-    ghost invariant = { λ s. Stands (record { script = s.script.now; history = s.board.history; limit = s.board.limit }) s.numbers.items (items_of s.queues.items) s.counts.items };
+    ghost invariant = { λ s. Stands (record { script = s.script.now; history = s.board.history; limit = s.board.limit }) s.numbers.items (items_of s.queues.items) s.givings.items s.counts.items s.bindings.items };
 }
 
 impl<'a> Stage<'a> {
@@ -49,12 +52,16 @@ impl<'a> Stage<'a> {
     {
         let numbers = number_objects(alloc, script)?;
         let queues = queue_steps(alloc, script)?;
+        let givings = number_givings(alloc, script)?;
+        let names = script.names().len();
         Ok(Stage {
             script,
             board: Board::new(alloc, limit)?,
             numbers,
             queues,
             counts: vec![in alloc; 0; THREADS]?,
+            givings,
+            bindings: vec![in alloc; Binding::Unbound; names]?,
         })
     }
 
@@ -106,12 +113,15 @@ impl<'a> Stage<'a> {
         self.board.journal().len() as u64 == self.board.limit()
     }
 
-    /// The object that a name stands for, where it was made.
+    /// The object that was made for a name.
     pub fn object(&self, at: usize) -> Option<Name>
         requires { IsObject (names_of self.now.script) at }
-        ensures object { result ≡ option_map (λ o. record { 0 = o }) (object_of self.now.script self.now.history at) }
+        ensures object { MatchOption result (made_of self.now.script self.now.history at ≡ None) (λ name. made_of self.now.script self.now.history at ≡ Some name.0) }
         ensures kind { IfSome result (λ name. (k : Kind) → IsObjectAt (names_of self.now.script) at k → kind_of self.now.history name.0 ≡ Some k) }
     {
+        if at >= self.script.declarations().len() {
+            return self.bindings[at].made();
+        }
         let object = self.numbers[at];
         if object < self.board.journal().len() as u64 {
             Some(Name(object))
@@ -151,7 +161,7 @@ impl<'a> Stage<'a> {
             Makes::Thread => Ok(true),
             Makes::Mailbox => self.make(Call::NewMailbox),
             Makes::Channel => self.make(Call::NewChannel),
-            Makes::Port(channel) => self.make(Call::NewPort(self.made_object(channel))),
+            Makes::Port(channel) => self.make(Call::NewPort(self.declared_object(channel))),
         }
     }
 
@@ -203,15 +213,16 @@ impl<'a> Stage<'a> {
     /// The thread's next step.
     fn next_step(&self, thread: usize) -> Option<usize>
         requires { thread < 64 }
-        ensures { result ≡ next_position self.now (thread + 1) }
+        ensures { result ≡ next_position self.now.script self.now.history (Who.Seat (thread + 1)) }
     {
         let queue = &self.queues[thread];
         queue.get(self.counts[thread]).copied()
     }
 
-    /// The call of the i-th step.
+    /// The call of the i-th step, which is its thread's next.
     fn call(&self, i: usize) -> Call<u64>
         requires within { i < length self.now.script.steps }
+        requires next { IsNextStep self.now i }
         requires declared { declared_count self.now.script ≤ length self.now.history }
         ensures call { step_call self.now.script self.now.history i ≡ Some result }
         ensures fits { Fits self.now.history result }
@@ -222,35 +233,40 @@ impl<'a> Stage<'a> {
     /// The call that asks for this.
     fn call_for(&self, action: Action) -> Call<u64>
         requires uses { UsesWell (names_of self.now.script) action }
-        requires declared { declared_count self.now.script ≤ length self.now.history }
+        requires bound { IsBound self.now (used_by action) }
         ensures call { call_of (object_of self.now.script self.now.history) action ≡ Some result }
         ensures fits { Fits self.now.history result }
     {
         match action {
-            Action::Send(at, message) => Call::Send(self.declared_object(at), message),
-            Action::Multicast(at, message) => Call::Cast(self.declared_object(at), message),
-            Action::Recv(at) => Call::Recv(self.declared_object(at)),
-            Action::Poll(at) => Call::Poll(self.declared_object(at)),
-            Action::Close(at) => Call::ClosePort(self.declared_object(at)),
+            Action::Send(at, message) => Call::Send(self.bound_object(at), message),
+            Action::Multicast(at, message) => Call::Cast(self.bound_object(at), message),
+            Action::Recv(at) => Call::Recv(self.bound_object(at)),
+            Action::Poll(at) => Call::Poll(self.bound_object(at)),
+            Action::Port(at) => Call::NewPort(self.bound_object(at)),
+            Action::Copy(at) => Call::CopyPort(self.bound_object(at)),
+            Action::Close(at) => Call::ClosePort(self.bound_object(at)),
         }
     }
 
-    /// The object of this name, where all declared ones are made.
-    fn declared_object(&self, at: usize) -> Name
-        requires object { IsObject (names_of self.now.script) at }
-        requires declared { declared_count self.now.script ≤ length self.now.history }
+    /// The object that this name stands for.
+    fn bound_object(&self, at: usize) -> Name
+        requires { IsBound self.now at }
         ensures object { object_of self.now.script self.now.history at ≡ Some result.0 }
         ensures kind { (k : Kind) → IsObjectAt (names_of self.now.script) at k → kind_of self.now.history result.0 ≡ Some k }
     {
-        let _ = &self.counts;
-        self.made_object(at)
+        if at < self.script.declarations().len() {
+            Name(self.numbers[at])
+        } else {
+            self.bindings[at].port().unwrap()
+        }
     }
 
-    /// The object of this name, which is made.
-    fn made_object(&self, at: usize) -> Name
+    /// The object of a declared name, which is made.
+    fn declared_object(&self, at: usize) -> Name
+        requires within { at < length self.now.script.declarations }
         requires object { IsObject (names_of self.now.script) at }
-        requires made { IsSome (object_of self.now.script self.now.history at) }
-        ensures object { object_of self.now.script self.now.history at ≡ Some result.0 }
+        requires made { IsSome (declared_object self.now.script self.now.history at) }
+        ensures object { declared_object self.now.script self.now.history at ≡ Some result.0 }
         ensures kind { (k : Kind) → IsObjectAt (names_of self.now.script) at k → kind_of self.now.history result.0 ≡ Some k }
     {
         Name(self.numbers[at])
@@ -269,7 +285,9 @@ impl<'a> Stage<'a> {
         let seat = self.script.steps()[i].seat;
         match self.board.apply(Who::Seat(seat), call) {
             Outcome::Answered(answer) => {
+                let given = self.givings[i];
                 self.counts[seat as usize - 1] += 1;
+                bind(&mut self.bindings, given, &answer);
                 Ok(answer)
             }
             Outcome::WouldWait(_) => unreachable!(),

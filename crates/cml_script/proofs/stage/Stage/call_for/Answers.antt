@@ -10,28 +10,40 @@ pub returns-in-Send-clause-fits : goal.returns-in-Send-clause-fits
 returns-in-Send-clause-fits c =
     let names = names_of c.args.self.now.script in
     let uses = subst (UsesWell names) c.in-Send.is c.requires.uses in
-    fits_kind c.args.self.now.history c.declared_object.result kind.Mailbox (call.Send c.declared_object.result c.in-Send.message) (c.declared_object.ensures.kind kind.Mailbox (mailbox_at names c.in-Send.at uses.0)) refl refl
+    fits_kind c.args.self.now.history c.bound_object.result kind.Mailbox (call.Send c.bound_object.result c.in-Send.message) (c.bound_object.ensures.kind kind.Mailbox (mailbox_at names c.in-Send.at uses.0)) refl refl
 
 pub returns-in-Multicast-clause-fits : goal.returns-in-Multicast-clause-fits
 returns-in-Multicast-clause-fits c =
     let names = names_of c.args.self.now.script in
     let uses = subst (UsesWell names) c.in-Multicast.is c.requires.uses in
-    fits_kind c.args.self.now.history c.declared_object-in-Multicast.result kind.Channel (call.Cast c.declared_object-in-Multicast.result c.in-Multicast.message) (c.declared_object-in-Multicast.ensures.kind kind.Channel (channel_at names c.in-Multicast.at uses.0)) refl refl
+    fits_kind c.args.self.now.history c.bound_object-in-Multicast.result kind.Channel (call.Cast c.bound_object-in-Multicast.result c.in-Multicast.message) (c.bound_object-in-Multicast.ensures.kind kind.Channel (channel_at names c.in-Multicast.at uses.0)) refl refl
 
 pub returns-in-Recv-clause-fits : goal.returns-in-Recv-clause-fits
 returns-in-Recv-clause-fits c =
     let names = names_of c.args.self.now.script in
     let uses = subst (UsesWell names) c.in-Recv.is c.requires.uses in
-    fits_receiver names c.in-Recv.at c.args.self.now.history c.declared_object-in-Recv.result (call.Recv c.declared_object-in-Recv.result) uses c.declared_object-in-Recv.ensures.kind refl refl refl
+    fits_receiver names c.in-Recv.at c.args.self.now.history c.bound_object-in-Recv.result (call.Recv c.bound_object-in-Recv.result) uses c.bound_object-in-Recv.ensures.kind refl refl refl
 
 pub returns-in-Poll-clause-fits : goal.returns-in-Poll-clause-fits
 returns-in-Poll-clause-fits c =
     let names = names_of c.args.self.now.script in
     let uses = subst (UsesWell names) c.in-Poll.is c.requires.uses in
-    fits_receiver names c.in-Poll.at c.args.self.now.history c.declared_object-in-Poll.result (call.Poll c.declared_object-in-Poll.result) uses c.declared_object-in-Poll.ensures.kind refl refl refl
+    fits_receiver names c.in-Poll.at c.args.self.now.history c.bound_object-in-Poll.result (call.Poll c.bound_object-in-Poll.result) uses c.bound_object-in-Poll.ensures.kind refl refl refl
 
 pub returns-in-Close-clause-fits : goal.returns-in-Close-clause-fits
 returns-in-Close-clause-fits c =
     let names = names_of c.args.self.now.script in
     let uses = subst (UsesWell names) c.in-Close.is c.requires.uses in
-    fits_kind c.args.self.now.history c.declared_object-in-Close.result kind.Port (call.ClosePort c.declared_object-in-Close.result) (c.declared_object-in-Close.ensures.kind kind.Port (port_at names c.in-Close.at uses)) refl refl
+    fits_kind c.args.self.now.history c.bound_object-in-Close.result kind.Port (call.ClosePort c.bound_object-in-Close.result) (c.bound_object-in-Close.ensures.kind kind.Port (port_at names c.in-Close.at uses)) refl refl
+
+pub returns-in-Port-clause-fits : goal.returns-in-Port-clause-fits
+returns-in-Port-clause-fits c =
+    let names = names_of c.args.self.now.script in
+    let uses = subst (UsesWell names) c.in-Port.is c.requires.uses in
+    fits_kind c.args.self.now.history c.bound_object-in-Port.result kind.Channel (call.NewPort c.bound_object-in-Port.result) (c.bound_object-in-Port.ensures.kind kind.Channel (channel_at names c.in-Port.at uses)) refl refl
+
+pub returns-in-Copy-clause-fits : goal.returns-in-Copy-clause-fits
+returns-in-Copy-clause-fits c =
+    let names = names_of c.args.self.now.script in
+    let uses = subst (UsesWell names) c.in-Copy.is c.requires.uses in
+    fits_kind c.args.self.now.history c.bound_object-in-Copy.result kind.Port (call.CopyPort c.bound_object-in-Copy.result) (c.bound_object-in-Copy.ensures.kind kind.Port (port_at names c.in-Copy.at uses)) refl refl

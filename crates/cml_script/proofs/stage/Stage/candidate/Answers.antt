@@ -9,6 +9,9 @@ pub returns-in_err-i : goal.returns-in_err-i
 returns-in_err-i c =
     rw c.from_residual.ensures (none_queued c.args.self.now.script c.args.self.now.history (c.args.thread + 1) (sym c.in_err-i.ensures))
 
+pub call-requires-clause-next : goal.call-requires-clause-next
+call-requires-clause-next c = (c.args.thread + 1, sym c.in_ok-i.ensures)
+
 pub call-requires-clause-within : goal.call-requires-clause-within
 call-requires-clause-within c =
     queued_within c.args.self.now.script c.args.self.now.history (c.args.thread + 1) _ (sym c.in_ok-i.ensures)

@@ -19,7 +19,7 @@ declare_next-requires c =
     let here = read_at items i d c.loop-declaration-test.true c.declaration-item.is in
     let lines = c.declarations-declaration-items.ensures.lines ∙ ap (λ (p : Play). p.script.declarations) c.self.view_is ∙ ap (λ (s : Lines). s.declarations) (sym c.loop-declaration.invariant.script) in
     let same = ap (λ (p : Play). p.script) c.self.view_is ∙ sym c.loop-declaration.invariant.script in
-    let named = subst NamesObjects same c.self.invariant.named in
+    let named = subst NamesObjects same c.self.invariant.planned.named in
     next_object c.loop-declaration.self named i d c.loop-declaration.invariant.made
     (mapped_at (λ x. source_of x.line) items c.loop-declaration.self.script.declarations i d lines here)
     (subst (λ (s : Lines). ReadsDeclaration (names_of s) d) same (all_at (ReadsDeclaration (names_of c.self.inside.script.now)) items i d c.declarations-declaration-items.ensures.makes here))

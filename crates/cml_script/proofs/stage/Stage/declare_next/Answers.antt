@@ -10,5 +10,5 @@ use Rattle.cml_script.proofs.stage.Stage.declare_next.Goals as goal
 pub make-requires-in-Port-clause-fits : goal.make-requires-in-Port-clause-fits
 make-requires-in-Port-clause-fits c =
     let next : IsNext c.args.self.now (makes.Port c.in-Port.channel) = subst (IsNext c.args.self.now) c.in-Port.is c.requires in
-    fits_kind c.args.self.now.history c.made_object.result kind.Channel (NewPort c.made_object.result)
-    (c.made_object.ensures.kind kind.Channel (channel_at (names_of c.args.self.now.script) c.in-Port.channel next.0)) refl refl
+    fits_kind c.args.self.now.history c.declared_object.result kind.Channel (NewPort c.declared_object.result)
+    (c.declared_object.ensures.kind kind.Channel (channel_at (names_of c.args.self.now.script) c.in-Port.channel next.0)) refl refl

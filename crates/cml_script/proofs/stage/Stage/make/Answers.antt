@@ -2,7 +2,7 @@ use Rattle.std.proofs.Common.{ap, ◌∙◌, ℕ}
 use Rattle.cml_board.specs.declared.entry.Who.TheVariants.{Seat}
 use Rattle.cml_board.specs.declared.entry.Entry.{Entry}
 use Rattle.cml_script.specs.Stage.{Play, with_entry}
-use Rattle.cml_script.proofs.StandLemmas.{new_play}
+use Rattle.cml_script.proofs.StandLemmas.{new_play, stands_declared}
 use Rattle.cml_script.proofs.stage.Stage.make.Goals as goal
 
 pub returns-in-Answered-clause-made : goal.returns-in-Answered-clause-made
@@ -13,3 +13,9 @@ returns-in-Answered-clause-made c =
       new_play c.self.inside.script.now c.self.inside.board.history _ c.self.inside.board.limit _ entry adds.history adds.limit
           ∙ ap (λ (p : Play). with_entry p entry) c.self.view_is,
     )
+
+pub invariant_of-self : goal.invariant_of-self
+invariant_of-self c =
+    let adds = c.in-Answered.ensures.5 in
+    stands_declared _ c.args.self.now _ _ _ _ _ c.apply.new.self.history c.apply.new.self.limit c.args.call c.in-Answered.field-0.reply c.self.view_is c.self.invariant c.requires.next
+    adds.history adds.limit c.in-Answered.ensures.0 c.in-Answered.ensures.1 c.in-Answered.ensures.2

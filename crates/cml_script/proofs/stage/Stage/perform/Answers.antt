@@ -1,13 +1,19 @@
-use Rattle.std.proofs.Common.{ℕ, get_or, refl, arith}
+use Rattle.std.proofs.Common.{ℕ, ◌+◌, ◌-◌, List, length, get_or, slice_set, refl, sym, ap, subst, ◌∙◌, arith}
+use Rattle.std.proofs.lemmas.Option.{slice_get_within}
+use Rattle.cml_board.specs.declared.call.Call.{Call}
+use Rattle.cml_script.specs.declared.binding.Binding.{Binding}
+use Rattle.cml_script.specs.Schedule.{bound_by}
+use Rattle.cml_script.specs.Stage.{Play, Stands, with_binding, items_of}
 use Rattle.cml_board.specs.declared.entry.Who.TheVariants.{Seat}
 use Rattle.cml_board.specs.declared.entry.Entry.{Entry}
-use Rattle.cml_script.proofs.StandLemmas.{new_play, is_performed, performs, stands_performed, count_fits}
+use Rattle.cml_script.proofs.StandLemmas.{new_play, is_performed, performs, stands_performed, count_fits, bind_within}
+use Rattle.cml_script.proofs.GivingLemmas.{next_is}
 use Rattle.cml_script.proofs.stage.Stage.perform.Goals as goal
 
 pub overflow_add-index_mut : goal.overflow_add-index_mut
 overflow_add-index_mut c =
     let performed = is_performed _ c.args.self.now c.steps.result.now c.args.i c.index-steps-i.result c.call-call.result c.self.view_is c.steps.ensures.lines c.steps.ensures.asked c.steps.ensures.threads c.requires.ready c.requires.declared c.call-call.ensures.call in
-    let small = count_fits _ _ _ _ _ c.index_mut.result.now c.self.invariant performed.low performed.high c.index_mut.ensures.value c.in-Answered.ensures.1 in
+    let small = count_fits _ _ _ _ _ _ _ c.index_mut.result.now c.self.invariant performed.low performed.high c.index_mut.ensures.value c.in-Answered.ensures.1 in
     omega (arith, small)
 
 pub invariant_of-self : goal.invariant_of-self
@@ -16,9 +22,10 @@ invariant_of-self c =
     let answer = c.in-Answered.answer in
     let adds = c.in-Answered.ensures.5 in
     let entry : Entry ℕ = record { who = Seat (get_or c.steps.result.now c.args.i c.index-steps-i.result).seat; call = c.call-call.result; reply = answer.reply } in
-    stands_performed _ _ _ _ _ entry c.args.i _ c.index_mut.result.now c.self.invariant
+    subst (λ (bs : List Binding). Stands (record { script = c.self.inside.script.now; history = c.apply.new.self.history; limit = c.apply.new.self.limit }) c.self.inside.numbers.items (items_of c.self.inside.queues.items) c.self.inside.givings.items (slice_set c.self.inside.counts.items ((get_or c.steps.result.now c.args.i c.index-steps-i.result).seat - 1) (c.index_mut.result.now + 1)) bs)
+    (sym (c.bind.ensures ∙ ap (λ (asked : Call ℕ). with_binding c.self.inside.bindings.items c.index-given.result.now (bound_by asked answer.reply)) c.in-Answered.ensures.3)) (stands_performed _ _ _ _ _ _ _ entry c.args.i _ c.index_mut.result.now c.index-given.result.now c.self.invariant
     (new_play c.self.inside.script.now c.self.inside.board.history _ c.self.inside.board.limit _ entry adds.history adds.limit)
-    c.in-Answered.ensures.0 c.in-Answered.ensures.1 c.in-Answered.ensures.2 performed.declared (performed.step answer.reply) refl performed.low performed.high c.index_mut.ensures.value
+    c.in-Answered.ensures.0 c.in-Answered.ensures.1 c.in-Answered.ensures.2 performed.declared (performed.step answer.reply) refl performed.low performed.high c.index_mut.ensures.value c.index-given.ensures)
 
 pub returns-in-Answered-clause-performed : goal.returns-in-Answered-clause-performed
 returns-in-Answered-clause-performed c =
@@ -29,3 +36,14 @@ returns-in-Answered-clause-performed c =
     performs _ c.args.self.now _ c.args.i _ c.call-call.result answer.reply c.self.view_is
     (new_play c.self.inside.script.now c.self.inside.board.history _ c.self.inside.board.limit _ entry adds.history adds.limit)
     performed
+
+pub call-call-requires-clause-next : goal.call-call-requires-clause-next
+call-call-requires-clause-next c =
+    let ready = c.requires.ready in
+    (ready.seat, next_is c.args.self.now.script c.args.self.now.history ready.seat c.args.i ready.asked ready.ready)
+
+pub bind-requires : goal.bind-requires
+bind-requires c =
+    let ready = c.requires.ready.ready in
+    let within = slice_get_within c.args.self.now.script.steps c.args.i ready.line ready.found in
+    bind_within _ _ _ _ _ _ c.self.invariant c.args.i c.index-given.result.now (omega (arith, within, ap (λ (p : Play). length p.script.steps) c.self.view_is)) c.index-given.ensures

@@ -1,0 +1,100 @@
+-- Which names the steps give, and which step is a thread's next.
+use Rattle.std.proofs.Common.{◌≡◌, ℕ, ◌+◌, ◌<◌, ◌≤◌, Bool, true, false, cond, eqb, List, [], ◌∷◌, take, slice_get, Option, Some, None, count_by, refl, sym, ap, ◌∙◌, arith, inl, inr, zero-add}
+use Rattle.std.specs.Option.{option_map_or, option_and_then}
+use Rattle.std.proofs.lemmas.Option.{same_Some, none-some}
+use Rattle.std.proofs.lemmas.List.Sums.{sum_by-cons}
+use Rattle.std.proofs.lemmas.Bool.{cases_lt, eqb-true, true≢false}
+use Rattle.cml_board.specs.declared.call.Call.{Call}
+use Rattle.cml_board.specs.declared.entry.Who.{Who}
+use Rattle.cml_board.specs.declared.entry.Who.TheVariants.{Seat}
+use Rattle.cml_grammar.specs.Script.{SourceLine, Lines}
+use Rattle.cml_grammar.specs.Giving.{is_giving, names_before}
+use Rattle.cml_script.specs.Counting.{one_if, how_many}
+use Rattle.cml_script.specs.Schedule.{History, IsReady, is_seated, earlier, performed, positions_from, next_position, given_by, gives_next}
+use Rattle.cml_script.specs.Stage.{HasSeats}
+use Rattle.cml_script.proofs.ListLemmas.{counted_mono, taken_count, count_taken}
+use Rattle.cml_script.proofs.QueueLemmas.{position_is, position_of_step}
+
+pub counted_same : {X : Type 0} (p : X → Bool) (xs : List X) → count_by p xs ≡ how_many p xs
+counted_same p [] = refl
+counted_same p (x ∷ xs) = sum_by-cons (λ y. cond (p y) 1 0) x xs ∙ ap (λ n. one_if (p x) + n) (counted_same p xs)
+
+-- the name that the caller's next call gives
+abbrev pub giver : Lines → History → Who → Option ℕ
+giver script before who = option_and_then (given_by script) (next_position script before who)
+
+module _ (script : Lines) where
+  -- names before a giving step are fewer than names before a later step
+  pub names_mono : (i j : ℕ) (line : SourceLine) → i < j → slice_get script.steps i ≡ Some line → is_giving line ≡ true → names_before script.declarations script.steps i < names_before script.declarations script.steps j
+  names_mono i j line lt found gives =
+      let counted = counted_mono is_giving script.steps i j line lt found gives in
+      omega (arith, counted, counted_same is_giving (take i script.steps), counted_same is_giving (take j script.steps))
+
+  pub names_le : (i j : ℕ) → i ≤ j → names_before script.declarations script.steps i ≤ names_before script.declarations script.steps j
+  names_le i j le =
+      let counted = taken_count is_giving script.steps i j le in
+      omega (arith, counted, counted_same is_giving (take i script.steps), counted_same is_giving (take j script.steps))
+
+  pub names_more : (i : ℕ) (line : SourceLine) → slice_get script.steps i ≡ Some line → names_before script.declarations script.steps (i + 1) ≡ names_before script.declarations script.steps i + one_if (is_giving line)
+  names_more i line found =
+      omega (arith, count_taken is_giving script.steps i line found, counted_same is_giving (take i script.steps), counted_same is_giving (take (i + 1) script.steps))
+
+  pub given_at : (i : ℕ) (line : SourceLine) → slice_get script.steps i ≡ Some line → given_by script i ≡ cond (is_giving line) (Some (names_before script.declarations script.steps i)) None
+  given_at i line found = ap (λ (l : Option SourceLine). cond (option_map_or is_giving l false) (Some (names_before script.declarations script.steps i)) None) found
+
+  -- two steps give two names
+  pub given_once : (i j at : ℕ) → given_by script i ≡ Some at → given_by script j ≡ Some at → i ≡ j
+  given_once i j at one two = by_lines (slice_get script.steps i) (slice_get script.steps j) refl refl
+    where
+      none : (k : ℕ) → slice_get script.steps k ≡ None → given_by script k ≡ None
+      none k e = ap (λ (l : Option SourceLine). cond (option_map_or is_giving l false) (Some (names_before script.declarations script.steps k)) None) e
+
+      gives : (k : ℕ) (line : SourceLine) (t : Bool) → slice_get script.steps k ≡ Some line → is_giving line ≡ t → given_by script k ≡ Some at → (is_giving line ≡ true) × (names_before script.declarations script.steps k ≡ at)
+      gives k line true found e given = (e, same_Some _ _ (sym (given_at k line found ∙ ap (λ (t : Bool). cond t (Some (names_before script.declarations script.steps k)) None) e) ∙ given))
+      gives k line false found e given = absurd (none-some at (sym (given_at k line found ∙ ap (λ (t : Bool). cond t (Some (names_before script.declarations script.steps k)) None) e) ∙ given))
+
+      by_lines : (a b : Option SourceLine) → slice_get script.steps i ≡ a → slice_get script.steps j ≡ b → i ≡ j
+      by_lines None b e f = absurd (none-some at (sym (none i e) ∙ one))
+      by_lines (Some a) None e f = absurd (none-some at (sym (none j f) ∙ two))
+      by_lines (Some a) (Some b) e f =
+          let first = gives i a (is_giving a) e refl one in
+          let second = gives j b (is_giving b) f refl two in
+          elim (cases_lt i j) [
+            | inl lt ↦ absurd (omega (arith, names_mono i j a lt e first.0, first.1, second.1))
+            | inr ge ↦ elim (cases_lt j i) [
+              | inl lt ↦ absurd (omega (arith, names_mono j i b lt f second.0, first.1, second.1))
+              | inr le ↦ omega (arith, ge, le)
+            ]
+          ]
+
+  module _ (history : History) where
+    -- the step that is ready is its thread's next
+    pub next_is : (seat i : ℕ) (asked : Call ℕ) → IsReady script history i seat asked → next_position script history (Seat seat) ≡ Some i
+    next_is seat i asked ready =
+        ap (slice_get (positions_from script seat 0 script.steps)) (sym ready.next) ∙ position_of_step script seat 0 script.steps i ready.line ready.found ready.seated ∙ ap Some (zero-add i)
+
+    -- a step of a thread, behind those that it performed, is its next
+    pub next_at : (seat i : ℕ) (line : SourceLine) → slice_get script.steps i ≡ Some line → is_seated script seat line ≡ true → earlier script seat i ≡ performed history seat → next_position script history (Seat seat) ≡ Some i
+    next_at seat i line found seated same =
+        ap (slice_get (positions_from script seat 0 script.steps)) (sym same) ∙ position_of_step script seat 0 script.steps i line found seated ∙ ap Some (zero-add i)
+
+    -- no step is the first seat's
+    pub none_first : HasSeats script → next_position script history (Seat 0) ≡ None
+    none_first seats = by_next (next_position script history (Seat 0)) refl
+      where
+        by_next : (o : Option ℕ) → next_position script history (Seat 0) ≡ o → o ≡ None
+        by_next None e = refl
+        by_next (Some i) e =
+            let there = position_is script 0 0 script.steps (performed history 0) i e in
+            absurd (omega (arith, (seats there.place there.line 0 there.found there.seated).0))
+
+    pub gives_as : (who : Who) (at : ℕ) (g : Option ℕ) → giver script history who ≡ g → gives_next script history who at ≡ option_map_or (λ n. eqb n at) g false
+    gives_as who at g e = ap (λ o. option_map_or (λ n. eqb n at) o false) e
+
+    -- a call that gives this name performs the step that gives it
+    pub gives_that : (who : Who) (at : ℕ) → gives_next script history who at ≡ true → giver script history who ≡ Some at
+    gives_that who at gives = by_giver (giver script history who) refl
+      where
+        by_giver : (g : Option ℕ) → giver script history who ≡ g → g ≡ Some at
+        by_giver None e = absurd (true≢false (sym gives ∙ gives_as who at None e))
+        by_giver (Some n) e = ap Some (eqb-true n at (sym (gives_as who at (Some n) e) ∙ gives))

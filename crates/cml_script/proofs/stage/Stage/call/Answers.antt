@@ -1,0 +1,6 @@
+use Rattle.cml_script.proofs.UseLemmas.{used_stands}
+use Rattle.cml_script.proofs.stage.Stage.call.Goals as goal
+
+pub call_for-requires-clause-bound : goal.call_for-requires-clause-bound
+call_for-requires-clause-bound c =
+    used_stands _ c.args.self.now _ _ _ _ _ c.self.view_is c.self.invariant c.steps.result.now c.args.i c.index-steps-i.result c.steps.ensures.lines c.steps.ensures.asked c.steps.ensures.earlier c.requires.within c.requires.next c.requires.declared

@@ -1,0 +1,70 @@
+//! What the names that steps give stand for.
+ghost use Rattle.std.specs.Prelude.{◌≡◌, ◌<◌, length, IfSome};
+ghost use Rattle.std.specs.Option.{option_map};
+ghost use Rattle.cml_script.specs.Schedule.{bound_by, closed_by, port_bound, port_made};
+ghost use Rattle.cml_script.specs.Stage.{with_binding};
+
+use cml_board::{Answer, Call, Name, Reply};
+
+/// What a name that a step gives stands for.
+#[derive(Clone, Copy, Debug, PartialEq, Eq)]
+pub enum Binding {
+    /// Nothing yet: its step was not performed.
+    Unbound,
+    /// The port that its step made.
+    Made(Name),
+    /// The closed port that its step was to copy.
+    Closed(Name),
+}
+
+impl Binding {
+    /// What the answer of its step gives the name.
+    fn by(answer: &Answer<u64>) -> Binding
+        ensures { result ≡ bound_by answer.now.call answer.now.reply }
+    {
+        match answer.reply() {
+            Reply::Made(name) => Binding::Made(*name),
+            Reply::Closed => closed_by(answer.call()),
+            Reply::Done | Reply::Got(_) | Reply::Nothing => Binding::Unbound,
+        }
+    }
+
+    /// The port that the name stands for.
+    pub fn port(self) -> Option<Name>
+        ensures { result ≡ option_map (λ o. record { 0 = o }) (port_bound self) }
+    {
+        match self {
+            Binding::Unbound => None,
+            Binding::Made(name) | Binding::Closed(name) => Some(name),
+        }
+    }
+
+    /// The port that was made for the name.
+    pub fn made(self) -> Option<Name>
+        ensures { result ≡ option_map (λ o. record { 0 = o }) (port_made self) }
+    {
+        match self {
+            Binding::Unbound | Binding::Closed(_) => None,
+            Binding::Made(name) => Some(name),
+        }
+    }
+}
+
+fn closed_by(call: &Call<u64>) -> Binding
+    ensures { result ≡ closed_by call.now }
+{
+    match call {
+        Call::CopyPort(port) => Binding::Closed(*port),
+        _ => Binding::Unbound,
+    }
+}
+
+/// Keeps what a step's answer gives the name at this position.
+pub fn bind(bindings: &mut Vec<Binding>, given: Option<usize>, answer: &Answer<u64>)
+    requires { IfSome given (λ at. at < length bindings.old.items) }
+    ensures { bindings.new.items ≡ with_binding bindings.old.items given (bound_by answer.now.call answer.now.reply) }
+{
+    if let Some(at) = given {
+        bindings[at] = Binding::by(answer);
+    }
+}
