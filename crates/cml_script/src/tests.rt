@@ -1,5 +1,6 @@
 //! What no clause says: scripts and their reports, streams that fail, and texts of the command line.
 mod command_line;
+mod made;
 mod ports;
 mod scripts;
 mod streams;
