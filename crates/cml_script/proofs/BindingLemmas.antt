@@ -83,7 +83,7 @@ made_port before asked c s begun = record {
       let origins : if_made entry.reply (begun_by (made before) before entry.call) ≡ port c s ∷ [] =
       ap (λ r. if_made r (begun_by (made before) before entry.call)) replied ∙ ap (begun_by (made before) before) called ∙ begun in
       ap (λ os. option_map kind_by (slice_get (made before ++ os) (length (made before)))) origins
-          ∙ ap (option_map kind_by) (slice_get_pushed (made before) (port c s) (length (made before)) refl);
+      ∙ ap (option_map kind_by) (slice_get_pushed (made before) (port c s) (length (made before)) refl);
 }
 
 binds : (before : History) (asked : Call ℕ) (r : Reply ℕ) → asks_port asked ≡ true → Fits before asked → answer before asked ≡ Some r → Binds before asked r
@@ -148,8 +148,8 @@ module _ (script : Lines) (asks : AsksForPorts script) (seats : HasSeats script)
       now gives is = by_test before entry (kind_of (entry ∷ before) n ≡ Some kind.Port) follows.0
           (λ declares. absurd (none-some at (sym (declares_nothing before entry declares) ∙ gives)))
           (λ step.
-              let b = step_binds before entry at step lawful.0 lawful.1 gives in
-              ap (kind_of (entry ∷ before)) (same_Some _ _ (sym is ∙ b.bound)) ∙ b.kind entry refl refl)
+          let b = step_binds before entry at step lawful.0 lawful.1 gives in
+          ap (kind_of (entry ∷ before)) (same_Some _ _ (sym is ∙ b.bound)) ∙ b.kind entry refl refl)
 
       by_gives : (t : Bool) → gives_next script before entry.who at ≡ t → port_bound (cond t (bound_by entry.call entry.reply) (binding_of script before at)) ≡ Some n → (port_bound (binding_of script before at) ≡ Some n → kind_of before n ≡ Some kind.Port) → kind_of (entry ∷ before) n ≡ Some kind.Port
       by_gives true e is earlier_one = now (gives_that script before entry.who at e) is
