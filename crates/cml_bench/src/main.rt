@@ -2,7 +2,10 @@
 //! each came to when it was done a few times.
 #![tactic(auto)]
 
+mod log_run;
+
 use cml_board::{Board, BoardLog, Call, Name, Outcome, Reply, Who};
+use log_run::LogRun;
 use std::alloc::Global;
 use std::process::ExitCode;
 use std::time::{Duration, Instant};
@@ -73,7 +76,9 @@ fn print_sums(rt: &HostRuntime) -> io::Result<()> {
         run.perform(workload, FEW)?;
         println!(rt; "{} {}", workload.name(), run.sum)?;
     }
-    Ok(())
+    let mut run = LogRun::new(rt.alloc())?;
+    run.perform(FEW)?;
+    println!(rt; "{} {}", LogRun::NAME, run.sum)
 }
 
 fn print_times(rt: &HostRuntime, count: u64) -> io::Result<()> {
@@ -81,11 +86,30 @@ fn print_times(rt: &HostRuntime, count: u64) -> io::Result<()> {
         let mut run = Run::new(rt.alloc())?;
         let start = Instant::now(rt)?;
         run.perform(workload, count)?;
-        let tenths = tenths_per_call(start.elapsed(rt)?, run.board.journal().len());
-        let name = workload.name();
-        println!(rt; "{name} seryugo_board {}.{}", tenths / 10, tenths % 10)?;
+        let time = start.elapsed(rt)?;
+        print_time(
+            rt,
+            workload.name(),
+            "seryugo_board",
+            time,
+            run.board.journal().len(),
+        )?;
     }
-    Ok(())
+    let mut run = LogRun::new(rt.alloc())?;
+    let start = Instant::now(rt)?;
+    let calls = run.perform(count)?;
+    print_time(rt, LogRun::NAME, "seryugo_log", start.elapsed(rt)?, calls)
+}
+
+fn print_time(
+    rt: &HostRuntime,
+    workload: &str,
+    subject: &str,
+    time: Duration,
+    calls: usize,
+) -> io::Result<()> {
+    let tenths = tenths_per_call(time, calls);
+    println!(rt; "{workload} {subject} {}.{}", tenths / 10, tenths % 10)
 }
 
 /// Tenths of a nanosecond that each of so many calls took.
