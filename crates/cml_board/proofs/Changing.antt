@@ -15,7 +15,7 @@ use Rattle.cml_board.proofs.Logs.{same_source, same_key, log_at_past, cursor_at_
 
 module _ {M : Type 0} where
   -- a cursor stands in its log at the place that the facts tell
-  pub cursor_place : (chunk n : ℕ) (f : ℕ → Facts M) (objects : List (Object (Log M))) (name source key : ℕ) (log : Log M)
+  pub cursor_place : (chunk n : ℕ) (f : ℕ → Facts M) (objects : List (Object M (Log M))) (name source key : ℕ) (log : Log M)
       → Shows chunk n f objects → cursor_at objects name ≡ Some (source, key) → log_at objects source ≡ Some log
       → place_at log key ≡ Some (place_by (f name))
   cursor_place chunk n f objects name source key log shows reads found =
@@ -24,7 +24,7 @@ module _ {M : Type 0} where
       subst (λ l. place_at l key ≡ Some (place_by (f name))) is own.2
 
   -- what is to hold of a changed log, of the cursors in it and of all others, so that the objects show the new facts
-  pub record Changes (chunk : ℕ) (f g : ℕ → Facts M) (objects after : List (Object (Log M))) (source : ℕ) (new : Log M) : Type 0 where
+  pub record Changes (chunk : ℕ) (f g : ℕ → Facts M) (objects after : List (Object M (Log M))) (source : ℕ) (new : Log M) : Type 0 where
     pub stands : log_at after source ≡ Some new
     pub holds : Holds chunk new (g source).sent
     pub others : (k : ℕ) → k ≢ source → log_at after k ≡ log_at objects k
@@ -37,9 +37,9 @@ module _ {M : Type 0} where
     pub apart : (name other from key : ℕ) → cursor_at after name ≡ Some (from, key) → cursor_at after other ≡ Some (from, key) → name ≡ other
 
   -- it is enough, where the objects agree with those facts
-  pub shows_changed : (chunk n m : ℕ) (f g : ℕ → Facts M) (objects after : List (Object (Log M))) (source : ℕ) (new : Log M)
+  pub shows_changed : (chunk n m : ℕ) (f g : ℕ → Facts M) (objects after : List (Object M (Log M))) (source : ℕ) (new : Log M)
       → Shows chunk n f objects → Changes chunk f g objects after source new → length after ≡ m
-      → ((k : ℕ) (object : Object (Log M)) → slice_get after k ≡ Some object → Agrees (g k) object) → Shows chunk m g after
+      → ((k : ℕ) (object : Object M (Log M)) → slice_get after k ≡ Some object → Agrees (g k) object) → Shows chunk m g after
   shows_changed chunk n m f g objects after source new shows change all each = record {
     all = all;
     each = each;
@@ -72,14 +72,14 @@ module _ {M : Type 0} where
   }
 
   -- where each object reads as before, no two read by one cursor
-  pub same_apart : (chunk n : ℕ) (f : ℕ → Facts M) (objects after : List (Object (Log M))) → Shows chunk n f objects
+  pub same_apart : (chunk n : ℕ) (f : ℕ → Facts M) (objects after : List (Object M (Log M))) → Shows chunk n f objects
       → ((k : ℕ) → cursor_at after k ≡ cursor_at objects k)
       → (name other from key : ℕ) → cursor_at after name ≡ Some (from, key) → cursor_at after other ≡ Some (from, key) → name ≡ other
   same_apart chunk n f objects after shows same name other from key one two =
       shows.distinct name other from key (sym (same name) ∙ one) (sym (same other) ∙ two)
 
   -- a cursor's move: its place is one more, and each other's stays
-  pub advanced_place : (chunk n : ℕ) (f g : ℕ → Facts M) (objects : List (Object (Log M))) (name source key : ℕ) (message : M) (log : Log M)
+  pub advanced_place : (chunk n : ℕ) (f g : ℕ → Facts M) (objects : List (Object M (Log M))) (name source key : ℕ) (message : M) (log : Log M)
       → Shows chunk n f objects → cursor_at objects name ≡ Some (source, key) → log_at objects source ≡ Some log
       → g name ≡ record (f name) { got = (f name).got ++ message ∷ [] } → ((k : ℕ) → k ≢ name → g k ≡ f k)
       → (k own : ℕ) → cursor_at objects k ≡ Some (source, own) → place_at (advanced chunk key log) own ≡ Some (place_by (g k))
@@ -105,22 +105,22 @@ module _ {M : Type 0} where
       one_more facts message = omega (arith, length_push facts.got message)
 
   -- no log stands under the next object's name
-  pub no_log : (chunk n : ℕ) (f : ℕ → Facts M) (objects : List (Object (Log M))) → Shows chunk n f objects → log_at objects n ≡ None
+  pub no_log : (chunk n : ℕ) (f : ℕ → Facts M) (objects : List (Object M (Log M))) → Shows chunk n f objects → log_at objects n ≡ None
   no_log chunk n f objects shows = subst (λ k. log_at objects k ≡ None) shows.all (log_at_past objects)
 
   -- it has no cursor
-  pub no_cursor : (chunk n : ℕ) (f : ℕ → Facts M) (objects : List (Object (Log M))) → Shows chunk n f objects → cursor_at objects n ≡ None
+  pub no_cursor : (chunk n : ℕ) (f : ℕ → Facts M) (objects : List (Object M (Log M))) → Shows chunk n f objects → cursor_at objects n ≡ None
   no_cursor chunk n f objects shows = subst (λ k. cursor_at objects k ≡ None) shows.all (cursor_at_past objects)
 
   -- and no object reads it
-  pub no_reader : (chunk n : ℕ) (f : ℕ → Facts M) (objects : List (Object (Log M))) (k key : ℕ)
+  pub no_reader : (chunk n : ℕ) (f : ℕ → Facts M) (objects : List (Object M (Log M))) (k key : ℕ)
       → Shows chunk n f objects → cursor_at objects k ≢ Some (n, key)
   no_reader chunk n f objects k key shows = λ reads.
       let own = shows.cursors k n key reads in
       none-some own.0 (sym (no_log chunk n f objects shows) ∙ own.1)
 
   -- the next object reads a log, by a cursor that no other has
-  pub record Joins (chunk n : ℕ) (f g : ℕ → Facts M) (objects after : List (Object (Log M))) (source key : ℕ) (new : Log M) : Type 0 where
+  pub record Joins (chunk n : ℕ) (f g : ℕ → Facts M) (objects after : List (Object M (Log M))) (source key : ℕ) (new : Log M) : Type 0 where
     pub stands : log_at after source ≡ Some new
     pub holds : Holds chunk new (g source).sent
     pub others : (k : ℕ) → k ≢ source → log_at after k ≡ log_at objects k
@@ -133,7 +133,7 @@ module _ {M : Type 0} where
     pub same : (k : ℕ) → k ≢ n → g k ≡ f k
 
   -- no two objects then read by one cursor
-  Joins-apart : (chunk n : ℕ) (f g : ℕ → Facts M) (objects after : List (Object (Log M))) (source key : ℕ) (new : Log M)
+  Joins-apart : (chunk n : ℕ) (f g : ℕ → Facts M) (objects after : List (Object M (Log M))) (source key : ℕ) (new : Log M)
       → Shows chunk n f objects → Joins chunk n f g objects after source key new
       → (name other from own : ℕ) → cursor_at after name ≡ Some (from, own) → cursor_at after other ≡ Some (from, own) → name ≡ other
   Joins-apart chunk n f g objects after source key new shows joins name other from own one two = elim (cases_eq name n) [
@@ -153,7 +153,7 @@ module _ {M : Type 0} where
   ]
 
   -- so the objects show the new facts
-  pub Joins-changes : (chunk n : ℕ) (f g : ℕ → Facts M) (objects after : List (Object (Log M))) (source key : ℕ) (new : Log M)
+  pub Joins-changes : (chunk n : ℕ) (f g : ℕ → Facts M) (objects after : List (Object M (Log M))) (source key : ℕ) (new : Log M)
       → Shows chunk n f objects → Joins chunk n f g objects after source key new → Changes chunk f g objects after source new
   Joins-changes chunk n f g objects after source key new shows joins = record {
     stands = joins.stands;
@@ -194,7 +194,7 @@ module _ {M : Type 0} where
   }
 
   -- an object reads its log no more, and the cursor there is closed
-  pub record Leaves (chunk : ℕ) (f g : ℕ → Facts M) (objects after : List (Object (Log M))) (name source key : ℕ) (old : Log M) : Type 0 where
+  pub record Leaves (chunk : ℕ) (f g : ℕ → Facts M) (objects after : List (Object M (Log M))) (name source key : ℕ) (old : Log M) : Type 0 where
     pub found : log_at objects source ≡ Some old
     pub stands : log_at after source ≡ Some (shut chunk key old)
     pub others : (k : ℕ) → k ≢ source → log_at after k ≡ log_at objects k
@@ -205,7 +205,7 @@ module _ {M : Type 0} where
     pub places : (k : ℕ) → place_by (g k) ≡ place_by (f k)
 
   -- each object that reads after it is another, and read before it
-  Leaves-still : (chunk : ℕ) (f g : ℕ → Facts M) (objects after : List (Object (Log M))) (name source key : ℕ) (old : Log M)
+  Leaves-still : (chunk : ℕ) (f g : ℕ → Facts M) (objects after : List (Object M (Log M))) (name source key : ℕ) (old : Log M)
       → Leaves chunk f g objects after name source key old → (k from own : ℕ) → cursor_at after k ≡ Some (from, own)
       → (k ≢ name) × (cursor_at objects k ≡ Some (from, own))
   Leaves-still chunk f g objects after name source key old leaves k from own at =
@@ -213,7 +213,7 @@ module _ {M : Type 0} where
       (other, sym (leaves.other_reads k other) ∙ at)
 
   -- so the objects show the new facts
-  pub Leaves-changes : (chunk n : ℕ) (f g : ℕ → Facts M) (objects after : List (Object (Log M))) (name source key : ℕ) (old : Log M)
+  pub Leaves-changes : (chunk n : ℕ) (f g : ℕ → Facts M) (objects after : List (Object M (Log M))) (name source key : ℕ) (old : Log M)
       → Shows chunk n f objects → Leaves chunk f g objects after name source key old → Changes chunk f g objects after source (shut chunk key old)
   Leaves-changes chunk n f g objects after name source key old shows leaves =
       let stood = cursor_place chunk n f objects name source key old shows leaves.read leaves.found in

@@ -7,7 +7,7 @@ use Rattle.cml_board.specs.declared.call.Name.{Name}
 use Rattle.cml_board.specs.declared.call.Kind.{Kind}
 use Rattle.cml_board.specs.declared.call.Kind.TheVariants as kind
 use Rattle.cml_board.specs.declared.call.Call.{Call}
-use Rattle.cml_board.specs.declared.call.Call.TheVariants.{NewMailbox, NewChannel, NewPort, CopyPort, ClosePort, Send, Cast, Recv, Poll}
+use Rattle.cml_board.specs.declared.call.Call.TheVariants.{ClosePort}
 use Rattle.cml_board.specs.declared.entry.Reply.{Reply}
 use Rattle.cml_board.specs.declared.entry.Entry.{Entry}
 use Rattle.cml_board.specs.Origins.{Origin, kind_by}
@@ -18,9 +18,8 @@ use Rattle.cml_board.proofs.ListLemmas.{slice_get-append_some}
 -- a kind that takes a close is a port's
 port_kind : (k : Option Kind) → IsSome k → IfSome k (λ kind. IsTrue (is_port kind)) → k ≡ Some kind.Port
 port_kind None some is = absurd (false≢true some)
-port_kind (Some kind.Mailbox) some is = absurd (false≢true is)
-port_kind (Some kind.Channel) some is = absurd (false≢true is)
 port_kind (Some kind.Port) some is = refl
+port_kind (Some other) some is = absurd (false≢true is)
 
 map_some : (o : Option Origin) (k : Kind) → option_map kind_by o ≡ Some k → (origin : Origin) × (o ≡ Some origin) × (kind_by origin ≡ k)
 map_some None k e = absurd (none-some k e)
@@ -34,19 +33,12 @@ module _ {M : Type 0} where
       ap (option_map kind_by) (slice_get-append_some (made before) (if_made entry.reply (begun_by (made before) before entry.call)) object found.0 found.1) ∙ ap Some found.2
 
   closed_by : (before : List (Entry M)) (call : Call M) (reply : Reply M) (object : ℕ) → Fits before call → closes call reply object ≡ true → kind_of before object ≡ Some kind.Port
-  closed_by before NewMailbox reply object fits closed = absurd (false≢true closed)
-  closed_by before NewChannel reply object fits closed = absurd (false≢true closed)
-  closed_by before (NewPort name) reply object fits closed = absurd (false≢true closed)
-  closed_by before (CopyPort name) reply object fits closed = absurd (false≢true closed)
-  closed_by before (Send name message) reply object fits closed = absurd (false≢true closed)
-  closed_by before (Cast name message) reply object fits closed = absurd (false≢true closed)
-  closed_by before (Recv name) reply object fits closed = absurd (false≢true closed)
-  closed_by before (Poll name) reply object fits closed = absurd (false≢true closed)
   closed_by before (ClosePort name) reply object fits closed = by_name (eqb name.0 object) refl closed
     where
       by_name : (t : Bool) → eqb name.0 object ≡ t → cond t (is_done reply) false ≡ true → kind_of before object ≡ Some kind.Port
       by_name true e done = ap (kind_of before) (sym (eqb-true name.0 object e)) ∙ port_kind (kind_of before name.0) fits.0 fits.1
       by_name false e done = absurd (false≢true done)
+  closed_by before call reply object fits closed = absurd (false≢true closed)
 
   -- what is closed is a port
   pub closed_is_port : (history : List (Entry M)) (object : ℕ) → Lawful history → is_open history object ≡ false → kind_of history object ≡ Some kind.Port

@@ -8,7 +8,7 @@ use Rattle.cml_log.specs.Log.{Log, least}
 use Rattle.cml_log.proofs.LeastLemmas.{least-le_end, least-le_place, least-ge}
 use Rattle.cml_board.specs.declared.entry.Entry.{Entry}
 use Rattle.cml_board.specs.declared.object.Object.{Object}
-use Rattle.cml_board.specs.declared.object.Object.TheVariants.{Mailbox, Channel, Port}
+use Rattle.cml_board.specs.declared.object.Object.TheVariants.{Mailbox, Channel, Port, Variable}
 use Rattle.cml_board.specs.declared.object.Reading.{Reading}
 use Rattle.cml_board.specs.declared.object.Reading.TheVariants.{Open, Closed}
 use Rattle.cml_board.specs.Origins.{Origin, mailbox, channel, port}
@@ -66,11 +66,12 @@ module _ {M : Type 0} where
       ]
 
   -- an object with a cursor of a log is told to read it
-  reads_told : {A : Type 0} (facts : Facts M) (name source key : ℕ) (object : Object A)
+  reads_told : {A : Type 0} (facts : Facts M) (name source key : ℕ) (object : Object M A)
       → Agrees facts object → cursor_in name object ≡ Some (source, key) → reads_by name facts.origin facts.opened source ≡ true
   reads_told facts name source key (Mailbox log own) agrees reads =
       ap (λ o. reads_by name o facts.opened source) agrees.0 ∙ eq-eqb name source (some_pair_parts name source own key reads).0
   reads_told facts name source key (Channel log) agrees reads = absurd (none-some (source, key) reads)
+  reads_told facts name source key (Variable form held) agrees reads = absurd (none-some (source, key) reads)
   reads_told facts name source key (Port p) agrees reads =
       ap (λ o. reads_by name o facts.opened source) agrees.0 ∙ by_reading p.reading agrees.1 reads
     where
@@ -81,7 +82,7 @@ module _ {M : Type 0} where
       by_reading (Closed received) closed reads = absurd (none-some (source, key) reads)
 
   -- and was made
-  reader_told : (chunk n : ℕ) (f : ℕ → Facts M) (objects : List (Object (Log M))) (name source key : ℕ) → Shows chunk n f objects
+  reader_told : (chunk n : ℕ) (f : ℕ → Facts M) (objects : List (Object M (Log M))) (name source key : ℕ) → Shows chunk n f objects
       → cursor_at objects name ≡ Some (source, key) → (name < n) × (reads_by name (f name).origin (f name).opened source ≡ true)
   reader_told chunk n f objects name source key shows reads =
       option_and_then_some (cursor_in name) (slice_get objects name) (source, key) reads (λ object found own. (
@@ -90,7 +91,7 @@ module _ {M : Type 0} where
       ))
 
   -- an object that is told to read a log has a cursor there
-  told_reader : (chunk n : ℕ) (f : ℕ → Facts M) (objects : List (Object (Log M))) (name source : ℕ) → Shows chunk n f objects → name < n
+  told_reader : (chunk n : ℕ) (f : ℕ → Facts M) (objects : List (Object M (Log M))) (name source : ℕ) → Shows chunk n f objects → name < n
       → reads_by name (f name).origin (f name).opened source ≡ true → (key : ℕ) × (cursor_at objects name ≡ Some (source, key))
   told_reader chunk n f objects name source shows made reader = by_origin (f name).origin refl reader
     where
@@ -99,15 +100,14 @@ module _ {M : Type 0} where
       by_origin (Some mailbox) begun reader =
           let own = cursor_of_mailbox chunk n f objects name shows begun made in
           (own.0, own.1 ∙ ap (λ (j : ℕ). Some (j, own.0)) (eqb-true name source reader))
-      by_origin (Some channel) begun reader = absurd (false≢true reader)
       by_origin (Some (port from start)) begun reader =
           let both = and_parts (f name).opened (eqb from source) reader in
           let own = cursor_of_port chunk n f objects name from start shows begun both.0 made in
           (own.0, own.1 ∙ ap (λ (j : ℕ). Some (j, own.0)) (eqb-true from source both.1))
-      by_origin None begun reader = absurd (false≢true reader)
+      by_origin origin begun reader = absurd (false≢true reader)
 
   -- so the least place of a log's cursors is the told one
-  pub least_is_told : (chunk : ℕ) (history : List (Entry M)) (objects : List (Object (Log M))) (source : ℕ) (log : Log M)
+  pub least_is_told : (chunk : ℕ) (history : List (Entry M)) (objects : List (Object M (Log M))) (source : ℕ) (log : Log M)
       → Shows chunk (length (made history)) (facts_of history) objects → log_at objects source ≡ Some log
       → least (length (sent history source)) log.places ≡ least_place history source
   least_is_told chunk history objects source log shows found =
@@ -127,14 +127,14 @@ module _ {M : Type 0} where
       omega (arith, up, down)
 
   -- so is the place that it is kept from
-  pub first_is_told : (chunk : ℕ) (history : List (Entry M)) (objects : List (Object (Log M))) (source : ℕ) (log : Log M)
+  pub first_is_told : (chunk : ℕ) (history : List (Entry M)) (objects : List (Object M (Log M))) (source : ℕ) (log : Log M)
       → Shows chunk (length (made history)) (facts_of history) objects → log_at objects source ≡ Some log
       → log.first ≡ kept_from chunk history source
   first_is_told chunk history objects source log shows found =
       (shows.logs source log found).first ∙ ap (λ p. chunk * (p / chunk)) (least_is_told chunk history objects source log shows found)
 
   -- and how much is kept
-  pub kept_is_told : (chunk : ℕ) (history : List (Entry M)) (objects : List (Object (Log M))) (source : ℕ) (log : Log M)
+  pub kept_is_told : (chunk : ℕ) (history : List (Entry M)) (objects : List (Object M (Log M))) (source : ℕ) (log : Log M)
       → Shows chunk (length (made history)) (facts_of history) objects → log_at objects source ≡ Some log
       → length log.kept ≡ kept_size chunk history source
   kept_is_told chunk history objects source log shows found =

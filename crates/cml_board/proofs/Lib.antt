@@ -8,6 +8,10 @@ pub mod Standing
 pub mod Keeping
 pub mod Unmade
 pub mod Telling
+pub mod Beginning
+pub mod Leaving
+pub mod Setting
+pub mod Holding
 pub mod Stepping
 pub mod Noting
 pub mod Answering

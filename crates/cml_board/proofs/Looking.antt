@@ -6,7 +6,7 @@ use Rattle.std.proofs.lemmas.Option.{none-some, some_pair_parts, slice_get_past,
 use Rattle.cml_log.specs.Log.{Log, next_of, owed_items}
 use Rattle.cml_board.specs.declared.entry.Entry.{Entry}
 use Rattle.cml_board.specs.declared.object.Object.{Object}
-use Rattle.cml_board.specs.declared.object.Object.TheVariants.{Mailbox, Channel, Port}
+use Rattle.cml_board.specs.declared.object.Object.TheVariants.{Mailbox, Channel, Port, Variable}
 use Rattle.cml_board.specs.declared.object.Reading.{Reading}
 use Rattle.cml_board.specs.declared.object.Reading.TheVariants.{Open, Closed}
 use Rattle.cml_board.specs.Origins.{kind_by, source_by, start_by}
@@ -40,7 +40,7 @@ module _ {M : Type 0} where
     pub from : source_by name facts.origin ≡ source
 
   -- an object with a cursor is one
-  reader_told : {A : Type 0} (facts : Facts M) (name source key : ℕ) (object : Object A)
+  reader_told : {A : Type 0} (facts : Facts M) (name source key : ℕ) (object : Object M A)
       → Agrees facts object → cursor_in name object ≡ Some (source, key) → IsReader facts name source
   reader_told facts name source key (Mailbox log own) agrees reads = record {
     receiver = ap (λ o. option_map_or is_receiver (option_map kind_by o) false) agrees.0;
@@ -48,6 +48,7 @@ module _ {M : Type 0} where
     from = ap (source_by name) agrees.0 ∙ (some_pair_parts name source own key reads).0;
   }
   reader_told facts name source key (Channel log) agrees reads = absurd (none-some (source, key) reads)
+  reader_told facts name source key (Variable form held) agrees reads = absurd (none-some (source, key) reads)
   reader_told facts name source key (Port p) agrees reads = by_reading p.reading agrees.1 reads
     where
       by_reading : (reading : Reading) → AgreesReading facts reading → option_map {U = ℕ × ℕ} (λ k. (p.channel.0, k)) (key_in reading) ≡ Some (source, key)
@@ -60,7 +61,7 @@ module _ {M : Type 0} where
       by_reading (Closed received) closed reads = absurd (none-some (source, key) reads)
 
   -- what its log really owes it is what it is owed
-  pub owed_told : (chunk : ℕ) (h : List (Entry M)) (objects : List (Object (Log M))) (name source key : ℕ) (log : Log M)
+  pub owed_told : (chunk : ℕ) (h : List (Entry M)) (objects : List (Object M (Log M))) (name source key : ℕ) (log : Log M)
       → Shows chunk (length (made h)) (facts_of h) objects → cursor_at objects name ≡ Some (source, key) → log_at objects source ≡ Some log
       → source_by name (origin_of h name) ≡ source → owed_items log key ≡ owed h name
   owed_told chunk h objects name source key log shows reads found from =
@@ -69,7 +70,7 @@ module _ {M : Type 0} where
       ∙ ap (λ s. drop (length (got h name)) (drop (start_by (origin_of h name)) (sent h s))) (sym from)
 
   -- a cursor that an object has
-  reads_at : (chunk : ℕ) (board : Shown M) (name source key : ℕ) (object : Object (Log M)) → Keeps chunk board
+  reads_at : (chunk : ℕ) (board : Shown M) (name source key : ℕ) (object : Object M (Log M)) → Keeps chunk board
       → slice_get board.objects name ≡ Some object → cursor_in name object ≡ Some (source, key) → ReadsAt board name source key
   reads_at chunk board name source key object keeps found own =
       let n : ℕ = length (made board.history) in
@@ -87,7 +88,7 @@ module _ {M : Type 0} where
       }
 
   -- an object that was found
-  pub stands_at : (chunk : ℕ) (board : Shown M) (name : ℕ) (object : Object (Log M)) → Keeps chunk board
+  pub stands_at : (chunk : ℕ) (board : Shown M) (name : ℕ) (object : Object M (Log M)) → Keeps chunk board
       → slice_get board.objects name ≡ Some object → Stands chunk board name object
   stands_at chunk board name object keeps found =
       let at : (log : Log M) → log_in object ≡ Some log → log_at board.objects name ≡ Some log =

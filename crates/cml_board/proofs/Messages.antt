@@ -5,7 +5,7 @@ use Rattle.std.proofs.lemmas.Option.{none-some, slice_get_within}
 use Rattle.cml_log.specs.Log.{owed_items}
 use Rattle.cml_board.specs.declared.call.Kind.TheVariants as kind
 use Rattle.cml_board.specs.declared.entry.Entry.{Entry}
-use Rattle.cml_board.specs.Origins.{Origin, mailbox, channel, port, kind_by, source_by, start_by}
+use Rattle.cml_board.specs.Origins.{Origin, mailbox, channel, port, ivar, mvar, kind_by, source_by, start_by}
 use Rattle.cml_board.specs.History.{made, origin_of, sent, got, due}
 use Rattle.cml_board.specs.Facts.{Facts, facts_of}
 use Rattle.cml_board.specs.Holdings.{cursor_at}
@@ -20,6 +20,8 @@ is_mailbox : (origin : Option Origin) → option_map kind_by origin ≡ Some kin
 is_mailbox (Some mailbox) is = refl
 is_mailbox (Some channel) is = absurd (cc)
 is_mailbox (Some (port source start)) is = absurd (cc)
+is_mailbox (Some ivar) is = absurd (cc)
+is_mailbox (Some mvar) is = absurd (cc)
 is_mailbox None is = absurd (none-some kind.Mailbox is)
 
 module _ {M : Type 0} where

@@ -24,11 +24,11 @@ module _ {M : Type 0} where
   reverse_noted journal later entry e = ap reverse e ∙ reverse-append journal (entry ∷ [])
 
   -- what a board of this journal, limit and objects shows
-  abbrev pub board_of : List (Entry M) → ℕ → List (Object (Log M)) → Shown M
+  abbrev pub board_of : List (Entry M) → ℕ → List (Object M (Log M)) → Shown M
   board_of journal limit objects = record { history = reverse journal; limit = limit; objects = objects }
 
   -- a board keeps all that it keeps when an entry that is lawful there is noted, and its objects show it
-  pub keeps_noted : (chunk : ℕ) {old : Shown M} {journal reserved later : List (Entry M)} {limit : ℕ} {objects after : List (Object (Log M))} (entry : Entry M)
+  pub keeps_noted : (chunk : ℕ) {old : Shown M} {journal reserved later : List (Entry M)} {limit : ℕ} {objects after : List (Object M (Log M))} (entry : Entry M)
       → board_of journal limit objects ≡ old → Keeps chunk (board_of journal limit objects)
       → later ≡ reserved ++ entry ∷ [] → reserved ≡ journal
       → HasRoom old → Fits old.history entry.call → answer old.history entry.call ≡ Some entry.reply
@@ -48,14 +48,14 @@ module _ {M : Type 0} where
       })
 
   -- a board that is seen alike keeps all that it kept
-  pub keeps_same : (chunk : ℕ) (journal later : List (Entry M)) (limit : ℕ) (objects after : List (Object (Log M)))
+  pub keeps_same : (chunk : ℕ) (journal later : List (Entry M)) (limit : ℕ) (objects after : List (Object M (Log M)))
       → Keeps chunk (board_of journal limit objects) → later ≡ journal → after ≡ objects → Keeps chunk (board_of later limit after)
   keeps_same chunk journal later limit objects after keeps same seen =
-      subst (λ (os : List (Object (Log M))). Keeps chunk (board_of later limit os)) (sym seen)
+      subst (λ (os : List (Object M (Log M))). Keeps chunk (board_of later limit os)) (sym seen)
       (subst (λ (j : List (Entry M)). Keeps chunk (board_of j limit objects)) (sym same) keeps)
 
   -- and is the board that it was
-  pub seen_same : {old : Shown M} (journal later : List (Entry M)) (limit : ℕ) (objects after : List (Object (Log M)))
+  pub seen_same : {old : Shown M} (journal later : List (Entry M)) (limit : ℕ) (objects after : List (Object M (Log M)))
       → board_of journal limit objects ≡ old → later ≡ journal → after ≡ objects → board_of later limit after ≡ old
   seen_same journal later limit objects after view same seen =
       ap (λ j. board_of j limit after) same ∙ ap (board_of journal limit) seen ∙ view
@@ -68,7 +68,7 @@ module _ {M : Type 0} where
       → Applies old new who call result
   applies_answered old new who call result a e fits room answers same at adds = rw e (fits, room, answers, same, at, adds)
 
-  pub adds_entry : {old : Shown M} {journal reserved later : List (Entry M)} {limit : ℕ} {objects after : List (Object (Log M))} (who : Who) (call noted : Call M) (reply told : Reply M)
+  pub adds_entry : {old : Shown M} {journal reserved later : List (Entry M)} {limit : ℕ} {objects after : List (Object M (Log M))} (who : Who) (call noted : Call M) (reply told : Reply M)
       → board_of journal limit objects ≡ old
       → later ≡ reserved ++ record { who = who; call = noted; reply = reply } ∷ [] → reserved ≡ journal → noted ≡ call → reply ≡ told
       → AddsEntry old (board_of later limit after) who call told
@@ -81,7 +81,7 @@ module _ {M : Type 0} where
     limit = ap (λ (b : Shown M). b.limit) view;
   }
 
-  pub noted_at : {old : Shown M} {journal reserved : List (Entry M)} {limit : ℕ} {objects : List (Object (Log M))}
+  pub noted_at : {old : Shown M} {journal reserved : List (Entry M)} {limit : ℕ} {objects : List (Object M (Log M))}
       → board_of journal limit objects ≡ old → reserved ≡ journal → length reserved ≡ length old.history
   noted_at {old} {journal} {reserved} view same =
       ap length same ∙ sym (length-reverse journal) ∙ ap (λ (b : Shown M). length b.history) view
@@ -91,7 +91,7 @@ module _ {M : Type 0} where
   refused board call reply fits room answers = (fits, room, λ waits. none-some reply (sym waits ∙ answers))
 
   -- the same for a call that was noted as an equal one
-  pub keeps_call : (chunk : ℕ) {old : Shown M} {journal reserved later : List (Entry M)} {limit : ℕ} {objects after : List (Object (Log M))}
+  pub keeps_call : (chunk : ℕ) {old : Shown M} {journal reserved later : List (Entry M)} {limit : ℕ} {objects after : List (Object M (Log M))}
       (who : Who) (call noted : Call M) (reply told : Reply M)
       → board_of journal limit objects ≡ old → Keeps chunk (board_of journal limit objects)
       → later ≡ reserved ++ record { who = who; call = noted; reply = told } ∷ [] → reserved ≡ journal → noted ≡ call → told ≡ reply

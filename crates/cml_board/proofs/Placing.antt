@@ -1,17 +1,17 @@
 -- A change of one object is a change of the list of all.
-use Rattle.std.proofs.Common.{◌≡◌, ℕ, zero, suc, ◌-◌, ◌<◌, List, [], ◌∷◌, ◌++◌, length, get_or, slice_get, slice_set, Some, sym, ap, ◌∙◌, arith}
+use Rattle.std.proofs.Common.{◌≡◌, ℕ, zero, suc, ◌-◌, ◌<◌, List, [], ◌∷◌, ◌++◌, length, get_or, slice_get, slice_set, Option, Some, IsSome, refl, sym, ap, ◌∙◌, arith}
 use Rattle.std.specs.Option.{option_and_then}
-use Rattle.std.proofs.lemmas.List.{map-append, map-set}
-use Rattle.std.proofs.lemmas.Option.{same_Some, none-some}
+use Rattle.std.proofs.lemmas.List.{length-map, map-append, map-set}
+use Rattle.std.proofs.lemmas.Option.{same_Some, none-some, slice_get_within}
 use Rattle.cml_log.specs.Log.{Log, place_of}
 use Rattle.cml_board.specs.declared.object.Object.{Object}
-use Rattle.cml_board.specs.declared.object.Object.TheVariants.{Port}
+use Rattle.cml_board.specs.declared.object.Object.TheVariants.{Mailbox, Channel, Port, Variable}
 use Rattle.cml_board.specs.declared.object.Reading.TheVariants.{Open, Closed}
 use Rattle.cml_board.specs.declared.call.Name.{Name}
-use Rattle.cml_board.specs.Holdings.{map_log, seen_all, log_in, log_at, on_log, shut, HasLog, OpensIn, OpensAt, AddsPort, ClosesPort, open_port, closed_port}
+use Rattle.cml_board.specs.Holdings.{map_log, seen_all, log_in, held_in, with_held, log_at, on_log, shut, HasLog, HasVariable, OpensIn, OpensAt, AddsPort, ClosesPort, SetsHeld, open_port, closed_port}
 
-module _ {A B : Type 0} where
-  pub seen_set : (log : A → B) (f : B → B) (xs : List (Object A)) (i : ℕ) (x y : Object A) → i < length xs → x ≡ get_or xs i x
+module _ {M A B : Type 0} where
+  pub seen_set : (log : A → B) (f : B → B) (xs : List (Object M A)) (i : ℕ) (x y : Object M A) → i < length xs → x ≡ get_or xs i x
       → map_log log y ≡ map_log f (map_log log x) → seen_all log (slice_set xs i y) ≡ on_log f (seen_all log xs) i
   seen_set log f [] i x y within read changed = absurd (omega arith)
   seen_set log f (z ∷ xs) zero x y within read changed =
@@ -19,7 +19,7 @@ module _ {A B : Type 0} where
   seen_set log f (z ∷ xs) (suc i) x y within read changed =
       ap (λ os. map_log log z ∷ os) (seen_set log f xs i x y (omega arith) read changed)
 
-  pub seen_kept : (log : A → B) (xs : List (Object A)) (i : ℕ) (x y : Object A) → i < length xs → x ≡ get_or xs i x
+  pub seen_kept : (log : A → B) (xs : List (Object M A)) (i : ℕ) (x y : Object M A) → i < length xs → x ≡ get_or xs i x
       → map_log log y ≡ map_log log x → seen_all log (slice_set xs i y) ≡ seen_all log xs
   seen_kept log [] i x y within read same = absurd (omega arith)
   seen_kept log (z ∷ xs) zero x y within read same =
@@ -27,22 +27,22 @@ module _ {A B : Type 0} where
   seen_kept log (z ∷ xs) (suc i) x y within read same =
       ap (λ os. map_log log z ∷ os) (seen_kept log xs i x y (omega arith) read same)
 
-  pub seen_read : (log : A → B) (xs : List (Object A)) (i : ℕ) (x : Object A) → i < length xs → x ≡ get_or xs i x
+  pub seen_read : (log : A → B) (xs : List (Object M A)) (i : ℕ) (x : Object M A) → i < length xs → x ≡ get_or xs i x
       → slice_get (seen_all log xs) i ≡ Some (map_log log x)
   seen_read log [] i x within read = absurd (omega arith)
   seen_read log (z ∷ xs) zero x within read = ap (λ o. Some (map_log log o)) (sym read)
   seen_read log (z ∷ xs) (suc i) x within read = seen_read log xs i x (omega arith) read
 
-  pub log_read : (log : A → B) (xs : List (Object A)) (i : ℕ) (x : Object A) → i < length xs → x ≡ get_or xs i x
+  pub log_read : (log : A → B) (xs : List (Object M A)) (i : ℕ) (x : Object M A) → i < length xs → x ≡ get_or xs i x
       → log_at (seen_all log xs) i ≡ log_in (map_log log x)
   log_read log xs i x within read = ap (option_and_then log_in) (seen_read log xs i x within read)
 
-  pub seen_pushed : (log : A → B) (xs ys : List (Object A)) (x : Object A) → ys ≡ xs ++ x ∷ [] → seen_all log ys ≡ seen_all log xs ++ map_log log x ∷ []
+  pub seen_pushed : (log : A → B) (xs ys : List (Object M A)) (x : Object M A) → ys ≡ xs ++ x ∷ [] → seen_all log ys ≡ seen_all log xs ++ map_log log x ∷ []
   seen_pushed log xs ys x pushed = ap (seen_all log) pushed ∙ map-append (map_log log) xs (x ∷ [])
 
 module _ {A M : Type 0} where
   -- one more cursor in an object's log is one more in the list
-  pub opens_at : (log : A → Log M) (xs : List (Object A)) (i : ℕ) (x y : Object A) (key : ℕ) (from : Log M → ℕ) → i < length xs → x ≡ get_or xs i x
+  pub opens_at : (log : A → Log M) (xs : List (Object M A)) (i : ℕ) (x y : Object M A) (key : ℕ) (from : Log M → ℕ) → i < length xs → x ≡ get_or xs i x
       → OpensIn (map_log log x) (map_log log y) key from → OpensAt (seen_all log xs) (seen_all log (slice_set xs i y)) i key from
   opens_at log xs i x y key from within read opens = record {
     stands = record { log = opens.was; found = log_read log xs i x within read ∙ opens.found };
@@ -52,7 +52,7 @@ module _ {A M : Type 0} where
   }
 
   -- a port was added behind it
-  pub adds_port : (log : A → Log M) (xs ys : List (Object A)) (source : Name) (x y : Object A) (key start : ℕ) (from : Log M → ℕ) (was : Log M)
+  pub adds_port : (log : A → Log M) (xs ys : List (Object M A)) (source : Name) (x y : Object M A) (key start : ℕ) (from : Log M → ℕ) (was : Log M)
       → source.0 < length xs → x ≡ get_or xs source.0 x → OpensIn (map_log log x) (map_log log y) key from → log_in (map_log log x) ≡ Some was → start ≡ from was
       → ys ≡ slice_set xs source.0 y ++ Port (record { channel = source; start = start; reading = Open key }) ∷ []
       → AddsPort (seen_all log xs) (seen_all log ys) source.0 from
@@ -70,7 +70,7 @@ module _ {A M : Type 0} where
       }
 
   -- a port was closed
-  pub closes_port : (chunk : ℕ) (log : A → Log M) (xs : List (Object A)) (name source : Name) (x y : Object A) (start key place : ℕ) (was : Log M)
+  pub closes_port : (chunk : ℕ) (log : A → Log M) (xs : List (Object M A)) (name source : Name) (x y : Object M A) (start key place : ℕ) (was : Log M)
       → source.0 < length xs → x ≡ get_or xs source.0 x → log_in (map_log log x) ≡ Some was → place ≡ place_of was key
       → map_log log y ≡ map_log (shut chunk key) (map_log log x)
       → ClosesPort chunk (seen_all log xs)
@@ -87,10 +87,41 @@ module _ {A M : Type 0} where
             ∙ ap (λ p. slice_set (on_log (shut chunk key) (seen_all log xs) source.0) name.0 (closed_port source.0 start (p - start))) at;
       }
 
-  pub log_within : (log : A → Log M) (xs : List (Object A)) (i : ℕ) → HasLog (seen_all log xs) i → i < length xs
+  -- a variable was given another value
+  pub sets_held : (log : A → Log M) (xs : List (Object M A)) (i : ℕ) (x y : Object M A) (was value : Option M) → i < length xs → x ≡ get_or xs i x
+      → held_in x ≡ Some was → y ≡ with_held value x → SetsHeld (seen_all log xs) (seen_all log (slice_set xs i y)) i was value
+  sets_held log xs i x y was value within read holds changed = by_object x y read holds changed
+    where
+      by_object : (x y : Object M A) → x ≡ get_or xs i x → held_in x ≡ Some was → y ≡ with_held value x
+          → SetsHeld (seen_all log xs) (seen_all log (slice_set xs i y)) i was value
+      by_object (Mailbox l key) y read holds changed = absurd (none-some was holds)
+      by_object (Channel l) y read holds changed = absurd (none-some was holds)
+      by_object (Port p) y read holds changed = absurd (none-some was holds)
+      by_object (Variable form held) y read holds changed = record {
+        form = form;
+        found = seen_read log xs i (Variable form held) within read ∙ ap (λ h. Some (Variable form h)) (same_Some _ _ holds);
+        changed = map-set (map_log log) xs i y ∙ ap (λ o. slice_set (seen_all log xs) i (map_log log o)) changed;
+      }
+
+  pub variable_within : (log : A → Log M) (xs : List (Object M A)) (i : ℕ) → HasVariable (seen_all log xs) i → i < length xs
+  variable_within log xs i stands =
+      omega (arith, slice_get_within (seen_all log xs) i (Variable stands.form stands.held) stands.found, length-map xs (map_log log))
+
+  -- what stands there holds something
+  pub variable_there : (log : A → Log M) (xs : List (Object M A)) (i : ℕ) (x : Object M A) → HasVariable (seen_all log xs) i → x ≡ get_or xs i x → IsSome (held_in x)
+  variable_there log xs i x stands read =
+      by_object x (same_Some _ _ (sym (seen_read log xs i x (variable_within log xs i stands) read) ∙ stands.found))
+    where
+      by_object : (x : Object M A) → map_log log x ≡ Variable stands.form stands.held → IsSome (held_in x)
+      by_object (Mailbox l key) is = absurd (cc)
+      by_object (Channel l) is = absurd (cc)
+      by_object (Port p) is = absurd (cc)
+      by_object (Variable form held) is = refl
+
+  pub log_within : (log : A → Log M) (xs : List (Object M A)) (i : ℕ) → HasLog (seen_all log xs) i → i < length xs
   log_within log xs i stands = by_length xs i stands.log stands.found
     where
-      by_length : (xs : List (Object A)) (i : ℕ) (l : Log M) → log_at (seen_all log xs) i ≡ Some l → i < length xs
+      by_length : (xs : List (Object M A)) (i : ℕ) (l : Log M) → log_at (seen_all log xs) i ≡ Some l → i < length xs
       by_length [] i l found = absurd (none-some l found)
       by_length (x ∷ xs) zero l found = omega arith
       by_length (x ∷ xs) (suc i) l found = omega (arith, by_length xs i l found)

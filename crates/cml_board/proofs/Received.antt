@@ -4,7 +4,7 @@ use Rattle.std.proofs.lemmas.Bool.{eqb-true, cases_lt}
 use Rattle.std.proofs.lemmas.List.{append-nil, append_assoc, drop_at, length-append, length-drop}
 use Rattle.std.proofs.lemmas.Option.{same_Some, none-some}
 use Rattle.cml_board.specs.declared.call.Call.{Call}
-use Rattle.cml_board.specs.declared.call.Call.TheVariants.{NewMailbox, NewChannel, NewPort, CopyPort, ClosePort, Send, Cast, Recv, Poll}
+use Rattle.cml_board.specs.declared.call.Call.TheVariants.{Send, Cast, Recv, Poll}
 use Rattle.cml_board.specs.declared.entry.Reply.{Reply}
 use Rattle.cml_board.specs.declared.entry.Reply.TheVariants.{Got, Nothing, Closed}
 use Rattle.cml_board.specs.declared.entry.Entry.{Entry}
@@ -80,13 +80,6 @@ module _ {M : Type 0} where
   -- so one more answer goes on in what was due before
   begins_answered : (before : List (Entry M)) (call : Call M) (reply : Reply M) (o : ℕ) → answer before call ≡ Some reply
       → Begins (got before o) (due before o) → Begins (got before o ++ got_by call reply o) (due before o)
-  begins_answered before NewMailbox reply o answered begins = begins_nil (got before o) (due before o) begins
-  begins_answered before NewChannel reply o answered begins = begins_nil (got before o) (due before o) begins
-  begins_answered before (NewPort name) reply o answered begins = begins_nil (got before o) (due before o) begins
-  begins_answered before (CopyPort name) reply o answered begins = begins_nil (got before o) (due before o) begins
-  begins_answered before (ClosePort name) reply o answered begins = begins_nil (got before o) (due before o) begins
-  begins_answered before (Send name message) reply o answered begins = begins_nil (got before o) (due before o) begins
-  begins_answered before (Cast name message) reply o answered begins = begins_nil (got before o) (due before o) begins
   begins_answered before (Recv name) reply o answered begins =
       begins_here name.0 o (got before o) (due before o) (message_in reply) begins (λ here.
       begins_open (got before o) (due before o) (is_open before o) (received (owed before o)) reply begins
@@ -97,6 +90,7 @@ module _ {M : Type 0} where
       begins_open (got before o) (due before o) (is_open before o) (Some (unwrap_or (received (owed before o)) Nothing)) reply begins
       (λ given. begins_polled (got before o) (due before o) reply begins (same_Some _ _ given))
       (ap (λ n. where_open before n (Some (unwrap_or (received (owed before n)) Nothing))) (sym here) ∙ answered))
+  begins_answered before call reply o answered begins = begins_nil (got before o) (due before o) begins
 
   -- what is due to an object that was made only grows
   due_grows : (entry : Entry M) (before : List (Entry M)) (o : ℕ) → o < length (made before) → Begins (due before o) (due (entry ∷ before) o)
@@ -134,15 +128,9 @@ module _ {M : Type 0} where
   one_at_most false message = omega arith
 
   length-sent_by : (call : Call M) (o : ℕ) → length (sent_by call o) ≤ 1
-  length-sent_by NewMailbox o = omega arith
-  length-sent_by NewChannel o = omega arith
-  length-sent_by (NewPort name) o = omega arith
-  length-sent_by (CopyPort name) o = omega arith
-  length-sent_by (ClosePort name) o = omega arith
   length-sent_by (Send name message) o = one_at_most (eqb name.0 o) message
   length-sent_by (Cast name message) o = one_at_most (eqb name.0 o) message
-  length-sent_by (Recv name) o = omega arith
-  length-sent_by (Poll name) o = omega arith
+  length-sent_by call o = omega arith
 
   -- each entry sends one message at most
   pub sent_within : (h : List (Entry M)) (o : ℕ) → length (sent h o) ≤ length h

@@ -12,7 +12,7 @@ use Rattle.cml_board.specs.declared.object.Object.{Object}
 use Rattle.cml_board.specs.declared.object.Object.TheVariants.{Mailbox, Channel, Port}
 use Rattle.cml_board.specs.declared.object.Reading.TheVariants.{Open, Closed}
 use Rattle.cml_board.specs.Origins.{mailbox, channel, port}
-use Rattle.cml_board.specs.Facts.{Facts, place_by}
+use Rattle.cml_board.specs.Facts.{Facts, place_by, new_facts}
 use Rattle.cml_board.specs.Holdings.{log_in, cursor_in, log_at, cursor_at, on_log, pushed, advanced, shut, HasLog, HasOwed, OpensAt}
 use Rattle.cml_board.specs.Keeps.{Agrees, Shows}
 use Rattle.cml_board.proofs.ListLemmas.{slice_get-set_same, slice_get-set_other}
@@ -22,7 +22,7 @@ use Rattle.cml_board.proofs.Changing.{cursor_place, shows_changed, same_apart, a
 
 module _ {M : Type 0} where
   -- equal facts are shown alike
-  pub shows_same : (chunk n : ℕ) (f g : ℕ → Facts M) (objects : List (Object (Log M)))
+  pub shows_same : (chunk n : ℕ) (f g : ℕ → Facts M) (objects : List (Object M (Log M)))
       → Shows chunk n f objects → ((k : ℕ) → g k ≡ f k) → Shows chunk n g objects
   shows_same chunk n f g objects shows same = record {
     all = shows.all;
@@ -36,7 +36,7 @@ module _ {M : Type 0} where
   }
 
   -- a message more is sent
-  pub shows_pushed : (chunk n : ℕ) (f g : ℕ → Facts M) (objects : List (Object (Log M))) (name : ℕ) (message : M)
+  pub shows_pushed : (chunk n : ℕ) (f g : ℕ → Facts M) (objects : List (Object M (Log M))) (name : ℕ) (message : M)
       → Shows chunk n f objects → HasLog objects name
       → g name ≡ record (f name) { sent = (f name).sent ++ message ∷ [] } → ((k : ℕ) → k ≢ name → g k ≡ f k)
       → Shows chunk n g (on_log (pushed chunk message) objects name)
@@ -67,7 +67,7 @@ module _ {M : Type 0} where
       others shows.each))
 
   -- a message is received
-  pub shows_advanced : (chunk n : ℕ) (f g : ℕ → Facts M) (objects : List (Object (Log M))) (name source key : ℕ) (message : M)
+  pub shows_advanced : (chunk n : ℕ) (f g : ℕ → Facts M) (objects : List (Object M (Log M))) (name source key : ℕ) (message : M)
       → Shows chunk n f objects → cursor_at objects name ≡ Some (source, key) → HasOwed objects source key
       → g name ≡ record (f name) { got = (f name).got ++ message ∷ [] } → ((k : ℕ) → k ≢ name → g k ≡ f k)
       → Shows chunk n g (on_log (advanced chunk key) objects source)
@@ -111,12 +111,12 @@ module _ {M : Type 0} where
       others shows.each))
 
   -- a mailbox is made
-  pub shows_mailbox : (chunk n : ℕ) (f g : ℕ → Facts M) (objects : List (Object (Log M))) (log : Log M) (key : ℕ)
+  pub shows_mailbox : (chunk n : ℕ) (f g : ℕ → Facts M) (objects : List (Object M (Log M))) (log : Log M) (key : ℕ)
       → Shows chunk n f objects → Opens empty_log log key 0
-      → g n ≡ record { origin = Some mailbox; opened = true; sent = []; got = [] } → ((k : ℕ) → k ≢ n → g k ≡ f k)
+      → g n ≡ new_facts mailbox None → ((k : ℕ) → k ≢ n → g k ≡ f k)
       → Shows chunk (n + 1) g (objects ++ Mailbox log key ∷ [])
   shows_mailbox chunk n f g objects log key shows opens told same =
-      let after : List (Object (Log M)) = objects ++ Mailbox log key ∷ [] in
+      let after : List (Object M (Log M)) = objects ++ Mailbox log key ∷ [] in
       let past : (k : ℕ) → k ≢ n → k ≢ length objects = λ k other here. other (here ∙ shows.all) in
       let joins : Joins chunk n f g objects after n key log = record {
         stands = subst (λ j. log_at after j ≡ Some log) shows.all (log_at-pushed objects (Mailbox log key));
@@ -135,11 +135,11 @@ module _ {M : Type 0} where
       (Agrees_pushed n f g objects (Mailbox log key) shows.all (ap (λ x. x.origin) told, ap (λ x. x.opened) told) same shows.each)
 
   -- a channel is made
-  pub shows_channel : (chunk n : ℕ) (f g : ℕ → Facts M) (objects : List (Object (Log M))) → Shows chunk n f objects
-      → g n ≡ record { origin = Some channel; opened = true; sent = []; got = [] } → ((k : ℕ) → k ≢ n → g k ≡ f k)
+  pub shows_channel : (chunk n : ℕ) (f g : ℕ → Facts M) (objects : List (Object M (Log M))) → Shows chunk n f objects
+      → g n ≡ new_facts channel None → ((k : ℕ) → k ≢ n → g k ≡ f k)
       → Shows chunk (n + 1) g (objects ++ Channel empty_log ∷ [])
   shows_channel chunk n f g objects shows told same =
-      let after : List (Object (Log M)) = objects ++ Channel empty_log ∷ [] in
+      let after : List (Object M (Log M)) = objects ++ Channel empty_log ∷ [] in
       let past : (k : ℕ) → k ≢ n → k ≢ length objects = λ k other here. other (here ∙ shows.all) in
       let none : cursor_at after n ≡ None = subst (λ j. cursor_at after j ≡ None) shows.all (cursor_at-pushed objects (Channel empty_log)) in
       let reads : (k : ℕ) → cursor_at after k ≡ cursor_at objects k = λ k. elim (cases_eq k n) [
@@ -165,16 +165,16 @@ module _ {M : Type 0} where
       (Agrees_pushed n f g objects (Channel empty_log) shows.all (ap (λ x. x.origin) told) same shows.each)
 
   -- a port is made, whose cursor was opened in a log
-  pub shows_port : (chunk n : ℕ) (f g : ℕ → Facts M) (objects after : List (Object (Log M))) (source key start : ℕ) (from : Log M → ℕ)
+  pub shows_port : (chunk n : ℕ) (f g : ℕ → Facts M) (objects after : List (Object M (Log M))) (source key start : ℕ) (from : Log M → ℕ)
       → Shows chunk n f objects → (opens : OpensAt objects after source key from) → start ≡ from opens.stands.log → Holds chunk opens.log (f source).sent
-      → g n ≡ record { origin = Some (port source start); opened = true; sent = []; got = [] } → ((k : ℕ) → k ≢ n → g k ≡ f k)
+      → g n ≡ new_facts (port source start) None → ((k : ℕ) → k ≢ n → g k ≡ f k)
       → Shows chunk (n + 1) g (after ++ Port (record { channel = record { 0 = source }; start = start; reading = Open key }) ∷ [])
   shows_port chunk n f g objects after source key start from shows opens starts holds told same =
-      let made : Object (Log M) = Port (record { channel = record { 0 = source }; start = start; reading = Open key }) in
+      let made : Object M (Log M) = Port (record { channel = record { 0 = source }; start = start; reading = Open key }) in
       let old : Log M = opens.stands.log in
       let change : Log M → Log M = λ _. opens.log in
-      let changed : List (Object (Log M)) = on_log change objects source in
-      let last : List (Object (Log M)) = changed ++ made ∷ [] in
+      let changed : List (Object M (Log M)) = on_log change objects source in
+      let last : List (Object M (Log M)) = changed ++ made ∷ [] in
       let all : length changed ≡ n = length-on_log change objects source ∙ shows.all in
       let past : (k : ℕ) → k ≢ n → k ≢ length changed = λ k other here. other (here ∙ all) in
       let earlier : source ≢ n = λ here. none-some old (sym (no_log chunk n f objects shows) ∙ ap (log_at objects) (sym here) ∙ opens.stands.found) in
@@ -204,17 +204,17 @@ module _ {M : Type 0} where
       from_start start = omega arith
 
   -- a port is closed
-  pub shows_closed : (chunk n : ℕ) (f g : ℕ → Facts M) (objects : List (Object (Log M))) (name source start key received : ℕ) → Shows chunk n f objects
+  pub shows_closed : (chunk n : ℕ) (f g : ℕ → Facts M) (objects : List (Object M (Log M))) (name source start key received : ℕ) → Shows chunk n f objects
       → slice_get objects name ≡ Some (Port (record { channel = record { 0 = source }; start = start; reading = Open key }))
       → received ≡ length (f name).got
       → g name ≡ record (f name) { opened = false } → ((k : ℕ) → k ≢ name → g k ≡ f k)
       → Shows chunk n g (slice_set (on_log (shut chunk key) objects source) name
       (Port (record { channel = record { 0 = source }; start = start; reading = Closed received })))
   shows_closed chunk n f g objects name source start key received shows found counts told_here same =
-      let was : Object (Log M) = Port (record { channel = record { 0 = source }; start = start; reading = Open key }) in
-      let closed : Object (Log M) = Port (record { channel = record { 0 = source }; start = start; reading = Closed received }) in
+      let was : Object M (Log M) = Port (record { channel = record { 0 = source }; start = start; reading = Open key }) in
+      let closed : Object M (Log M) = Port (record { channel = record { 0 = source }; start = start; reading = Closed received }) in
       let change : Log M → Log M = shut chunk key in
-      let changed : List (Object (Log M)) = on_log change objects source in
+      let changed : List (Object M (Log M)) = on_log change objects source in
       let read : cursor_at objects name ≡ Some (source, key) = ap (option_and_then (cursor_in name)) found in
       let no_log_here : log_at objects name ≡ None = ap (option_and_then log_in) found in
       let own = shows.cursors name source key read in

@@ -21,9 +21,8 @@ use Rattle.cml_board.proofs.Standing.{source_stands_mailbox, source_stands_chann
 
 channel_source : (k : Option Kind) → option_map_or is_channel k false ≡ true → option_map_or is_source k false ≡ true
 channel_source None is = is
-channel_source (Some kind.Mailbox) is = refl
 channel_source (Some kind.Channel) is = refl
-channel_source (Some kind.Port) is = is
+channel_source (Some other) is = absurd (false≢true is)
 
 module _ {M : Type 0} where
   -- an object that messages are put into has a log
@@ -36,7 +35,7 @@ module _ {M : Type 0} where
           source_stands_mailbox chunk (length (made board.history)) (facts_of board.history) board.objects name keeps.shows e (slice_get_within (made board.history) name mailbox e)
       by_origin (Some channel) e =
           source_stands_channel chunk (length (made board.history)) (facts_of board.history) board.objects name keeps.shows e (slice_get_within (made board.history) name channel e)
-      by_origin (Some (port source start)) e = absurd (false≢true (sym (ap (λ o. option_map_or is_source (option_map kind_by o) false) e) ∙ is))
+      by_origin (Some other) e = absurd (false≢true (sym (ap (λ o. option_map_or is_source (option_map kind_by o) false) e) ∙ is))
 
   pub channel_stands : (chunk : ℕ) (board : Shown M) (name : ℕ) → Keeps chunk board → is_a is_channel board.history name ≡ true → HasLog board.objects name
   channel_stands chunk board name keeps is = source_stands chunk board name keeps (channel_source (option_map kind_by (origin_of board.history name)) is)
@@ -46,8 +45,8 @@ module _ {M : Type 0} where
   put_source None putting name message some takes = absurd (false≢true some)
   put_source (Some kind.Mailbox) putting name message some takes = refl
   put_source (Some kind.Channel) putting name message some takes = refl
-  put_source (Some kind.Port) putting.Sending name message some takes = takes
-  put_source (Some kind.Port) putting.Casting name message some takes = takes
+  put_source (Some other) putting.Sending name message some takes = absurd (false≢true takes)
+  put_source (Some other) putting.Casting name message some takes = absurd (false≢true takes)
 
   -- a message is put into a log
   pub put_stands : (chunk : ℕ) (board : Shown M) (putting : Putting) (name : Name) (message : M) → Keeps chunk board
@@ -65,13 +64,12 @@ module _ {M : Type 0} where
     where
       by_origin : (o : Option Origin) → origin_of board.history name ≡ o → (start : ℕ) × (origin_of board.history name ≡ Some (port source start))
       by_origin None e = absurd (false≢true (sym (ap (λ o. option_map_or is_port (option_map kind_by o) false) e) ∙ is))
-      by_origin (Some mailbox) e = absurd (false≢true (sym (ap (λ o. option_map_or is_port (option_map kind_by o) false) e) ∙ is))
-      by_origin (Some channel) e = absurd (false≢true (sym (ap (λ o. option_map_or is_port (option_map kind_by o) false) e) ∙ is))
       by_origin (Some (port from start)) e =
           let within = slice_get_within (made board.history) name (port from start) e in
           let own = cursor_of_port chunk (length (made board.history)) (facts_of board.history) board.objects name from start keeps.shows e opened within in
           let same = (some_pair_parts from source own.0 key (sym own.1 ∙ reads)).0 in
           (start, e ∙ ap (λ s. Some (port s start)) same)
+      by_origin (Some other) e = absurd (false≢true (sym (ap (λ o. option_map_or is_port (option_map kind_by o) false) e) ∙ is))
 
   -- a port that is found open is one
   pub open_port_told : (chunk : ℕ) (board : Shown M) (name source start key : ℕ) → Keeps chunk board → slice_get board.objects name ≡ Some (open_port source start key)

@@ -1,5 +1,5 @@
 -- The objects that a call leaves show the history with its entry.
-use Rattle.std.proofs.Common.{◌≡◌, ℕ, ◌+◌, ◌-◌, true, List, [], ◌∷◌, ◌++◌, length, slice_get, Some, refl, sym, ap, subst, ◌∙◌, arith}
+use Rattle.std.proofs.Common.{◌≡◌, ℕ, ◌+◌, ◌-◌, true, List, [], ◌∷◌, ◌++◌, length, slice_get, Some, None, refl, sym, ap, subst, ◌∙◌, arith}
 use Rattle.std.specs.Option.{option_and_then}
 use Rattle.cml_log.specs.Log.{Log, empty_log, next_of, place_of}
 use Rattle.cml_log.specs.Holds.{Holds}
@@ -14,27 +14,28 @@ use Rattle.cml_board.specs.declared.entry.Reply.TheVariants.{Done, Made, Got, No
 use Rattle.cml_board.specs.declared.entry.Entry.{Entry}
 use Rattle.cml_board.specs.declared.object.Object.{Object}
 use Rattle.cml_board.specs.declared.object.Object.TheVariants.{Channel}
-use Rattle.cml_board.specs.Origins.{port, start_by}
+use Rattle.cml_board.specs.Origins.{mailbox, channel, port, start_by}
 use Rattle.cml_board.specs.Calls.{taking_call, putting_call, asking_call}
 use Rattle.cml_board.specs.History.{Lawful, made, origin_of, sent, got}
-use Rattle.cml_board.specs.Facts.{Facts, facts_of}
+use Rattle.cml_board.specs.Facts.{Facts, facts_of, new_facts}
 use Rattle.cml_board.specs.Holdings.{log_at, cursor_in, cursor_at, on_log, pushed, advanced, open_port, HasLog, HasOwed, HasPort, AddsMailbox, AddsPort, ClosesPort}
 use Rattle.cml_board.specs.Keeps.{Shows}
 use Rattle.cml_board.proofs.Standing.{next_is, cursor_is, cursor_opened, place_is}
 use Rattle.cml_board.proofs.Showing.{shows_same, shows_pushed, shows_advanced, shows_mailbox, shows_channel, shows_port, shows_closed}
-use Rattle.cml_board.proofs.Telling.{noted, put_here, put_other, put_made, taken_here, taken_other, taken_made, asking_same, asking_made, nothing_same, nothing_made, shut_here, shut_other, shut_made, mailbox_here, mailbox_other, mailbox_made, channel_here, channel_other, channel_made, port_here, port_other, port_made, copy_here, copy_other, copy_made}
+use Rattle.cml_board.proofs.Telling.{noted, put_here, put_other, put_made, taken_here, taken_other, taken_made, asking_same, asking_made, nothing_same, nothing_made, shut_here, shut_other, shut_made, makes_here, makes_other, makes_more}
+use Rattle.cml_board.proofs.Beginning.{mailbox_makes, channel_makes, port_makes, copy_makes}
 
 module _ {M : Type 0} where
   -- the objects show all that a history tells
-  abbrev pub ShowsAll : ℕ → List (Entry M) → List (Object (Log M)) → Type 0
+  abbrev pub ShowsAll : ℕ → List (Entry M) → List (Object M (Log M)) → Type 0
   ShowsAll chunk h objects = Shows chunk (length (made h)) (facts_of h) objects
 
   -- with as many objects as were made
-  shows_count : (chunk n m : ℕ) (facts : ℕ → Facts M) (objects : List (Object (Log M))) → m ≡ n → Shows chunk n facts objects → Shows chunk m facts objects
+  pub shows_count : (chunk n m : ℕ) (facts : ℕ → Facts M) (objects : List (Object M (Log M))) → m ≡ n → Shows chunk n facts objects → Shows chunk m facts objects
   shows_count chunk n m facts objects same shows = subst (λ k. Shows chunk k facts objects) (sym same) shows
 
   -- a message was put
-  pub step_put : (chunk : ℕ) (who : Who) (putting : Putting) (name : Name) (message : M) (h : List (Entry M)) (objects : List (Object (Log M)))
+  pub step_put : (chunk : ℕ) (who : Who) (putting : Putting) (name : Name) (message : M) (h : List (Entry M)) (objects : List (Object M (Log M)))
       → ShowsAll chunk h objects → HasLog objects name.0
       → ShowsAll chunk (noted who (putting_call putting name message) Done ∷ h) (on_log (pushed chunk message) objects name.0)
   step_put chunk who putting name message h objects shows stands =
@@ -45,7 +46,7 @@ module _ {M : Type 0} where
       (put_here h who putting name message) (put_other h who putting name message))
 
   -- a message was taken
-  pub step_taken : (chunk : ℕ) (who : Who) (taking : Taking) (name : Name) (message : M) (h : List (Entry M)) (objects : List (Object (Log M))) (source key : ℕ)
+  pub step_taken : (chunk : ℕ) (who : Who) (taking : Taking) (name : Name) (message : M) (h : List (Entry M)) (objects : List (Object M (Log M))) (source key : ℕ)
       → ShowsAll chunk h objects → cursor_at objects name.0 ≡ Some (source, key) → HasOwed objects source key
       → ShowsAll chunk (noted who (taking_call taking name) (Got message) ∷ h) (on_log (advanced chunk key) objects source)
   step_taken chunk who taking name message h objects source key shows reads owes =
@@ -56,7 +57,7 @@ module _ {M : Type 0} where
       (taken_here h who taking name message) (taken_other h who taking name message))
 
   -- a closed port answered
-  pub step_asking : (chunk : ℕ) (who : Who) (asks : Asking) (name : Name) (h : List (Entry M)) (objects : List (Object (Log M)))
+  pub step_asking : (chunk : ℕ) (who : Who) (asks : Asking) (name : Name) (h : List (Entry M)) (objects : List (Object M (Log M)))
       → ShowsAll chunk h objects → ShowsAll chunk (noted who (asking_call asks name) Closed ∷ h) objects
   step_asking chunk who asks name h objects shows =
       let after : List (Entry M) = noted who (asking_call asks name) Closed ∷ h in
@@ -64,7 +65,7 @@ module _ {M : Type 0} where
       (shows_same chunk (length (made h)) (facts_of h) (facts_of after) objects shows (asking_same h who asks name))
 
   -- a poll found nothing
-  pub step_nothing : (chunk : ℕ) (who : Who) (name : Name) (h : List (Entry M)) (objects : List (Object (Log M)))
+  pub step_nothing : (chunk : ℕ) (who : Who) (name : Name) (h : List (Entry M)) (objects : List (Object M (Log M)))
       → ShowsAll chunk h objects → ShowsAll chunk (noted who (Poll name) Nothing ∷ h) objects
   step_nothing chunk who name h objects shows =
       let after : List (Entry M) = noted who (Poll name) Nothing ∷ h in
@@ -72,25 +73,29 @@ module _ {M : Type 0} where
       (shows_same chunk (length (made h)) (facts_of h) (facts_of after) objects shows (nothing_same h who name))
 
   -- a mailbox was made
-  pub step_mailbox : (chunk : ℕ) (who : Who) (n : Name) (h : List (Entry M)) (objects after : List (Object (Log M)))
+  pub step_mailbox : (chunk : ℕ) (who : Who) (n : Name) (h : List (Entry M)) (objects after : List (Object M (Log M)))
       → Lawful h → ShowsAll chunk h objects → AddsMailbox objects after → ShowsAll chunk (noted who NewMailbox (Made n) ∷ h) after
   step_mailbox chunk who n h objects after lawful shows adds =
       let later : List (Entry M) = noted who NewMailbox (Made n) ∷ h in
-      shows_count chunk (length (made h) + 1) (length (made later)) (facts_of later) after (mailbox_made h who n)
+      let makes = mailbox_makes h n in
+      shows_count chunk (length (made h) + 1) (length (made later)) (facts_of later) after (makes_more h who NewMailbox n mailbox None makes)
       (subst (λ a. Shows chunk (length (made h) + 1) (facts_of later) a) (sym adds.changed)
       (shows_mailbox chunk (length (made h)) (facts_of h) (facts_of later) objects adds.log adds.key shows adds.opens
-      (mailbox_here h who n lawful) (mailbox_other h who n)))
+      (makes_here h who NewMailbox n mailbox None lawful makes) (λ k. makes_other h who NewMailbox n mailbox None k makes)))
 
   -- a channel was made
-  pub step_channel : (chunk : ℕ) (who : Who) (n : Name) (h : List (Entry M)) (objects : List (Object (Log M)))
+  pub step_channel : (chunk : ℕ) (who : Who) (n : Name) (h : List (Entry M)) (objects : List (Object M (Log M)))
       → Lawful h → ShowsAll chunk h objects → ShowsAll chunk (noted who NewChannel (Made n) ∷ h) (objects ++ Channel empty_log ∷ [])
   step_channel chunk who n h objects lawful shows =
       let later : List (Entry M) = noted who NewChannel (Made n) ∷ h in
-      shows_count chunk (length (made h) + 1) (length (made later)) (facts_of later) (objects ++ Channel empty_log ∷ []) (channel_made h who n)
-      (shows_channel chunk (length (made h)) (facts_of h) (facts_of later) objects shows (channel_here h who n lawful) (channel_other h who n))
+      let makes = channel_makes h n in
+      shows_count chunk (length (made h) + 1) (length (made later)) (facts_of later) (objects ++ Channel empty_log ∷ [])
+      (makes_more h who NewChannel n channel None makes)
+      (shows_channel chunk (length (made h)) (facts_of h) (facts_of later) objects shows
+      (makes_here h who NewChannel n channel None lawful makes) (λ k. makes_other h who NewChannel n channel None k makes))
 
   -- a port was made at the end of its channel
-  pub step_port : (chunk : ℕ) (who : Who) (name n : Name) (h : List (Entry M)) (objects after : List (Object (Log M)))
+  pub step_port : (chunk : ℕ) (who : Who) (name n : Name) (h : List (Entry M)) (objects after : List (Object M (Log M)))
       → Lawful h → ShowsAll chunk h objects → AddsPort objects after name.0 next_of → ShowsAll chunk (noted who (NewPort name) (Made n) ∷ h) after
   step_port chunk who name n h objects after lawful shows adds =
       let later : List (Entry M) = noted who (NewPort name) (Made n) ∷ h in
@@ -99,14 +104,16 @@ module _ {M : Type 0} where
       let end : next_of old ≡ length (sent h name.0) = next_is chunk (length (made h)) (facts_of h) objects name.0 old shows found in
       let holds : Holds chunk adds.opens.log (sent h name.0) =
       Holds-open_cursor chunk old adds.opens.log (sent h name.0) adds.key (shows.logs name.0 old found) adds.opens.opens in
-      shows_count chunk (length (made h) + 1) (length (made later)) (facts_of later) after (port_made h who name n)
+      let begun = port name.0 (length (sent h name.0)) in
+      let makes = port_makes h name n in
+      shows_count chunk (length (made h) + 1) (length (made later)) (facts_of later) after (makes_more h who (NewPort name) n begun None makes)
       (subst (λ a. Shows chunk (length (made h) + 1) (facts_of later) a) (sym adds.changed)
       (shows_port chunk (length (made h)) (facts_of h) (facts_of later) objects adds.after name.0 adds.key (next_of old) next_of shows adds.opens refl holds
-      (port_here h who name n lawful ∙ ap (λ start. record { origin = Some (port name.0 start); opened = true; sent = []; got = [] }) (sym end))
-      (port_other h who name n)))
+      (makes_here h who (NewPort name) n begun None lawful makes ∙ ap (λ start. new_facts (port name.0 start) None) (sym end))
+      (λ k. makes_other h who (NewPort name) n begun None k makes)))
 
   -- where a port's cursor stands
-  port_place : (chunk : ℕ) (h : List (Entry M)) (objects : List (Object (Log M))) (name source start key : ℕ) (log : Log M) → ShowsAll chunk h objects
+  port_place : (chunk : ℕ) (h : List (Entry M)) (objects : List (Object M (Log M))) (name source start key : ℕ) (log : Log M) → ShowsAll chunk h objects
       → cursor_at objects name ≡ Some (source, key) → origin_of h name ≡ Some (port source start) → log_at objects source ≡ Some log
       → place_of log key ≡ start + length (got h name)
   port_place chunk h objects name source start key log shows reads begun found =
@@ -114,7 +121,7 @@ module _ {M : Type 0} where
       ∙ ap (λ o. start_by o + length (got h name)) begun
 
   -- a port was made where another stands
-  pub step_copy : (chunk : ℕ) (who : Who) (p n : Name) (h : List (Entry M)) (objects after : List (Object (Log M))) (source start key : ℕ)
+  pub step_copy : (chunk : ℕ) (who : Who) (p n : Name) (h : List (Entry M)) (objects after : List (Object M (Log M))) (source start key : ℕ)
       → Lawful h → ShowsAll chunk h objects → cursor_at objects p.0 ≡ Some (source, key) → origin_of h p.0 ≡ Some (port source start)
       → AddsPort objects after source (λ log. place_of log key) → ShowsAll chunk (noted who (CopyPort p) (Made n) ∷ h) after
   step_copy chunk who p n h objects after source start key lawful shows reads begun adds =
@@ -125,26 +132,27 @@ module _ {M : Type 0} where
       let holds : Holds chunk adds.opens.log (sent h source) =
       Holds-copy_cursor chunk old adds.opens.log (sent h source) key adds.key (shows.logs source old found)
       (cursor_opened chunk (length (made h)) (facts_of h) objects p.0 source key old shows reads found) adds.opens.opens in
-      shows_count chunk (length (made h) + 1) (length (made later)) (facts_of later) after (copy_made h who p source start n begun)
+      let began = port source (start + length (got h p.0)) in
+      let makes = copy_makes h p n source start begun in
+      shows_count chunk (length (made h) + 1) (length (made later)) (facts_of later) after (makes_more h who (CopyPort p) n began None makes)
       (subst (λ a. Shows chunk (length (made h) + 1) (facts_of later) a) (sym adds.changed)
       (shows_port chunk (length (made h)) (facts_of h) (facts_of later) objects adds.after source adds.key (place_of old key) (λ log. place_of log key)
       shows adds.opens refl holds
-      (copy_here h who p source start n lawful begun
-      ∙ ap (λ at. record { origin = Some (port source at); opened = true; sent = []; got = [] }) (sym place))
-      (λ k. copy_other h who p source start n k begun)))
+      (makes_here h who (CopyPort p) n began None lawful makes ∙ ap (λ at. new_facts (port source at) None) (sym place))
+      (λ k. makes_other h who (CopyPort p) n began None k makes)))
 
   -- an open port began as its object tells
-  port_begun : (chunk : ℕ) (h : List (Entry M)) (objects : List (Object (Log M))) (name source start key : ℕ) → ShowsAll chunk h objects
+  port_begun : (chunk : ℕ) (h : List (Entry M)) (objects : List (Object M (Log M))) (name source start key : ℕ) → ShowsAll chunk h objects
       → slice_get objects name ≡ Some (open_port source start key) → origin_of h name ≡ Some (port source start)
   port_begun chunk h objects name source start key shows found = (shows.each name (open_port source start key) found).0
 
   -- and reads its channel by its key
-  port_reads : (objects : List (Object (Log M))) (name source start key : ℕ)
+  port_reads : (objects : List (Object M (Log M))) (name source start key : ℕ)
       → slice_get objects name ≡ Some (open_port source start key) → cursor_at objects name ≡ Some (source, key)
   port_reads objects name source start key found = ap (option_and_then (cursor_in name)) found
 
   -- a port was closed
-  pub step_closed : (chunk : ℕ) (who : Who) (name : Name) (h : List (Entry M)) (objects after : List (Object (Log M))) (source start key : ℕ)
+  pub step_closed : (chunk : ℕ) (who : Who) (name : Name) (h : List (Entry M)) (objects after : List (Object M (Log M))) (source start key : ℕ)
       → ShowsAll chunk h objects → slice_get objects name.0 ≡ Some (open_port source start key) → ClosesPort chunk objects after name.0 source start key
       → ShowsAll chunk (noted who (ClosePort name) Done ∷ h) after
   step_closed chunk who name h objects after source start key shows found closes =
@@ -159,7 +167,7 @@ module _ {M : Type 0} where
       shows found received (shut_here h who name) (shut_other h who name)))
 
   -- an open port stands on its channel, no earlier than its start
-  pub has_port : (chunk : ℕ) (h : List (Entry M)) (objects : List (Object (Log M))) (name source start key : ℕ)
+  pub has_port : (chunk : ℕ) (h : List (Entry M)) (objects : List (Object M (Log M))) (name source start key : ℕ)
       → ShowsAll chunk h objects → slice_get objects name ≡ Some (open_port source start key) → HasPort objects name source start key
   has_port chunk h objects name source start key shows found =
       let reads = port_reads objects name source start key found in

@@ -1,13 +1,18 @@
 -- The calls that are answered alike.
+use Rattle.std.specs.Prelude.{Bool, true, false}
 use Rattle.cml_board.specs.declared.call.Name.{Name}
 use Rattle.cml_board.specs.declared.call.Call.{Call}
-use Rattle.cml_board.specs.declared.call.Call.TheVariants.{CopyPort, ClosePort, Send, Cast, Recv, Poll}
+use Rattle.cml_board.specs.declared.call.Call.TheVariants.{CopyPort, ClosePort, NewIVar, NewMVar, Send, Cast, Recv, Poll, Get, GetPoll, Take, TakePoll}
+use Rattle.cml_board.specs.declared.object.Form.{Form}
+use Rattle.cml_board.specs.declared.object.Form.TheVariants.{Once, Mutable}
 use Rattle.cml_board.specs.declared.board.note.Taking.{Taking}
 use Rattle.cml_board.specs.declared.board.note.Taking.TheVariants as taking
 use Rattle.cml_board.specs.declared.board.note.Putting.{Putting}
 use Rattle.cml_board.specs.declared.board.note.Putting.TheVariants as putting
 use Rattle.cml_board.specs.declared.board.note.Asking.{Asking}
 use Rattle.cml_board.specs.declared.board.note.Asking.TheVariants as asking
+use Rattle.cml_board.specs.declared.board.note.Looking.{Looking}
+use Rattle.cml_board.specs.declared.board.note.Looking.TheVariants as looking
 
 abbrev pub taking_call : {M : Type 0} → Taking → Name → Call M
 taking_call taking.Waiting name = Recv name
@@ -22,3 +27,27 @@ asking_call asking.Receive name = Recv name
 asking_call asking.Poll name = Poll name
 asking_call asking.Copy name = CopyPort name
 asking_call asking.Close name = ClosePort name
+
+abbrev pub making_call : {M : Type 0} → Form → Call M
+making_call Once = NewIVar
+making_call Mutable = NewMVar
+
+abbrev pub looking_call : {M : Type 0} → Looking → Name → Call M
+looking_call looking.Get name = Get name
+looking_call looking.GetPoll name = GetPoll name
+looking_call looking.Take name = Take name
+looking_call looking.TakePoll name = TakePoll name
+
+-- it waits where the variable is empty
+abbrev pub waits : Looking → Bool
+waits looking.Get = true
+waits looking.GetPoll = false
+waits looking.Take = true
+waits looking.TakePoll = false
+
+-- it leaves the variable empty
+abbrev pub empties : Looking → Bool
+empties looking.Get = false
+empties looking.GetPoll = false
+empties looking.Take = true
+empties looking.TakePoll = true

@@ -4,8 +4,9 @@ use Rattle.std.specs.Option.{option_map_or}
 use Rattle.cml_board.specs.declared.call.Name.{Name}
 use Rattle.cml_board.specs.declared.call.Kind.{Kind}
 use Rattle.cml_board.specs.declared.entry.Entry.{Entry}
-use Rattle.cml_board.specs.Origins.{Origin, mailbox, channel, port}
-use Rattle.cml_board.specs.Objects.{is_source, is_receiver, is_port}
+use Rattle.cml_board.specs.Origins.{Origin, port}
+use Rattle.cml_board.specs.Objects.{is_source, is_receiver, is_port, is_variable}
+use Rattle.cml_board.specs.Held.{held}
 use Rattle.cml_board.specs.History.{origin_of, kind_of, sent, got, owed, is_open}
 use Rattle.cml_board.specs.Kept.{kept_from, kept_size}
 
@@ -13,16 +14,12 @@ abbrev pub only_if : {X : Type 0} → Bool → X → Option X
 only_if test x = if test then Some x else None
 
 abbrev pub channel_in : Option Origin → Option Name
-channel_in (Some mailbox) = None
-channel_in (Some channel) = None
 channel_in (Some (port source start)) = Some (record { 0 = source })
-channel_in None = None
+channel_in origin = None
 
 abbrev pub start_in : Option Origin → Option ℕ
-start_in (Some mailbox) = None
-start_in (Some channel) = None
 start_in (Some (port source start)) = Some start
-start_in None = None
+start_in origin = None
 
 module _ {M : Type 0} where
   abbrev pub is_a : (Kind → Bool) → List (Entry M) → ℕ → Bool
@@ -52,3 +49,7 @@ module _ {M : Type 0} where
 
   abbrev pub port_is_open : List (Entry M) → ℕ → Option Bool
   port_is_open history object = only_if (is_a is_port history object) (is_open history object)
+
+  -- a message or nothing
+  abbrev pub held_by : List (Entry M) → ℕ → Option (Option M)
+  held_by history object = only_if (is_a is_variable history object) (held history object)

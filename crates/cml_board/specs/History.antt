@@ -1,28 +1,24 @@
 -- What a lawful history is. A history is a list of entries, the newest first: what stood before an entry is the tail
 -- behind it, so each definition goes back from the newest entry.
-use Rattle.std.specs.Prelude.{ℕ, ◌≡◌, ◌==◌, ◌+◌, Bool, true, false, not, ◌&&◌, List, [], ◌∷◌, ◌++◌, length, drop, slice_get, Option, Some, unwrap_or, IsTrue, IsSome, IfSome, ⊤, if◌then◌else◌}
+use Rattle.std.specs.Prelude.{ℕ, ◌≡◌, ◌==◌, ◌+◌, Bool, true, false, not, ◌&&◌, List, [], ◌∷◌, ◌++◌, length, drop, slice_get, Option, Some, is_some, unwrap_or, IsTrue, IsSome, IfSome, ⊤, if◌then◌else◌}
 use Rattle.std.specs.Option.{option_map}
 use Rattle.cml_board.specs.declared.call.Kind.{Kind}
 use Rattle.cml_board.specs.declared.call.Call.{Call}
-use Rattle.cml_board.specs.declared.call.Call.TheVariants.{NewMailbox, NewChannel, NewPort, CopyPort, ClosePort, Send, Cast, Recv, Poll}
+use Rattle.cml_board.specs.declared.call.Call.TheVariants.{NewMailbox, NewChannel, NewPort, CopyPort, ClosePort, NewIVar, NewMVar, MVarInit, Send, Cast, Recv, Poll, Put, Get, GetPoll, Take, TakePoll, Swap}
 use Rattle.cml_board.specs.declared.entry.Reply.{Reply}
 use Rattle.cml_board.specs.declared.entry.Reply.TheVariants.{Done, Made, Got, Nothing, Closed}
+use Rattle.cml_board.specs.declared.entry.Reply.TheVariants as reply
 use Rattle.cml_board.specs.declared.entry.Entry.{Entry}
-use Rattle.cml_board.specs.Origins.{Origin, mailbox, channel, port, kind_by, source_by, start_by, copy_of}
+use Rattle.cml_board.specs.Origins.{Origin, mailbox, channel, port, ivar, mvar, kind_by, source_by, start_by, copy_of}
 use Rattle.cml_board.specs.Objects.{object_in, takes}
+use Rattle.cml_board.specs.Held.{held}
 
 module _ {M : Type 0} where
   -- the message that a call sends to a mailbox or casts on a channel
   abbrev pub sent_by : Call M → ℕ → List M
-  sent_by NewMailbox object = []
-  sent_by NewChannel object = []
-  sent_by (NewPort name) object = []
-  sent_by (CopyPort name) object = []
-  sent_by (ClosePort name) object = []
   sent_by (Send name message) object = if name.0 == object then message ∷ [] else []
   sent_by (Cast name message) object = if name.0 == object then message ∷ [] else []
-  sent_by (Recv name) object = []
-  sent_by (Poll name) object = []
+  sent_by call object = []
 
   -- all messages sent to a mailbox, or multicast on a channel, in order
   abbrev pub sent : List (Entry M) → ℕ → List M
@@ -31,23 +27,14 @@ module _ {M : Type 0} where
 
   -- the message in a reply
   abbrev pub message_in : Reply M → List M
-  message_in Done = []
-  message_in (Made name) = []
   message_in (Got message) = message ∷ []
-  message_in Nothing = []
-  message_in Closed = []
+  message_in reply = []
 
   -- the message that an entry received from a mailbox or a port
   abbrev pub got_by : Call M → Reply M → ℕ → List M
-  got_by NewMailbox reply object = []
-  got_by NewChannel reply object = []
-  got_by (NewPort name) reply object = []
-  got_by (CopyPort name) reply object = []
-  got_by (ClosePort name) reply object = []
-  got_by (Send name message) reply object = []
-  got_by (Cast name message) reply object = []
   got_by (Recv name) reply object = if name.0 == object then message_in reply else []
   got_by (Poll name) reply object = if name.0 == object then message_in reply else []
+  got_by call reply object = []
 
   -- all messages received from a mailbox or a port, in order
   abbrev pub got : List (Entry M) → ℕ → List M
@@ -56,22 +43,12 @@ module _ {M : Type 0} where
 
   abbrev pub is_done : Reply M → Bool
   is_done Done = true
-  is_done (Made name) = false
-  is_done (Got message) = false
-  is_done Nothing = false
-  is_done Closed = false
+  is_done reply = false
 
   -- an entry closed this port
   abbrev pub closes : Call M → Reply M → ℕ → Bool
-  closes NewMailbox reply object = false
-  closes NewChannel reply object = false
-  closes (NewPort name) reply object = false
-  closes (CopyPort name) reply object = false
   closes (ClosePort name) reply object = if name.0 == object then is_done reply else false
-  closes (Send name message) reply object = false
-  closes (Cast name message) reply object = false
-  closes (Recv name) reply object = false
-  closes (Poll name) reply object = false
+  closes call reply object = false
 
   -- no entry closed it
   abbrev pub is_open : List (Entry M) → ℕ → Bool
@@ -85,18 +62,14 @@ module _ {M : Type 0} where
   begun_by origins before NewChannel = channel ∷ []
   begun_by origins before (NewPort name) = port name.0 (length (sent before name.0)) ∷ []
   begun_by origins before (CopyPort name) = copy_of (slice_get origins name.0) (length (got before name.0))
-  begun_by origins before (ClosePort name) = []
-  begun_by origins before (Send name message) = []
-  begun_by origins before (Cast name message) = []
-  begun_by origins before (Recv name) = []
-  begun_by origins before (Poll name) = []
+  begun_by origins before NewIVar = ivar ∷ []
+  begun_by origins before NewMVar = mvar ∷ []
+  begun_by origins before (MVarInit message) = mvar ∷ []
+  begun_by origins before call = []
 
   abbrev pub if_made : Reply M → List Origin → List Origin
-  if_made Done origins = []
   if_made (Made name) origins = origins
-  if_made (Got message) origins = []
-  if_made Nothing origins = []
-  if_made Closed origins = []
+  if_made reply origins = []
 
   -- how each object began that was made so far, in order: an object's name is its position here
   abbrev pub made : List (Entry M) → List Origin
@@ -141,6 +114,10 @@ module _ {M : Type 0} where
   abbrev pub received : List M → Option (Reply M)
   received messages = option_map Got (slice_get messages 0)
 
+  -- what a variable gives that holds this; none where it waits
+  abbrev pub given : Option M → Option (Reply M)
+  given message = option_map Got message
+
   abbrev pub new_name : List (Entry M) → Reply M
   new_name history = Made (record { 0 = length (made history) })
 
@@ -152,12 +129,21 @@ module _ {M : Type 0} where
   answer history NewMailbox = Some (new_name history)
   answer history NewChannel = Some (new_name history)
   answer history (NewPort name) = Some (new_name history)
+  answer history NewIVar = Some (new_name history)
+  answer history NewMVar = Some (new_name history)
+  answer history (MVarInit message) = Some (new_name history)
   answer history (CopyPort name) = where_open history name.0 (Some (new_name history))
   answer history (ClosePort name) = where_open history name.0 (Some Done)
   answer history (Send name message) = Some Done
   answer history (Cast name message) = Some Done
   answer history (Recv name) = where_open history name.0 (received (owed history name.0))
   answer history (Poll name) = where_open history name.0 (Some (unwrap_or (received (owed history name.0)) Nothing))
+  answer history (Put name message) = Some (if is_some (held history name.0) then reply.Put else Done)
+  answer history (Get name) = given (held history name.0)
+  answer history (GetPoll name) = Some (unwrap_or (given (held history name.0)) Nothing)
+  answer history (Take name) = given (held history name.0)
+  answer history (TakePoll name) = Some (unwrap_or (given (held history name.0)) Nothing)
+  answer history (Swap name message) = given (held history name.0)
 
   -- each call fits what stood before it, and its reply is the answer there, which isn't a wait
   abbrev pub Lawful : List (Entry M) → Type 0

@@ -1,15 +1,14 @@
 -- What is kept of the messages of a mailbox or a channel.
 use Rattle.std.specs.Prelude.{ℕ, zero, suc, ◌==◌, ◌-◌, ◌*◌, ◌/◌, Bool, false, ◌&&◌, min, List, length, Option, Some, None, if◌then◌else◌}
 use Rattle.cml_board.specs.declared.entry.Entry.{Entry}
-use Rattle.cml_board.specs.Origins.{Origin, mailbox, channel, port}
+use Rattle.cml_board.specs.Origins.{Origin, mailbox, port}
 use Rattle.cml_board.specs.History.{made, origin_of, is_open, sent, place}
 
 -- a mailbox reads its own messages, and an open port those of its channel
 abbrev pub reads_by : ℕ → Option Origin → Bool → ℕ → Bool
 reads_by object (Some mailbox) opened source = object == source
-reads_by object (Some channel) opened source = false
 reads_by object (Some (port from start)) opened source = opened && from == source
-reads_by object None opened source = false
+reads_by object origin opened source = false
 
 module _ {M : Type 0} where
   abbrev pub reads : List (Entry M) → ℕ → ℕ → Bool

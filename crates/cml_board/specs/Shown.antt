@@ -5,14 +5,17 @@ use Rattle.cml_board.specs.declared.call.Kind.TheVariants.{Mailbox}
 use Rattle.cml_board.specs.declared.entry.Entry.{Entry}
 use Rattle.cml_board.specs.declared.object.Object.{Object}
 use Rattle.cml_board.specs.Origins.{port}
+use Rattle.cml_board.specs.Objects.{is_variable}
+use Rattle.cml_board.specs.Held.{held}
 use Rattle.cml_board.specs.History.{kind_of, origin_of, is_open, sent, got, due, place}
-use Rattle.cml_board.specs.Holdings.{log_at, cursor_at}
+use Rattle.cml_board.specs.Counts.{is_a}
+use Rattle.cml_board.specs.Holdings.{log_at, cursor_at, held_at}
 
 -- the journal, newest entry first; its limit; and by name what each object really holds
 pub record Shown (M : Type 0) : Type 0 where
   pub history : List (Entry M)
   pub limit : ℕ
-  pub objects : List (Object (Log M))
+  pub objects : List (Object M (Log M))
 
 module _ {M : Type 0} where
   -- the log that an object reads, with its cursor there: no chunk is given back that the cursor's place is in, nor any
@@ -40,3 +43,7 @@ module _ {M : Type 0} where
   abbrev pub KeepsClosed : Shown M → Type 0
   KeepsClosed board = (name channel start : ℕ) → origin_of board.history name ≡ Some (port channel start) → is_open board.history name ≡ false
       → (rest : List M) × (got board.history name ++ rest ≡ due board.history name)
+
+  -- every variable really holds what the history tells
+  abbrev pub KeepsVariables : Shown M → Type 0
+  KeepsVariables board = (name : ℕ) → is_a is_variable board.history name ≡ true → held_at board.objects name ≡ Some (held board.history name)

@@ -22,7 +22,7 @@ module _ {M : Type 0} where
     pub owes : owed_items cursor.stands.log key ≡ owed board.history name
 
   -- an object, and what it shows of the history
-  pub record Stands (chunk : ℕ) (board : Shown M) (name : ℕ) (object : Object (Log M)) : Type 0 where
+  pub record Stands (chunk : ℕ) (board : Shown M) (name : ℕ) (object : Object M (Log M)) : Type 0 where
     pub found : slice_get board.objects name ≡ Some object
     pub agrees : Agrees (facts_of board.history name) object
     pub next : (log : Log M) → log_in object ≡ Some log → next_of log ≡ length (sent board.history name)

@@ -1,16 +1,17 @@
-ghost use Rattle.std.specs.Prelude.{◌≡◌, ◌^◌, ◌<◌, ◌≤◌, ◌↔◌, ◌&&◌, false, [], length, reverse, Some, None, IfOk, IsTrue, MatchOption};
+ghost use Rattle.std.specs.Prelude.{◌≡◌, ◌^◌, ◌<◌, ◌≤◌, ◌↔◌, ◌&&◌, false, [], length, reverse, Some, None, option_map, option_copied, IfOk, IsTrue, MatchOption};
 ghost use Rattle.cml_board.specs.Objects.{is_receiver};
 ghost use Rattle.cml_board.specs.History.{Fits, answer, Lawful, origin_of, kind_of, is_open};
-ghost use Rattle.cml_board.specs.Counts.{is_a, sent_count, got_count, owed_count, channel_of, start_of, first_of, kept_count, port_is_open};
+ghost use Rattle.cml_board.specs.Counts.{is_a, sent_count, got_count, owed_count, channel_of, start_of, first_of, kept_count, port_is_open, held_by};
 ghost use Rattle.cml_board.specs.Holdings.{map_log, log_at, HasLog};
 ghost use Rattle.cml_board.specs.Standing.{ReadsAt, Stands};
-ghost use Rattle.cml_board.specs.Shown.{KeepsMailboxes, KeepsPorts, KeepsClosed};
+ghost use Rattle.cml_board.specs.Shown.{KeepsMailboxes, KeepsPorts, KeepsClosed, KeepsVariables};
 
 mod apply;
 mod making;
 mod messages;
 mod note;
 mod objects;
+mod variables;
 
 use crate::call::{Call, Kind, Name};
 use crate::entry::Entry;
@@ -30,7 +31,7 @@ pub struct Board<M, L: MessageLog<M>> {
     alloc: Global,
     limit: u64,
     journal: Vec<Entry<M>>,
-    objects: Vec<Object<L>>,
+    objects: Vec<Object<M, L>>,
 }
 
 impl<M, L: MessageLog<M>> Model for Board<M, L> {
@@ -85,6 +86,9 @@ impl<M: Message, L: MessageLog<M>> Board<M, L> {
         // What was received from a port, followed by what is really kept for it, is what was multicast since its start.
         ensures ports { KeepsPorts self.now }
         ensures closed { KeepsClosed self.now }
+
+        // What a variable really holds is what was last put into it or swapped for, unless it was taken since.
+        ensures variables { KeepsVariables self.now }
     {
         self.journal.as_slice()
     }
@@ -97,6 +101,7 @@ impl<M: Message, L: MessageLog<M>> Board<M, L> {
             Object::Mailbox(_, _) => Some(Kind::Mailbox),
             Object::Channel(_) => Some(Kind::Channel),
             Object::Port(_) => Some(Kind::Port),
+            Object::Variable(form, _) => Some(form.kind()),
         }
     }
 
@@ -107,7 +112,7 @@ impl<M: Message, L: MessageLog<M>> Board<M, L> {
         match self.object(name)? {
             Object::Mailbox(log, _) => Some(log.next()),
             Object::Channel(log) => Some(log.next()),
-            Object::Port(_) => None,
+            Object::Port(_) | Object::Variable(_, _) => None,
         }
     }
 
@@ -117,7 +122,7 @@ impl<M: Message, L: MessageLog<M>> Board<M, L> {
     {
         match self.object(name)? {
             Object::Mailbox(log, key) => Some(log.place(*key)),
-            Object::Channel(_) => None,
+            Object::Channel(_) | Object::Variable(_, _) => None,
             Object::Port(port) => match port.reading {
                 Reading::Open(key) => Some(self.log(port.channel).place(key) - port.start),
                 Reading::Closed(received) => Some(received),
@@ -138,7 +143,7 @@ impl<M: Message, L: MessageLog<M>> Board<M, L> {
         ensures { result ≡ channel_of self.now.history name.0 }
     {
         match self.object(name)? {
-            Object::Mailbox(_, _) | Object::Channel(_) => None,
+            Object::Mailbox(_, _) | Object::Channel(_) | Object::Variable(_, _) => None,
             Object::Port(port) => Some(port.channel),
         }
     }
@@ -148,7 +153,7 @@ impl<M: Message, L: MessageLog<M>> Board<M, L> {
         ensures { result ≡ start_of self.now.history name.0 }
     {
         match self.object(name)? {
-            Object::Mailbox(_, _) | Object::Channel(_) => None,
+            Object::Mailbox(_, _) | Object::Channel(_) | Object::Variable(_, _) => None,
             Object::Port(port) => Some(port.start),
         }
     }
@@ -160,7 +165,7 @@ impl<M: Message, L: MessageLog<M>> Board<M, L> {
         match self.object(name)? {
             Object::Mailbox(log, _) => Some(log.first()),
             Object::Channel(log) => Some(log.first()),
-            Object::Port(_) => None,
+            Object::Port(_) | Object::Variable(_, _) => None,
         }
     }
 
@@ -171,7 +176,7 @@ impl<M: Message, L: MessageLog<M>> Board<M, L> {
         match self.object(name)? {
             Object::Mailbox(log, _) => Some(log.next() - log.first()),
             Object::Channel(log) => Some(log.next() - log.first()),
-            Object::Port(_) => None,
+            Object::Port(_) | Object::Variable(_, _) => None,
         }
     }
 
@@ -180,8 +185,18 @@ impl<M: Message, L: MessageLog<M>> Board<M, L> {
         ensures { result ≡ port_is_open self.now.history name.0 }
     {
         match self.object(name)? {
-            Object::Mailbox(_, _) | Object::Channel(_) => None,
+            Object::Mailbox(_, _) | Object::Channel(_) | Object::Variable(_, _) => None,
             Object::Port(port) => Some(matches!(port.reading, Reading::Open(_))),
+        }
+    }
+
+    /// What a variable holds.
+    pub fn held(&self, name: Name) -> Option<Option<&M>>
+        ensures { option_map option_copied result ≡ held_by self.now.history name.0 }
+    {
+        match self.object(name)? {
+            Object::Mailbox(_, _) | Object::Channel(_) | Object::Port(_) => None,
+            Object::Variable(_, held) => Some(held.as_ref()),
         }
     }
 
@@ -191,13 +206,26 @@ impl<M: Message, L: MessageLog<M>> Board<M, L> {
     {
         match call {
             Call::Recv(name) => self.owed_count(*name) == Some(0),
+            Call::Get(name) => self.is_empty(*name),
+            Call::Take(name) | Call::Swap(name, _) => {
+                self.kind(*name) == Some(Kind::MVar) && self.is_empty(*name)
+            }
             Call::NewMailbox | Call::NewChannel | Call::NewPort(_) => false,
+            Call::NewIVar | Call::NewMVar | Call::MVarInit(_) => false,
             Call::CopyPort(_) | Call::ClosePort(_) => false,
             Call::Send(_, _) | Call::Cast(_, _) | Call::Poll(_) => false,
+            Call::Put(_, _) | Call::GetPoll(_) | Call::TakePoll(_) => false,
         }
     }
 
-    fn object(&self, name: Name) -> Option<&Object<L>>
+    /// Whether the object is a variable that holds nothing.
+    fn is_empty(&self, name: Name) -> bool
+        ensures { IsTrue result ↔ (held_by self.now.history name.0 ≡ Some None) }
+    {
+        matches!(self.held(name), Some(None))
+    }
+
+    fn object(&self, name: Name) -> Option<&Object<M, L>>
         ensures { MatchOption result (origin_of self.now.history name.0 ≡ None)
             (λ object. Stands L.CHUNK self.now name.0 (map_log L.log object.now)) }
     {

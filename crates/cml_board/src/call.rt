@@ -1,5 +1,5 @@
 ghost use Rattle.std.specs.Prelude.{◌≡◌, ◌↔◌, IsTrue};
-ghost use Rattle.cml_board.specs.Objects.{object_in, takes, is_receiver};
+ghost use Rattle.cml_board.specs.Objects.{object_in, takes, is_receiver, is_variable};
 
 /// An object's name: how many objects were made before it.
 #[derive(Clone, Copy, Debug, PartialEq, Eq, Hash)]
@@ -11,6 +11,8 @@ pub enum Kind {
     Mailbox,
     Channel,
     Port,
+    IVar,
+    MVar,
 }
 
 /// A call on a board. The CML manual's call stands behind each.
@@ -26,6 +28,12 @@ pub enum Call<M> {
     CopyPort(Name),
     /// Closes a port. The manual has no such call; its ports are collected.
     ClosePort(Name),
+    /// `SyncVar.iVar`: makes an empty i-variable.
+    NewIVar,
+    /// `SyncVar.mVar`: makes an empty m-variable.
+    NewMVar,
+    /// `SyncVar.mVarInit`: makes an m-variable that holds this.
+    MVarInit(M),
     /// `Mailbox.send`: adds a message, and never waits.
     Send(Name, M),
     /// `Multicast.multicast`: sends a message to every port of a channel.
@@ -34,18 +42,34 @@ pub enum Call<M> {
     Recv(Name),
     /// `Mailbox.recvPoll`, and the like of it on a port: takes the next message, or answers that there is none.
     Poll(Name),
+    /// `SyncVar.iPut` and `SyncVar.mPut`: fills a variable, or answers that it is full, and leaves what it holds.
+    Put(Name, M),
+    /// `SyncVar.iGet` and `SyncVar.mGet`: reads a variable and leaves what it holds, and waits while it is empty.
+    Get(Name),
+    /// `SyncVar.iGetPoll` and `SyncVar.mGetPoll`: the same, or answers that it is empty.
+    GetPoll(Name),
+    /// `SyncVar.mTake`: reads and empties an m-variable, and waits while it is empty.
+    Take(Name),
+    /// `SyncVar.mTakePoll`: the same, or answers that it is empty.
+    TakePoll(Name),
+    /// `SyncVar.mSwap`: stores this in an m-variable and gives what it held, and waits while it is empty.
+    Swap(Name, M),
 }
 
 impl<M> Call<M> {
-    /// The object that the call is made on, unless it makes a mailbox or a channel.
+    /// The object that the call is made on, unless it makes a mailbox, a channel or a variable.
     pub fn object(&self) -> Option<Name>
         ensures { result ≡ object_in self.now }
     {
         match self {
             Call::NewMailbox | Call::NewChannel => None,
+            Call::NewIVar | Call::NewMVar | Call::MVarInit(_) => None,
             Call::NewPort(name) | Call::CopyPort(name) | Call::ClosePort(name) => Some(*name),
             Call::Send(name, _) | Call::Cast(name, _) => Some(*name),
             Call::Recv(name) | Call::Poll(name) => Some(*name),
+            Call::Put(name, _) | Call::Swap(name, _) => Some(*name),
+            Call::Get(name) | Call::GetPoll(name) => Some(*name),
+            Call::Take(name) | Call::TakePoll(name) => Some(*name),
         }
     }
 }
@@ -57,10 +81,13 @@ impl Kind {
     {
         match call {
             Call::NewMailbox | Call::NewChannel => false,
+            Call::NewIVar | Call::NewMVar | Call::MVarInit(_) => false,
             Call::NewPort(_) | Call::Cast(_, _) => self == Kind::Channel,
             Call::CopyPort(_) | Call::ClosePort(_) => self == Kind::Port,
             Call::Send(_, _) => self == Kind::Mailbox,
             Call::Recv(_) | Call::Poll(_) => self.is_receiver(),
+            Call::Put(_, _) | Call::Get(_) | Call::GetPoll(_) => self.is_variable(),
+            Call::Take(_) | Call::TakePoll(_) | Call::Swap(_, _) => self == Kind::MVar,
         }
     }
 
@@ -70,7 +97,17 @@ impl Kind {
     {
         match self {
             Kind::Mailbox | Kind::Port => true,
-            Kind::Channel => false,
+            Kind::Channel | Kind::IVar | Kind::MVar => false,
+        }
+    }
+
+    /// Whether an object of this kind holds a message or is empty.
+    fn is_variable(self) -> bool
+        ensures { result ≡ is_variable self }
+    {
+        match self {
+            Kind::IVar | Kind::MVar => true,
+            Kind::Mailbox | Kind::Channel | Kind::Port => false,
         }
     }
 }

@@ -17,6 +17,8 @@ pub enum Reply<M> {
     Got(M),
     /// A poll found nothing.
     Nothing,
+    /// A put on a variable that holds something already, which stays.
+    Put,
     /// The port was closed before.
     Closed,
 }

@@ -2,19 +2,24 @@
 ghost use Rattle.std.specs.Prelude.{◌≡◌, ℕ, ◌<◌, length, Some, IsSome, OnOk, OnErr, IfOk};
 ghost use Rattle.std.specs.Option.{option_map};
 ghost use Rattle.cml_log.specs.Log.{Log, next_of, IsOpen, place_of, owed_items, Opens};
-ghost use Rattle.cml_board.specs.Holdings.{map_log, log_in, cursor_in, pushed, advanced, shut, OpensIn};
+ghost use Rattle.cml_board.specs.Holdings.{map_log, log_in, cursor_in, held_in, with_held, pushed, advanced, shut, OpensIn};
+ghost use Rattle.cml_board.specs.Origins.{kind_by};
+ghost use Rattle.cml_board.specs.Calls.{making_call};
+ghost use Rattle.cml_board.specs.Keeps.{begun_as};
 
-use crate::call::Name;
+use crate::call::{Call, Kind, Name};
 use cml_log::{Back, Key, MessageLog};
 use std::alloc::AllocError;
+use std::mem;
 
-/// An object: the messages of a mailbox or of a channel, or a port.
+/// An object: the messages of a mailbox or of a channel, a port, or a variable and what it holds.
 #[derive(Drop)]
-pub enum Object<L> {
+pub enum Object<M, L> {
     /// The cursor stands at the next message to be received.
     Mailbox(L, Key),
     Channel(L),
     Port(Port),
+    Variable(Form, Option<M>),
 }
 
 /// A port of a channel, and the place of the first message that it is to receive.
@@ -34,20 +39,50 @@ pub enum Reading {
     Closed(u64),
 }
 
+/// How often a variable is filled.
+#[derive(Clone, Copy)]
+pub enum Form {
+    /// An i-variable: once.
+    Once,
+    /// An m-variable: whenever it is empty, and it can be emptied.
+    Mutable,
+}
+
+impl Form {
+    pub fn kind(self) -> Kind
+        ensures { result ≡ kind_by (begun_as self) }
+    {
+        match self {
+            Form::Once => Kind::IVar,
+            Form::Mutable => Kind::MVar,
+        }
+    }
+
+    /// The call that makes an empty variable.
+    pub fn call<M>(self) -> Call<M>
+        ensures { result ≡ making_call self }
+    {
+        match self {
+            Form::Once => Call::NewIVar,
+            Form::Mutable => Call::NewMVar,
+        }
+    }
+}
+
 /// The log of an object that has one.
-pub fn log_in<M, L: MessageLog<M>>(object: &Object<L>) -> &L
+pub fn log_in<M, L: MessageLog<M>>(object: &Object<M, L>) -> &L
     requires { IsSome (log_in (map_log L.log object.now)) }
     ensures { log_in (map_log L.log object.now) ≡ Some (L.log result.now) }
 {
     match object {
         Object::Mailbox(log, _) => log,
         Object::Channel(log) => log,
-        Object::Port(_) => unreachable!(),
+        Object::Port(_) | Object::Variable(_, _) => unreachable!(),
     }
 }
 
 /// Adds a message to the object's log, or hands it back.
-pub fn push<M, L: MessageLog<M>>(object: &mut Object<L>, message: M) -> Result<(), Back<M>>
+pub fn push<M, L: MessageLog<M>>(object: &mut Object<M, L>, message: M) -> Result<(), Back<M>>
     requires stands { IsSome (log_in (map_log L.log object.old)) }
     requires room { (log : Log M) → log_in (map_log L.log object.old) ≡ Some log → next_of log < 18446744073709551614 }
     ensures ok { OnOk result (map_log L.log object.new ≡ map_log (pushed L.CHUNK message) (map_log L.log object.old)) }
@@ -56,12 +91,12 @@ pub fn push<M, L: MessageLog<M>>(object: &mut Object<L>, message: M) -> Result<(
     match object {
         Object::Mailbox(log, _) => log.push(message),
         Object::Channel(log) => log.push(message),
-        Object::Port(_) => unreachable!(),
+        Object::Port(_) | Object::Variable(_, _) => unreachable!(),
     }
 }
 
 /// Moves a cursor of the object's log past the message at its place.
-pub fn advance<M, L: MessageLog<M>>(object: &mut Object<L>, key: Key)
+pub fn advance<M, L: MessageLog<M>>(object: &mut Object<M, L>, key: Key)
     requires stands { IsSome (log_in (map_log L.log object.old)) }
     requires opened { (log : Log M) → log_in (map_log L.log object.old) ≡ Some log → IsOpen log key }
     requires owed { (log : Log M) → log_in (map_log L.log object.old) ≡ Some log → 0 < length (owed_items log key) }
@@ -70,12 +105,12 @@ pub fn advance<M, L: MessageLog<M>>(object: &mut Object<L>, key: Key)
     match object {
         Object::Mailbox(log, _) => log.advance(key),
         Object::Channel(log) => log.advance(key),
-        Object::Port(_) => unreachable!(),
+        Object::Port(_) | Object::Variable(_, _) => unreachable!(),
     }
 }
 
 /// Closes a cursor of the object's log.
-pub fn shut<M, L: MessageLog<M>>(object: &mut Object<L>, key: Key)
+pub fn shut<M, L: MessageLog<M>>(object: &mut Object<M, L>, key: Key)
     requires stands { IsSome (log_in (map_log L.log object.old)) }
     requires opened { (log : Log M) → log_in (map_log L.log object.old) ≡ Some log → IsOpen log key }
     ensures { map_log L.log object.new ≡ map_log (shut L.CHUNK key) (map_log L.log object.old) }
@@ -83,12 +118,12 @@ pub fn shut<M, L: MessageLog<M>>(object: &mut Object<L>, key: Key)
     match object {
         Object::Mailbox(log, _) => log.close_cursor(key),
         Object::Channel(log) => log.close_cursor(key),
-        Object::Port(_) => unreachable!(),
+        Object::Port(_) | Object::Variable(_, _) => unreachable!(),
     }
 }
 
 /// Opens a cursor at the end of a channel's log.
-pub fn open_cursor<M, L: MessageLog<M>>(object: &mut Object<L>) -> Result<Key, AllocError>
+pub fn open_cursor<M, L: MessageLog<M>>(object: &mut Object<M, L>) -> Result<Key, AllocError>
     requires stands { IsSome (log_in (map_log L.log object.old)) }
     ensures ok { IfOk result (λ key. OpensIn (map_log L.log object.old) (map_log L.log object.new) key next_of) }
     ensures err { OnErr result (map_log L.log object.new ≡ map_log L.log object.old) }
@@ -96,12 +131,12 @@ pub fn open_cursor<M, L: MessageLog<M>>(object: &mut Object<L>) -> Result<Key, A
     match object {
         Object::Mailbox(log, _) => log.open_cursor(),
         Object::Channel(log) => log.open_cursor(),
-        Object::Port(_) => unreachable!(),
+        Object::Port(_) | Object::Variable(_, _) => unreachable!(),
     }
 }
 
 /// Opens a cursor of a channel's log where another stands.
-pub fn copy_cursor<M, L: MessageLog<M>>(object: &mut Object<L>, key: Key) -> Result<Key, AllocError>
+pub fn copy_cursor<M, L: MessageLog<M>>(object: &mut Object<M, L>, key: Key) -> Result<Key, AllocError>
     requires stands { IsSome (log_in (map_log L.log object.old)) }
     requires opened { (log : Log M) → log_in (map_log L.log object.old) ≡ Some log → IsOpen log key }
     ensures ok { IfOk result (λ copy. OpensIn (map_log L.log object.old) (map_log L.log object.new) copy (λ log. place_of log key)) }
@@ -110,20 +145,32 @@ pub fn copy_cursor<M, L: MessageLog<M>>(object: &mut Object<L>, key: Key) -> Res
     match object {
         Object::Mailbox(log, _) => log.copy_cursor(key),
         Object::Channel(log) => log.copy_cursor(key),
-        Object::Port(_) => unreachable!(),
+        Object::Port(_) | Object::Variable(_, _) => unreachable!(),
     }
 }
 
 /// Where the object of this name reads: the object whose log it is, and its cursor there.
-pub fn cursor_in<L>(object: &Object<L>, name: Name) -> Option<(Name, Key)>
+pub fn cursor_in<M, L>(object: &Object<M, L>, name: Name) -> Option<(Name, Key)>
     ensures { option_map (λ cursor. (cursor.0.0, cursor.1)) result ≡ cursor_in name.0 object.now }
 {
     match object {
         Object::Mailbox(_, key) => Some((name, *key)),
-        Object::Channel(_) => None,
+        Object::Channel(_) | Object::Variable(_, _) => None,
         Object::Port(port) => match port.reading {
             Reading::Open(key) => Some((port.channel, key)),
             Reading::Closed(_) => None,
         },
+    }
+}
+
+/// Gives a variable another value, or none, and tells what it held.
+pub fn hold<M, L>(object: &mut Object<M, L>, value: Option<M>) -> Option<M>
+    requires { IsSome (held_in object.old) }
+    ensures was { held_in object.old ≡ Some result }
+    ensures now { object.new ≡ with_held value object.old }
+{
+    match object {
+        Object::Variable(_, held) => mem::replace(held, value),
+        Object::Mailbox(_, _) | Object::Channel(_) | Object::Port(_) => unreachable!(),
     }
 }

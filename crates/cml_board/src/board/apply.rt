@@ -4,10 +4,11 @@ ghost use Rattle.cml_board.specs.History.{Fits};
 ghost use Rattle.cml_board.specs.Outcome.{Applies, Refuses, HasRoom};
 
 use super::Board;
-use super::note::Putting;
+use super::note::{Looking, Putting};
 use crate::call::Call;
 use crate::entry::Who;
 use crate::message::Message;
+use crate::object::Form;
 use crate::outcome::{Outcome, Refusal};
 use cml_log::MessageLog;
 
@@ -29,6 +30,15 @@ impl<M: Message, L: MessageLog<M>> Board<M, L> {
             Call::Cast(name, message) => self.put(who, name, message, Putting::Casting),
             Call::Recv(name) => self.receive(who, name),
             Call::Poll(name) => self.poll(who, name),
+            Call::NewIVar => self.make_variable(who, Form::Once),
+            Call::NewMVar => self.make_variable(who, Form::Mutable),
+            Call::MVarInit(message) => self.make_full(who, message),
+            Call::Put(name, message) => self.fill(who, name, message),
+            Call::Get(name) => self.look(who, name, Looking::Get),
+            Call::GetPoll(name) => self.look(who, name, Looking::GetPoll),
+            Call::Take(name) => self.look(who, name, Looking::Take),
+            Call::TakePoll(name) => self.look(who, name, Looking::TakePoll),
+            Call::Swap(name, message) => self.swap(who, name, message),
         }
     }
 

@@ -146,7 +146,7 @@ impl<M: Message, L: MessageLog<M>> Board<M, L> {
             (λ found. slice_get self.now.objects port.0 ≡ Some (open_port found.0.0 found.1 found.2)) }
     {
         match self.object(port)? {
-            Object::Mailbox(_, _) | Object::Channel(_) => None,
+            Object::Mailbox(_, _) | Object::Channel(_) | Object::Variable(_, _) => None,
             Object::Port(port) => match port.reading {
                 Reading::Open(key) => Some((port.channel, port.start, key)),
                 Reading::Closed(_) => None,

@@ -133,7 +133,7 @@ impl<M: Message, L: MessageLog<M>> Board<M, L> {
     }
 }
 
-fn share_twice<M: Message>(alloc: Global, message: &M) -> Result<(M, M), AllocError>
+pub(super) fn share_twice<M: Message>(alloc: Global, message: &M) -> Result<(M, M), AllocError>
     ensures { IfOk result (λ copies. (copies.0 ≡ message.now) × (copies.1 ≡ message.now)) }
 {
     let first = message.share(alloc)?;

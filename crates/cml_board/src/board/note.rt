@@ -1,6 +1,6 @@
 //! An entry is added to the journal, and told of.
 ghost use Rattle.std.specs.Prelude.{◌≡◌, ◌<◌, [], ◌∷◌, ◌++◌, length, vec_len, vec_capacity};
-ghost use Rattle.cml_board.specs.Calls.{taking_call, asking_call, putting_call};
+ghost use Rattle.cml_board.specs.Calls.{taking_call, asking_call, putting_call, looking_call, waits, empties};
 
 use crate::answer::Answer;
 use crate::call::{Call, Name};
@@ -28,6 +28,15 @@ pub enum Asking {
     Poll,
     Copy,
     Close,
+}
+
+/// The calls that read a variable.
+#[derive(Clone, Copy)]
+pub enum Looking {
+    Get,
+    GetPoll,
+    Take,
+    TakePoll,
 }
 
 impl Taking {
@@ -61,6 +70,39 @@ impl Asking {
             Asking::Poll => Call::Poll(name),
             Asking::Copy => Call::CopyPort(name),
             Asking::Close => Call::ClosePort(name),
+        }
+    }
+}
+
+impl Looking {
+    pub fn call<M>(self, name: Name) -> Call<M>
+        ensures { result ≡ looking_call self name }
+    {
+        match self {
+            Looking::Get => Call::Get(name),
+            Looking::GetPoll => Call::GetPoll(name),
+            Looking::Take => Call::Take(name),
+            Looking::TakePoll => Call::TakePoll(name),
+        }
+    }
+
+    /// Whether it waits while the variable is empty.
+    pub fn waits(self) -> bool
+        ensures { result ≡ waits self }
+    {
+        match self {
+            Looking::Get | Looking::Take => true,
+            Looking::GetPoll | Looking::TakePoll => false,
+        }
+    }
+
+    /// Whether it leaves the variable empty.
+    pub fn empties(self) -> bool
+        ensures { result ≡ empties self }
+    {
+        match self {
+            Looking::Take | Looking::TakePoll => true,
+            Looking::Get | Looking::GetPoll => false,
         }
     }
 }

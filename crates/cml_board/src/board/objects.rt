@@ -1,15 +1,15 @@
 //! What a call does to the objects of a board, by their names.
 ghost use Rattle.std.specs.Prelude.{◌≡◌, ◌<◌, ◌≤◌, ◌++◌, ◌∷◌, [], Some, OnOk, OnErr};
 ghost use Rattle.cml_log.specs.Log.{empty_log, next_of, place_of};
-ghost use Rattle.cml_board.specs.declared.object.Object.TheVariants.{Channel};
-ghost use Rattle.cml_board.specs.Holdings.{seen_all, log_at, on_log, pushed, advanced, HasLog, HasRoomAt, HasCursor, HasOwed, HasPort, AddsMailbox, AddsPort, ClosesPort};
+ghost use Rattle.cml_board.specs.declared.object.Object.TheVariants.{Channel, Variable};
+ghost use Rattle.cml_board.specs.Holdings.{seen_all, log_at, on_log, pushed, advanced, HasLog, HasRoomAt, HasCursor, HasOwed, HasPort, HasVariable, AddsMailbox, AddsPort, ClosesPort, SetsHeld};
 
 use crate::call::Name;
-use crate::object::{self, Object, Port, Reading};
+use crate::object::{self, Form, Object, Port, Reading};
 use cml_log::{Back, Key, MessageLog};
 use std::alloc::{AllocError, Global};
 
-pub fn log_at<M, L: MessageLog<M>>(objects: &Vec<Object<L>>, name: Name) -> &L
+pub fn log_at<M, L: MessageLog<M>>(objects: &Vec<Object<M, L>>, name: Name) -> &L
     requires { HasLog (seen_all L.log objects.now.items) name.0 }
     ensures { log_at (seen_all L.log objects.now.items) name.0 ≡ Some (L.log result.now) }
 {
@@ -18,7 +18,7 @@ pub fn log_at<M, L: MessageLog<M>>(objects: &Vec<Object<L>>, name: Name) -> &L
 
 /// Adds a message to a log, or hands it back.
 pub fn push_at<M, L: MessageLog<M>>(
-    objects: &mut Vec<Object<L>>,
+    objects: &mut Vec<Object<M, L>>,
     name: Name,
     message: M,
 ) -> Result<(), Back<M>>
@@ -30,7 +30,7 @@ pub fn push_at<M, L: MessageLog<M>>(
 }
 
 /// Moves a log's cursor past the message at its place.
-pub fn advance_at<M, L: MessageLog<M>>(objects: &mut Vec<Object<L>>, name: Name, key: Key)
+pub fn advance_at<M, L: MessageLog<M>>(objects: &mut Vec<Object<M, L>>, name: Name, key: Key)
     requires { HasOwed (seen_all L.log objects.old.items) name.0 key }
     ensures { seen_all L.log objects.new.items ≡ on_log (advanced L.CHUNK key) (seen_all L.log objects.old.items) name.0 }
 {
@@ -38,7 +38,7 @@ pub fn advance_at<M, L: MessageLog<M>>(objects: &mut Vec<Object<L>>, name: Name,
 }
 
 pub fn add_mailbox<M, L: MessageLog<M>>(
-    objects: &mut Vec<Object<L>>,
+    objects: &mut Vec<Object<M, L>>,
     alloc: Global,
 ) -> Result<(), AllocError>
     requires holds_one { 0 < L.CHUNK }
@@ -54,7 +54,7 @@ pub fn add_mailbox<M, L: MessageLog<M>>(
 }
 
 pub fn add_channel<M, L: MessageLog<M>>(
-    objects: &mut Vec<Object<L>>,
+    objects: &mut Vec<Object<M, L>>,
     alloc: Global,
 ) -> Result<(), AllocError>
     requires holds_one { 0 < L.CHUNK }
@@ -70,7 +70,7 @@ pub fn add_channel<M, L: MessageLog<M>>(
 
 /// Adds a port at the end of a channel.
 pub fn add_port<M, L: MessageLog<M>>(
-    objects: &mut Vec<Object<L>>,
+    objects: &mut Vec<Object<M, L>>,
     channel: Name,
 ) -> Result<(), AllocError>
     requires { HasLog (seen_all L.log objects.old.items) channel.0 }
@@ -92,7 +92,7 @@ pub fn add_port<M, L: MessageLog<M>>(
 
 /// Adds a port where a cursor of its channel stands.
 pub fn add_copy<M, L: MessageLog<M>>(
-    objects: &mut Vec<Object<L>>,
+    objects: &mut Vec<Object<M, L>>,
     channel: Name,
     key: Key,
 ) -> Result<(), AllocError>
@@ -114,8 +114,8 @@ pub fn add_copy<M, L: MessageLog<M>>(
 }
 
 /// Closes a port, which from then on knows how much it had received.
-pub fn close_port<M, L: MessageLog<M>>(
-    objects: &mut Vec<Object<L>>,
+pub fn close_port<M: Drop, L: MessageLog<M>>(
+    objects: &mut Vec<Object<M, L>>,
     name: Name,
     channel: Name,
     start: u64,
@@ -133,4 +133,30 @@ pub fn close_port<M, L: MessageLog<M>>(
         start,
         reading,
     });
+}
+
+/// Adds a variable that holds this.
+pub fn add_variable<M: Drop, L: MessageLog<M>>(
+    objects: &mut Vec<Object<M, L>>,
+    form: Form,
+    held: Option<M>,
+) -> Result<(), AllocError>
+    ensures ok { OnOk result (seen_all L.log objects.new.items ≡ seen_all L.log objects.old.items ++ Variable form held ∷ []) }
+    ensures err { OnErr result (seen_all L.log objects.new.items ≡ seen_all L.log objects.old.items) }
+{
+    objects.reserve(1)?;
+    objects.push_reserved(Object::Variable(form, held));
+    Ok(())
+}
+
+/// Gives a variable another value, or none, and tells what it held.
+pub fn hold_at<M, L: MessageLog<M>>(
+    objects: &mut Vec<Object<M, L>>,
+    name: Name,
+    value: Option<M>,
+) -> Option<M>
+    requires { HasVariable (seen_all L.log objects.old.items) name.0 }
+    ensures { SetsHeld (seen_all L.log objects.old.items) (seen_all L.log objects.new.items) name.0 result value }
+{
+    object::hold(&mut objects[name.0 as usize], value)
 }

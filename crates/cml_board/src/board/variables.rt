@@ -1,0 +1,287 @@
+//! Calls that make a variable, fill it or read it.
+ghost use Rattle.std.specs.Prelude.{◌≡◌, ◌≢◌, true, false, Some, None, option_copied, IfOk};
+ghost use Rattle.cml_board.specs.Objects.{is_variable};
+ghost use Rattle.cml_board.specs.Counts.{is_a};
+ghost use Rattle.cml_board.specs.Held.{held};
+ghost use Rattle.cml_board.specs.History.{Fits};
+ghost use Rattle.cml_board.specs.Calls.{making_call, looking_call, waits, empties};
+ghost use Rattle.cml_board.specs.Outcome.{Applies, HasRoom};
+
+use super::Board;
+use super::messages::share_twice;
+use super::note::{Looking, note};
+use super::objects::{add_variable, hold_at};
+use crate::call::{Call, Name};
+use crate::entry::{Entry, Reply, Who};
+use crate::message::Message;
+use crate::object::Form;
+use crate::outcome::{Outcome, Refusal};
+use cml_log::MessageLog;
+use std::alloc::AllocError;
+
+impl<M: Message, L: MessageLog<M>> Board<M, L> {
+    /// Makes an empty variable.
+    pub(super) fn make_variable(&mut self, who: Who, form: Form) -> Outcome<M>
+        requires { HasRoom self.old }
+        ensures { Applies self.old self.new who (making_call form) result }
+    {
+        if self.journal.reserve(1).is_err() {
+            return Outcome::Refused(Refusal::NoMemory, form.call());
+        }
+        let reply = Name(self.objects.len() as u64);
+        let Ok(()) = add_variable(&mut self.objects, form, None) else {
+            return Outcome::Refused(Refusal::NoMemory, form.call());
+        };
+        let entry = Entry {
+            who,
+            call: form.call(),
+            reply: Reply::Made(reply),
+        };
+        let call = form.call();
+        note(&mut self.journal, entry, call, Reply::Made(reply))
+    }
+
+    /// Makes an m-variable that holds this.
+    pub(super) fn make_full(&mut self, who: Who, message: M) -> Outcome<M>
+        requires { HasRoom self.old }
+        ensures { Applies self.old self.new who (Call.MVarInit message) result }
+    {
+        let Ok((stored, noted)) = share_twice(self.alloc, &message) else {
+            return Outcome::Refused(Refusal::NoMemory, Call::MVarInit(message));
+        };
+        if self.journal.reserve(1).is_err() {
+            return Outcome::Refused(Refusal::NoMemory, Call::MVarInit(message));
+        }
+        let reply = Name(self.objects.len() as u64);
+        let Ok(()) = add_variable(&mut self.objects, Form::Mutable, Some(stored)) else {
+            return Outcome::Refused(Refusal::NoMemory, Call::MVarInit(message));
+        };
+        let entry = Entry {
+            who,
+            call: Call::MVarInit(noted),
+            reply: Reply::Made(reply),
+        };
+        note(
+            &mut self.journal,
+            entry,
+            Call::MVarInit(message),
+            Reply::Made(reply),
+        )
+    }
+
+    /// Puts a message into a variable, unless it is full.
+    pub(super) fn fill(&mut self, who: Who, name: Name, message: M) -> Outcome<M>
+        requires fits { Fits self.old.history (Call.Put name message) }
+        requires room { HasRoom self.old }
+        ensures { Applies self.old self.new who (Call.Put name message) result }
+    {
+        if self.content(name).is_some() {
+            return self.find_full(who, name, message);
+        }
+        self.fill_empty(who, name, message)
+    }
+
+    fn fill_empty(&mut self, who: Who, name: Name, message: M) -> Outcome<M>
+        requires fits { Fits self.old.history (Call.Put name message) }
+        requires empty { held self.old.history name.0 ≡ None }
+        requires room { HasRoom self.old }
+        ensures { Applies self.old self.new who (Call.Put name message) result }
+    {
+        let Ok((stored, noted)) = share_twice(self.alloc, &message) else {
+            return Outcome::Refused(Refusal::NoMemory, Call::Put(name, message));
+        };
+        if self.journal.reserve(1).is_err() {
+            return Outcome::Refused(Refusal::NoMemory, Call::Put(name, message));
+        }
+        let _none = hold_at(&mut self.objects, name, Some(stored));
+        let entry = Entry {
+            who,
+            call: Call::Put(name, noted),
+            reply: Reply::Done,
+        };
+        note(
+            &mut self.journal,
+            entry,
+            Call::Put(name, message),
+            Reply::Done,
+        )
+    }
+
+    /// A put on a variable that is full.
+    fn find_full(&mut self, who: Who, name: Name, message: M) -> Outcome<M>
+        requires fits { Fits self.old.history (Call.Put name message) }
+        requires full { held self.old.history name.0 ≢ None }
+        requires room { HasRoom self.old }
+        ensures { Applies self.old self.new who (Call.Put name message) result }
+    {
+        let Ok(noted) = message.share(self.alloc) else {
+            return Outcome::Refused(Refusal::NoMemory, Call::Put(name, message));
+        };
+        if self.journal.reserve(1).is_err() {
+            return Outcome::Refused(Refusal::NoMemory, Call::Put(name, message));
+        }
+        let entry = Entry {
+            who,
+            call: Call::Put(name, noted),
+            reply: Reply::Put,
+        };
+        note(
+            &mut self.journal,
+            entry,
+            Call::Put(name, message),
+            Reply::Put,
+        )
+    }
+
+    /// Gives what a variable holds, and empties it or not.
+    pub(super) fn look(&mut self, who: Who, name: Name, looking: Looking) -> Outcome<M>
+        requires fits { Fits self.old.history (looking_call looking name) }
+        requires room { HasRoom self.old }
+        ensures { Applies self.old self.new who (looking_call looking name) result }
+    {
+        if self.content(name).is_some() {
+            return if looking.empties() {
+                self.empty(who, name, looking)
+            } else {
+                self.read(who, name, looking)
+            };
+        }
+        if looking.waits() {
+            return Outcome::WouldWait(looking.call(name));
+        }
+        self.find_empty(who, name, looking)
+    }
+
+    fn read(&mut self, who: Who, name: Name, looking: Looking) -> Outcome<M>
+        requires fits { Fits self.old.history (looking_call looking name) }
+        requires leaves { empties looking ≡ false }
+        requires full { held self.old.history name.0 ≢ None }
+        requires room { HasRoom self.old }
+        ensures { Applies self.old self.new who (looking_call looking name) result }
+    {
+        let Ok(message) = self.share_held(name) else {
+            return Outcome::Refused(Refusal::NoMemory, looking.call(name));
+        };
+        let Ok(noted) = message.share(self.alloc) else {
+            return Outcome::Refused(Refusal::NoMemory, looking.call(name));
+        };
+        if self.journal.reserve(1).is_err() {
+            return Outcome::Refused(Refusal::NoMemory, looking.call(name));
+        }
+        let entry = Entry {
+            who,
+            call: looking.call(name),
+            reply: Reply::Got(noted),
+        };
+        let call = looking.call(name);
+        note(&mut self.journal, entry, call, Reply::Got(message))
+    }
+
+    fn empty(&mut self, who: Who, name: Name, looking: Looking) -> Outcome<M>
+        requires fits { Fits self.old.history (looking_call looking name) }
+        requires empties { empties looking ≡ true }
+        requires full { held self.old.history name.0 ≢ None }
+        requires room { HasRoom self.old }
+        ensures { Applies self.old self.new who (looking_call looking name) result }
+    {
+        let Ok(noted) = self.share_held(name) else {
+            return Outcome::Refused(Refusal::NoMemory, looking.call(name));
+        };
+        if self.journal.reserve(1).is_err() {
+            return Outcome::Refused(Refusal::NoMemory, looking.call(name));
+        }
+        let Some(message) = hold_at(&mut self.objects, name, None) else {
+            unreachable!()
+        };
+        let entry = Entry {
+            who,
+            call: looking.call(name),
+            reply: Reply::Got(noted),
+        };
+        let call = looking.call(name);
+        note(&mut self.journal, entry, call, Reply::Got(message))
+    }
+
+    /// A poll of an empty variable.
+    fn find_empty(&mut self, who: Who, name: Name, looking: Looking) -> Outcome<M>
+        requires fits { Fits self.old.history (looking_call looking name) }
+        requires polls { waits looking ≡ false }
+        requires empty { held self.old.history name.0 ≡ None }
+        requires room { HasRoom self.old }
+        ensures { Applies self.old self.new who (looking_call looking name) result }
+    {
+        if self.journal.reserve(1).is_err() {
+            return Outcome::Refused(Refusal::NoMemory, looking.call(name));
+        }
+        let entry = Entry {
+            who,
+            call: looking.call(name),
+            reply: Reply::Nothing,
+        };
+        let call = looking.call(name);
+        note(&mut self.journal, entry, call, Reply::Nothing)
+    }
+
+    /// Stores a message in an m-variable and gives what it held.
+    pub(super) fn swap(&mut self, who: Who, name: Name, message: M) -> Outcome<M>
+        requires fits { Fits self.old.history (Call.Swap name message) }
+        requires room { HasRoom self.old }
+        ensures { Applies self.old self.new who (Call.Swap name message) result }
+    {
+        if self.content(name).is_some() {
+            return self.swap_full(who, name, message);
+        }
+        Outcome::WouldWait(Call::Swap(name, message))
+    }
+
+    fn swap_full(&mut self, who: Who, name: Name, message: M) -> Outcome<M>
+        requires fits { Fits self.old.history (Call.Swap name message) }
+        requires full { held self.old.history name.0 ≢ None }
+        requires room { HasRoom self.old }
+        ensures { Applies self.old self.new who (Call.Swap name message) result }
+    {
+        let Ok((stored, noted)) = share_twice(self.alloc, &message) else {
+            return Outcome::Refused(Refusal::NoMemory, Call::Swap(name, message));
+        };
+        let Ok(told) = self.share_held(name) else {
+            return Outcome::Refused(Refusal::NoMemory, Call::Swap(name, message));
+        };
+        if self.journal.reserve(1).is_err() {
+            return Outcome::Refused(Refusal::NoMemory, Call::Swap(name, message));
+        }
+        let Some(old) = hold_at(&mut self.objects, name, Some(stored)) else {
+            unreachable!()
+        };
+        let entry = Entry {
+            who,
+            call: Call::Swap(name, noted),
+            reply: Reply::Got(told),
+        };
+        note(
+            &mut self.journal,
+            entry,
+            Call::Swap(name, message),
+            Reply::Got(old),
+        )
+    }
+
+    /// What a variable holds.
+    fn content(&self, name: Name) -> Option<&M>
+        requires { is_a is_variable self.now.history name.0 ≡ true }
+        ensures { option_copied result ≡ held self.now.history name.0 }
+    {
+        self.held(name)?
+    }
+
+    /// A message equal to the one that a variable holds.
+    fn share_held(&self, name: Name) -> Result<M, AllocError>
+        requires stands { is_a is_variable self.now.history name.0 ≡ true }
+        requires full { held self.now.history name.0 ≢ None }
+        ensures { IfOk result (λ message. held self.now.history name.0 ≡ Some message) }
+    {
+        match self.content(name) {
+            Some(message) => message.share(self.alloc),
+            None => unreachable!(),
+        }
+    }
+}
