@@ -14,13 +14,14 @@ use Rattle.cml_board.specs.declared.board.note.Looking.TheVariants as looking
 use Rattle.cml_board.specs.declared.entry.Reply.TheVariants.{Done, Got, Nothing, Put}
 use Rattle.cml_board.specs.declared.entry.Entry.{Entry}
 use Rattle.cml_board.specs.declared.object.Form.{Form}
+use Rattle.cml_board.specs.declared.object.Form.TheVariants.{Once, Mutable}
 use Rattle.cml_board.specs.declared.object.Object.{Object}
 use Rattle.cml_board.specs.declared.object.Object.TheVariants.{Mailbox, Channel, Port, Variable}
 use Rattle.cml_board.specs.Origins.{kind_by}
 use Rattle.cml_board.specs.Objects.{is_variable, is_mvar}
-use Rattle.cml_board.specs.Calls.{looking_call, waits}
+use Rattle.cml_board.specs.Calls.{making_call, looking_call, waits}
 use Rattle.cml_board.specs.Held.{held}
-use Rattle.cml_board.specs.History.{Fits, made, kind_of, answer}
+use Rattle.cml_board.specs.History.{Fits, kind_of, answer, new_name}
 use Rattle.cml_board.specs.Counts.{is_a}
 use Rattle.cml_board.specs.Facts.{facts_of}
 use Rattle.cml_board.specs.Holdings.{held_in, held_at, HasVariable, SetsHeld}
@@ -54,7 +55,16 @@ module _ {M : Type 0} where
   look_variable h looking.Take name fits = mvar_kind (kind_of h name.0) fits.0 fits.1
   look_variable h looking.TakePoll name fits = mvar_kind (kind_of h name.0) fits.0 fits.1
 
-  -- what they are answered
+  -- one that makes a variable is answered everywhere
+  pub fits_making : (h : List (Entry M)) (form : Form) → Fits h (making_call form)
+  fits_making h Once = (tt, tt)
+  fits_making h Mutable = (tt, tt)
+
+  pub answer_making : (h : List (Entry M)) (form : Form) → answer h (making_call form) ≡ Some (new_name h)
+  answer_making h Once = refl
+  answer_making h Mutable = refl
+
+  -- what the others are answered
   pub answer_filled : (h : List (Entry M)) (name : Name) (message : M) → held h name.0 ≡ None → answer h (call.Put name message) ≡ Some Done
   answer_filled h name message empty = rw empty refl
 
@@ -120,6 +130,7 @@ module _ {M : Type 0} where
       ap (option_and_then held_in) stands.found ∙ ap (λ value. Some value) (sym (variable_holds chunk board name stands.form stands.held keeps stands.found))
 
   -- so what it held before it was given another value is what the history told
-  pub was_held : (chunk : ℕ) (board : Shown M) (after : List (Object M (Log M))) (name : ℕ) (was value : Option M) → Keeps chunk board
-      → SetsHeld board.objects after name was value → held board.history name ≡ was
-  was_held chunk board after name was value keeps sets = variable_holds chunk board name sets.form was keeps sets.found
+  pub was_held : (chunk : ℕ) {a b : Shown M} → a ≡ b → Keeps chunk a → (after : List (Object M (Log M))) (name : ℕ) (was value : Option M)
+      → SetsHeld a.objects after name was value → held b.history name ≡ was
+  was_held chunk {a} {b} view keeps after name was value sets =
+      subst (λ (s : Shown M). held s.history name ≡ was) view (variable_holds chunk a name sets.form was keeps sets.found)

@@ -1,10 +1,12 @@
-use Rattle.std.proofs.Common.{refl, reverse}
+use Rattle.std.proofs.Common.{refl, sym, ◌∙◌, arith, reverse}
 use Rattle.cml_board.specs.declared.entry.Reply.TheVariants.{Closed}
 use Rattle.cml_board.specs.Calls.{asking_call}
 use Rattle.cml_board.specs.Holdings.{seen_all}
 use Rattle.cml_board.proofs.Noting.{keeps_call, applies_answered, adds_entry, noted_at}
 use Rattle.cml_board.proofs.Answering.{answer_closed}
 use Rattle.cml_board.proofs.Stepping.{step_asking}
+use Rattle.cml_board.proofs.ListLemmas.{on_ok}
+use Rattle.cml_board.proofs.Noting.{seen_same, refused}
 use Rattle.cml_board.proofs.board.Board.find_closed.Goals as goal
 
 pub invariant_of-self-2 : goal.invariant_of-self-2
@@ -22,3 +24,15 @@ returns g c =
     c.call-call.ensures
     (noted_at c.self.view_is c.reserve.ensures.items)
     (adds_entry c.args.who call c.call-2.result Closed Closed c.self.view_is c.note.ensures.entries c.reserve.ensures.items c.call-2.ensures refl)
+
+pub returns-then-is_err : goal.returns-then-is_err
+returns-then-is_err g c =
+    let h = c.args.self.now.history in (
+      refused c.args.self.now (asking_call c.args.asking c.args.name) Closed c.requires.fits c.requires.room (answer_closed h c.args.asking c.args.name c.requires.closed),
+      c.call.ensures,
+      seen_same _ _ _ _ _ c.self.view_is c.reserve.ensures.items refl,
+    )
+
+pub note-requires : goal.note-requires
+note-requires g c =
+    omega (arith, on_ok c.reserve.result (sym c.is_err.ensures.value ∙ c.if-is_err.false) c.reserve.ensures.ok, c.reserve.ensures.len)

@@ -1,4 +1,4 @@
-use Rattle.std.proofs.Common.{refl, reverse}
+use Rattle.std.proofs.Common.{refl, sym, ◌∙◌, arith, reverse}
 use Rattle.cml_board.specs.declared.call.Call.TheVariants.{Poll}
 use Rattle.cml_board.specs.declared.entry.Reply.TheVariants.{Nothing}
 use Rattle.cml_board.specs.declared.board.note.Taking.TheVariants.{Polling}
@@ -6,6 +6,8 @@ use Rattle.cml_board.specs.Holdings.{seen_all}
 use Rattle.cml_board.proofs.Noting.{keeps_call, applies_answered, adds_entry, noted_at}
 use Rattle.cml_board.proofs.Answering.{answer_nothing, fits_taking}
 use Rattle.cml_board.proofs.Stepping.{step_nothing}
+use Rattle.cml_board.proofs.ListLemmas.{on_ok}
+use Rattle.cml_board.proofs.Noting.{seen_same, refused}
 use Rattle.cml_board.proofs.board.Board.find_nothing.Goals as goal
 
 pub invariant_of-self-2 : goal.invariant_of-self-2
@@ -23,3 +25,15 @@ returns g c =
     refl
     (noted_at c.self.view_is c.reserve.ensures.items)
     (adds_entry c.args.who (Poll c.args.name) (Poll c.args.name) Nothing Nothing c.self.view_is c.note.ensures.entries c.reserve.ensures.items refl refl)
+
+pub returns-then-is_err : goal.returns-then-is_err
+returns-then-is_err g c =
+    let h = c.args.self.now.history in (
+      refused c.args.self.now (Poll c.args.name) Nothing (fits_taking h Polling c.args.name c.requires.fits) c.requires.room (answer_nothing h c.args.name c.requires.opened c.requires.empty),
+      refl,
+      seen_same _ _ _ _ _ c.self.view_is c.reserve.ensures.items refl,
+    )
+
+pub note-requires : goal.note-requires
+note-requires g c =
+    omega (arith, on_ok c.reserve.result (sym c.is_err.ensures.value ∙ c.if-is_err.false) c.reserve.ensures.ok, c.reserve.ensures.len)

@@ -17,6 +17,14 @@ add_port-requires g c =
     inside (λ (b : Shown g.row.M.Denot). HasLog b.objects c.args.channel.0) c.self.view_is
     (channel_stands g.L.MessageLog.CHUNK c.args.self.now c.args.channel.0 (keeps_at g.L.MessageLog.CHUNK c.self.view_is c.self.invariant) c.requires.fits)
 
+pub returns-then-is_err : goal.returns-then-is_err
+returns-then-is_err g c =
+    let h = c.args.self.now.history in (
+      refused c.args.self.now (NewPort c.args.channel) (new_name h) (fits_by is_channel h c.args.channel (NewPort c.args.channel) refl (λ k. refl) c.requires.fits) c.requires.room refl,
+      refl,
+      seen_same _ _ _ _ _ c.self.view_is c.reserve.ensures.items refl,
+    )
+
 pub returns-in_default : goal.returns-in_default
 returns-in_default g c =
     let h = c.args.self.now.history in (

@@ -1,0 +1,73 @@
+use Rattle.std.proofs.Common.{refl, sym, ap, ◌∙◌, ◌≡◌, reverse, Some, None}
+use Rattle.std.proofs.lemmas.Option.{same_Some}
+use Rattle.cml_board.specs.declared.entry.Reply.TheVariants.{Got}
+use Rattle.cml_board.specs.Calls.{looking_call}
+use Rattle.cml_board.specs.Held.{held}
+use Rattle.cml_board.specs.Holdings.{seen_all, HasVariable}
+use Rattle.cml_board.specs.Shown.{Shown}
+use Rattle.cml_board.proofs.Noting.{keeps_at, keeps_call, seen_same, inside, refused, applies_answered, adds_entry, noted_at}
+use Rattle.cml_board.proofs.Holding.{look_variable, some_message, answer_read, variable_stands, was_held}
+use Rattle.cml_board.proofs.Leaving.{taken_sets}
+use Rattle.cml_board.proofs.Setting.{step_set}
+use Rattle.cml_board.proofs.board.Board.empty.Goals as goal
+
+pub share_held-requires-clause-stands : goal.share_held-requires-clause-stands
+share_held-requires-clause-stands g c = look_variable c.args.self.now.history c.args.looking c.args.name c.requires.fits
+
+pub returns-in_default : goal.returns-in_default
+returns-in_default g c =
+    let h = c.args.self.now.history in
+    let some = some_message (held h c.args.name.0) c.requires.full in (
+      refused c.args.self.now (looking_call c.args.looking c.args.name) (Got some.0) c.requires.fits c.requires.room (answer_read h c.args.looking c.args.name some.0 some.1),
+      c.call.ensures,
+      refl,
+    )
+
+pub returns-then-is_err : goal.returns-then-is_err
+returns-then-is_err g c =
+    let h = c.args.self.now.history in
+    let some = some_message (held h c.args.name.0) c.requires.full in (
+      refused c.args.self.now (looking_call c.args.looking c.args.name) (Got some.0) c.requires.fits c.requires.room (answer_read h c.args.looking c.args.name some.0 some.1),
+      c.call-then-is_err.ensures,
+      seen_same _ _ _ _ _ c.self.view_is c.reserve.ensures.items refl,
+    )
+
+pub hold_at-requires : goal.hold_at-requires
+hold_at-requires g c =
+    let chunk = g.L.MessageLog.CHUNK in
+    inside (λ (b : Shown g.row.M.Denot). HasVariable b.objects c.args.name.0) c.self.view_is
+    (variable_stands chunk c.args.self.now c.args.name.0 (keeps_at chunk c.self.view_is c.self.invariant)
+    (look_variable c.args.self.now.history c.args.looking c.args.name c.requires.fits))
+
+pub unreachable-requires : goal.unreachable-requires
+unreachable-requires g c =
+    c.requires.full
+    (was_held g.L.MessageLog.CHUNK c.self.view_is c.self.invariant (seen_all g.L.MessageLog.log c.hold_at.new.objects.items) c.args.name.0 c.hold_at.result None c.hold_at.ensures
+    ∙ c.in_default-hold_at.is)
+
+pub invariant_of-self-2 : goal.invariant_of-self-2
+invariant_of-self-2 g c =
+    let chunk = g.L.MessageLog.CHUNK in
+    let log = g.L.MessageLog.log in
+    let asked = looking_call c.args.looking c.args.name in
+    keeps_call chunk c.args.who asked c.call-2.result (Got c.in-Ok.noted) (Got c.in-Ok.noted) c.self.view_is c.self.invariant c.note.ensures.entries c.reserve.ensures.items
+    c.call-2.ensures refl c.requires.room c.requires.fits
+    (answer_read c.args.self.now.history c.args.looking c.args.name c.in-Ok.noted c.in-Ok.ensures)
+    (λ lawful shows. step_set chunk c.args.who asked (Got c.in-Ok.noted) c.args.name c.hold_at.result None
+    (reverse c.self.inside.journal.items) (seen_all log c.self.inside.objects.items) (seen_all log c.hold_at.new.objects.items)
+    (taken_sets c.args.looking c.args.name c.in-Ok.noted c.requires.empties) shows c.hold_at.ensures)
+
+pub returns : goal.returns
+returns g c =
+    let chunk = g.L.MessageLog.CHUNK in
+    let h = c.args.self.now.history in
+    let asked = looking_call c.args.looking c.args.name in
+    let full : held h c.args.name.0 ≡ Some c.in-Some.message =
+    was_held chunk c.self.view_is c.self.invariant (seen_all g.L.MessageLog.log c.hold_at.new.objects.items) c.args.name.0 c.hold_at.result None c.hold_at.ensures ∙ c.in-Some.is in
+    let same : c.in-Ok.noted ≡ c.in-Some.message = same_Some _ _ (sym c.in-Ok.ensures ∙ full) in
+    applies_answered c.args.self.now _ c.args.who asked c.note.result _ c.note.ensures.answer
+    c.requires.fits c.requires.room (answer_read h c.args.looking c.args.name c.in-Some.message full)
+    c.call-call.ensures
+    (noted_at c.self.view_is c.reserve.ensures.items)
+    (adds_entry c.args.who asked c.call-2.result (Got c.in-Ok.noted) (Got c.in-Some.message) c.self.view_is c.note.ensures.entries c.reserve.ensures.items
+    c.call-2.ensures (ap Got same))
