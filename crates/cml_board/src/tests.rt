@@ -8,6 +8,7 @@ mod kept;
 mod mailboxes;
 mod memory;
 mod ports;
+mod variables;
 
 type Numbers = Board<u64, BoardLog<u64>>;
 
@@ -57,6 +58,14 @@ fn cast_up_to(rt: &impl Abort, board: &mut Numbers, channel: Name, last: u64) {
     for message in 1..=last {
         let outcome = board.apply(SEAT, Call::Cast(channel, message));
         assert_eq!(rt; told(&outcome), Upshot::Done, "{message} is multicast");
+    }
+}
+
+/// What a variable holds.
+fn held(board: &Numbers, name: Name) -> Option<Option<u64>> {
+    match board.held(name)? {
+        Some(message) => Some(Some(*message)),
+        None => Some(None),
     }
 }
 

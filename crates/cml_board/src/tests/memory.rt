@@ -4,11 +4,15 @@ use super::*;
 const CHANNEL: Name = Name(1);
 
 /// How many calls the run has.
-const CALLS: u64 = 33;
+const CALLS: u64 = 41;
+
+/// An i-variable that is put, and an m-variable that is swapped and taken.
+const VARIABLES: [Name; 2] = [Name(4), Name(5)];
 
 /// The calls of the run: each kind of call, with more than a chunk sent and multicast.
 fn call_at(step: u64) -> Call<u64> {
     let (mailbox, port, copy) = (Name(0), Name(2), Name(3));
+    let [put, swapped] = VARIABLES;
     match step {
         0 => Call::NewMailbox,
         1 => Call::NewChannel,
@@ -26,7 +30,15 @@ fn call_at(step: u64) -> Call<u64> {
         29 => Call::Poll(copy),
         30 => Call::Poll(copy),
         31 => Call::CopyPort(port),
-        _ => Call::ClosePort(port),
+        32 => Call::ClosePort(port),
+        33 => Call::NewIVar,
+        34 => Call::MVarInit(step),
+        35 => Call::Put(put, step),
+        36 => Call::Put(put, step),
+        37 => Call::Get(put),
+        38 => Call::Swap(swapped, step),
+        39 => Call::Take(swapped),
+        _ => Call::TakePoll(swapped),
     }
 }
 
@@ -43,8 +55,14 @@ fn answer_at(step: u64) -> Upshot {
         25 => Upshot::Got(13),
         28 => Upshot::Got(13),
         29 => Upshot::Got(14),
-        30 => Upshot::Nothing,
+        30 | 40 => Upshot::Nothing,
         27 | 31 | 32 => Upshot::Closed,
+        33 => Upshot::Made(4),
+        34 => Upshot::Made(5),
+        36 => Upshot::Put,
+        37 => Upshot::Got(35),
+        38 => Upshot::Got(34),
+        39 => Upshot::Got(38),
         _ => Upshot::Done,
     }
 }
@@ -76,14 +94,24 @@ fn all_facts(board: &Numbers) -> [ObjectFacts; 4] {
 /// Makes a call of the run, and makes it again where memory was refused, which is to change nothing.
 fn make(rt: &impl Abort, board: &mut Numbers, step: u64) -> Upshot {
     let (entries, before) = (board.journal().len(), all_facts(board));
+    let [put, swapped] = VARIABLES;
+    let values = (held(board, put), held(board, swapped));
     let outcome = board.apply(SEAT, call_at(step));
     let Outcome::Refused(Refusal::NoMemory, back) = outcome else {
         return told(&outcome);
     };
     assert_eq!(rt; board.journal().len(), entries, "no entry of {step}");
     assert_eq!(rt; all_facts(board), before, "no change by {step}");
-    if let Call::Send(_, message) | Call::Cast(_, message) = &back {
-        assert_eq!(rt; *message, step, "the message is handed back");
+    let same = values == (held(board, put), held(board, swapped));
+    assert!(rt; same, "no variable changed by {step}");
+    match &back {
+        Call::Send(_, message) | Call::Cast(_, message) => {
+            assert_eq!(rt; *message, step, "the message is handed back");
+        }
+        Call::Put(_, message) | Call::Swap(_, message) | Call::MVarInit(message) => {
+            assert_eq!(rt; *message, step, "the message is handed back");
+        }
+        _ => {}
     }
     told(&board.apply(SEAT, back))
 }
