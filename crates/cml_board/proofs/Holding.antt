@@ -1,13 +1,11 @@
 -- Variables, what they hold, and what calls on them are answered.
-use Rattle.std.proofs.Common.{◌≡◌, ◌≢◌, ℕ, true, false, length, List, slice_get, Option, Some, None, is_some, unwrap_or, cond, IsTrue, IsSome, IfSome, refl, sym, ap, subst, ◌∙◌, arith}
+use Rattle.std.proofs.Common.{◌≡◌, ◌≢◌, ℕ, true, false, List, slice_get, Option, Some, None, is_some, cond, IsTrue, IsSome, IfSome, refl, sym, ap, subst, ◌∙◌}
 use Rattle.std.specs.Option.{option_map, option_map_or, option_and_then}
 use Rattle.std.proofs.lemmas.Bool.{false≢true}
-use Rattle.std.proofs.lemmas.Option.{same_Some, slice_get_past, none-some}
 use Rattle.cml_log.specs.Log.{Log}
 use Rattle.cml_board.specs.declared.call.Name.{Name}
 use Rattle.cml_board.specs.declared.call.Kind.{Kind}
 use Rattle.cml_board.specs.declared.call.Kind.TheVariants as kind
-use Rattle.cml_board.specs.declared.call.Call.{Call}
 use Rattle.cml_board.specs.declared.call.Call.TheVariants as call
 use Rattle.cml_board.specs.declared.board.note.Looking.{Looking}
 use Rattle.cml_board.specs.declared.board.note.Looking.TheVariants as looking
@@ -24,7 +22,7 @@ use Rattle.cml_board.specs.Held.{held}
 use Rattle.cml_board.specs.History.{Fits, kind_of, answer, new_name}
 use Rattle.cml_board.specs.Counts.{is_a}
 use Rattle.cml_board.specs.Facts.{facts_of}
-use Rattle.cml_board.specs.Holdings.{held_in, held_at, HasVariable, SetsHeld}
+use Rattle.cml_board.specs.Holdings.{held_in, HasVariable, SetsHeld}
 use Rattle.cml_board.specs.Shown.{Shown, KeepsVariables}
 use Rattle.cml_board.specs.Keeps.{Agrees, Keeps}
 use Rattle.cml_board.proofs.Looking.{none_made}

@@ -1,5 +1,5 @@
 -- What the calls on variables tell.
-use Rattle.std.proofs.Common.{◌≡◌, ◌≢◌, ℕ, true, false, cond, eqb, List, [], ◌∷◌, ◌++◌, length, slice_get, Option, Some, None, unwrap_or, refl, sym, ap, ◌∙◌}
+use Rattle.std.proofs.Common.{◌≡◌, ◌≢◌, ℕ, true, false, cond, List, [], ◌∷◌, ◌++◌, length, slice_get, Option, Some, None, unwrap_or, refl, sym, ap, ◌∙◌}
 use Rattle.std.proofs.lemmas.Bool.{eq-eqb, ne_eqb, false≢true}
 use Rattle.std.proofs.lemmas.List.{append-nil}
 use Rattle.cml_board.specs.declared.call.Name.{Name}
@@ -12,9 +12,9 @@ use Rattle.cml_board.specs.declared.entry.Reply.{Reply}
 use Rattle.cml_board.specs.declared.entry.Reply.TheVariants.{Done, Got, Nothing, Put}
 use Rattle.cml_board.specs.declared.entry.Entry.{Entry}
 use Rattle.cml_board.specs.Origins.{Origin}
-use Rattle.cml_board.specs.Calls.{looking_call, waits, empties}
+use Rattle.cml_board.specs.Calls.{looking_call, empties}
 use Rattle.cml_board.specs.Held.{only_at, left_by, held}
-use Rattle.cml_board.specs.History.{made, if_made, begun_by, origin_of, sent, sent_by, got, got_by, closes}
+use Rattle.cml_board.specs.History.{made, if_made, begun_by, origin_of, sent_by, got_by, closes}
 use Rattle.cml_board.specs.Facts.{facts_of}
 use Rattle.cml_board.proofs.Unmade.{facts_equal, none_at}
 use Rattle.cml_board.proofs.Telling.{noted, stays_open, none_sent, none_got, same_facts}

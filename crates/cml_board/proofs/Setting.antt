@@ -17,7 +17,6 @@ use Rattle.cml_board.specs.declared.object.Form.{Form}
 use Rattle.cml_board.specs.declared.object.Form.TheVariants.{Mutable}
 use Rattle.cml_board.specs.declared.object.Object.{Object}
 use Rattle.cml_board.specs.declared.object.Object.TheVariants.{Variable}
-use Rattle.cml_board.specs.Origins.{Origin, mvar}
 use Rattle.cml_board.specs.Calls.{making_call}
 use Rattle.cml_board.specs.History.{Lawful, made}
 use Rattle.cml_board.specs.Held.{left_by}

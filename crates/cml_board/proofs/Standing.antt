@@ -10,7 +10,7 @@ use Rattle.cml_board.specs.declared.object.Object.TheVariants.{Mailbox, Channel,
 use Rattle.cml_board.specs.declared.object.Form.TheVariants.{Once, Mutable}
 use Rattle.cml_board.specs.declared.object.Reading.{Reading}
 use Rattle.cml_board.specs.declared.object.Reading.TheVariants.{Open, Closed}
-use Rattle.cml_board.specs.Origins.{Origin, mailbox, channel, port, ivar, mvar}
+use Rattle.cml_board.specs.Origins.{Origin, mailbox, channel, port}
 use Rattle.cml_board.specs.Facts.{Facts, place_by}
 use Rattle.cml_board.specs.Holdings.{log_in, cursor_in, log_at, cursor_at, HasLog, HasCursor, HasOwed}
 use Rattle.cml_board.specs.Keeps.{Agrees, AgreesReading, Shows}

@@ -1,5 +1,5 @@
 -- What is kept of the messages of a mailbox or a channel.
-use Rattle.std.specs.Prelude.{ℕ, zero, suc, ◌==◌, ◌-◌, ◌*◌, ◌/◌, Bool, false, ◌&&◌, min, List, length, Option, Some, None, if◌then◌else◌}
+use Rattle.std.specs.Prelude.{ℕ, zero, suc, ◌==◌, ◌-◌, ◌*◌, ◌/◌, Bool, false, ◌&&◌, min, List, length, Option, Some, if◌then◌else◌}
 use Rattle.cml_board.specs.declared.entry.Entry.{Entry}
 use Rattle.cml_board.specs.Origins.{Origin, mailbox, port}
 use Rattle.cml_board.specs.History.{made, origin_of, is_open, sent, place}

@@ -136,7 +136,10 @@ pub fn open_cursor<M, L: MessageLog<M>>(object: &mut Object<M, L>) -> Result<Key
 }
 
 /// Opens a cursor of a channel's log where another stands.
-pub fn copy_cursor<M, L: MessageLog<M>>(object: &mut Object<M, L>, key: Key) -> Result<Key, AllocError>
+pub fn copy_cursor<M, L: MessageLog<M>>(
+    object: &mut Object<M, L>,
+    key: Key,
+) -> Result<Key, AllocError>
     requires stands { IsSome (log_in (map_log L.log object.old)) }
     requires opened { (log : Log M) → log_in (map_log L.log object.old) ≡ Some log → IsOpen log key }
     ensures ok { IfOk result (λ copy. OpensIn (map_log L.log object.old) (map_log L.log object.new) copy (λ log. place_of log key)) }

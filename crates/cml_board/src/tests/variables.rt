@@ -15,7 +15,11 @@ fn an_i_variable_is_filled_once(rt: HostRuntime) -> Result<(), Fail> {
         ("a poll", Call::GetPoll(variable), Upshot::Got(7)),
     ]?;
     follow(&rt, &mut board, rows);
-    assert_eq!(rt; held(&board, variable), Some(Some(7)), "the first put stays");
+    assert_eq!(rt;
+        held(&board, variable),
+        Some(Some(7)),
+        "the first put stays"
+    );
     assert_eq!(rt; board.kind(variable), Some(Kind::IVar));
     assert_eq!(rt; board.journal().len(), 6, "a wait has no entry");
     Ok(())
@@ -53,8 +57,16 @@ fn a_swap_needs_something_to_give(rt: HostRuntime) -> Result<(), Fail> {
     let rows = vec![in rt.alloc();
         ("an empty m-variable", Call::NewMVar, Upshot::Made(0)),
         ("a full one", Call::MVarInit(7), Upshot::Made(1)),
-        ("a swap where it is empty", Call::Swap(empty, 8), Upshot::Waits),
-        ("a swap where it is full", Call::Swap(full, 8), Upshot::Got(7)),
+        (
+            "a swap where it is empty",
+            Call::Swap(empty, 8),
+            Upshot::Waits
+        ),
+        (
+            "a swap where it is full",
+            Call::Swap(full, 8),
+            Upshot::Got(7)
+        ),
         ("the new one is there", Call::GetPoll(full), Upshot::Got(8)),
         ("a put where it is full", Call::Put(full, 9), Upshot::Put),
         ("changes nothing", Call::TakePoll(full), Upshot::Got(8)),

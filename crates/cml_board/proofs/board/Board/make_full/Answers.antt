@@ -1,4 +1,4 @@
-use Rattle.std.proofs.Common.{refl, ap, ◌∙◌, arith, reverse, Some}
+use Rattle.std.proofs.Common.{refl, ap, arith, reverse, Some}
 use Rattle.std.proofs.lemmas.List.{length-map}
 use Rattle.cml_board.specs.declared.call.Call.TheVariants.{MVarInit}
 use Rattle.cml_board.specs.declared.entry.Reply.TheVariants.{Made}
