@@ -1,4 +1,4 @@
-//! Mailboxes, and channels with their ports, on one board, and the journal of every call that it accepted.
+//! Mailboxes, channels with their ports, and variables on one board, and the journal of every call that it accepted.
 #![tactic(auto)]
 
 mod answer;

@@ -2,7 +2,7 @@ ghost use Rattle.std.specs.Prelude.{◌≡◌, ◌↔◌, IsTrue, IfOk};
 
 use std::alloc::{AllocError, Global};
 
-/// What mailboxes carry. A journal keeps a copy of each message beside the one that is delivered.
+/// What mailboxes carry and variables hold. A journal keeps a copy of each message beside the one that is delivered.
 pub trait Message: Drop + Sized {
     /// A second message equal to this one. Only want of memory refuses it.
     fn share(&self, alloc: Global) -> Result<Self, AllocError>
