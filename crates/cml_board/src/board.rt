@@ -87,7 +87,7 @@ impl<M: Message, L: MessageLog<M>> Board<M, L> {
         ensures ports { KeepsPorts self.now }
         ensures closed { KeepsClosed self.now }
 
-        // What a variable really holds is what was last put into it or swapped for, unless it was taken since.
+        // What a variable really holds is what it was made with, or was last put or swapped into it, unless it was taken.
         ensures variables { KeepsVariables self.now }
     {
         self.journal.as_slice()

@@ -42,7 +42,7 @@ pub enum Call<M> {
     Recv(Name),
     /// `Mailbox.recvPoll`, and the like of it on a port: takes the next message, or answers that there is none.
     Poll(Name),
-    /// `SyncVar.iPut` and `SyncVar.mPut`: fills a variable, or answers that it is full, and leaves what it holds.
+    /// `SyncVar.iPut` and `SyncVar.mPut`: fills an empty variable, and answers `Put` on a full one, which stays.
     Put(Name, M),
     /// `SyncVar.iGet` and `SyncVar.mGet`: reads a variable and leaves what it holds, and waits while it is empty.
     Get(Name),

@@ -17,7 +17,7 @@ pub enum Reply<M> {
     Got(M),
     /// A poll found nothing.
     Nothing,
-    /// A put on a variable that holds something already, which stays.
+    /// The variable was full before, and stays as it was.
     Put,
     /// The port was closed before.
     Closed,
