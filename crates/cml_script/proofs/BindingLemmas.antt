@@ -10,7 +10,7 @@ use Rattle.cml_board.specs.declared.entry.Who.TheVariants.{Seat}
 use Rattle.cml_board.specs.declared.entry.Reply.{Reply}
 use Rattle.cml_board.specs.declared.entry.Reply.TheVariants as reply
 use Rattle.cml_board.specs.declared.entry.Entry.{Entry}
-use Rattle.cml_board.specs.Origins.{Origin, mailbox, channel, port, kind_by, copy_of}
+use Rattle.cml_board.specs.Origins.{Origin, mailbox, channel, port, ivar, mvar, kind_by, copy_of}
 use Rattle.cml_board.specs.Objects.{is_port}
 use Rattle.cml_board.specs.History.{Lawful, Fits, made, begun_by, if_made, new_name, origin_of, kind_of, is_open, answer, sent, got}
 use Rattle.cml_board.proofs.Closing.{kind_kept}
@@ -67,6 +67,8 @@ port_origin : (o : Option Origin) → IsSome (option_map kind_by o) → IfSome (
 port_origin None some is = absurd (false≢true some)
 port_origin (Some mailbox) some is = absurd (false≢true is)
 port_origin (Some channel) some is = absurd (false≢true is)
+port_origin (Some ivar) some is = absurd (false≢true is)
+port_origin (Some mvar) some is = absurd (false≢true is)
 port_origin (Some (port c s)) some is = (c, s, refl)
 
 -- the reply binds a port
@@ -110,6 +112,15 @@ binds before (call.Send name message) r asks fits answers = absurd (false≢true
 binds before (call.Cast name message) r asks fits answers = absurd (false≢true asks)
 binds before (call.Recv name) r asks fits answers = absurd (false≢true asks)
 binds before (call.Poll name) r asks fits answers = absurd (false≢true asks)
+binds before call.NewIVar r asks fits answers = absurd (false≢true asks)
+binds before call.NewMVar r asks fits answers = absurd (false≢true asks)
+binds before (call.MVarInit message) r asks fits answers = absurd (false≢true asks)
+binds before (call.Put name message) r asks fits answers = absurd (false≢true asks)
+binds before (call.Get name) r asks fits answers = absurd (false≢true asks)
+binds before (call.GetPoll name) r asks fits answers = absurd (false≢true asks)
+binds before (call.Take name) r asks fits answers = absurd (false≢true asks)
+binds before (call.TakePoll name) r asks fits answers = absurd (false≢true asks)
+binds before (call.Swap name message) r asks fits answers = absurd (false≢true asks)
 
 module _ (script : Lines) (asks : AsksForPorts script) (seats : HasSeats script) where
   -- a step that gives a name binds a port

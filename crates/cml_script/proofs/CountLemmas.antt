@@ -4,7 +4,7 @@ use Rattle.std.specs.Option.{option_map, option_map_or}
 use Rattle.std.proofs.lemmas.Option.{none-some, same_Some}
 use Rattle.cml_board.specs.declared.call.Kind.{Kind}
 use Rattle.cml_board.specs.declared.call.Kind.TheVariants as kind
-use Rattle.cml_board.specs.Origins.{Origin, mailbox, channel, port, kind_by}
+use Rattle.cml_board.specs.Origins.{Origin, mailbox, channel, port, ivar, mvar, kind_by}
 use Rattle.cml_board.specs.Counts.{only_if, start_in}
 use Rattle.cml_board.specs.History.{Lawful, kind_of, is_open}
 use Rattle.cml_board.proofs.Closing.{mailbox_open}
@@ -22,6 +22,8 @@ pub some_start : (o : Option Origin) (r : Option ℕ) → r ≡ start_in o → o
 some_start None r told is = absurd (none-some kind.Port is)
 some_start (Some mailbox) r told is = absurd (let clash : kind.Mailbox ≡ kind.Port = same_Some _ _ is in cc)
 some_start (Some channel) r told is = absurd (let clash : kind.Channel ≡ kind.Port = same_Some _ _ is in cc)
+some_start (Some ivar) r told is = absurd (let clash : kind.IVar ≡ kind.Port = same_Some _ _ is in cc)
+some_start (Some mvar) r told is = absurd (let clash : kind.MVar ≡ kind.Port = same_Some _ _ is in cc)
 some_start (Some (port source start)) r told is = rw told refl
 
 -- the kind of an object of a board that shows this history

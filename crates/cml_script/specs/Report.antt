@@ -30,6 +30,7 @@ reply_word reply.Done = codes "done"
 reply_word (reply.Made name) = codes "made"
 reply_word (reply.Got message) = decimal message
 reply_word reply.Nothing = codes "none"
+reply_word reply.Put = codes "put"
 reply_word reply.Closed = codes "closed"
 
 -- the step's line as it stands in the script

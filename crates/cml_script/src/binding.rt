@@ -25,7 +25,7 @@ impl Binding {
         match answer.reply() {
             Reply::Made(name) => Binding::Made(*name),
             Reply::Closed => closed_by(answer.call()),
-            Reply::Done | Reply::Got(_) | Reply::Nothing => Binding::Unbound,
+            Reply::Done | Reply::Got(_) | Reply::Nothing | Reply::Put => Binding::Unbound,
         }
     }
 

@@ -29,6 +29,7 @@ fn write_reply(report: &mut String, reply: &Reply<u64>) -> Result<(), AllocError
         Reply::Made(_) => report.push_str("made"),
         Reply::Got(message) => write!(report, "{message}"),
         Reply::Nothing => report.push_str("none"),
+        Reply::Put => report.push_str("put"),
         Reply::Closed => report.push_str("closed"),
     }
 }
