@@ -37,7 +37,15 @@ enum Workload {
     Pairs,
     Burst,
     Cast,
+    Variable,
 }
+
+const WORKLOADS: [Workload; 4] = [
+    Workload::Pairs,
+    Workload::Burst,
+    Workload::Cast,
+    Workload::Variable,
+];
 
 /// A workload under way: its board, and a sum over the messages that were received, which their order changes.
 #[derive(Drop)]
@@ -71,7 +79,7 @@ fn asked(rt: &HostRuntime) -> io::Result<Order> {
 }
 
 fn print_sums(rt: &HostRuntime) -> io::Result<()> {
-    for workload in [Workload::Pairs, Workload::Burst, Workload::Cast] {
+    for workload in WORKLOADS {
         let mut run = Run::new(rt.alloc())?;
         run.perform(workload, FEW)?;
         println!(rt; "{} {}", workload.name(), run.sum)?;
@@ -82,7 +90,7 @@ fn print_sums(rt: &HostRuntime) -> io::Result<()> {
 }
 
 fn print_times(rt: &HostRuntime, count: u64) -> io::Result<()> {
-    for workload in [Workload::Pairs, Workload::Burst, Workload::Cast] {
+    for workload in WORKLOADS {
         let mut run = Run::new(rt.alloc())?;
         let start = Instant::now(rt)?;
         run.perform(workload, count)?;
@@ -124,6 +132,7 @@ impl Workload {
             Workload::Pairs => "pairs1",
             Workload::Burst => "burst1",
             Workload::Cast => "cast8",
+            Workload::Variable => "var1",
         }
     }
 }
@@ -139,6 +148,7 @@ impl Run {
             Workload::Pairs => self.pairs(count),
             Workload::Burst => self.burst(count),
             Workload::Cast => self.cast(count),
+            Workload::Variable => self.variable(count),
         }
     }
 
@@ -164,6 +174,16 @@ impl Run {
     fn receive_all(&mut self, count: u64) -> io::Result<()> {
         for _ in 0..count {
             self.make(Call::Recv(OBJECT))?;
+        }
+        Ok(())
+    }
+
+    /// One m-variable: a put and a take in turn.
+    fn variable(&mut self, count: u64) -> io::Result<()> {
+        self.make(Call::NewMVar)?;
+        for message in 0..count {
+            self.make(Call::Put(OBJECT, message))?;
+            self.make(Call::Take(OBJECT))?;
         }
         Ok(())
     }
