@@ -117,7 +117,7 @@ given_as n word = option_to_list (option_map (λ w. (w, n)) word)
 -- the names that a line gives
 abbrev pub gives : List Given → Form → List Given
 gives names unknown = []
-gives names (declaration d rest) = given_as (named_by d (thread_count names)) (fresh_word (declared_places d) rest)
+gives names (declaration d rest) = given_as (named_by d (thread_count names)) (fresh_word (declared_places d rest) rest)
 gives names (no_step seat) = []
 gives names (step seat v rest) = given_as (called.Port (users.One seat)) (fresh_word (step_places v) rest)
 

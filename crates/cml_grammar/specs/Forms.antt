@@ -1,5 +1,5 @@
 -- The lines of a script: which words a declaration and a step have, and what may stand in each word's place.
-use Rattle.std.specs.Prelude.{ℕ, ◌+◌, ◌==◌, Bool, true, false, not, ◌&&◌, List, [], ◌∷◌, Option, Some, None, if◌then◌else◌, codes}
+use Rattle.std.specs.Prelude.{ℕ, ◌+◌, ◌==◌, Bool, true, false, not, ◌&&◌, List, [], ◌∷◌, length, Option, Some, None, if◌then◌else◌, codes}
 use Rattle.std.specs.Option.{option_map, option_map_or}
 use Rattle.std.specs.List.{find, zip}
 use Rattle.std.specs.Str.{bytes_eq}
@@ -11,7 +11,7 @@ use Rattle.cml_grammar.specs.declared.forms.Declares.TheVariants as declares
 use Rattle.cml_grammar.specs.declared.forms.Verb.{Verb}
 use Rattle.cml_grammar.specs.declared.forms.Verb.TheVariants as verb
 use Rattle.cml_grammar.specs.declared.forms.Place.{Place}
-use Rattle.cml_grammar.specs.declared.forms.Place.TheVariants.{Fresh, Mailbox, Channel, Port, Receiver, Number}
+use Rattle.cml_grammar.specs.declared.forms.Place.TheVariants.{Fresh, Mailbox, Channel, Port, Receiver, Variable, MVar, Number}
 use Rattle.cml_grammar.specs.Names.{Given, seat_of}
 
 -- a declaration's first word
@@ -20,15 +20,19 @@ declares_of word =
     if bytes_eq word (codes "mailbox") then Some declares.Mailbox
     else if bytes_eq word (codes "channel") then Some declares.Channel
     else if bytes_eq word (codes "port") then Some declares.Port
+    else if bytes_eq word (codes "ivar") then Some declares.IVar
+    else if bytes_eq word (codes "mvar") then Some declares.MVar
     else if bytes_eq word (codes "thread") then Some declares.Thread
     else None
 
--- what stands after it
-abbrev pub declared_places : Declares → List Place
-declared_places declares.Mailbox = Fresh ∷ []
-declared_places declares.Channel = Fresh ∷ []
-declared_places declares.Port = Channel ∷ Fresh ∷ []
-declared_places declares.Thread = Fresh ∷ []
+-- what stands after it: an m-variable's name stands alone, or with its first message where there are two words
+abbrev pub declared_places : Declares → List (List ℕ) → List Place
+declared_places declares.Mailbox rest = Fresh ∷ []
+declared_places declares.Channel rest = Fresh ∷ []
+declared_places declares.Port rest = Channel ∷ Fresh ∷ []
+declared_places declares.IVar rest = Fresh ∷ []
+declared_places declares.MVar rest = if length rest == 2 then Fresh ∷ Number ∷ [] else Fresh ∷ []
+declared_places declares.Thread rest = Fresh ∷ []
 
 -- a step's second word
 abbrev pub verb_of : List ℕ → Option Verb
@@ -40,6 +44,12 @@ verb_of word =
     else if bytes_eq word (codes "port") then Some verb.Port
     else if bytes_eq word (codes "copy") then Some verb.Copy
     else if bytes_eq word (codes "close") then Some verb.Close
+    else if bytes_eq word (codes "put") then Some verb.Put
+    else if bytes_eq word (codes "get") then Some verb.Get
+    else if bytes_eq word (codes "getpoll") then Some verb.GetPoll
+    else if bytes_eq word (codes "take") then Some verb.Take
+    else if bytes_eq word (codes "takepoll") then Some verb.TakePoll
+    else if bytes_eq word (codes "swap") then Some verb.Swap
     else None
 
 -- what stands after it
@@ -51,6 +61,12 @@ step_places verb.Poll = Receiver ∷ []
 step_places verb.Port = Channel ∷ Fresh ∷ []
 step_places verb.Copy = Port ∷ Fresh ∷ []
 step_places verb.Close = Port ∷ []
+step_places verb.Put = Variable ∷ Number ∷ []
+step_places verb.Get = Variable ∷ []
+step_places verb.GetPoll = Variable ∷ []
+step_places verb.Take = MVar ∷ []
+step_places verb.TakePoll = MVar ∷ []
+step_places verb.Swap = MVar ∷ Number ∷ []
 
 -- what kind of line it is, with the words that are left
 pub data Form : Type 0 where
@@ -72,7 +88,7 @@ form_of names (word ∷ rest) =
 
 abbrev pub places_of : Form → List Place
 places_of unknown = []
-places_of (declaration d rest) = declared_places d
+places_of (declaration d rest) = declared_places d rest
 places_of (no_step seat) = []
 places_of (step seat v rest) = step_places v
 
@@ -112,6 +128,9 @@ suits Channel called.Channel = true
 suits Port (called.Port whose) = true
 suits Receiver called.Mailbox = true
 suits Receiver (called.Port whose) = true
+suits Variable called.IVar = true
+suits Variable called.MVar = true
+suits MVar called.MVar = true
 suits _ _ = false
 
 -- whether what is named is a port of another seat
@@ -128,4 +147,6 @@ abbrev pub named_by : Declares → ℕ → Named
 named_by declares.Mailbox threads = called.Mailbox
 named_by declares.Channel threads = called.Channel
 named_by declares.Port threads = called.Port users.Every
+named_by declares.IVar threads = called.IVar
+named_by declares.MVar threads = called.MVar
 named_by declares.Thread threads = called.Thread (threads + 1)

@@ -12,7 +12,7 @@ use Rattle.cml_grammar.specs.Meaning.{seat_of_step}
 -- the word that stands in a declaration's line where a name is given
 abbrev pub declared_word : List (List ℕ) → Option (List ℕ)
 declared_word [] = None
-declared_word (word ∷ rest) = option_and_then (λ d. fresh_word (declared_places d) rest) (declares_of word)
+declared_word (word ∷ rest) = option_and_then (λ d. fresh_word (declared_places d rest) rest) (declares_of word)
 
 -- and in a step's line, if it gives one
 abbrev pub asked_word : List (List ℕ) → Option (List ℕ)

@@ -28,12 +28,15 @@ scope_of script = scope_after start (script.declarations ++ script.steps)
 abbrev pub names_of : Lines → List Given
 names_of script = (scope_of script).names
 
--- what a declaration of these words makes, its channel by its position among the names
+-- what a declaration of these words makes: a port's channel by its position among the names, an m-variable with the message that stands there
 abbrev pub makes_by : List Given → Declares → List (List ℕ) → Option Makes
 makes_by names declares.Mailbox rest = Some makes.Mailbox
 makes_by names declares.Channel rest = Some makes.Channel
 makes_by names declares.Port (channel ∷ rest) = option_map makes.Port (position_of names channel)
 makes_by names declares.Port [] = None
+makes_by names declares.IVar rest = Some makes.IVar
+makes_by names declares.MVar (name ∷ message ∷ []) = Some (makes.MVarInit (digits_value 10 message))
+makes_by names declares.MVar rest = Some makes.MVar
 makes_by names declares.Thread rest = Some makes.Thread
 
 abbrev pub makes_of : List Given → List (List ℕ) → Option Makes
@@ -51,6 +54,14 @@ action_by names verb.Poll (object ∷ []) = option_map action.Poll (position_of 
 action_by names verb.Port (channel ∷ name ∷ []) = option_map action.Port (position_of names channel)
 action_by names verb.Copy (port ∷ name ∷ []) = option_map action.Copy (position_of names port)
 action_by names verb.Close (port ∷ []) = option_map action.Close (position_of names port)
+action_by names verb.Put (variable ∷ message ∷ []) =
+    option_map (λ at. action.Put at (digits_value 10 message)) (position_of names variable)
+action_by names verb.Get (variable ∷ []) = option_map action.Get (position_of names variable)
+action_by names verb.GetPoll (variable ∷ []) = option_map action.GetPoll (position_of names variable)
+action_by names verb.Take (variable ∷ []) = option_map action.Take (position_of names variable)
+action_by names verb.TakePoll (variable ∷ []) = option_map action.TakePoll (position_of names variable)
+action_by names verb.Swap (variable ∷ message ∷ []) =
+    option_map (λ at. action.Swap at (digits_value 10 message)) (position_of names variable)
 action_by names _ _ = None
 
 abbrev pub action_of : List Given → List (List ℕ) → Option Action

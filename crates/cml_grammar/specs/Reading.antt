@@ -8,7 +8,7 @@ use Rattle.cml_grammar.specs.declared.names.Users.TheVariants as users
 use Rattle.cml_grammar.specs.declared.forms.Declares.{Declares}
 use Rattle.cml_grammar.specs.declared.forms.Declares.TheVariants as declares
 use Rattle.cml_grammar.specs.declared.forms.Action.{Action}
-use Rattle.cml_grammar.specs.declared.forms.Action.TheVariants.{Send, Multicast, Recv, Poll, Port, Copy, Close}
+use Rattle.cml_grammar.specs.declared.forms.Action.TheVariants.{Send, Multicast, Recv, Poll, Port, Copy, Close, Put, Get, GetPoll, Take, TakePoll, Swap}
 use Rattle.cml_grammar.specs.declared.forms.Makes.{Makes}
 use Rattle.cml_grammar.specs.declared.forms.Makes.TheVariants as makes
 use Rattle.cml_grammar.specs.declared.script.Line.{Line}
@@ -52,6 +52,18 @@ IsPortAt names at = (word : List ℕ) × (whose : Users) × (slice_get names at 
 abbrev pub IsReceiverAt : List Given → ℕ → Type 0
 IsReceiverAt names at = IsMailboxAt names at ⊎ IsPortAt names at
 
+-- .. an i-variable's
+abbrev pub IsIVarAt : List Given → ℕ → Type 0
+IsIVarAt names at = (word : List ℕ) × (slice_get names at ≡ Some (word, called.IVar))
+
+-- .. an m-variable's
+abbrev pub IsMVarAt : List Given → ℕ → Type 0
+IsMVarAt names at = (word : List ℕ) × (slice_get names at ≡ Some (word, called.MVar))
+
+-- .. and one of either
+abbrev pub IsVariableAt : List Given → ℕ → Type 0
+IsVariableAt names at = IsIVarAt names at ⊎ IsMVarAt names at
+
 -- each name that a step uses stands, for something that can take the step
 abbrev pub UsesWell : List Given → Action → Type 0
 UsesWell names (Send at message) = IsMailboxAt names at × (message < 2 ^ 64)
@@ -61,6 +73,12 @@ UsesWell names (Poll at) = IsReceiverAt names at
 UsesWell names (Port at) = IsChannelAt names at
 UsesWell names (Copy at) = IsPortAt names at
 UsesWell names (Close at) = IsPortAt names at
+UsesWell names (Put at message) = IsVariableAt names at × (message < 2 ^ 64)
+UsesWell names (Get at) = IsVariableAt names at
+UsesWell names (GetPoll at) = IsVariableAt names at
+UsesWell names (Take at) = IsMVarAt names at
+UsesWell names (TakePoll at) = IsMVarAt names at
+UsesWell names (Swap at message) = IsMVarAt names at × (message < 2 ^ 64)
 
 -- the position of the name that a step uses
 abbrev pub used_by : Action → ℕ
@@ -71,6 +89,12 @@ used_by (Poll at) = at
 used_by (Port at) = at
 used_by (Copy at) = at
 used_by (Close at) = at
+used_by (Put at message) = at
+used_by (Get at) = at
+used_by (GetPoll at) = at
+used_by (Take at) = at
+used_by (TakePoll at) = at
+used_by (Swap at message) = at
 
 -- a port of one seat is that seat's alone
 abbrev pub MayUse : ℕ → Named → Type 0
@@ -87,9 +111,10 @@ gives_name (Port at) = true
 gives_name (Copy at) = true
 gives_name _ = false
 
--- each name that the declaration at this position uses was given before it, for something that it can be made of
+-- each name that the declaration at this position uses was given before it, for something that it can be made of, and a message has 64 bits
 abbrev pub IsMadeWell : List Given → ℕ → Makes → Type 0
 IsMadeWell names i (makes.Port channel) = IsChannelAt names channel × (channel < i)
+IsMadeWell names i (makes.MVarInit message) = message < 2 ^ 64
 IsMadeWell names i _ = ⊤
 
 -- a thread's seat is one of the first n
@@ -103,6 +128,9 @@ GivesAt names at word makes.Thread = (seat : ℕ) × (slice_get names at ≡ Som
 GivesAt names at word makes.Mailbox = slice_get names at ≡ Some (word, called.Mailbox)
 GivesAt names at word makes.Channel = slice_get names at ≡ Some (word, called.Channel)
 GivesAt names at word (makes.Port channel) = slice_get names at ≡ Some (word, called.Port users.Every)
+GivesAt names at word makes.IVar = slice_get names at ≡ Some (word, called.IVar)
+GivesAt names at word makes.MVar = slice_get names at ≡ Some (word, called.MVar)
+GivesAt names at word (makes.MVarInit message) = slice_get names at ≡ Some (word, called.MVar)
 
 -- the i-th declaration gives the i-th name, the word that stands there for it
 abbrev pub Gives : List Given → ℕ → Declaration → Type 0

@@ -16,6 +16,8 @@ pub enum Declares {
     Mailbox,
     Channel,
     Port,
+    IVar,
+    MVar,
     Thread,
 }
 
@@ -29,6 +31,12 @@ pub enum Verb {
     Port,
     Copy,
     Close,
+    Put,
+    Get,
+    GetPoll,
+    Take,
+    TakePoll,
+    Swap,
 }
 
 /// What may stand in a word's place.
@@ -44,17 +52,25 @@ pub enum Place {
     Port,
     /// The name of a mailbox or a port.
     Receiver,
+    /// The name of an i-variable or an m-variable.
+    Variable,
+    /// An m-variable's name.
+    MVar,
     /// A message.
     Number,
 }
 
-/// What a declaration makes. A port's channel is a position in the script's list of names.
+/// What a declaration makes. A port's channel is a position in the script's list of names, and an m-variable may have a
+/// first message.
 #[derive(Clone, Copy, Debug, PartialEq, Eq)]
 pub enum Makes {
     Thread,
     Mailbox,
     Channel,
     Port(usize),
+    IVar,
+    MVar,
+    MVarInit(u64),
 }
 
 /// What a step asks for. The name that it uses is a position in the script's list of names.
@@ -67,6 +83,12 @@ pub enum Action {
     Port(usize),
     Copy(usize),
     Close(usize),
+    Put(usize, u64),
+    Get(usize),
+    GetPoll(usize),
+    Take(usize),
+    TakePoll(usize),
+    Swap(usize, u64),
 }
 
 /// What kind of line it is, with the words that are left.
@@ -86,17 +108,29 @@ impl Declares {
             "mailbox" => Some(Declares::Mailbox),
             "channel" => Some(Declares::Channel),
             "port" => Some(Declares::Port),
+            "ivar" => Some(Declares::IVar),
+            "mvar" => Some(Declares::MVar),
             "thread" => Some(Declares::Thread),
             _ => None,
         }
     }
 
-    pub(crate) fn places(self) -> &'static [Place]
-        ensures { result.now ≡ declared_places self }
+    /// What stands behind it, where these words do: an m-variable's first message is the second of two.
+    pub(crate) fn places(self, rest: &[&str]) -> &'static [Place]
+        ensures { result.now ≡ declared_places self (map (λ w. w.now) rest.now) }
     {
         match self {
-            Declares::Mailbox | Declares::Channel | Declares::Thread => &[Place::Fresh],
+            Declares::Mailbox | Declares::Channel | Declares::IVar | Declares::Thread => {
+                &[Place::Fresh]
+            }
             Declares::Port => &[Place::Channel, Place::Fresh],
+            Declares::MVar => {
+                if rest.len() == 2 {
+                    &[Place::Fresh, Place::Number]
+                } else {
+                    &[Place::Fresh]
+                }
+            }
         }
     }
 }
@@ -113,6 +147,12 @@ impl Verb {
             "port" => Some(Verb::Port),
             "copy" => Some(Verb::Copy),
             "close" => Some(Verb::Close),
+            "put" => Some(Verb::Put),
+            "get" => Some(Verb::Get),
+            "getpoll" => Some(Verb::GetPoll),
+            "take" => Some(Verb::Take),
+            "takepoll" => Some(Verb::TakePoll),
+            "swap" => Some(Verb::Swap),
             _ => None,
         }
     }
@@ -127,6 +167,10 @@ impl Verb {
             Verb::Port => &[Place::Channel, Place::Fresh],
             Verb::Copy => &[Place::Port, Place::Fresh],
             Verb::Close => &[Place::Port],
+            Verb::Put => &[Place::Variable, Place::Number],
+            Verb::Get | Verb::GetPoll => &[Place::Variable],
+            Verb::Take | Verb::TakePoll => &[Place::MVar],
+            Verb::Swap => &[Place::MVar, Place::Number],
         }
     }
 }
@@ -164,6 +208,8 @@ impl Place {
             (Place::Mailbox | Place::Receiver, Named::Mailbox) => true,
             (Place::Channel, Named::Channel) => true,
             (Place::Port | Place::Receiver, Named::Port(_)) => true,
+            (Place::Variable, Named::IVar) => true,
+            (Place::Variable | Place::MVar, Named::MVar) => true,
             _ => false,
         }
     }
@@ -213,7 +259,7 @@ impl<'a> Form<'a> {
     {
         match self {
             Form::Unknown | Form::NoStep(_) => &[],
-            Form::Declaration(declares, _) => declares.places(),
+            Form::Declaration(declares, rest) => declares.places(rest),
             Form::Step(_, verb, _) => verb.places(),
         }
     }

@@ -34,7 +34,7 @@ fn message_in(words: &[&str]) -> u64
 
 /// What a declaration makes whose words suit their places.
 pub(crate) fn makes_by(names: &IndexMap<String, Named>, declares: Declares, rest: &[&str]) -> Makes
-    requires { AllSuit (texts_of names.now.entries) (declared_places declares) (map (λ w. w.now) rest.now) }
+    requires { AllSuit (texts_of names.now.entries) (declared_places declares (map (λ w. w.now) rest.now)) (map (λ w. w.now) rest.now) }
     ensures makes { makes_by (texts_of names.now.entries) declares (map (λ w. w.now) rest.now) ≡ Some result }
     ensures uses { IsMadeWell (texts_of names.now.entries) (length (texts_of names.now.entries)) result }
 {
@@ -44,6 +44,11 @@ pub(crate) fn makes_by(names: &IndexMap<String, Named>, declares: Declares, rest
         Declares::Port => match rest.first() {
             Some(channel) => Makes::Port(given_position(names, channel)),
             None => unreachable!(),
+        },
+        Declares::IVar => Makes::IVar,
+        Declares::MVar => match rest.split_first() {
+            Some((_, message)) if !message.is_empty() => Makes::MVarInit(message_in(message)),
+            _ => Makes::MVar,
         },
         Declares::Thread => Makes::Thread,
     }
@@ -55,10 +60,10 @@ pub(crate) fn name_by<'a>(
     declares: Declares,
     rest: &'a [&'a str],
 ) -> &'a str
-    requires { AllSuit (texts_of names.now.entries) (declared_places declares) (map (λ w. w.now) rest.now) }
-    ensures { fresh_word (declared_places declares) (map (λ w. w.now) rest.now) ≡ Some result.now }
+    requires { AllSuit (texts_of names.now.entries) (declared_places declares (map (λ w. w.now) rest.now)) (map (λ w. w.now) rest.now) }
+    ensures { fresh_word (declared_places declares (map (λ w. w.now) rest.now)) (map (λ w. w.now) rest.now) ≡ Some result.now }
 {
-    fresh_word(declares.places(), rest).unwrap()
+    fresh_word(declares.places(rest), rest).unwrap()
 }
 
 /// What the name of a declaration names, where so many threads were declared before.
@@ -70,6 +75,8 @@ pub(crate) fn named_by(declares: Declares, threads: u64) -> Named
         Declares::Mailbox => Named::Mailbox,
         Declares::Channel => Named::Channel,
         Declares::Port => Named::Port(Users::Every),
+        Declares::IVar => Named::IVar,
+        Declares::MVar => Named::MVar,
         Declares::Thread => Named::Thread(threads + 1),
     }
 }
@@ -87,7 +94,11 @@ pub(crate) fn threads_with(declares: Declares, threads: u64) -> u64
     ensures { result ≡ threads + threads_by declares }
 {
     match declares {
-        Declares::Mailbox | Declares::Channel | Declares::Port => threads,
+        Declares::Mailbox
+        | Declares::Channel
+        | Declares::Port
+        | Declares::IVar
+        | Declares::MVar => threads,
         Declares::Thread => threads + 1,
     }
 }
@@ -110,5 +121,11 @@ pub(crate) fn action_by(names: &IndexMap<String, Named>, verb: Verb, rest: &[&st
         Verb::Port => Action::Port(at),
         Verb::Copy => Action::Copy(at),
         Verb::Close => Action::Close(at),
+        Verb::Put => Action::Put(at, message_in(more)),
+        Verb::Get => Action::Get(at),
+        Verb::GetPoll => Action::GetPoll(at),
+        Verb::Take => Action::Take(at),
+        Verb::TakePoll => Action::TakePoll(at),
+        Verb::Swap => Action::Swap(at, message_in(more)),
     }
 }

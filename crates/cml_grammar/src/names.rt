@@ -24,6 +24,8 @@ pub enum Named {
     Mailbox,
     Channel,
     Port(Users),
+    IVar,
+    MVar,
 }
 
 impl Named {
@@ -104,7 +106,7 @@ pub(crate) fn seat_of(names: &IndexMap<String, Named>, word: &str) -> Option<u64
 {
     match find_named(names, word)? {
         Named::Thread(seat) => Some(seat),
-        Named::Mailbox | Named::Channel | Named::Port(_) => None,
+        Named::Mailbox | Named::Channel | Named::Port(_) | Named::IVar | Named::MVar => None,
     }
 }
 

@@ -5,6 +5,7 @@ mod made;
 mod order;
 mod ports;
 mod sizes;
+mod variables;
 
 use crate::{Fault, read_script};
 use std::alloc::{AllocError, Global};
