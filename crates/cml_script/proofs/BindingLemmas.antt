@@ -45,6 +45,12 @@ call_asks object (action.Poll at) c e = mapped (λ o. call.Poll (record { 0 = o 
 call_asks object (action.Port at) c e = mapped (λ o. call.NewPort (record { 0 = o })) (object at) c true (λ n. refl) e
 call_asks object (action.Copy at) c e = mapped (λ o. call.CopyPort (record { 0 = o })) (object at) c true (λ n. refl) e
 call_asks object (action.Close at) c e = mapped (λ o. call.ClosePort (record { 0 = o })) (object at) c false (λ n. refl) e
+call_asks object (action.Put at message) c e = mapped (λ o. call.Put (record { 0 = o }) message) (object at) c false (λ n. refl) e
+call_asks object (action.Get at) c e = mapped (λ o. call.Get (record { 0 = o })) (object at) c false (λ n. refl) e
+call_asks object (action.GetPoll at) c e = mapped (λ o. call.GetPoll (record { 0 = o })) (object at) c false (λ n. refl) e
+call_asks object (action.Take at) c e = mapped (λ o. call.Take (record { 0 = o })) (object at) c false (λ n. refl) e
+call_asks object (action.TakePoll at) c e = mapped (λ o. call.TakePoll (record { 0 = o })) (object at) c false (λ n. refl) e
+call_asks object (action.Swap at message) c e = mapped (λ o. call.Swap (record { 0 = o }) message) (object at) c false (λ n. refl) e
 
 step_asks : (script : Lines) (before : History) (i seat : ℕ) (c : Call ℕ) → AsksForPorts script → (ready : IsReady script before i seat c) → is_giving ready.line ≡ true → asks_port c ≡ true
 step_asks script before i seat c asks ready gives =

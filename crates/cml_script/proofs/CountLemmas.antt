@@ -5,6 +5,7 @@ use Rattle.std.proofs.lemmas.Option.{none-some, same_Some}
 use Rattle.cml_board.specs.declared.call.Kind.{Kind}
 use Rattle.cml_board.specs.declared.call.Kind.TheVariants as kind
 use Rattle.cml_board.specs.Origins.{Origin, mailbox, channel, port, ivar, mvar, kind_by}
+use Rattle.cml_board.specs.Objects.{is_variable}
 use Rattle.cml_board.specs.Counts.{only_if, start_in}
 use Rattle.cml_board.specs.History.{Lawful, kind_of, is_open}
 use Rattle.cml_board.proofs.Closing.{mailbox_open}
@@ -17,6 +18,11 @@ some_count test o k n r told is passes = rw (told, is, passes) refl
 -- and an open one has what it is owed
 pub some_owed : (test : Kind → Bool) (o : Option Kind) (k : Kind) (opened : Bool) (n : ℕ) (r : Option ℕ) → r ≡ only_if (option_map_or test o false && opened) n → o ≡ Some k → test k ≡ true → opened ≡ true → IsSome r
 some_owed test o k opened n r told is passes e = rw (told, is, passes, e) refl
+
+-- a variable has something that it holds, or nothing
+pub some_held : {X : Type 0} (o : Option Kind) (k : Kind) (n : Option ℕ) (f : Option X → Option ℕ) (r : Option (Option X)) → option_map f r ≡ only_if (option_map_or is_variable o false) n → o ≡ Some k → is_variable k ≡ true → IsSome r
+some_held o k n f None told is passes = absurd (none-some n (told ∙ ap (λ x. only_if (option_map_or is_variable x false) n) is ∙ ap (λ t. only_if t n) passes))
+some_held o k n f (Some x) told is passes = refl
 
 pub some_start : (o : Option Origin) (r : Option ℕ) → r ≡ start_in o → option_map kind_by o ≡ Some kind.Port → IsSome r
 some_start None r told is = absurd (none-some kind.Port is)

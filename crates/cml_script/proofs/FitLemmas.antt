@@ -13,7 +13,7 @@ use Rattle.cml_grammar.specs.declared.script.Step.{Step}
 use Rattle.cml_grammar.specs.Names.{Given}
 use Rattle.cml_grammar.specs.Meaning.{names_of, action_of}
 use Rattle.cml_grammar.specs.Script.{Lines}
-use Rattle.cml_grammar.specs.Reading.{IsMailboxAt, IsChannelAt, IsPortAt, IsReceiverAt, source_of, ReadsStep}
+use Rattle.cml_grammar.specs.Reading.{IsMailboxAt, IsChannelAt, IsPortAt, IsReceiverAt, IsMVarAt, IsVariableAt, source_of, ReadsStep}
 use Rattle.cml_script.specs.Schedule.{History, call_of, object_of, step_call}
 use Rattle.cml_script.specs.Stage.{IsObject, IsObjectAt}
 use Rattle.cml_script.proofs.ListLemmas.{mapped_at}
@@ -28,6 +28,16 @@ module _ (names : List Given) (at : ℕ) where
 
   pub port_at : IsPortAt names at → IsObjectAt names at kind.Port
   port_at (word, whose, found) = (word, called.Port whose, found, refl)
+
+  pub mvar_at : IsMVarAt names at → IsObjectAt names at kind.MVar
+  mvar_at (word, found) = (word, called.MVar, found, refl)
+
+  pub mvar_object : IsMVarAt names at → IsObject names at
+  mvar_object (word, found) = (kind.MVar, (word, called.MVar, found, refl))
+
+  pub variable_object : IsVariableAt names at → IsObject names at
+  variable_object (inl (word, found)) = (kind.IVar, (word, called.IVar, found, refl))
+  variable_object (inr (word, found)) = (kind.MVar, (word, called.MVar, found, refl))
 
   pub mailbox_object : IsMailboxAt names at → IsObject names at
   mailbox_object (word, found) = (kind.Mailbox, (word, called.Mailbox, found, refl))
@@ -53,6 +63,14 @@ fits_receiver names at history name c (inl (word, found)) kinds on by_mailbox by
     fits_kind history name kind.Mailbox c (kinds kind.Mailbox (word, called.Mailbox, found, refl)) on by_mailbox
 fits_receiver names at history name c (inr (word, whose, found)) kinds on by_mailbox by_port =
     fits_kind history name kind.Port c (kinds kind.Port (word, called.Port whose, found, refl)) on by_port
+
+-- a put or a get on a variable
+pub fits_variable : (names : List Given) (at : ℕ) (history : History) (name : Name) (c : Call ℕ) → IsVariableAt names at → ((k : Kind) → IsObjectAt names at k → kind_of history name.0 ≡ Some k)
+    → object_in c ≡ Some name → takes kind.IVar c ≡ true → takes kind.MVar c ≡ true → Fits history c
+fits_variable names at history name c (inl (word, found)) kinds on by_ivar by_mvar =
+    fits_kind history name kind.IVar c (kinds kind.IVar (word, called.IVar, found, refl)) on by_ivar
+fits_variable names at history name c (inr (word, found)) kinds on by_ivar by_mvar =
+    fits_kind history name kind.MVar c (kinds kind.MVar (word, called.MVar, found, refl)) on by_mvar
 
 -- the call of a step is what it was read as
 pub step_calls : (script : Lines) (history : History) (items : List Step) (i : ℕ) (s : Step) (c : Call ℕ) → map (λ x. source_of x.line) items ≡ script.steps → All (ReadsStep (names_of script)) items → slice_get items i ≡ Some s

@@ -9,7 +9,7 @@ use Rattle.cml_board.specs.declared.call.Call.TheVariants as call
 use Rattle.cml_board.specs.declared.call.Kind.{Kind}
 use Rattle.cml_board.specs.declared.call.Kind.TheVariants as kind
 use Rattle.cml_board.specs.declared.entry.Entry.{Entry}
-use Rattle.cml_board.specs.Origins.{Origin, mailbox, channel, port, kind_by}
+use Rattle.cml_board.specs.Origins.{Origin, mailbox, channel, port, ivar, mvar, kind_by}
 use Rattle.cml_board.specs.History.{Lawful, made, begun_by, if_made, new_name, kind_of, answer, sent}
 use Rattle.cml_grammar.specs.declared.names.Named.TheVariants as called
 use Rattle.cml_grammar.specs.declared.forms.Makes.{Makes}
@@ -46,6 +46,12 @@ makes_one before entry object makes.Mailbox e answers =
     let same = same_Some _ _ e in makes_begun before entry call.NewMailbox mailbox same refl (reply_is before entry call.NewMailbox same refl answers)
 makes_one before entry object makes.Channel e answers =
     let same = same_Some _ _ e in makes_begun before entry call.NewChannel channel same refl (reply_is before entry call.NewChannel same refl answers)
+makes_one before entry object makes.IVar e answers =
+    let same = same_Some _ _ e in makes_begun before entry call.NewIVar ivar same refl (reply_is before entry call.NewIVar same refl answers)
+makes_one before entry object makes.MVar e answers =
+    let same = same_Some _ _ e in makes_begun before entry call.NewMVar mvar same refl (reply_is before entry call.NewMVar same refl answers)
+makes_one before entry object (makes.MVarInit message) e answers =
+    let same = same_Some _ _ e in makes_begun before entry (call.MVarInit message) mvar same refl (reply_is before entry (call.MVarInit message) same refl answers)
 makes_one before entry object (makes.Port source) e answers = by_source (object source) e
   where
     by_source : (o : Option ℕ) → option_map (λ n. call.NewPort (record { 0 = n })) o ≡ Some entry.call → MakesOne before entry (Some kind.Port)
@@ -148,6 +154,9 @@ object_kind (Some makes.Thread) k e = absurd (none-some k e)
 object_kind (Some makes.Mailbox) k e = refl
 object_kind (Some makes.Channel) k e = refl
 object_kind (Some (makes.Port source)) k e = refl
+object_kind (Some makes.IVar) k e = refl
+object_kind (Some makes.MVar) k e = refl
+object_kind (Some (makes.MVarInit message)) k e = refl
 
 pub kind_object : (script : Lines) (line : SourceLine) (k : Kind) → kind_declared script line ≡ Some k → is_object script line ≡ true
 kind_object script line k e = object_kind (makes_of (names_of script) line.words) k e
@@ -197,6 +206,9 @@ next_object play names i d made found reads uses = by_makes d.makes refl uses
     by_makes makes.Thread e uses = tt
     by_makes makes.Mailbox e uses = next makes.Mailbox call.NewMailbox e refl refl
     by_makes makes.Channel e uses = next makes.Channel call.NewChannel e refl refl
+    by_makes makes.IVar e uses = next makes.IVar call.NewIVar e refl refl
+    by_makes makes.MVar e uses = next makes.MVar call.NewMVar e refl refl
+    by_makes (makes.MVarInit message) e small = (next (makes.MVarInit message) (call.MVarInit message) e refl refl, small)
     by_makes (makes.Port source) e (is_channel, earlier) =
         let within : source < length play.script.declarations = omega (arith, earlier, slice_get_within play.script.declarations i line found) in
         let given = names source kind.Channel within (is_channel.0, called.Channel, is_channel.1, refl) in

@@ -53,6 +53,9 @@ gives_kind names at k d (word, n, found, kinded) gives = by_makes d.makes gives.
     by_makes makes.Mailbox g = same called.Mailbox g
     by_makes makes.Channel g = same called.Channel g
     by_makes (makes.Port source) g = same (called.Port users.Every) g
+    by_makes makes.IVar g = same called.IVar g
+    by_makes makes.MVar g = same called.MVar g
+    by_makes (makes.MVarInit message) g = same called.MVar g
     by_makes makes.Thread g = same (called.Thread g.0) g.1
 
 pub names_objects : (script : Lines) (items : List Declaration) → map (λ d. source_of d.line) items ≡ script.declarations → GivesNames (names_of script) items → All (ReadsDeclaration (names_of script)) items → NamesObjects script

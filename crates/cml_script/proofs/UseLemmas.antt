@@ -30,7 +30,7 @@ use Rattle.cml_script.proofs.LineLemmas.{all_at, step_seated}
 use Rattle.cml_script.proofs.QueueLemmas.{position_is}
 use Rattle.cml_script.proofs.GivingLemmas.{names_le}
 use Rattle.cml_script.proofs.BindingLemmas.{bound_port, gave}
-use Rattle.cml_script.proofs.FitLemmas.{mailbox_object, channel_object, port_object, receiver_object}
+use Rattle.cml_script.proofs.FitLemmas.{mailbox_object, channel_object, port_object, receiver_object, mvar_object, variable_object}
 use Rattle.cml_script.proofs.StandLemmas.{IsObjectOf, object_declared, object_given, declared_stands, object_is, stands_made, binding_is}
 
 used_object : (names : List Given) (a : Action) → UsesWell names a → IsObject names (used_by a)
@@ -41,6 +41,12 @@ used_object names (action.Poll at) uses = receiver_object names at uses
 used_object names (action.Port at) uses = channel_object names at uses
 used_object names (action.Copy at) uses = port_object names at uses
 used_object names (action.Close at) uses = port_object names at uses
+used_object names (action.Put at message) uses = variable_object names at uses.0
+used_object names (action.Get at) uses = variable_object names at uses
+used_object names (action.GetPoll at) uses = variable_object names at uses
+used_object names (action.Take at) uses = mvar_object names at uses
+used_object names (action.TakePoll at) uses = mvar_object names at uses
+used_object names (action.Swap at message) uses = mvar_object names at uses.0
 
 the_some : (o : Option ℕ) → IsSome o → (n : ℕ) × (o ≡ Some n)
 the_some None some = absurd (false≢true some)

@@ -9,9 +9,10 @@ use Rattle.cml_board.specs.declared.entry.Reply.TheVariants as reply
 use Rattle.cml_board.specs.declared.entry.Entry.{Entry}
 use Rattle.cml_board.specs.Origins.{start_by}
 use Rattle.cml_board.specs.History.{origin_of, sent, got, owed, is_open}
+use Rattle.cml_board.specs.Held.{held}
 use Rattle.cml_board.specs.Kept.{kept_from, kept_size}
 use Rattle.cml_grammar.specs.declared.names.Named.{Named}
-use Rattle.cml_grammar.specs.declared.names.Named.TheVariants.{Thread, Mailbox, Channel, Port}
+use Rattle.cml_grammar.specs.declared.names.Named.TheVariants.{Thread, Mailbox, Channel, Port, IVar, MVar}
 use Rattle.cml_grammar.specs.Names.{Given}
 use Rattle.cml_grammar.specs.Script.{SourceLine, Lines}
 use Rattle.cml_grammar.specs.Meaning.{names_of}
@@ -81,6 +82,14 @@ abbrev pub port_line : Lines → History → ℕ → List ℕ → List ℕ
 port_line script history at name =
     codes "port " ++ name ++ counts_or_not_made (port_counts history) (made_of script history at) ++ line_end
 
+abbrev pub held_text : Option ℕ → List ℕ
+held_text None = codes ": empty"
+held_text (Some message) = codes ": full " ++ decimal message
+
+abbrev pub variable_line : Lines → History → ℕ → List ℕ → List ℕ → List ℕ
+variable_line script history at word name =
+    word ++ codes " " ++ name ++ counts_or_not_made (λ object. held_text (held history object)) (made_of script history at) ++ line_end
+
 abbrev pub named_line : Lines → History → ℕ → List ℕ → Named → List ℕ
 named_line script history at name (Thread seat) = []
 named_line script history at name Mailbox =
@@ -88,6 +97,8 @@ named_line script history at name Mailbox =
 named_line script history at name Channel =
     codes "channel " ++ name ++ counts_or_not_made (channel_counts history) (made_of script history at) ++ line_end
 named_line script history at name (Port whose) = port_line script history at name
+named_line script history at name IVar = variable_line script history at (codes "ivar") name
+named_line script history at name MVar = variable_line script history at (codes "mvar") name
 
 -- the line of the name at this position
 abbrev pub object_line : Lines → History → ℕ → Given → List ℕ

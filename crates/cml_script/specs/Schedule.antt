@@ -53,6 +53,9 @@ abbrev pub making_call : (ℕ → Option ℕ) → Makes → Option (Call ℕ)
 making_call object makes.Thread = None
 making_call object makes.Mailbox = Some call.NewMailbox
 making_call object makes.Channel = Some call.NewChannel
+making_call object makes.IVar = Some call.NewIVar
+making_call object makes.MVar = Some call.NewMVar
+making_call object (makes.MVarInit message) = Some (call.MVarInit message)
 making_call object (makes.Port channel) = option_map (λ o. call.NewPort (record { 0 = o })) (object channel)
 
 abbrev pub call_in : Lines → History → SourceLine → Option (Call ℕ)
@@ -152,6 +155,12 @@ call_of object (action.Poll at) = option_map (λ o. call.Poll (record { 0 = o })
 call_of object (action.Port at) = option_map (λ o. call.NewPort (record { 0 = o })) (object at)
 call_of object (action.Copy at) = option_map (λ o. call.CopyPort (record { 0 = o })) (object at)
 call_of object (action.Close at) = option_map (λ o. call.ClosePort (record { 0 = o })) (object at)
+call_of object (action.Put at message) = option_map (λ o. call.Put (record { 0 = o }) message) (object at)
+call_of object (action.Get at) = option_map (λ o. call.Get (record { 0 = o })) (object at)
+call_of object (action.GetPoll at) = option_map (λ o. call.GetPoll (record { 0 = o })) (object at)
+call_of object (action.Take at) = option_map (λ o. call.Take (record { 0 = o })) (object at)
+call_of object (action.TakePoll at) = option_map (λ o. call.TakePoll (record { 0 = o })) (object at)
+call_of object (action.Swap at message) = option_map (λ o. call.Swap (record { 0 = o }) message) (object at)
 
 -- the call of the i-th step, after this history
 abbrev pub step_call : Lines → History → ℕ → Option (Call ℕ)

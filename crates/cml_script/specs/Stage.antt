@@ -51,12 +51,17 @@ kind_named (called.Thread seat) = None
 kind_named called.Mailbox = Some kind.Mailbox
 kind_named called.Channel = Some kind.Channel
 kind_named (called.Port whose) = Some kind.Port
+kind_named called.IVar = Some kind.IVar
+kind_named called.MVar = Some kind.MVar
 
 abbrev pub kind_made : Makes → Option Kind
 kind_made makes.Thread = None
 kind_made makes.Mailbox = Some kind.Mailbox
 kind_made makes.Channel = Some kind.Channel
 kind_made (makes.Port channel) = Some kind.Port
+kind_made makes.IVar = Some kind.IVar
+kind_made makes.MVar = Some kind.MVar
+kind_made (makes.MVarInit message) = Some kind.MVar
 
 abbrev pub kind_declared : Lines → SourceLine → Option Kind
 kind_declared script line = option_and_then kind_made (makes_of (names_of script) line.words)
@@ -176,6 +181,9 @@ abbrev pub IsNext : Play → Makes → Type 0
 IsNext play makes.Thread = ⊤
 IsNext play makes.Mailbox = IsNextObject play call.NewMailbox
 IsNext play makes.Channel = IsNextObject play call.NewChannel
+IsNext play makes.IVar = IsNextObject play call.NewIVar
+IsNext play makes.MVar = IsNextObject play call.NewMVar
+IsNext play (makes.MVarInit message) = IsNextObject play (call.MVarInit message) × (message < 2 ^ 64)
 IsNext play (makes.Port channel) =
     IsChannelAt (names_of play.script) channel
     × (channel < length play.script.declarations) × (o : ℕ) × (declared_object play.script play.history channel ≡ Some o) × IsNextObject play (call.NewPort (record { 0 = o }))

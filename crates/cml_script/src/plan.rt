@@ -42,6 +42,7 @@ fn makes_object(makes: Makes) -> bool
     match makes {
         Makes::Thread => false,
         Makes::Mailbox | Makes::Channel | Makes::Port(_) => true,
+        Makes::IVar | Makes::MVar | Makes::MVarInit(_) => true,
     }
 }
 
@@ -67,6 +68,8 @@ fn gives_name(action: Action) -> bool
         Action::Port(_) | Action::Copy(_) => true,
         Action::Send(_, _) | Action::Multicast(_, _) | Action::Close(_) => false,
         Action::Recv(_) | Action::Poll(_) => false,
+        Action::Put(_, _) | Action::Get(_) | Action::GetPoll(_) => false,
+        Action::Take(_) | Action::TakePoll(_) | Action::Swap(_, _) => false,
     }
 }
 

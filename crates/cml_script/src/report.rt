@@ -2,8 +2,8 @@
 ghost use Rattle.std.specs.Prelude.{◌≡◌, ◌<◌, ◌++◌, List, length, slice_get, Some, OnOk, string_bytes, codes};
 ghost use Rattle.cml_grammar.specs.declared.names.Named.TheVariants as called;
 ghost use Rattle.cml_grammar.specs.Meaning.{names_of};
-ghost use Rattle.cml_grammar.specs.Reading.{IsPortAt};
-ghost use Rattle.cml_script.specs.Report.{reply_word, line_end, port_line, named_line, object_lines_from, end_line};
+ghost use Rattle.cml_grammar.specs.Reading.{IsPortAt, IsVariableAt};
+ghost use Rattle.cml_script.specs.Report.{reply_word, line_end, port_line, variable_line, named_line, object_lines_from, end_line};
 
 use crate::stage::Stage;
 use crate::stop::Stop;
@@ -63,6 +63,8 @@ fn write_object(
         Named::Mailbox => write_mailbox(report, stage, at, name),
         Named::Channel => write_channel(report, stage, at, name),
         Named::Port(_) => write_port(report, stage, at, name),
+        Named::IVar => write_variable(report, stage, at, "ivar", name),
+        Named::MVar => write_variable(report, stage, at, "mvar", name),
     }
 }
 
@@ -131,6 +133,26 @@ fn write_port(
     match board.owed_count(object) {
         Some(owed) => writeln!(report, "port {name}: start {start} got {got} owed {owed}"),
         None => writeln!(report, "port {name}: start {start} got {got} closed"),
+    }
+}
+
+fn write_variable(
+    report: &mut String,
+    stage: &Stage<'_>,
+    at: usize,
+    word: &str,
+    name: &str,
+) -> Result<(), AllocError>
+    requires { IsVariableAt (names_of stage.now.script) at }
+    ensures { OnOk result (string_bytes report.new
+        ≡ string_bytes report.old ++ variable_line stage.now.script stage.now.history at word.now name.now) }
+{
+    let Some(object) = stage.object(at) else {
+        return writeln!(report, "{word} {name}: not made");
+    };
+    match stage.board().held(object).unwrap() {
+        Some(message) => writeln!(report, "{word} {name}: full {message}"),
+        None => writeln!(report, "{word} {name}: empty"),
     }
 }
 

@@ -161,6 +161,9 @@ impl<'a> Stage<'a> {
             Makes::Thread => Ok(true),
             Makes::Mailbox => self.make(Call::NewMailbox),
             Makes::Channel => self.make(Call::NewChannel),
+            Makes::IVar => self.make(Call::NewIVar),
+            Makes::MVar => self.make(Call::NewMVar),
+            Makes::MVarInit(message) => self.make(Call::MVarInit(message)),
             Makes::Port(channel) => self.make(Call::NewPort(self.declared_object(channel))),
         }
     }
@@ -245,6 +248,12 @@ impl<'a> Stage<'a> {
             Action::Port(at) => Call::NewPort(self.bound_object(at)),
             Action::Copy(at) => Call::CopyPort(self.bound_object(at)),
             Action::Close(at) => Call::ClosePort(self.bound_object(at)),
+            Action::Put(at, message) => Call::Put(self.bound_object(at), message),
+            Action::Get(at) => Call::Get(self.bound_object(at)),
+            Action::GetPoll(at) => Call::GetPoll(self.bound_object(at)),
+            Action::Take(at) => Call::Take(self.bound_object(at)),
+            Action::TakePoll(at) => Call::TakePoll(self.bound_object(at)),
+            Action::Swap(at, message) => Call::Swap(self.bound_object(at), message),
         }
     }
 

@@ -4,6 +4,7 @@ mod made;
 mod ports;
 mod scripts;
 mod streams;
+mod variables;
 
 use crate::{Ending, replay};
 use std::alloc::{AllocError, Global};

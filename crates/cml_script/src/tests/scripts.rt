@@ -136,7 +136,7 @@ fn replays_scripts(rt: HostRuntime) -> Result<(), Fail> {
     Ok(())
 }
 
-const FAULTS: [(&str, &str, &str); 14] = [
+const FAULTS: [(&str, &str, &str); 16] = [
     ("nothing", "", "script: line 1: bad header"),
     (
         "a header without line end",
@@ -190,14 +190,29 @@ const FAULTS: [(&str, &str, &str); 14] = [
         "script: line 6: no line end",
     ),
     (
-        "a variable, which no script has yet",
-        "cml 1\nivar i\n",
+        "a lane, which no script has yet",
+        "cml 1\nlane A m 2\n",
         "script: line 2: unknown line",
     ),
     (
-        "a put, which no script has yet",
-        "cml 1\nmailbox m\nthread A\nA put m 5\n",
+        "a word that is no step",
+        "cml 1\nmailbox m\nthread A\nA leave m\n",
         "script: line 4: unknown step",
+    ),
+    (
+        "a put on a mailbox",
+        "cml 1\nmailbox m\nthread A\nA put m 5\n",
+        "script: line 4: wrong kind",
+    ),
+    (
+        "a take of an i-variable",
+        "cml 1\nivar i\nthread A\nA take i\n",
+        "script: line 4: wrong kind",
+    ),
+    (
+        "an i-variable with a message",
+        "cml 1\nivar i 3\n",
+        "script: line 2: word count",
     ),
 ];
 
