@@ -29,14 +29,14 @@ use Rattle.cml_grammar.proofs.KeepingLemmas.{declared_scope, declared_so_far, as
 abbrev Names : Type 0
 Names = IndexMap (String Global) Named (BuildHasherDefault FoldHasher)
 
-pub declared_suits : (now : Lines) (words : List (List ℕ)) (what : Declares) (rest : List (List ℕ)) → fault_in_words (scope_of now) words ≡ None → form_of (names_of now) words ≡ declaration what rest → AllSuit (names_of now) (declared_places what) rest
+pub declared_suits : (now : Lines) (words : List (List ℕ)) (what : Declares) (rest : List (List ℕ)) → fault_in_words (scope_of now) words ≡ None → form_of (names_of now) words ≡ declaration what rest → AllSuit (names_of now) (declared_places what rest) rest
 declared_suits now words what rest fits form =
     all_suit-passes (scope_of now) (declaration what rest) (subst (Passes (scope_of now)) form (words_pass (scope_of now) words fits).1)
 
 -- the same of the names that are kept
-pub kept_suits : (now script : Lines) (names : List Given) (words : List (List ℕ)) (what : Declares) (rest : List (List ℕ)) → script ≡ now → names ≡ names_of script → fault_in_words (scope_of now) words ≡ None → form_of (names_of now) words ≡ declaration what rest → AllSuit names (declared_places what) rest
+pub kept_suits : (now script : Lines) (names : List Given) (words : List (List ℕ)) (what : Declares) (rest : List (List ℕ)) → script ≡ now → names ≡ names_of script → fault_in_words (scope_of now) words ≡ None → form_of (names_of now) words ≡ declaration what rest → AllSuit names (declared_places what rest) rest
 kept_suits now script names words what rest seen kept fits form =
-    subst (λ (gs : List Given). AllSuit gs (declared_places what) rest) (sym (kept ∙ ap names_of seen)) (declared_suits now words what rest fits form)
+    subst (λ (gs : List Given). AllSuit gs (declared_places what rest) rest) (sym (kept ∙ ap names_of seen)) (declared_suits now words what rest fits form)
 
 -- what a declaration was read from
 pub record Declared (now : Lines) (d : Declaration) (what : Declares) (rest : List (List ℕ)) : Type 0 where
@@ -48,7 +48,7 @@ module _ (v : ℕ) (now : Lines) (m : Names) (ds ds' : List Declaration) (ss : L
     (seen : view_of v ds ss ≡ now)
     (so_far : IsReadSoFar (view_of v ds ss) m.entries ds ss threads)
     (read : Declared now d what rest)
-    (there : fresh_word (declared_places what) rest ≡ Some name)
+    (there : fresh_word (declared_places what rest) rest ≡ Some name)
     (makes : makes_by (texts_of m.entries) what rest ≡ Some d.makes)
     (well : IsMadeWell (texts_of m.entries) (length (texts_of m.entries)) d.makes)
     (pushed : ds' ≡ ds ++ d ∷ []) where
@@ -58,7 +58,7 @@ module _ (v : ℕ) (now : Lines) (m : Names) (ds ds' : List Declaration) (ss : L
   fresh : is_given (texts_of m.entries) name ≡ false
   fresh =
       ap (λ gs. is_given gs name) so_far.names
-      ∙ fresh_is_new (names_of (view_of v ds ss)) (declared_places what) rest name (declared_suits (view_of v ds ss) (words_of (string_bytes d.line.text)) what rest before.fits before.form) there
+      ∙ fresh_is_new (names_of (view_of v ds ss)) (declared_places what rest) rest name (declared_suits (view_of v ds ss) (words_of (string_bytes d.line.text)) what rest before.fits before.form) there
 
   made : makes_by (names_of (view_of v ds ss)) what rest ≡ Some d.makes
   made = ap (λ gs. makes_by gs what rest) (sym so_far.names) ∙ makes

@@ -18,7 +18,7 @@ use Rattle.cml_grammar.specs.Words.{words_of}
 use Rattle.cml_grammar.specs.Names.{Given, is_called, position_of, named, seat_in, thread_count}
 use Rattle.cml_grammar.specs.Forms.{declares_of, verb_of, step_places, fresh_word}
 use Rattle.cml_grammar.specs.Meaning.{makes_by, makes_of, action_by, action_of, seat_of_step}
-use Rattle.cml_grammar.specs.Reading.{IsMailboxAt, IsChannelAt, IsPortAt, IsReceiverAt, GivesAt, GivesNames, IsMadeWell, ReadsDeclaration, ReadsStep, UsesWell, used_by, gives_name}
+use Rattle.cml_grammar.specs.Reading.{IsMailboxAt, IsChannelAt, IsPortAt, IsReceiverAt, IsIVarAt, IsMVarAt, IsVariableAt, GivesAt, GivesNames, IsMadeWell, ReadsDeclaration, ReadsStep, UsesWell, used_by, gives_name}
 use Rattle.cml_grammar.proofs.ListLemmas.{position-append, mapped_some, slice_get-append}
 
 -- a name keeps its position
@@ -50,17 +50,32 @@ IsReceiverAt-append names more at h = elim h [ inl a ↦ inl (IsMailboxAt-append
 pub IsChannelAt-append : (names more : List Given) (at : ℕ) → IsChannelAt names at → IsChannelAt (names ++ more) at
 IsChannelAt-append names more at h = (h.0, slice_get-append names more at _ h.1)
 
+pub IsIVarAt-append : (names more : List Given) (at : ℕ) → IsIVarAt names at → IsIVarAt (names ++ more) at
+IsIVarAt-append names more at h = (h.0, slice_get-append names more at _ h.1)
+
+pub IsMVarAt-append : (names more : List Given) (at : ℕ) → IsMVarAt names at → IsMVarAt (names ++ more) at
+IsMVarAt-append names more at h = (h.0, slice_get-append names more at _ h.1)
+
+pub IsVariableAt-append : (names more : List Given) (at : ℕ) → IsVariableAt names at → IsVariableAt (names ++ more) at
+IsVariableAt-append names more at h = elim h [ inl a ↦ inl (IsIVarAt-append names more at a) | inr b ↦ inr (IsMVarAt-append names more at b) ]
+
 pub GivesAt-append : (names more : List Given) (at : ℕ) (word : List ℕ) (made : Makes) → GivesAt names at word made → GivesAt (names ++ more) at word made
 GivesAt-append names more at word makes.Thread h = (h.0, slice_get-append names more at _ h.1)
 GivesAt-append names more at word makes.Mailbox h = slice_get-append names more at _ h
 GivesAt-append names more at word makes.Channel h = slice_get-append names more at _ h
 GivesAt-append names more at word (makes.Port channel) h = slice_get-append names more at _ h
+GivesAt-append names more at word makes.IVar h = slice_get-append names more at _ h
+GivesAt-append names more at word makes.MVar h = slice_get-append names more at _ h
+GivesAt-append names more at word (makes.MVarInit message) h = slice_get-append names more at _ h
 
 pub IsMadeWell-append : (names more : List Given) (i : ℕ) (made : Makes) → IsMadeWell names i made → IsMadeWell (names ++ more) i made
 IsMadeWell-append names more i makes.Thread h = tt
 IsMadeWell-append names more i makes.Mailbox h = tt
 IsMadeWell-append names more i makes.Channel h = tt
 IsMadeWell-append names more i (makes.Port channel) h = (IsChannelAt-append names more channel h.0, h.1)
+IsMadeWell-append names more i makes.IVar h = tt
+IsMadeWell-append names more i makes.MVar h = tt
+IsMadeWell-append names more i (makes.MVarInit message) h = h
 
 pub makes_by-append : (names more : List Given) (what : Declares) (rest : List (List ℕ)) (made : Makes) → makes_by names what rest ≡ Some made → makes_by (names ++ more) what rest ≡ Some made
 makes_by-append names more declares.Mailbox rest made h = h
@@ -69,6 +84,11 @@ makes_by-append names more declares.Port [] made h = absurd (none-some made h)
 makes_by-append names more declares.Port (channel ∷ rest) made h =
     let found = mapped_some makes.Port (position_of names channel) made h in
     ap (option_map makes.Port) (position_of-append names more channel found.0 found.1) ∙ ap Some found.2
+makes_by-append names more declares.IVar rest made h = h
+makes_by-append names more declares.MVar [] made h = h
+makes_by-append names more declares.MVar (name ∷ []) made h = h
+makes_by-append names more declares.MVar (name ∷ message ∷ []) made h = h
+makes_by-append names more declares.MVar (name ∷ message ∷ word ∷ rest) made h = h
 makes_by-append names more declares.Thread rest made h = h
 
 makes_of-append : (names more : List Given) (words : List (List ℕ)) (made : Makes) → makes_of names words ≡ Some made → makes_of (names ++ more) words ≡ Some made
@@ -121,6 +141,12 @@ step_asks names verb.Poll (object ∷ []) a h = asks_from names verb.Poll object
 step_asks names verb.Port (object ∷ name ∷ []) a h = asks_from names verb.Port object (name ∷ []) a action.Port (λ i. refl) (λ i. refl) (λ others. refl) h
 step_asks names verb.Copy (object ∷ name ∷ []) a h = asks_from names verb.Copy object (name ∷ []) a action.Copy (λ i. refl) (λ i. refl) (λ others. refl) h
 step_asks names verb.Close (object ∷ []) a h = asks_from names verb.Close object [] a action.Close (λ i. refl) (λ i. refl) (λ others. refl) h
+step_asks names verb.Put (object ∷ message ∷ []) a h = asks_from names verb.Put object (message ∷ []) a (λ at. action.Put at (digits_value 10 message)) (λ i. refl) (λ i. refl) (λ others. refl) h
+step_asks names verb.Get (object ∷ []) a h = asks_from names verb.Get object [] a action.Get (λ i. refl) (λ i. refl) (λ others. refl) h
+step_asks names verb.GetPoll (object ∷ []) a h = asks_from names verb.GetPoll object [] a action.GetPoll (λ i. refl) (λ i. refl) (λ others. refl) h
+step_asks names verb.Take (object ∷ []) a h = asks_from names verb.Take object [] a action.Take (λ i. refl) (λ i. refl) (λ others. refl) h
+step_asks names verb.TakePoll (object ∷ []) a h = asks_from names verb.TakePoll object [] a action.TakePoll (λ i. refl) (λ i. refl) (λ others. refl) h
+step_asks names verb.Swap (object ∷ message ∷ []) a h = asks_from names verb.Swap object (message ∷ []) a (λ at. action.Swap at (digits_value 10 message)) (λ i. refl) (λ i. refl) (λ others. refl) h
 step_asks names _ _ a h = absurd (none-some a h)
 
 action_of-append : (names more : List Given) (words : List (List ℕ)) (a : Action) → action_of names words ≡ Some a → action_of (names ++ more) words ≡ Some a
@@ -139,6 +165,12 @@ UsesWell-append names more (action.Poll at) h = IsReceiverAt-append names more a
 UsesWell-append names more (action.Port at) h = IsChannelAt-append names more at h
 UsesWell-append names more (action.Copy at) h = IsPortAt-append names more at h
 UsesWell-append names more (action.Close at) h = IsPortAt-append names more at h
+UsesWell-append names more (action.Put at message) h = (IsVariableAt-append names more at h.0, h.1)
+UsesWell-append names more (action.Get at) h = IsVariableAt-append names more at h
+UsesWell-append names more (action.GetPoll at) h = IsVariableAt-append names more at h
+UsesWell-append names more (action.Take at) h = IsMVarAt-append names more at h
+UsesWell-append names more (action.TakePoll at) h = IsMVarAt-append names more at h
+UsesWell-append names more (action.Swap at message) h = (IsMVarAt-append names more at h.0, h.1)
 
 pub ReadsStep-append : (names more : List Given) (s : Step) → thread_count names ≡ thread_count (names ++ more) → ReadsStep names s → ReadsStep (names ++ more) s
 ReadsStep-append names more s same h = record {

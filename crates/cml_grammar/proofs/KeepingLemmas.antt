@@ -2,6 +2,7 @@
 use Rattle.std.proofs.Common.{◌≡◌, ℕ, ◌+◌, ◌≤◌, ◌==◌, Bool, true, false, not, ◌&&◌, ◌||◌, List, [], ◌∷◌, ◌++◌, length, map, slice_get, nat_le, Option, Some, None, String, string_bytes, All, refl, sym, ap, ◌∙◌, subst, arith, inl, inr, ◌⊎◌, ◌<◌, count_by, cond, is_some}
 use Rattle.std.specs.Global.{Global}
 use Rattle.std.specs.Option.{option_map_or, option_and_then, option_map}
+use Rattle.std.specs.Str.Parse.{digits_value}
 use Rattle.std.proofs.lemmas.Bool.{or_right, or_parts, leb-false, ne_eqb, not-false, eqb-true}
 use Rattle.std.proofs.lemmas.List.{append-nil, length-append, length-map, map-append}
 use Rattle.std.proofs.lemmas.List.Sums.{sum_by_push}
@@ -27,7 +28,7 @@ use Rattle.cml_grammar.specs.Forms.{unknown, no_step, declaration, step, form_of
 use Rattle.cml_grammar.specs.Faults.{Scope, fault_in_words, after_words, gives, given_as, is_step, declares_thread, any_word, is_not_yours}
 use Rattle.cml_grammar.specs.Script.{SourceLine}
 use Rattle.cml_grammar.specs.Meaning.{scope_of, names_of, makes_by, makes_of, action_by, action_of, seat_of_step}
-use Rattle.cml_grammar.specs.Reading.{source_of, view_of, texts_of, IsSeatedWithin, IsReceiverAt, GivesAt, Gives, GivesNames, IsMadeWell, ReadsDeclaration, ReadsStep, UsesWell, UsesEarlier, MayUse, IsYours, used_by, IsReadSoFar, threads_by}
+use Rattle.cml_grammar.specs.Reading.{source_of, view_of, texts_of, IsSeatedWithin, IsReceiverAt, IsVariableAt, GivesAt, Gives, GivesNames, IsMadeWell, ReadsDeclaration, ReadsStep, UsesWell, UsesEarlier, MayUse, IsYours, used_by, IsReadSoFar, threads_by}
 use Rattle.cml_grammar.specs.Giving.{declared_word, asked_word, is_giving, names_before, NamesAreGiven}
 use Rattle.cml_grammar.proofs.ListLemmas.{mapped_some, slice_get-push, each-push}
 use Rattle.cml_grammar.proofs.GrowingLemmas.{GivesAt-append, IsMadeWell-append, ReadsDeclaration-append, GivesNames-append, ReadsStep-append, Asks, step_asks}
@@ -104,6 +105,8 @@ pub thread_count-push : (names : List Given) (word : List ℕ) (what : Declares)
 thread_count-push names word declares.Mailbox threads = sum_by_push _ names (word, called.Mailbox)
 thread_count-push names word declares.Channel threads = sum_by_push _ names (word, called.Channel)
 thread_count-push names word declares.Port threads = sum_by_push _ names (word, called.Port users.Every)
+thread_count-push names word declares.IVar threads = sum_by_push _ names (word, called.IVar)
+thread_count-push names word declares.MVar threads = sum_by_push _ names (word, called.MVar)
 thread_count-push names word declares.Thread threads = sum_by_push _ names (word, called.Thread (threads + 1))
 
 seated_more : (m n : ℕ) → m ≤ n → (k : Named) → IsSeatedWithin m k → IsSeatedWithin n k
@@ -111,11 +114,15 @@ seated_more m n le (called.Thread seat) h = (h.0, omega (arith, h.1))
 seated_more m n le called.Mailbox h = tt
 seated_more m n le called.Channel h = tt
 seated_more m n le (called.Port whose) h = tt
+seated_more m n le called.IVar h = tt
+seated_more m n le called.MVar h = tt
 
 seated_new : (what : Declares) (threads : ℕ) → IsSeatedWithin (threads + threads_by what) (named_by what threads)
 seated_new declares.Mailbox threads = tt
 seated_new declares.Channel threads = tt
 seated_new declares.Port threads = tt
+seated_new declares.IVar threads = tt
+seated_new declares.MVar threads = tt
 seated_new declares.Thread threads = (omega arith, omega arith)
 
 seats_push : (names : List Given) (word : List ℕ) (what : Declares) → All (λ g. IsSeatedWithin (thread_count names) g.1) names
@@ -128,6 +135,9 @@ seats_push names word what seats =
     (All-weaker (λ (g : Given). IsSeatedWithin count g.1) (λ (g : Given). IsSeatedWithin (count + threads_by what) g.1) (λ g h. seated_more count (count + threads_by what) (omega arith) g.1 h) names seats)
     (seated_new what count))
 
+mvar_new : (names : List Given) (word : List ℕ) (made given : Makes) → Some given ≡ Some made → GivesAt (names ++ (word, called.MVar) ∷ []) (length names) word given → GivesAt (names ++ (word, called.MVar) ∷ []) (length names) word made
+mvar_new names word made given h at = subst (GivesAt (names ++ (word, called.MVar) ∷ []) (length names) word) (same_Some _ _ h) at
+
 GivesAt-new : (names : List Given) (word : List ℕ) (what : Declares) (threads : ℕ) (made : Makes) (rest : List (List ℕ)) → makes_by names what rest ≡ Some made → GivesAt (names ++ (word, named_by what threads) ∷ []) (length names) word made
 GivesAt-new names word declares.Mailbox threads made rest h = subst (GivesAt (names ++ (word, called.Mailbox) ∷ []) (length names) word) (same_Some _ _ h) (slice_get-push names (word, called.Mailbox))
 GivesAt-new names word declares.Channel threads made rest h = subst (GivesAt (names ++ (word, called.Channel) ∷ []) (length names) word) (same_Some _ _ h) (slice_get-push names (word, called.Channel))
@@ -135,6 +145,11 @@ GivesAt-new names word declares.Port threads made [] h = absurd (none-some made 
 GivesAt-new names word declares.Port threads made (channel ∷ rest) h =
     let found = mapped_some makes.Port (position_of names channel) made h in
     subst (GivesAt (names ++ (word, called.Port users.Every) ∷ []) (length names) word) found.2 (slice_get-push names (word, called.Port users.Every))
+GivesAt-new names word declares.IVar threads made rest h = subst (GivesAt (names ++ (word, called.IVar) ∷ []) (length names) word) (same_Some _ _ h) (slice_get-push names (word, called.IVar))
+GivesAt-new names word declares.MVar threads made [] h = mvar_new names word made makes.MVar h (slice_get-push names (word, called.MVar))
+GivesAt-new names word declares.MVar threads made (name ∷ []) h = mvar_new names word made makes.MVar h (slice_get-push names (word, called.MVar))
+GivesAt-new names word declares.MVar threads made (name ∷ message ∷ []) h = mvar_new names word made (makes.MVarInit (digits_value 10 message)) h (slice_get-push names (word, called.MVar))
+GivesAt-new names word declares.MVar threads made (name ∷ message ∷ more ∷ rest) h = mvar_new names word made makes.MVar h (slice_get-push names (word, called.MVar))
 GivesAt-new names word declares.Thread threads made rest h = subst (GivesAt (names ++ (word, called.Thread (threads + 1)) ∷ []) (length names) word) (same_Some _ _ h) (threads + 1, slice_get-push names (word, called.Thread (threads + 1)))
 
 pub GivesNames-push : (names : List Given) (ds : List Declaration) (word : List ℕ) (what : Declares) (threads : ℕ) (d : Declaration) (rest : List (List ℕ))
@@ -155,7 +170,7 @@ module _ (v : ℕ) (es : List (String Global × Named)) (ds : List Declaration) 
     (so_far : IsReadSoFar (view_of v ds ss) es ds ss threads)
     (none : fault_in_words (scope_of (view_of v ds ss)) (words_of (string_bytes d.line.text)) ≡ None)
     (form : form_of (names_of (view_of v ds ss)) (words_of (string_bytes d.line.text)) ≡ declaration what rest)
-    (there : fresh_word (declared_places what) rest ≡ Some name)
+    (there : fresh_word (declared_places what rest) rest ≡ Some name)
     (makes : makes_by (names_of (view_of v ds ss)) what rest ≡ Some d.makes)
     (well : IsMadeWell (names_of (view_of v ds ss)) (length (names_of (view_of v ds ss))) d.makes) where
   pub declared_passes : Passes (scope_of (view_of v ds ss)) (declaration what rest)
@@ -200,6 +215,8 @@ module _ (v : ℕ) (es : List (String Global × Named)) (ds : List Declaration) 
       by declares.Mailbox h = omega (arith, so_far.limit)
       by declares.Channel h = omega (arith, so_far.limit)
       by declares.Port h = omega (arith, so_far.limit)
+      by declares.IVar h = omega (arith, so_far.limit)
+      by declares.MVar h = omega (arith, so_far.limit)
       by declares.Thread h = omega (arith, so_far.count, leb-false 64 (thread_count (names_of (view_of v ds ss))) h)
 
   line : IsDeclarationLine (words_of (string_bytes d.line.text)) what rest
@@ -209,7 +226,7 @@ module _ (v : ℕ) (es : List (String Global × Named)) (ds : List Declaration) 
   reads = record { makes = ap (makes_of (names_of (view_of v ds ss))) line.is ∙ ap (option_and_then (λ w. makes_by (names_of (view_of v ds ss)) w rest)) line.declares ∙ makes }
 
   declared_there : declared_word (words_of (string_bytes d.line.text)) ≡ Some name
-  declared_there = ap declared_word line.is ∙ ap (option_and_then (λ w. fresh_word (declared_places w) rest)) line.declares ∙ there
+  declared_there = ap declared_word line.is ∙ ap (option_and_then (λ w. fresh_word (declared_places w rest) rest)) line.declares ∙ there
 
   -- the lines of the declarations and of the steps
   abbrev declared_lines : List SourceLine
@@ -258,6 +275,8 @@ seated_from names n thread seat seats h =
     seat_within called.Mailbox e w = absurd (none-some seat e)
     seat_within called.Channel e w = absurd (none-some seat e)
     seat_within (called.Port whose) e w = absurd (none-some seat e)
+    seat_within called.IVar e w = absurd (none-some seat e)
+    seat_within called.MVar e w = absurd (none-some seat e)
 
     within : (r : Option Given) (i : ℕ) (k : Named) → slice_get names i ≡ r → option_map (λ g. g.1) r ≡ Some k → seat_in k ≡ Some seat → (1 ≤ seat) × (seat ≤ n)
     within None i k at meant is = absurd (none-some k meant)
@@ -272,6 +291,8 @@ may_use seat (called.Port users.Every) h = tt
 may_use seat (called.Thread other) h = tt
 may_use seat called.Mailbox h = tt
 may_use seat called.Channel h = tt
+may_use seat called.IVar h = tt
+may_use seat called.MVar h = tt
 
 not_others : (names : List Given) (seat : ℕ) (v : Verb) (object : List ℕ) (more : List (List ℕ)) → any_word (is_not_yours names seat) (step seat v (object ∷ more)) ≡ false → option_map_or (is_others seat) (named names object) false ≡ false
 not_others names seat verb.Send object more h = (or_parts _ _ h).0
@@ -281,9 +302,18 @@ not_others names seat verb.Poll object more h = (or_parts _ _ h).0
 not_others names seat verb.Port object more h = (or_parts _ _ h).0
 not_others names seat verb.Copy object more h = (or_parts _ _ h).0
 not_others names seat verb.Close object more h = (or_parts _ _ h).0
+not_others names seat verb.Put object more h = (or_parts _ _ h).0
+not_others names seat verb.Get object more h = (or_parts _ _ h).0
+not_others names seat verb.GetPoll object more h = (or_parts _ _ h).0
+not_others names seat verb.Take object more h = (or_parts _ _ h).0
+not_others names seat verb.TakePoll object more h = (or_parts _ _ h).0
+not_others names seat verb.Swap object more h = (or_parts _ _ h).0
 
 receiver_stands : (names : List Given) (at : ℕ) → IsReceiverAt names at → (g : Given) × (slice_get names at ≡ Some g)
 receiver_stands names at h = elim h [ inl a ↦ (_, a.1) | inr b ↦ (_, b.2) ]
+
+variable_stands : (names : List Given) (at : ℕ) → IsVariableAt names at → (g : Given) × (slice_get names at ≡ Some g)
+variable_stands names at h = elim h [ inl a ↦ (_, a.1) | inr b ↦ (_, b.1) ]
 
 used_stands : (names : List Given) (a : Action) → UsesWell names a → (g : Given) × (slice_get names (used_by a) ≡ Some g)
 used_stands names (action.Send at message) h = (_, h.0.1)
@@ -293,6 +323,12 @@ used_stands names (action.Poll at) h = receiver_stands names at h
 used_stands names (action.Port at) h = (_, h.1)
 used_stands names (action.Copy at) h = (_, h.2)
 used_stands names (action.Close at) h = (_, h.2)
+used_stands names (action.Put at message) h = variable_stands names at h.0
+used_stands names (action.Get at) h = variable_stands names at h
+used_stands names (action.GetPoll at) h = variable_stands names at h
+used_stands names (action.Take at) h = (_, h.1)
+used_stands names (action.TakePoll at) h = (_, h.1)
+used_stands names (action.Swap at message) h = (_, h.0.1)
 
 is_yours : (names : List Given) (seat : ℕ) (v : Verb) (rest : List (List ℕ)) (a : Action) → any_word (is_not_yours names seat) (step seat v rest) ≡ false → Asks names v rest a → UsesWell names a → IsYours names seat (used_by a)
 is_yours names seat v rest a passes asks uses =

@@ -6,7 +6,7 @@ use Rattle.std.proofs.lemmas.Bool.{or_parts, not-false, true≢false, eqb-true}
 use Rattle.std.proofs.lemmas.Option.{none-some, same_Some}
 use Rattle.cml_grammar.specs.declared.fault.What.{What}
 use Rattle.cml_grammar.specs.declared.forms.Place.{Place}
-use Rattle.cml_grammar.specs.declared.forms.Place.TheVariants.{Fresh, Mailbox, Channel, Port, Receiver, Number}
+use Rattle.cml_grammar.specs.declared.forms.Place.TheVariants.{Fresh, Mailbox, Channel, Port, Receiver, Variable, MVar, Number}
 use Rattle.cml_grammar.specs.Names.{Given, thread_count, named, position_of, is_given}
 use Rattle.cml_grammar.specs.Words.{has_empty_word}
 use Rattle.cml_grammar.specs.Forms.{Form, form_of, places_of, rest_of, suits, fresh_word, seat_of_form}
@@ -97,6 +97,8 @@ all_suit names (place ∷ places) (word ∷ words) count named fresh suited numb
     one Channel n f s k = used_suits names Channel word (not-false _ s)
     one Port n f s k = used_suits names Port word (not-false _ s)
     one Receiver n f s k = used_suits names Receiver word (not-false _ s)
+    one Variable n f s k = used_suits names Variable word (not-false _ s)
+    one MVar n f s k = used_suits names MVar word (not-false _ s)
     one Number n f s k = not-false _ k
 
 -- and each word suits its place
@@ -112,4 +114,6 @@ fresh_is_new names (Mailbox ∷ places) (w ∷ words) word h e = fresh_is_new na
 fresh_is_new names (Channel ∷ places) (w ∷ words) word h e = fresh_is_new names places words word h.1 e
 fresh_is_new names (Port ∷ places) (w ∷ words) word h e = fresh_is_new names places words word h.1 e
 fresh_is_new names (Receiver ∷ places) (w ∷ words) word h e = fresh_is_new names places words word h.1 e
+fresh_is_new names (Variable ∷ places) (w ∷ words) word h e = fresh_is_new names places words word h.1 e
+fresh_is_new names (MVar ∷ places) (w ∷ words) word h e = fresh_is_new names places words word h.1 e
 fresh_is_new names (Number ∷ places) (w ∷ words) word h e = fresh_is_new names places words word h.1 e

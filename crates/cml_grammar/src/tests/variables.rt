@@ -141,7 +141,11 @@ fn takes_each_step_on_its_kinds(rt: HostRuntime) -> Result<(), Fail> {
         for (object, takes) in ["m", "c", "p", "i", "v", "A"].iter().zip(&taken) {
             let script = format!(in rt.alloc(); "{OBJECTS}A {step} {object}{more}\n")?;
             let text = fault_text(rt.alloc(), script.as_bytes())?;
-            let expected = if *takes { "none" } else { "script: line 8: wrong kind" };
+            let expected = if *takes {
+                "none"
+            } else {
+                "script: line 8: wrong kind"
+            };
             assert_eq!(rt; text.as_str(), expected, "{step} {object}");
         }
     }

@@ -1,11 +1,11 @@
 use Rattle.std.proofs.Common.{ap, subst, ◌∙◌}
 use Rattle.cml_grammar.specs.declared.forms.Verb.{Verb}
-use Rattle.cml_grammar.specs.declared.forms.Verb.TheVariants.{Send, Multicast, Recv, Poll, Copy, Close}
+use Rattle.cml_grammar.specs.declared.forms.Verb.TheVariants.{Send, Multicast, Recv, Poll, Copy, Close, Put, Get, GetPoll, Take, TakePoll, Swap}
 use Rattle.cml_grammar.specs.Forms.{step_places}
 use Rattle.cml_grammar.specs.Meaning.{action_by}
 use Rattle.cml_grammar.specs.Reading.{texts_of}
 use Rattle.cml_grammar.specs.Suiting.{AllSuit}
-use Rattle.cml_grammar.proofs.MeaningLemmas.{Words, bytes, number_alone, send_means, multicast_means, receiver_found, port_found}
+use Rattle.cml_grammar.proofs.MeaningLemmas.{Words, bytes, number_alone, send_means, multicast_means, put_means, swap_means, receiver_found, port_found, variable_found, mvar_found}
 use Rattle.cml_grammar.proofs.meaning.action_by.Goals as goal
 
 pub message_in-requires : goal.message_in-requires
@@ -57,3 +57,65 @@ returns-in-Close-clause-uses c =
     let names = texts_of c.args.names.now.entries in
     let suit = subst (λ (v : Verb). AllSuit names (step_places v) (bytes c.args.rest.now)) c.in-Close.is c.requires in
     port_found names c.in-Some.object.now.now _ (subst (λ (ws : Words). AllSuit names (step_places Close) (bytes ws)) c.in-Some.ensures.cases.0 suit).0 c.given_position-at.ensures
+
+pub message_in-requires-in-Put : goal.message_in-requires-in-Put
+message_in-requires-in-Put c =
+    let names = texts_of c.args.names.now.entries in
+    let suit = subst (λ (v : Verb). AllSuit names (step_places v) (bytes c.args.rest.now)) c.in-Put.is c.requires in
+    number_alone names c.in-Some.more.now (subst (λ (ws : Words). AllSuit names (step_places Put) (bytes ws)) c.in-Some.ensures.cases.0 suit).1
+
+pub returns-in-Put-clause-action : goal.returns-in-Put-clause-action
+returns-in-Put-clause-action c =
+    let names = texts_of c.args.names.now.entries in
+    ap (λ (v : Verb). action_by names v (bytes c.args.rest.now)) c.in-Put.is
+    ∙ ap (λ (ws : Words). action_by names Put (bytes ws)) c.in-Some.ensures.cases.0
+    ∙ put_means names c.in-Some.object.now.now c.in-Some.more.now _ _ c.given_position-at.ensures c.message_in-in-Put.ensures.value
+
+pub message_in-requires-in-Swap : goal.message_in-requires-in-Swap
+message_in-requires-in-Swap c =
+    let names = texts_of c.args.names.now.entries in
+    let suit = subst (λ (v : Verb). AllSuit names (step_places v) (bytes c.args.rest.now)) c.in-Swap.is c.requires in
+    number_alone names c.in-Some.more.now (subst (λ (ws : Words). AllSuit names (step_places Swap) (bytes ws)) c.in-Some.ensures.cases.0 suit).1
+
+pub returns-in-Swap-clause-action : goal.returns-in-Swap-clause-action
+returns-in-Swap-clause-action c =
+    let names = texts_of c.args.names.now.entries in
+    ap (λ (v : Verb). action_by names v (bytes c.args.rest.now)) c.in-Swap.is
+    ∙ ap (λ (ws : Words). action_by names Swap (bytes ws)) c.in-Some.ensures.cases.0
+    ∙ swap_means names c.in-Some.object.now.now c.in-Some.more.now _ _ c.given_position-at.ensures c.message_in-in-Swap.ensures.value
+
+pub returns-in-Put-clause-uses : goal.returns-in-Put-clause-uses
+returns-in-Put-clause-uses c =
+    let names = texts_of c.args.names.now.entries in
+    let suit = subst (λ (v : Verb). AllSuit names (step_places v) (bytes c.args.rest.now)) c.in-Put.is c.requires in
+    (variable_found names c.in-Some.object.now.now _ (subst (λ (ws : Words). AllSuit names (step_places Put) (bytes ws)) c.in-Some.ensures.cases.0 suit).0 c.given_position-at.ensures, c.message_in-in-Put.ensures.fits)
+
+pub returns-in-Get-clause-uses : goal.returns-in-Get-clause-uses
+returns-in-Get-clause-uses c =
+    let names = texts_of c.args.names.now.entries in
+    let suit = subst (λ (v : Verb). AllSuit names (step_places v) (bytes c.args.rest.now)) c.in-Get.is c.requires in
+    variable_found names c.in-Some.object.now.now _ (subst (λ (ws : Words). AllSuit names (step_places Get) (bytes ws)) c.in-Some.ensures.cases.0 suit).0 c.given_position-at.ensures
+
+pub returns-in-GetPoll-clause-uses : goal.returns-in-GetPoll-clause-uses
+returns-in-GetPoll-clause-uses c =
+    let names = texts_of c.args.names.now.entries in
+    let suit = subst (λ (v : Verb). AllSuit names (step_places v) (bytes c.args.rest.now)) c.in-GetPoll.is c.requires in
+    variable_found names c.in-Some.object.now.now _ (subst (λ (ws : Words). AllSuit names (step_places GetPoll) (bytes ws)) c.in-Some.ensures.cases.0 suit).0 c.given_position-at.ensures
+
+pub returns-in-Take-clause-uses : goal.returns-in-Take-clause-uses
+returns-in-Take-clause-uses c =
+    let names = texts_of c.args.names.now.entries in
+    let suit = subst (λ (v : Verb). AllSuit names (step_places v) (bytes c.args.rest.now)) c.in-Take.is c.requires in
+    mvar_found names c.in-Some.object.now.now _ (subst (λ (ws : Words). AllSuit names (step_places Take) (bytes ws)) c.in-Some.ensures.cases.0 suit).0 c.given_position-at.ensures
+
+pub returns-in-TakePoll-clause-uses : goal.returns-in-TakePoll-clause-uses
+returns-in-TakePoll-clause-uses c =
+    let names = texts_of c.args.names.now.entries in
+    let suit = subst (λ (v : Verb). AllSuit names (step_places v) (bytes c.args.rest.now)) c.in-TakePoll.is c.requires in
+    mvar_found names c.in-Some.object.now.now _ (subst (λ (ws : Words). AllSuit names (step_places TakePoll) (bytes ws)) c.in-Some.ensures.cases.0 suit).0 c.given_position-at.ensures
+
+pub returns-in-Swap-clause-uses : goal.returns-in-Swap-clause-uses
+returns-in-Swap-clause-uses c =
+    let names = texts_of c.args.names.now.entries in
+    let suit = subst (λ (v : Verb). AllSuit names (step_places v) (bytes c.args.rest.now)) c.in-Swap.is c.requires in
+    (mvar_found names c.in-Some.object.now.now _ (subst (λ (ws : Words). AllSuit names (step_places Swap) (bytes ws)) c.in-Some.ensures.cases.0 suit).0 c.given_position-at.ensures, c.message_in-in-Swap.ensures.fits)

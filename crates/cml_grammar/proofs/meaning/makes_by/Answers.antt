@@ -1,0 +1,23 @@
+use Rattle.std.proofs.Common.{subst, sym, ap, ◌∙◌}
+use Rattle.cml_grammar.specs.declared.forms.Declares.{Declares}
+use Rattle.cml_grammar.specs.declared.forms.Declares.TheVariants.{MVar}
+use Rattle.cml_grammar.specs.Forms.{declared_places}
+use Rattle.cml_grammar.specs.Meaning.{makes_by}
+use Rattle.cml_grammar.specs.Reading.{texts_of}
+use Rattle.cml_grammar.specs.Suiting.{AllSuit}
+use Rattle.cml_grammar.proofs.MeaningLemmas.{Words, bytes, first_message, made_with}
+use Rattle.cml_grammar.proofs.meaning.makes_by.Goals as goal
+
+pub message_in-requires : goal.message_in-requires
+message_in-requires c =
+    let names = texts_of c.args.names.now.entries in
+    let suit = subst (λ (d : Declares). AllSuit names (declared_places d (bytes c.args.rest.now)) (bytes c.args.rest.now)) c.in-MVar.is c.requires in
+    first_message names c.in-Some-split_first.field-0-0.now c.in-Some-split_first.message.now (sym c.is_empty.ensures ∙ c.if-not-is_empty.true)
+    (subst (λ (ws : Words). AllSuit names (declared_places MVar (bytes ws)) (bytes ws)) c.in-Some-split_first.ensures.cases.0 suit)
+
+pub returns-in-Some-split_first-clause-makes : goal.returns-in-Some-split_first-clause-makes
+returns-in-Some-split_first-clause-makes c =
+    let names = texts_of c.args.names.now.entries in
+    ap (λ (d : Declares). makes_by names d (bytes c.args.rest.now)) c.in-MVar.is
+    ∙ ap (λ (ws : Words). makes_by names MVar (bytes ws)) c.in-Some-split_first.ensures.cases.0
+    ∙ made_with names c.in-Some-split_first.field-0-0.now c.in-Some-split_first.message.now _ c.message_in.ensures.value
