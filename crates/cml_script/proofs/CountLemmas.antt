@@ -1,5 +1,5 @@
 -- What a board's readers tell of an object of a known kind.
-use Rattle.std.proofs.Common.{◌≡◌, ℕ, Bool, true, false, ◌&&◌, Option, Some, None, IsSome, refl, ap, ◌∙◌}
+use Rattle.std.proofs.Common.{◌≡◌, ℕ, List, inl, inr, Bool, true, false, ◌&&◌, Option, Some, None, IsSome, refl, ap, ◌∙◌}
 use Rattle.std.specs.Option.{option_map, option_map_or}
 use Rattle.std.proofs.lemmas.Option.{none-some, same_Some}
 use Rattle.cml_board.specs.declared.call.Kind.{Kind}
@@ -9,7 +9,11 @@ use Rattle.cml_board.specs.Objects.{is_variable}
 use Rattle.cml_board.specs.Counts.{only_if, start_in}
 use Rattle.cml_board.specs.History.{Lawful, kind_of, is_open}
 use Rattle.cml_board.proofs.Closing.{mailbox_open}
+use Rattle.cml_grammar.specs.declared.names.Named.TheVariants as called
+use Rattle.cml_grammar.specs.Names.{Given}
+use Rattle.cml_grammar.specs.Reading.{IsVariableAt}
 use Rattle.cml_script.specs.Schedule.{History}
+use Rattle.cml_script.specs.Stage.{IsObjectAt}
 
 -- an object of the right kind has the number
 pub some_count : (test : Kind → Bool) (o : Option Kind) (k : Kind) (n : ℕ) (r : Option ℕ) → r ≡ only_if (option_map_or test o false) n → o ≡ Some k → test k ≡ true → IsSome r
@@ -38,3 +42,10 @@ kind_there a b name k same is = ap (λ h. kind_of h name) same ∙ is
 
 pub open_there : (a b : History) (name : ℕ) → a ≡ b → Lawful b → kind_of b name ≡ Some kind.Mailbox → is_open a name ≡ true
 open_there a b name same lawful is = ap (λ h. is_open h name) same ∙ mailbox_open b name lawful is
+
+pub variable_held : {X : Type 0} (names : List Given) (at : ℕ) (a b : History) (name : ℕ) (n : Option ℕ) (f : Option X → Option ℕ) (r : Option (Option X)) → a ≡ b → IsVariableAt names at → ((k : Kind) → IsObjectAt names at k → kind_of b name ≡ Some k)
+    → option_map f r ≡ only_if (option_map_or is_variable (kind_of a name) false) n → IsSome r
+variable_held names at a b name n f r same (inl (word, found)) kinds told =
+    some_held (kind_of a name) kind.IVar n f r told (kind_there a b name kind.IVar same (kinds kind.IVar (word, called.IVar, found, refl))) refl
+variable_held names at a b name n f r same (inr (word, found)) kinds told =
+    some_held (kind_of a name) kind.MVar n f r told (kind_there a b name kind.MVar same (kinds kind.MVar (word, called.MVar, found, refl))) refl
