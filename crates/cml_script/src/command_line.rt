@@ -16,9 +16,9 @@ const ABOUT: &str = "Replays a script of threads that send each other messages";
 
 const LONG_ABOUT: &str = "Replays a script of threads that send each other messages.
 
-A script declares mailboxes, channels, ports and threads, and lists the steps that each thread
-takes. It is replayed on one thread, always with the first step in text order that is its thread's
-next and needn't wait. So the same script gives the same report each time.";
+A script declares mailboxes, channels, ports, variables and threads, and lists the steps that each
+thread takes. It is replayed on one thread, always with the first step in text order that is its
+thread's next and needn't wait. So the same script gives the same report each time.";
 
 const REPLAY_ABOUT: &str =
     "Replays the script on standard input and writes its report to standard output";

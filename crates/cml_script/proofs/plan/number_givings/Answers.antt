@@ -7,7 +7,7 @@ use mir.Val.{bool_byte}
 use Rattle.cml_script.specs.Counting.{one_if}
 use Rattle.cml_script.specs.Schedule.{given_by}
 use Rattle.cml_script.proofs.ListLemmas.{read_at, mapped_at, each_pushed}
-use Rattle.cml_script.proofs.LineLemmas.{byte_one, one_le, then_is, all_at, step_gives}
+use Rattle.cml_script.proofs.LineLemmas.{byte_one, one_le, then_is, all_at, step_gives, asks_for_ports}
 use Rattle.cml_script.proofs.GivingLemmas.{given_at, names_more}
 use Rattle.cml_script.proofs.plan.number_givings.Goals as goal
 
@@ -30,3 +30,7 @@ loop-step-preserved c =
       few = omega (arith, c.loop-step.invariant.few, one, one_le (is_giving (source_of s.line)));
       each = rw pushed (each_pushed (given_by script) c.loop-step.givings.items c.then_some.result c.loop-step.invariant.each (given ∙ ap (given_by script) (sym c.loop-step.invariant.short)));
     }
+
+pub returns-clause-asks : goal.returns-clause-asks
+returns-clause-asks c =
+    asks_for_ports c.args.script.now c.steps-step-items.result.now c.steps-step-items.ensures.lines c.steps-step-items.ensures.asked
