@@ -11,3 +11,4 @@ pub mod CommandLineLemmas
 pub mod FitLemmas
 pub mod UseLemmas
 pub mod CountLemmas
+pub mod ScheduleLemmas

@@ -11,3 +11,4 @@ pub mod Stage
 pub mod Endings
 pub mod Replay
 pub mod CommandLine
+pub mod Laws
