@@ -136,7 +136,7 @@ fn replays_scripts(rt: HostRuntime) -> Result<(), Fail> {
     Ok(())
 }
 
-const FAULTS: [(&str, &str, &str); 16] = [
+const FAULTS: [(&str, &str, &str); 17] = [
     ("nothing", "", "script: line 1: bad header"),
     (
         "a header without line end",
