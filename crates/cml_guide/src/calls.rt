@@ -1,0 +1,87 @@
+//! Calls that are to be answered, and what else can become of them.
+ghost use Rattle.std.specs.Prelude.{◌≡◌, IfOk, OnErr, None, Some, option_map, unwrap_or};
+ghost use Rattle.cml_board.specs.History.{answer};
+ghost use Rattle.cml_board.specs.Outcome.{AddsEntry, Refuses};
+
+use cml_board::{Answer, Board, BoardLog, Call, Name, Outcome, Refusal, Reply, Who};
+use std::alloc::AllocError;
+
+/// A board whose messages are numbers.
+pub type Numbers = Board<u64, BoardLog<u64>>;
+
+/// Who makes the calls here.
+pub const SEAT: Who = Who::Seat(1);
+
+/// Why a call was not answered as its caller needs.
+#[derive(Clone, Copy, Debug, PartialEq, Eq)]
+pub enum Trouble {
+    WouldWait,
+    Refused(Refusal),
+    OtherReply,
+    NoMemory,
+}
+
+impl From<AllocError> for Trouble {
+    fn from(_error: AllocError) -> Trouble {
+        Trouble::NoMemory
+    }
+}
+
+/// Makes a call that is to be answered.
+pub fn ask(board: &mut Numbers, call: Call<u64>) -> Result<Answer<u64>, Trouble>
+    ensures answered { IfOk result (λ given. answer board.old.history call ≡ Some given.reply) }
+    ensures added { IfOk result (λ given. AddsEntry board.old board.new SEAT call given.reply) }
+    ensures waits { result ≡ Err Trouble.WouldWait → answer board.old.history call ≡ None }
+    ensures refused { (refusal : Refusal) → result ≡ Err (Trouble.Refused refusal) → Refuses board.old call refusal }
+    ensures unchanged { OnErr result (board.new ≡ board.old) }
+{
+    match board.apply(SEAT, call) {
+        Outcome::Answered(answer) => Ok(answer),
+        Outcome::WouldWait(_) => Err(Trouble::WouldWait),
+        Outcome::Refused(refusal, _) => Err(Trouble::Refused(refusal)),
+    }
+}
+
+/// Makes a call that makes an object, and gives the object's name.
+pub fn make(board: &mut Numbers, call: Call<u64>) -> Result<Name, Trouble>
+    ensures made { IfOk result (λ name. answer board.old.history call ≡ Some (Reply.Made name)) }
+    ensures added { IfOk result (λ name. AddsEntry board.old board.new SEAT call (Reply.Made name)) }
+{
+    match ask(board, call)?.reply() {
+        Reply::Made(name) => Ok(*name),
+        _ => Err(Trouble::OtherReply),
+    }
+}
+
+/// Makes a call that gives a message.
+pub fn fetch(board: &mut Numbers, call: Call<u64>) -> Result<u64, Trouble>
+    ensures got { IfOk result (λ message. answer board.old.history call ≡ Some (Reply.Got message)) }
+    ensures added { IfOk result (λ message. AddsEntry board.old board.new SEAT call (Reply.Got message)) }
+{
+    match ask(board, call)?.reply() {
+        Reply::Got(message) => Ok(*message),
+        _ => Err(Trouble::OtherReply),
+    }
+}
+
+/// Makes a poll, which gives a message, or none where there is none.
+pub fn poll(board: &mut Numbers, call: Call<u64>) -> Result<Option<u64>, Trouble>
+    ensures { IfOk result (λ found. answer board.old.history call ≡ Some (unwrap_or (option_map Reply.Got found) Reply.Nothing)) }
+{
+    match ask(board, call)?.reply() {
+        Reply::Got(message) => Ok(Some(*message)),
+        Reply::Nothing => Ok(None),
+        _ => Err(Trouble::OtherReply),
+    }
+}
+
+/// Makes a call that is only to be done, as a send.
+pub fn perform(board: &mut Numbers, call: Call<u64>) -> Result<(), Trouble>
+    ensures done { IfOk result (λ _. answer board.old.history call ≡ Some Reply.Done) }
+    ensures added { IfOk result (λ _. AddsEntry board.old board.new SEAT call Reply.Done) }
+{
+    match ask(board, call)?.reply() {
+        Reply::Done => Ok(()),
+        _ => Err(Trouble::OtherReply),
+    }
+}

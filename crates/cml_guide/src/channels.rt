@@ -1,0 +1,42 @@
+//! Channels and their ports: each port receives all that is multicast from its start on.
+use crate::calls::{Numbers, Trouble, ask, fetch, make, perform};
+use cml_board::{Call, Reply};
+use std::alloc::Global;
+
+/// Each port receives what is multicast after it was made.
+pub fn told_to_each_port(alloc: Global) -> Result<([u64; 2], u64), Trouble> {
+    let mut board = Numbers::new(alloc, 100)?;
+    let news = make(&mut board, Call::NewChannel)?;
+    let early = make(&mut board, Call::NewPort(news))?;
+    perform(&mut board, Call::Cast(news, 5))?;
+    let late = make(&mut board, Call::NewPort(news))?;
+    perform(&mut board, Call::Cast(news, 7))?;
+    let first = fetch(&mut board, Call::Recv(early))?;
+    let second = fetch(&mut board, Call::Recv(early))?;
+    Ok(([first, second], fetch(&mut board, Call::Recv(late))?))
+}
+
+/// A copy stands where its original stands then, so both receive the same from there on.
+pub fn copied(alloc: Global) -> Result<(u64, u64), Trouble> {
+    let mut board = Numbers::new(alloc, 100)?;
+    let news = make(&mut board, Call::NewChannel)?;
+    let port = make(&mut board, Call::NewPort(news))?;
+    perform(&mut board, Call::Cast(news, 5))?;
+    perform(&mut board, Call::Cast(news, 7))?;
+    let _first = fetch(&mut board, Call::Recv(port))?;
+    let copy = make(&mut board, Call::CopyPort(port))?;
+    let original_next = fetch(&mut board, Call::Recv(port))?;
+    let copy_next = fetch(&mut board, Call::Recv(copy))?;
+    Ok((original_next, copy_next))
+}
+
+/// A port that no one reads any more is closed, so that its messages needn't be kept. From then on it answers that.
+pub fn closed(alloc: Global) -> Result<bool, Trouble> {
+    let mut board = Numbers::new(alloc, 100)?;
+    let news = make(&mut board, Call::NewChannel)?;
+    let port = make(&mut board, Call::NewPort(news))?;
+    perform(&mut board, Call::Cast(news, 5))?;
+    perform(&mut board, Call::ClosePort(port))?;
+    let answer = ask(&mut board, Call::Recv(port))?;
+    Ok(matches!(answer.reply(), Reply::Closed))
+}

@@ -1,0 +1,34 @@
+//! What a board tells without a call: its readers, and the journal of what it accepted.
+use crate::calls::{Numbers, SEAT, Trouble, make, perform};
+use cml_board::{Call, Who};
+use std::alloc::Global;
+
+/// Two seats on one board: the journal tells whose call each was, in the order in which they were accepted.
+pub fn journal_of_two_seats(alloc: Global) -> Result<(usize, usize), Trouble> {
+    let mut board = Numbers::new(alloc, 100)?;
+    let other = Who::Seat(2);
+    let letters = make(&mut board, Call::NewMailbox)?;
+    perform(&mut board, Call::Send(letters, 5))?;
+    let _received = board.apply(other, Call::Recv(letters));
+    let _waits = board.apply(other, Call::Recv(letters));
+    Ok((calls_of(&board, SEAT), calls_of(&board, other)))
+}
+
+/// How many calls of this caller were accepted.
+fn calls_of(board: &Numbers, who: Who) -> usize {
+    board
+        .journal()
+        .iter()
+        .filter(|entry| entry.who == who)
+        .count()
+}
+
+/// What waits in a mailbox, and whether a receive from it would wait.
+pub fn looked_at(alloc: Global) -> Result<(Option<u64>, bool), Trouble> {
+    let mut board = Numbers::new(alloc, 100)?;
+    let letters = make(&mut board, Call::NewMailbox)?;
+    perform(&mut board, Call::Send(letters, 5))?;
+    let waiting = board.owed_count(letters);
+    let waits = board.would_wait(&Call::Recv(letters));
+    Ok((waiting, waits))
+}

@@ -1,0 +1,61 @@
+//! Calls that are refused: they change nothing and are handed back.
+ghost use Rattle.std.specs.Prelude.{◌≡◌, IfOk, IfSome};
+ghost use Rattle.cml_board.specs.Outcome.{Applies, Refuses};
+
+use crate::calls::{Numbers, SEAT, Trouble, make};
+use cml_board::{Call, Name, Outcome, Refusal};
+use std::alloc::Global;
+
+/// No object has the name; the object can't take the call; the journal is full. They are tested in this order.
+pub fn told_why(alloc: Global) -> Result<[Refusal; 3], Trouble> {
+    let mut board = Numbers::new(alloc, 1)?;
+    let letters = make(&mut board, Call::NewMailbox)?;
+    let unmade = refusal_of(&mut board, Call::Recv(Name(7)))?;
+    let wrong = refusal_of(&mut board, Call::Take(letters))?;
+    let full = refusal_of(&mut board, Call::Send(letters, 5))?;
+    Ok([unmade, wrong, full])
+}
+
+fn refusal_of(board: &mut Numbers, call: Call<u64>) -> Result<Refusal, Trouble>
+    ensures { IfOk result (λ refusal. Refuses board.old call refusal) }
+{
+    match board.apply(SEAT, call) {
+        Outcome::Refused(refusal, _) => Ok(refusal),
+        Outcome::Answered(_) => Err(Trouble::OtherReply),
+        Outcome::WouldWait(_) => Err(Trouble::WouldWait),
+    }
+}
+
+/// Sends a message. Where that is refused, the message comes back with the call.
+pub fn send_or_keep(board: &mut Numbers, letters: Name, message: u64) -> Option<u64>
+    ensures { IfSome result (λ kept. kept ≡ message) }
+{
+    match board.apply(SEAT, Call::Send(letters, message)) {
+        Outcome::Refused(_, Call::Send(_, kept)) => Some(kept),
+        _ => None,
+    }
+}
+
+pub fn kept(alloc: Global) -> Result<[Option<u64>; 2], Trouble> {
+    let mut board = Numbers::new(alloc, 2)?;
+    let letters = make(&mut board, Call::NewMailbox)?;
+    let first = send_or_keep(&mut board, letters, 5);
+    let second = send_or_keep(&mut board, letters, 7);
+    Ok([first, second])
+}
+
+/// Makes a call, and makes it again where there was no memory for it.
+pub fn apply_twice(board: &mut Numbers, call: Call<u64>) -> Outcome<u64>
+    ensures { Applies board.old board.new SEAT call result }
+{
+    match board.apply(SEAT, call) {
+        Outcome::Refused(Refusal::NoMemory, back) => board.apply(SEAT, back),
+        outcome => outcome,
+    }
+}
+
+pub fn made_again(alloc: Global) -> Result<bool, Trouble> {
+    let mut board = Numbers::new(alloc, 100)?;
+    let outcome = apply_twice(&mut board, Call::NewMailbox);
+    Ok(matches!(outcome, Outcome::Answered(_)))
+}
