@@ -66,7 +66,8 @@ pub fn fetch(board: &mut Numbers, call: Call<u64>) -> Result<u64, Trouble>
 
 /// Makes a poll, which gives a message, or none where there is none.
 pub fn poll(board: &mut Numbers, call: Call<u64>) -> Result<Option<u64>, Trouble>
-    ensures { IfOk result (λ found. answer board.old.history call ≡ Some (unwrap_or (option_map Reply.Got found) Reply.Nothing)) }
+    ensures found { IfOk result (λ found. answer board.old.history call ≡ Some (unwrap_or (option_map Reply.Got found) Reply.Nothing)) }
+    ensures added { IfOk result (λ found. AddsEntry board.old board.new SEAT call (unwrap_or (option_map Reply.Got found) Reply.Nothing)) }
 {
     match ask(board, call)?.reply() {
         Reply::Got(message) => Ok(Some(*message)),

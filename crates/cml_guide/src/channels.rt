@@ -1,10 +1,15 @@
 //! Channels and their ports: each port receives all that is multicast from its start on.
+ghost use Rattle.std.specs.Prelude.{◌≡◌, [], ◌∷◌, IfOk, IsTrue};
+
 use crate::calls::{Numbers, Trouble, ask, fetch, make, perform};
 use cml_board::{Call, Reply};
 use std::alloc::Global;
 
 /// Each port receives what is multicast after it was made.
-pub fn told_to_each_port(alloc: Global) -> Result<([u64; 2], u64), Trouble> {
+pub fn told_to_each_port(alloc: Global) -> Result<([u64; 2], u64), Trouble>
+    ensures early { IfOk result (λ found. found.0 ≡ 5 ∷ 7 ∷ []) }
+    ensures late { IfOk result (λ found. found.1 ≡ 7) }
+{
     let mut board = Numbers::new(alloc, 100)?;
     let news = make(&mut board, Call::NewChannel)?;
     let early = make(&mut board, Call::NewPort(news))?;
@@ -17,7 +22,10 @@ pub fn told_to_each_port(alloc: Global) -> Result<([u64; 2], u64), Trouble> {
 }
 
 /// A copy stands where its original stands then, so both receive the same from there on.
-pub fn copied(alloc: Global) -> Result<(u64, u64), Trouble> {
+pub fn copied(alloc: Global) -> Result<(u64, u64), Trouble>
+    ensures original { IfOk result (λ found. found.0 ≡ 7) }
+    ensures copy { IfOk result (λ found. found.1 ≡ 7) }
+{
     let mut board = Numbers::new(alloc, 100)?;
     let news = make(&mut board, Call::NewChannel)?;
     let port = make(&mut board, Call::NewPort(news))?;
@@ -31,7 +39,9 @@ pub fn copied(alloc: Global) -> Result<(u64, u64), Trouble> {
 }
 
 /// A port that no one reads any more is closed, so that its messages needn't be kept. From then on it answers that.
-pub fn closed(alloc: Global) -> Result<bool, Trouble> {
+pub fn closed(alloc: Global) -> Result<bool, Trouble>
+    ensures { IfOk result IsTrue }
+{
     let mut board = Numbers::new(alloc, 100)?;
     let news = make(&mut board, Call::NewChannel)?;
     let port = make(&mut board, Call::NewPort(news))?;

@@ -1,10 +1,15 @@
 //! Mailboxes: messages wait in them, and each is received once.
+ghost use Rattle.std.specs.Prelude.{◌≡◌, IfOk, None, Some};
+
 use crate::calls::{Numbers, SEAT, Trouble, fetch, make, perform, poll};
 use cml_board::{Call, Outcome};
 use std::alloc::Global;
 
 /// Messages are received in the order in which they were sent.
-pub fn in_order(alloc: Global) -> Result<(u64, u64), Trouble> {
+pub fn in_order(alloc: Global) -> Result<(u64, u64), Trouble>
+    ensures first { IfOk result (λ found. found.0 ≡ 5) }
+    ensures second { IfOk result (λ found. found.1 ≡ 7) }
+{
     let mut board = Numbers::new(alloc, 100)?;
     let letters = make(&mut board, Call::NewMailbox)?;
     perform(&mut board, Call::Send(letters, 5))?;
@@ -15,7 +20,9 @@ pub fn in_order(alloc: Global) -> Result<(u64, u64), Trouble> {
 }
 
 /// A receive that would wait is handed back, and can be made again once there is a message.
-pub fn received_later(alloc: Global) -> Result<u64, Trouble> {
+pub fn received_later(alloc: Global) -> Result<u64, Trouble>
+    ensures { IfOk result (λ message. message ≡ 5) }
+{
     let mut board = Numbers::new(alloc, 100)?;
     let letters = make(&mut board, Call::NewMailbox)?;
     match board.apply(SEAT, Call::Recv(letters)) {
@@ -29,7 +36,10 @@ pub fn received_later(alloc: Global) -> Result<u64, Trouble> {
 }
 
 /// A poll takes the next message, or tells that there is none.
-pub fn polled(alloc: Global) -> Result<(Option<u64>, Option<u64>), Trouble> {
+pub fn polled(alloc: Global) -> Result<(Option<u64>, Option<u64>), Trouble>
+    ensures before { IfOk result (λ found. found.0 ≡ None) }
+    ensures after { IfOk result (λ found. found.1 ≡ Some 5) }
+{
     let mut board = Numbers::new(alloc, 100)?;
     let letters = make(&mut board, Call::NewMailbox)?;
     let before = poll(&mut board, Call::Poll(letters))?;

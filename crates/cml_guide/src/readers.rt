@@ -1,4 +1,6 @@
 //! What a board tells without a call: its readers, and the journal of what it accepted.
+ghost use Rattle.std.specs.Prelude.{◌≡◌, IfOk, Some, false};
+
 use crate::calls::{Numbers, SEAT, Trouble, make, perform};
 use cml_board::{Call, Who};
 use std::alloc::Global;
@@ -24,7 +26,10 @@ fn calls_of(board: &Numbers, who: Who) -> usize {
 }
 
 /// What waits in a mailbox, and whether a receive from it would wait.
-pub fn looked_at(alloc: Global) -> Result<(Option<u64>, bool), Trouble> {
+pub fn looked_at(alloc: Global) -> Result<(Option<u64>, bool), Trouble>
+    ensures waiting { IfOk result (λ found. found.0 ≡ Some 1) }
+    ensures waits { IfOk result (λ found. found.1 ≡ false) }
+{
     let mut board = Numbers::new(alloc, 100)?;
     let letters = make(&mut board, Call::NewMailbox)?;
     perform(&mut board, Call::Send(letters, 5))?;

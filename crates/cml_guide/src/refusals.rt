@@ -1,5 +1,5 @@
 //! Calls that are refused: they change nothing and are handed back.
-ghost use Rattle.std.specs.Prelude.{◌≡◌, IfOk, IfSome};
+ghost use Rattle.std.specs.Prelude.{◌≡◌, [], ◌∷◌, IfOk, IfSome};
 ghost use Rattle.cml_board.specs.Outcome.{Applies, Refuses};
 
 use crate::calls::{Numbers, SEAT, Trouble, make};
@@ -7,7 +7,9 @@ use cml_board::{Call, Name, Outcome, Refusal};
 use std::alloc::Global;
 
 /// No object has the name; the object can't take the call; the journal is full. They are tested in this order.
-pub fn told_why(alloc: Global) -> Result<[Refusal; 3], Trouble> {
+pub fn told_why(alloc: Global) -> Result<[Refusal; 3], Trouble>
+    ensures { IfOk result (λ found. found ≡ Refusal.NoSuch ∷ Refusal.WrongKind ∷ Refusal.JournalFull ∷ []) }
+{
     let mut board = Numbers::new(alloc, 1)?;
     let letters = make(&mut board, Call::NewMailbox)?;
     let unmade = refusal_of(&mut board, Call::Recv(Name(7)))?;
@@ -17,7 +19,8 @@ pub fn told_why(alloc: Global) -> Result<[Refusal; 3], Trouble> {
 }
 
 fn refusal_of(board: &mut Numbers, call: Call<u64>) -> Result<Refusal, Trouble>
-    ensures { IfOk result (λ refusal. Refuses board.old call refusal) }
+    ensures refused { IfOk result (λ refusal. Refuses board.old call refusal) }
+    ensures unchanged { IfOk result (λ _. board.new ≡ board.old) }
 {
     match board.apply(SEAT, call) {
         Outcome::Refused(refusal, _) => Ok(refusal),
