@@ -1,6 +1,6 @@
 //! Calls that are to be answered, and what else can become of them.
-ghost use Rattle.std.specs.Prelude.{◌≡◌, IfOk, OnErr, None, Some, option_map, unwrap_or};
-ghost use Rattle.cml_board.specs.History.{answer};
+ghost use Rattle.std.specs.Prelude.{◌≡◌, IfOk, OnErr, None, Some, unwrap_or};
+ghost use Rattle.cml_board.specs.History.{answer, given};
 ghost use Rattle.cml_board.specs.Outcome.{AddsEntry, Refuses};
 
 use cml_board::{Answer, Board, BoardLog, Call, Name, Outcome, Refusal, Reply, Who};
@@ -32,7 +32,8 @@ pub fn ask(board: &mut Numbers, call: Call<u64>) -> Result<Answer<u64>, Trouble>
     ensures answered { IfOk result (λ given. answer board.old.history call ≡ Some given.reply) }
     ensures added { IfOk result (λ given. AddsEntry board.old board.new SEAT call given.reply) }
     ensures waits { result ≡ Err Trouble.WouldWait → answer board.old.history call ≡ None }
-    ensures refused { (refusal : Refusal) → result ≡ Err (Trouble.Refused refusal) → Refuses board.old call refusal }
+    ensures refused { (refusal : Refusal) → result ≡ Err (Trouble.Refused refusal)
+        → Refuses board.old call refusal }
     ensures unchanged { OnErr result (board.new ≡ board.old) }
 {
     match board.apply(SEAT, call) {
@@ -66,8 +67,10 @@ pub fn fetch(board: &mut Numbers, call: Call<u64>) -> Result<u64, Trouble>
 
 /// Makes a poll, which gives a message, or none where there is none.
 pub fn poll(board: &mut Numbers, call: Call<u64>) -> Result<Option<u64>, Trouble>
-    ensures found { IfOk result (λ found. answer board.old.history call ≡ Some (unwrap_or (option_map Reply.Got found) Reply.Nothing)) }
-    ensures added { IfOk result (λ found. AddsEntry board.old board.new SEAT call (unwrap_or (option_map Reply.Got found) Reply.Nothing)) }
+    ensures found { IfOk result (λ found. answer board.old.history call
+        ≡ Some (unwrap_or (given found) Reply.Nothing)) }
+    ensures added { IfOk result (λ found. AddsEntry board.old board.new SEAT call
+        (unwrap_or (given found) Reply.Nothing)) }
 {
     match ask(board, call)?.reply() {
         Reply::Got(message) => Ok(Some(*message)),

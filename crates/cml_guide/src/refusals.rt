@@ -1,14 +1,15 @@
 //! Calls that are refused: they change nothing and are handed back.
-ghost use Rattle.std.specs.Prelude.{◌≡◌, [], ◌∷◌, IfOk, IfSome};
-ghost use Rattle.cml_board.specs.Outcome.{Applies, Refuses};
+ghost use Rattle.std.specs.Prelude.{◌≡◌, [], ◌∷◌, IfNone, IfOk, IfSome, OnSome};
+ghost use Rattle.cml_board.specs.Outcome.{AddsEntry, Applies, Refuses};
 
 use crate::calls::{Numbers, SEAT, Trouble, make};
-use cml_board::{Call, Name, Outcome, Refusal};
+use cml_board::{Call, Name, Outcome, Refusal, Reply};
 use std::alloc::Global;
 
 /// No object has the name; the object can't take the call; the journal is full. They are tested in this order.
 pub fn told_why(alloc: Global) -> Result<[Refusal; 3], Trouble>
-    ensures { IfOk result (λ found. found ≡ Refusal.NoSuch ∷ Refusal.WrongKind ∷ Refusal.JournalFull ∷ []) }
+    ensures { IfOk result (λ found. found
+        ≡ Refusal.NoSuch ∷ Refusal.WrongKind ∷ Refusal.JournalFull ∷ []) }
 {
     let mut board = Numbers::new(alloc, 1)?;
     let letters = make(&mut board, Call::NewMailbox)?;
@@ -18,6 +19,7 @@ pub fn told_why(alloc: Global) -> Result<[Refusal; 3], Trouble>
     Ok([unmade, wrong, full])
 }
 
+/// Makes a call that is to be refused.
 fn refusal_of(board: &mut Numbers, call: Call<u64>) -> Result<Refusal, Trouble>
     ensures refused { IfOk result (λ refusal. Refuses board.old call refusal) }
     ensures unchanged { IfOk result (λ _. board.new ≡ board.old) }
@@ -31,7 +33,9 @@ fn refusal_of(board: &mut Numbers, call: Call<u64>) -> Result<Refusal, Trouble>
 
 /// Sends a message. Where that is refused, the message comes back with the call.
 pub fn send_or_keep(board: &mut Numbers, letters: Name, message: u64) -> Option<u64>
-    ensures { IfSome result (λ kept. kept ≡ message) }
+    ensures sent { IfNone result (AddsEntry board.old board.new SEAT (Call.Send letters message) Reply.Done) }
+    ensures kept { IfSome result (λ kept. kept ≡ message) }
+    ensures unchanged { OnSome result (board.new ≡ board.old) }
 {
     match board.apply(SEAT, Call::Send(letters, message)) {
         Outcome::Refused(_, Call::Send(_, kept)) => Some(kept),
@@ -39,6 +43,7 @@ pub fn send_or_keep(board: &mut Numbers, letters: Name, message: u64) -> Option<
     }
 }
 
+/// A board whose journal has room for one message.
 pub fn kept(alloc: Global) -> Result<[Option<u64>; 2], Trouble> {
     let mut board = Numbers::new(alloc, 2)?;
     let letters = make(&mut board, Call::NewMailbox)?;
@@ -57,6 +62,7 @@ pub fn apply_twice(board: &mut Numbers, call: Call<u64>) -> Outcome<u64>
     }
 }
 
+/// A call that has memory enough is answered the first time.
 pub fn made_again(alloc: Global) -> Result<bool, Trouble> {
     let mut board = Numbers::new(alloc, 100)?;
     let outcome = apply_twice(&mut board, Call::NewMailbox);

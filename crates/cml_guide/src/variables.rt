@@ -22,12 +22,14 @@ pub fn filled_once(alloc: Global) -> Result<(bool, u64), Trouble>
 
 /// Adds to the number in an m-variable. Whoever takes the number has the variable to itself until it puts one back.
 pub fn add_to(board: &mut Numbers, count: Name, more: u64) -> Result<(), Trouble>
-    ensures { IfOk result (λ _. held board.new.history count.0 ≡ option_map (λ old. (old + more) % 2 ^ 64) (held board.old.history count.0)) }
+    ensures { IfOk result (λ _. held board.new.history count.0
+        ≡ option_map (λ old. (old + more) % 2 ^ 64) (held board.old.history count.0)) }
 {
     let old = fetch(board, Call::Take(count))?;
     perform(board, Call::Put(count, old.wrapping_add(more)))
 }
 
+/// A number that is added to twice.
 pub fn counted(alloc: Global) -> Result<u64, Trouble>
     ensures { IfOk result (λ count. count ≡ 22) }
 {
