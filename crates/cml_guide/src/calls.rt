@@ -29,8 +29,8 @@ impl From<AllocError> for Trouble {
 
 /// Makes a call that is to be answered.
 pub fn ask(board: &mut Numbers, call: Call<u64>) -> Result<Answer<u64>, Trouble>
-    ensures answered { IfOk result (λ given. answer board.old.history call ≡ Some given.reply) }
-    ensures added { IfOk result (λ given. AddsEntry board.old board.new SEAT call given.reply) }
+    ensures answered { IfOk result (λ told. answer board.old.history call ≡ Some told.reply) }
+    ensures added { IfOk result (λ told. AddsEntry board.old board.new SEAT call told.reply) }
     ensures waits { result ≡ Err Trouble.WouldWait → answer board.old.history call ≡ None }
     ensures refused { (refusal : Refusal) → result ≡ Err (Trouble.Refused refusal)
         → Refuses board.old call refusal }
