@@ -38,7 +38,7 @@ pub fn copied(alloc: Global) -> Result<(u64, u64), Trouble>
     Ok((original_next, copy_next))
 }
 
-/// A port that no one reads any more is closed, so that its messages needn't be kept. From then on it answers that.
+/// A port that no one reads any more is closed, so that its messages needn't be kept. Then it answers `Closed`.
 pub fn closed(alloc: Global) -> Result<bool, Trouble>
     ensures { IfOk result IsTrue }
 {

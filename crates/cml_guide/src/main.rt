@@ -1,4 +1,4 @@
-//! Short examples of calls on a board, each with what it comes to.
+//! Short examples of calls on a board, each with what it comes to. `docs/GUIDE.md` shows most, word for word.
 #![tactic(auto)]
 
 mod calls;

@@ -21,6 +21,7 @@ pub fn filled_once(alloc: Global) -> Result<(bool, u64), Trouble>
 }
 
 /// Adds to the number in an m-variable. Whoever takes the number has the variable to itself until it puts one back.
+/// Where the put is refused, as by a full journal, the variable stays empty.
 pub fn add_to(board: &mut Numbers, count: Name, more: u64) -> Result<(), Trouble>
     ensures { IfOk result (λ _. held board.new.history count.0
         ≡ option_map (λ old. (old + more) % 2 ^ 64) (held board.old.history count.0)) }
