@@ -146,8 +146,12 @@ module _ (script : Lines) where
   -- so as many are performed as there are, at most
   at_most : (history : History) → Follows script history → length history - declared_count script ≤ length script.steps
   at_most history follows =
-      omega (arith, count history follows, length-le_from_distinct_below (steps_of history) (length script.steps) (distinct history follows) (λ q there.
-          let past = are_past history follows q there in slice_get_within script.steps q past.line past.found))
+      omega (
+        arith,
+        count history follows,
+        length-le_from_distinct_below (steps_of history) (length script.steps) (distinct history follows) (λ q there.
+            let past = are_past history follows q there in slice_get_within script.steps q past.line past.found),
+      )
 
   -- where a history ends no entry comes next
   ended : (limit : ℕ) (history : History) (stop : Stop) (entry : Entry ℕ) → Ends script limit history stop → Follows script (entry ∷ history) → length history < limit → ⊥
