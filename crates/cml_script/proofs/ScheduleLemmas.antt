@@ -2,7 +2,7 @@
 use Rattle.std.proofs.Common.{◌≡◌, ℕ, ◌+◌, ◌-◌, ◌<◌, ◌≤◌, Bool, true, false, ◌||◌, eqb, ltb, List, [], ◌∷◌, length, slice_get, Option, Some, None, MatchBool, refl, ◌⊎◌, sym, ap, subst, ◌∙◌, arith, inl, inr}
 use Rattle.std.specs.List.{IsDistinct, AllByRecursion, list_any}
 use Rattle.std.specs.Option.{option_map_or}
-use Rattle.std.proofs.lemmas.Option.{same_Some, none-some, slice_get_within}
+use Rattle.std.proofs.lemmas.Option.{same_Some, slice_get_within}
 use Rattle.std.proofs.lemmas.Bool.{cases_lt, cases_eq, eqb-true, eq-eqb, ne_eqb, false≢true, lt-ltb, le-ltb}
 use Rattle.std.proofs.lemmas.Map.Keys.{IsDistinct-cons}
 use Rattle.std.proofs.lemmas.Map.Steps.{length-le_from_distinct_below}
@@ -17,7 +17,7 @@ use Rattle.cml_grammar.specs.Meaning.{names_of, seat_of_step}
 use Rattle.cml_script.specs.declared.stop.Stop.{Stop}
 use Rattle.cml_script.specs.declared.stop.Stop.TheVariants.{Done, Stalled, Full}
 use Rattle.cml_script.specs.Counting.{one_if}
-use Rattle.cml_script.specs.Schedule.{History, IsReady, IsStep, IsDeclaration, Follows, Ends, Schedule, is_seated, is_seat, earlier, performed, declared_count, next_position, step_call, left}
+use Rattle.cml_script.specs.Schedule.{History, IsStep, IsDeclaration, Follows, Ends, is_seated, is_seat, earlier, performed, declared_count, next_position, step_call, left}
 use Rattle.cml_script.specs.Laws.{SchedulesAreOne}
 use Rattle.cml_script.proofs.GivingLemmas.{next_is}
 
