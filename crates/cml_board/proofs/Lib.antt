@@ -20,6 +20,7 @@ pub mod Received
 pub mod Sources
 pub mod Messages
 pub mod Everywhere
+pub mod Following
 pub mod Finding
 pub mod Counting
 pub mod Closing

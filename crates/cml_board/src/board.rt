@@ -4,6 +4,7 @@ ghost use Rattle.cml_board.specs.History.{Fits, answer, Lawful, origin_of, kind_
 ghost use Rattle.cml_board.specs.Counts.{is_a, sent_count, got_count, owed_count, channel_of, start_of, first_of, kept_count, port_is_open, held_by};
 ghost use Rattle.cml_board.specs.Holdings.{map_log, log_at, HasLog};
 ghost use Rattle.cml_board.specs.Standing.{ReadsAt, Stands};
+ghost use Rattle.cml_board.specs.Checking.{IsNoted};
 ghost use Rattle.cml_board.specs.Shown.{KeepsMailboxes, KeepsPorts, KeepsClosed, KeepsVariables};
 
 mod apply;
@@ -13,6 +14,7 @@ mod note;
 mod objects;
 mod variables;
 
+use crate::answer::Answer;
 use crate::call::{Call, Kind, Name};
 use crate::entry::Entry;
 use crate::message::Message;
@@ -91,6 +93,18 @@ impl<M: Message, L: MessageLog<M>> Board<M, L> {
         ensures variables { KeepsVariables self.now }
     {
         self.journal.as_slice()
+    }
+
+    /// Whether the journal has this answer's call and reply at its position, as it has of each answer of its own.
+    pub fn confirm(&self, answer: &Answer<M>) -> bool
+        ensures { IsTrue result ↔ IsNoted (reverse self.now.history) answer.now }
+    {
+        match self.journal.get(answer.at() as usize) {
+            Some(entry) => {
+                entry.call.same(answer.call()) && entry.reply.same(answer.reply())
+            }
+            None => false,
+        }
     }
 
     /// The object's kind.

@@ -1,5 +1,8 @@
-ghost use Rattle.std.specs.Prelude.{◌≡◌, ◌↔◌, IsTrue};
+ghost use Rattle.std.specs.Prelude.{◌≡◌, ◌↔◌, IsTrue, IfOk};
 ghost use Rattle.cml_board.specs.Objects.{object_in, takes, is_receiver, is_variable};
+
+use crate::message::Message;
+use std::alloc::{AllocError, Global};
 
 /// An object's name: how many objects were made before it.
 #[derive(Clone, Copy, Debug, PartialEq, Eq, Hash)]
@@ -70,6 +73,61 @@ impl<M> Call<M> {
             Call::Put(name, _) | Call::Swap(name, _) => Some(*name),
             Call::Get(name) | Call::GetPoll(name) => Some(*name),
             Call::Take(name) | Call::TakePoll(name) => Some(*name),
+        }
+    }
+}
+
+impl<M: Message> Call<M> {
+    /// Whether two calls are equal.
+    pub fn same(&self, other: &Call<M>) -> bool
+        ensures { IsTrue result ↔ (self.now ≡ other.now) }
+    {
+        match (self, other) {
+            (Call::NewMailbox, Call::NewMailbox) => true,
+            (Call::NewChannel, Call::NewChannel) => true,
+            (Call::NewPort(one), Call::NewPort(two)) => one == two,
+            (Call::CopyPort(one), Call::CopyPort(two)) => one == two,
+            (Call::ClosePort(one), Call::ClosePort(two)) => one == two,
+            (Call::NewIVar, Call::NewIVar) => true,
+            (Call::NewMVar, Call::NewMVar) => true,
+            (Call::MVarInit(one), Call::MVarInit(two)) => one.same(two),
+            (Call::Send(one, sent), Call::Send(two, told)) => one == two && sent.same(told),
+            (Call::Cast(one, sent), Call::Cast(two, told)) => one == two && sent.same(told),
+            (Call::Recv(one), Call::Recv(two)) => one == two,
+            (Call::Poll(one), Call::Poll(two)) => one == two,
+            (Call::Put(one, sent), Call::Put(two, told)) => one == two && sent.same(told),
+            (Call::Get(one), Call::Get(two)) => one == two,
+            (Call::GetPoll(one), Call::GetPoll(two)) => one == two,
+            (Call::Take(one), Call::Take(two)) => one == two,
+            (Call::TakePoll(one), Call::TakePoll(two)) => one == two,
+            (Call::Swap(one, sent), Call::Swap(two, told)) => one == two && sent.same(told),
+            _ => false,
+        }
+    }
+
+    /// A second call equal to this one. Only want of memory refuses it.
+    pub fn share(&self, alloc: Global) -> Result<Call<M>, AllocError>
+        ensures { IfOk result (λ copy. copy ≡ self.now) }
+    {
+        match self {
+            Call::NewMailbox => Ok(Call::NewMailbox),
+            Call::NewChannel => Ok(Call::NewChannel),
+            Call::NewPort(name) => Ok(Call::NewPort(*name)),
+            Call::CopyPort(name) => Ok(Call::CopyPort(*name)),
+            Call::ClosePort(name) => Ok(Call::ClosePort(*name)),
+            Call::NewIVar => Ok(Call::NewIVar),
+            Call::NewMVar => Ok(Call::NewMVar),
+            Call::MVarInit(message) => Ok(Call::MVarInit(message.share(alloc)?)),
+            Call::Send(name, message) => Ok(Call::Send(*name, message.share(alloc)?)),
+            Call::Cast(name, message) => Ok(Call::Cast(*name, message.share(alloc)?)),
+            Call::Recv(name) => Ok(Call::Recv(*name)),
+            Call::Poll(name) => Ok(Call::Poll(*name)),
+            Call::Put(name, message) => Ok(Call::Put(*name, message.share(alloc)?)),
+            Call::Get(name) => Ok(Call::Get(*name)),
+            Call::GetPoll(name) => Ok(Call::GetPoll(*name)),
+            Call::Take(name) => Ok(Call::Take(*name)),
+            Call::TakePoll(name) => Ok(Call::TakePoll(*name)),
+            Call::Swap(name, message) => Ok(Call::Swap(*name, message.share(alloc)?)),
         }
     }
 }

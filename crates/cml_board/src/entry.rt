@@ -1,4 +1,7 @@
+ghost use Rattle.std.specs.Prelude.{◌≡◌, ◌↔◌, IsTrue};
+
 use crate::call::{Call, Name};
+use crate::message::Message;
 
 /// Who made a call: a seat, or a lane or a feed on its thread's behalf, by its number.
 #[derive(Clone, Copy, Debug, PartialEq, Eq, Hash)]
@@ -21,6 +24,23 @@ pub enum Reply<M> {
     Put,
     /// The port was closed before.
     Closed,
+}
+
+impl<M: Message> Reply<M> {
+    /// Whether two replies are equal.
+    pub fn same(&self, other: &Reply<M>) -> bool
+        ensures { IsTrue result ↔ (self.now ≡ other.now) }
+    {
+        match (self, other) {
+            (Reply::Done, Reply::Done) => true,
+            (Reply::Made(one), Reply::Made(two)) => one == two,
+            (Reply::Got(one), Reply::Got(two)) => one.same(two),
+            (Reply::Nothing, Reply::Nothing) => true,
+            (Reply::Put, Reply::Put) => true,
+            (Reply::Closed, Reply::Closed) => true,
+            _ => false,
+        }
+    }
 }
 
 /// One accepted call in the journal.

@@ -4,6 +4,7 @@
 mod answer;
 mod board;
 mod call;
+mod checking;
 mod entry;
 mod laws;
 mod message;
@@ -15,6 +16,7 @@ mod tests;
 pub use answer::Answer;
 pub use board::{Board, BoardLog};
 pub use call::{Call, Kind, Name};
+pub use checking::check;
 pub use entry::{Entry, Reply, Who};
 pub use laws::lawful_at_every_position;
 pub use message::Message;
