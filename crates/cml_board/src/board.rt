@@ -100,9 +100,7 @@ impl<M: Message, L: MessageLog<M>> Board<M, L> {
         ensures { IsTrue result ↔ IsNoted (reverse self.now.history) answer.now }
     {
         match self.journal.get(answer.at() as usize) {
-            Some(entry) => {
-                entry.call.same(answer.call()) && entry.reply.same(answer.reply())
-            }
+            Some(entry) => { entry.call.same(answer.call()) && entry.reply.same(answer.reply()) }
             None => false,
         }
     }

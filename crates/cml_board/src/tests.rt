@@ -4,6 +4,7 @@ use std::process::Abort;
 use std::test::Fail;
 
 mod calls;
+mod checking;
 mod kept;
 mod mailboxes;
 mod memory;

@@ -4,13 +4,13 @@ use super::*;
 const CHANNEL: Name = Name(1);
 
 /// How many calls the run has.
-const CALLS: u64 = 41;
+pub const CALLS: u64 = 41;
 
 /// An i-variable that is put, and an m-variable that is swapped and taken.
 const VARIABLES: [Name; 2] = [Name(4), Name(5)];
 
 /// The calls of the run: each kind of call, with more than a chunk sent and multicast.
-fn call_at(step: u64) -> Call<u64> {
+pub fn call_at(step: u64) -> Call<u64> {
     let (mailbox, port, copy) = (Name(0), Name(2), Name(3));
     let [put, swapped] = VARIABLES;
     match step {
@@ -43,7 +43,7 @@ fn call_at(step: u64) -> Call<u64> {
 }
 
 /// What the call of this step is answered.
-fn answer_at(step: u64) -> Upshot {
+pub fn answer_at(step: u64) -> Upshot {
     match step {
         0 => Upshot::Made(0),
         1 => Upshot::Made(1),
