@@ -2,6 +2,7 @@
 //! each came to when it was done a few times.
 #![tactic(auto)]
 
+mod check_run;
 mod log_run;
 
 use cml_board::{Board, BoardLog, Call, Name, Outcome, Reply, Who};
@@ -86,7 +87,17 @@ fn print_sums(rt: &HostRuntime) -> io::Result<()> {
     }
     let mut run = LogRun::new(rt.alloc())?;
     run.perform(FEW)?;
-    println!(rt; "{} {}", LogRun::NAME, run.sum)
+    println!(rt; "{} {}", LogRun::NAME, run.sum)?;
+    let run = paired(rt, FEW)?;
+    let entries = check_run::count_lawful(rt.alloc(), run.board.journal())?;
+    println!(rt; "{} {entries}", check_run::NAME)
+}
+
+/// The run whose journal is checked.
+fn paired(rt: &HostRuntime, count: u64) -> io::Result<Run> {
+    let mut run = Run::new(rt.alloc())?;
+    run.perform(Workload::Pairs, count)?;
+    Ok(run)
 }
 
 fn print_times(rt: &HostRuntime, count: u64) -> io::Result<()> {
@@ -106,7 +117,12 @@ fn print_times(rt: &HostRuntime, count: u64) -> io::Result<()> {
     let mut run = LogRun::new(rt.alloc())?;
     let start = Instant::now(rt)?;
     let calls = run.perform(count)?;
-    print_time(rt, LogRun::NAME, "seryugo_log", start.elapsed(rt)?, calls)
+    print_time(rt, LogRun::NAME, "seryugo_log", start.elapsed(rt)?, calls)?;
+    let run = paired(rt, count)?;
+    let start = Instant::now(rt)?;
+    let entries = check_run::count_lawful(rt.alloc(), run.board.journal())?;
+    let time = start.elapsed(rt)?;
+    print_time(rt, check_run::NAME, "seryugo_board", time, entries)
 }
 
 fn print_time(

@@ -2,7 +2,9 @@
 use super::{fault_text, repeated};
 use std::test::Fail;
 
-const ORDER: [(&str, &str, &str); 12] = [
+/// The neighbours in the table that one line can have. No line can have these: an unknown line is no declaration, a
+/// declaration has no step word, no line uses two names, and none with a number in it can use a port.
+const ORDER: [(&str, &str, &str); 15] = [
     (
         "a bad byte in a last line without line end",
         "cml 1\n\t",
@@ -47,6 +49,21 @@ const ORDER: [(&str, &str, &str); 12] = [
         "a bad name before an unknown one",
         "cml 1\nthread A\nA recv 1m\n",
         "script: line 3: bad name",
+    ),
+    (
+        "a bad name before one that is taken",
+        "cml 1\nmailbox m\nport 1c m\n",
+        "script: line 3: bad name",
+    ),
+    (
+        "an unknown name before one that is taken",
+        "cml 1\nmailbox m\nport c m\n",
+        "script: line 3: name taken",
+    ),
+    (
+        "a port of the wrong kind, and another thread's",
+        "cml 1\nchannel c\nthread A\nthread B\nA port c p\nB take p\n",
+        "script: line 6: wrong kind",
     ),
     (
         "a name that was not given, and a bad number",

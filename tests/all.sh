@@ -1,0 +1,23 @@
+#!/bin/sh
+# Everything: every crate is proved from nothing, its wrong edits are refused and its tests run; and then the built
+# program is tried from outside. The last line is `N passed, M failed`.
+cd "$(dirname "$0")/.." || exit 1
+work=$(mktemp -d) || exit 1
+trap 'rm -rf "$work"' EXIT
+
+# step NAME COMMAND..: runs it, shows what it prints and keeps it. Without success there is nothing after it.
+step() {
+    name=$1
+    shift
+    { "$@" 2>&1; echo $? > "$work/status"; } | tee "$work/$name"
+    status=$(cat "$work/status")
+    [ "$status" -eq 0 ] || exit "$status"
+}
+
+# counted NAME WORD: the number before this word in the last line of a step.
+counted() { tail -n 1 "$work/$1" | sed -n "s/.*\\b\\([0-9][0-9]*\\) $2.*/\\1/p"; }
+
+step crates rt ci
+step program sh tests/program.sh crates/cml/out/cml
+echo "$(($(counted crates passed) + $(counted program passed))) passed," \
+    "$(($(counted crates failed) + $(counted program failed))) failed"

@@ -1,0 +1,263 @@
+# The plain program: what docs/FORMATS.md says of a script, written down once more, with lists that are gone through
+# from the first item on. It shares nothing with the crates, so what both say alike is said twice.
+#
+# Each line of input is a limit and then the bytes of one script, as numbers. For each script it prints the report, or
+# the line of its fault, and then the exit status.
+
+BEGIN {
+    for (byte = 32; byte <= 126; byte++) character[byte] = sprintf("%c", byte)
+    split("cml mailbox channel port ivar mvar thread lane feed", list, " ")
+    for (i in list) reserved[list[i]] = 1
+
+    # What a line's words are: `+` gives a name of that kind, a kind (or two) uses one, `=` is a number.
+    declares["mailbox"] = "+mailbox"; declares["channel"] = "+channel"; declares["port"] = "channel +port"
+    declares["ivar"] = "+ivar"; declares["mvar"] = "+mvar"; declares["thread"] = "+thread"
+    steps["send"] = "mailbox ="; steps["multicast"] = "channel ="
+    steps["recv"] = steps["poll"] = "mailbox,port"
+    steps["port"] = "channel +port"; steps["copy"] = "port +port"; steps["close"] = "port"
+    steps["put"] = "ivar,mvar ="; steps["get"] = steps["getpoll"] = "ivar,mvar"
+    steps["take"] = steps["takepoll"] = "mvar"; steps["swap"] = "mvar ="
+}
+
+{
+    forget()
+    fault = read_script()
+    if (fault != "") {
+        print "script: " fault
+        print "status 2"
+    } else {
+        print_report(perform($1))
+    }
+}
+
+function forget() {
+    split("", kind); split("", owner); split("", object); split("", seat)
+    split("", given); split("", step_line); split("", step_thread); split("", step_words)
+    split("", form); split("", message); split("", sent); split("", got)
+    split("", channel_of); split("", start); split("", closed); split("", held); split("", full)
+    names = threads = step_count = objects = entries = lines_out = 0
+}
+
+# Reading: the first fault of the least line, or nothing.
+
+function read_script(    i, line, number, bad) {
+    if (NF - 1 > 1048576) return "too long"
+    if (NF == 1) return "line 1: bad header"
+    line = ""; number = 1; bad = 0
+    for (i = 2; i <= NF; i++) {
+        if ($i != 10) {
+            if ($i in character) line = line character[$i]; else bad = 1
+            continue
+        }
+        what = bad ? "bad bytes" : fault_of(line, number)
+        if (what != "") return "line " number ": " what
+        line = ""; number++; bad = 0; ended = i
+    }
+    if ($NF != 10) return "line " number ": no line end"
+    return ""
+}
+
+function fault_of(line, number,    count, word, form_of, what) {
+    if (number == 1) return line == "cml 1" ? "" : "bad header"
+    if (line == "" || substr(line, 1, 1) == "#") return ""
+    if (line ~ /^ / || line ~ / $/ || line ~ /  /) return "bad words"
+    count = split(line, word, " ")
+    if (word[1] in declares) {
+        if (step_count > 0) return "late declaration"
+        form_of = declares[word[1]]
+        if (word[1] == "mvar" && count == 3) form_of = form_of " ="
+        what = fault_in_form(word, 2, count, form_of, "")
+        if (what != "") return what
+        if (word[1] == "thread" && threads == 64) return "too many threads"
+        declare(word, count)
+        return ""
+    }
+    if (kind[word[1]] != "thread") return "unknown line"
+    if (count < 2 || !(word[2] in steps)) return "unknown step"
+    what = fault_in_form(word, 3, count, steps[word[2]], word[1])
+    if (what != "") return what
+    note_step(line, word, count)
+    return ""
+}
+
+# The faults of a line whose form is known, in the order in which they are told.
+function fault_in_form(word, from, count, form_of, thread,    places, place, i, w) {
+    places = split(form_of, place, " ")
+    if (count - from + 1 != places) return "word count"
+    for (i = 1; i <= places; i++) if (place[i] != "=" && !is_name(word[from + i - 1])) return "bad name"
+    for (i = 1; i <= places; i++) if (place[i] ~ /^\+/ && (word[from + i - 1] in kind)) return "name taken"
+    for (i = 1; i <= places; i++) if (place[i] ~ /^[a-z]/ && !(word[from + i - 1] in kind)) return "unknown name"
+    for (i = 1; i <= places; i++) {
+        w = word[from + i - 1]
+        if (place[i] ~ /^[a-z]/ && index("," place[i] ",", "," kind[w] ",") == 0) return "wrong kind"
+    }
+    for (i = 1; i <= places; i++) {
+        w = word[from + i - 1]
+        if (place[i] ~ /^[a-z]/ && owner[w] != "" && owner[w] != thread) return "not yours"
+    }
+    for (i = 1; i <= places; i++) if (place[i] == "=" && !is_number(word[from + i - 1])) return "bad number"
+    return ""
+}
+
+function is_name(word) {
+    return word ~ /^[A-Za-z][A-Za-z0-9_]*$/ && length(word) <= 32 && !(word in reserved)
+}
+
+function is_number(word) {
+    if (word !~ /^(0|[1-9][0-9]*)$/ || length(word) > 20) return 0
+    return length(word) < 20 || (word "") <= "18446744073709551615"
+}
+
+function give(name, its_kind, thread) {
+    kind[name] = its_kind
+    owner[name] = thread
+    given[++names] = name
+}
+
+function declare(word, count) {
+    if (word[1] == "port") {
+        give(word[3], "port", "")
+        form["channel", word[3]] = word[2]
+    } else {
+        give(word[2], word[1], "")
+    }
+    if (word[1] == "thread") threads++
+    if (word[1] == "mvar" && count == 3) message[word[2]] = word[3]
+}
+
+function note_step(line, word, count,    rest, i) {
+    step_line[++step_count] = line
+    step_thread[step_count] = word[1]
+    rest = word[2]
+    for (i = 3; i <= count; i++) rest = rest " " word[i]
+    step_words[step_count] = rest
+    if (word[2] == "port" || word[2] == "copy") give(word[4], "port", word[1])
+}
+
+# Performing: the declarations, and then always the first step that is its thread's next and needn't wait.
+
+function perform(limit,    declared, i, k, name, done, left, reply) {
+    declared = names
+    for (i = 1; i <= step_count; i++) if (step_words[i] ~ /^(port|copy) /) declared--
+    for (i = 1; i <= declared; i++) {
+        name = given[i]
+        if (kind[name] == "thread") continue
+        if (entries == limit) return "full 0 left " step_count
+        make(name)
+    }
+    split("", done)
+    left = step_count
+    while (left > 0) {
+        if (entries == limit) return "full " lines_out " left " left
+        k = first_ready(done)
+        if (k == 0) return "stalled " lines_out " left " left
+        reply = answer(k)
+        entries++; left--; done[k] = 1
+        line_out[++lines_out] = step_line[k] ": " reply
+    }
+    return "done " lines_out
+}
+
+function make(name) {
+    entries++
+    object[name] = name
+    if (kind[name] == "port") begin_port(name, form["channel", name], sent[form["channel", name]] + 0)
+    if (name in message) { full[name] = 1; held[name] = message[name] }
+}
+
+function begin_port(name, channel, at) {
+    object[name] = name
+    channel_of[name] = channel
+    start[name] = at
+    got[name] = 0
+}
+
+function first_ready(done,    i, met) {
+    split("", met)
+    for (i = 1; i <= step_count; i++) {
+        if (i in done || step_thread[i] in met) continue
+        if (!waits(i)) return i
+        met[step_thread[i]] = 1
+    }
+    return 0
+}
+
+function waits(k,    word, o) {
+    split(step_words[k], word, " ")
+    o = object[word[2]]
+    if (word[1] == "recv") return !(o in closed) && owed(o) == 0
+    if (word[1] == "get" || word[1] == "take" || word[1] == "swap") return !(o in full)
+    return 0
+}
+
+function stream(o) { return kind[o] == "port" ? channel_of[o] : o }
+
+function place(o) { return start[o] + got[o] }
+
+function owed(o) { return sent[stream(o)] - place(o) }
+
+function answer(k,    word, o, old) {
+    split(step_words[k], word, " ")
+    o = object[word[2]]
+    if (word[1] == "send" || word[1] == "multicast") { sent[o]++; message[o, sent[o]] = word[3]; return "done" }
+    if (word[1] == "recv" || word[1] == "poll") {
+        if (o in closed) return "closed"
+        if (owed(o) == 0) return "none"
+        got[o]++
+        return message[stream(o), place(o)]
+    }
+    if (word[1] == "port") { begin_port(word[3], o, sent[o] + 0); return "made" }
+    if (word[1] == "copy") {
+        if (o in closed) { object[word[3]] = o; return "closed" }
+        begin_port(word[3], channel_of[o], place(o))
+        return "made"
+    }
+    if (word[1] == "close") {
+        if (o in closed) return "closed"
+        closed[o] = 1
+        return "done"
+    }
+    if (word[1] == "put") {
+        if (o in full) return "put"
+        full[o] = 1; held[o] = word[3]
+        return "done"
+    }
+    if (!(o in full)) return "none"
+    old = held[o]
+    if (word[1] == "take" || word[1] == "takepoll") delete full[o]
+    if (word[1] == "swap") held[o] = word[3]
+    return old
+}
+
+# Reporting.
+
+function print_report(ending,    i) {
+    for (i = 1; i <= lines_out; i++) print line_out[i]
+    for (i = 1; i <= names; i++) if (kind[given[i]] != "thread") print kind[given[i]] " " given[i] ": " told(given[i])
+    print "end: " ending
+    print "status " (ending ~ /^done/ ? 0 : ending ~ /^stalled/ ? 1 : 6)
+}
+
+function told(name,    first) {
+    if (object[name] != name) return "not made"
+    if (kind[name] == "mailbox") return "sent " sent[name] + 0 " got " got[name] + 0 " waits " sent[name] - got[name]
+    if (kind[name] == "channel") {
+        first = first_kept(name)
+        return "sent " sent[name] + 0 " kept " sent[name] - first " first " first
+    }
+    if (kind[name] == "port") {
+        return "start " start[name] " got " got[name] ((name in closed) ? " closed" : " owed " owed(name))
+    }
+    return (name in full) ? "full " held[name] : "empty"
+}
+
+# Messages lie in chunks of four, and those before the chunk of the least place are gone.
+function first_kept(channel,    least, i, name) {
+    least = sent[channel] + 0
+    for (i = 1; i <= names; i++) {
+        name = given[i]
+        if (kind[name] != "port" || object[name] != name || channel_of[name] != channel || name in closed) continue
+        if (place(name) < least) least = place(name)
+    }
+    return least - least % 4
+}

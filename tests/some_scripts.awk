@@ -1,0 +1,77 @@
+# Scripts of all lines, chosen by a sequence of numbers that is the same each time. Most have no fault; in some a word is
+# another's, so that names are unknown, of the wrong kind or another thread's. Each is a line of bytes, as numbers, behind
+# the limit that it is to be replayed under.
+
+BEGIN {
+    for (byte = 32; byte <= 126; byte++) number[sprintf("%c", byte)] = byte
+    verbs = split("send recv poll multicast recv poll port copy close recv poll put get getpoll take takepoll swap", verb, " ")
+    wanted["send"] = "mailbox"; wanted["multicast"] = "channel"; wanted["port"] = "channel"
+    wanted["copy"] = "port"; wanted["close"] = "port"
+    wanted["put"] = wanted["get"] = wanted["getpoll"] = "variable"
+    wanted["take"] = wanted["takepoll"] = wanted["swap"] = "mvar"
+    number_word["send"] = number_word["multicast"] = number_word["put"] = number_word["swap"] = 1
+    state = 20240229
+    for (script = 1; script <= scripts; script++) print_script()
+}
+
+function below(n) {
+    state = (state * 16807) % 2147483647
+    return int(state / 2147483647 * n)
+}
+
+function line(text,    i) {
+    for (i = 1; i <= length(text); i++) printf " %d", number[substr(text, i, 1)]
+    printf " 10"
+}
+
+function give(name, its_kind) { kind[++names] = its_kind; named[names] = name }
+
+# A name of this kind; now and then of any.
+function pick(its_kind,    tries, i) {
+    for (tries = 0; tries < 40; tries++) {
+        i = 1 + below(names)
+        if (suits(kind[i], its_kind) || below(150) == 0) return named[i]
+    }
+    return named[1 + below(names)]
+}
+
+function suits(one, other) {
+    if (other == "receiver") return one == "mailbox" || one == "port"
+    if (other == "variable") return one == "ivar" || one == "mvar"
+    return one == other
+}
+
+function print_script(    i, count, its_kind, name, threads) {
+    names = 0
+    printf "%d", below(4) == 0 ? 1 + below(30) : 65536
+    line("cml 1")
+    give("m0", "mailbox"); line("mailbox m0")
+    give("c0", "channel"); line("channel c0")
+    give("v0", "mvar"); line(below(2) ? "mvar v0" : "mvar v0 " below(100))
+    give("p0", "port"); line("port c0 p0")
+    count = below(5)
+    for (i = 1; i <= count; i++) {
+        its_kind = substr("mailboxchannelport   ivar   mvar   ", 1 + 7 * below(5), 7)
+        sub(/ +$/, "", its_kind)
+        name = "x" i
+        line(its_kind " " (its_kind == "port" ? pick("channel") " " : "") name)
+        give(name, its_kind)
+    }
+    threads = 1 + below(4)
+    for (i = 1; i <= threads; i++) line("thread T" i)
+    count = below(30)
+    for (i = 1; i <= count; i++) print_step("T" (1 + below(threads)), i)
+    printf "\n"
+}
+
+function print_step(thread, i,    v, text, own) {
+    v = verb[1 + below(verbs)]
+    text = thread " " v " " pick((v in wanted) ? wanted[v] : "receiver")
+    if (v == "port" || v == "copy") {
+        own = thread "q" i
+        text = text " " own
+    }
+    if (v in number_word) text = text " " below(1000)
+    line(text)
+    if (own != "") give(own, "port")
+}
