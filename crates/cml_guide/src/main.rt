@@ -3,6 +3,7 @@
 
 mod calls;
 mod channels;
+mod journals;
 mod mailboxes;
 mod readers;
 mod refusals;
@@ -15,7 +16,8 @@ fn main(rt: HostRuntime) -> io::Result<()> {
     show_channels(&rt)?;
     show_variables(&rt)?;
     show_refusals(&rt)?;
-    show_readers(&rt)
+    show_readers(&rt)?;
+    show_journals(&rt)
 }
 
 fn show_mailboxes(rt: &HostRuntime) -> io::Result<()> {
@@ -63,4 +65,14 @@ fn show_readers(rt: &HostRuntime) -> io::Result<()> {
         readers::journal_of_two_seats(alloc)
     )?;
     println!(rt; "readers::looked_at: {:?}", readers::looked_at(alloc))
+}
+
+fn show_journals(rt: &HostRuntime) -> io::Result<()> {
+    let alloc = rt.alloc();
+    println!(rt;
+        "journals::own_is_lawful: {:?}",
+        journals::own_is_lawful(alloc)
+    )?;
+    println!(rt; "journals::invented: {:?}", journals::invented(alloc))?;
+    println!(rt; "journals::confirmed: {:?}", journals::confirmed(alloc))
 }
