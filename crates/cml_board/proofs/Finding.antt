@@ -15,8 +15,8 @@ use Rattle.cml_board.proofs.Placing.{seen_read}
 use Rattle.cml_board.proofs.Looking.{stands_at}
 
 module _ {A M : Type 0} where
-  pub found_object : (chunk : ℕ) (log : A → Log M) (board : Shown M) (journal : List (Entry M)) (limit : ℕ) (objects xs : List (Object M A))
-      → shown log journal limit objects ≡ board → Keeps chunk board → xs ≡ objects → (name : ℕ) (r : Option (Bor (Object M A))) (Q : Bor (Object M A) → Type 0)
+  pub found_object : (chunk : ℕ) (log : A → Log M) (board : Shown M) (journal : List (Entry M)) (limit : ℕ) (objects xs : List (Object M A)) {reserved : ℕ}
+      → shown log journal limit objects reserved ≡ board → Keeps chunk board → xs ≡ objects → (name : ℕ) (r : Option (Bor (Object M A))) (Q : Bor (Object M A) → Type 0)
       → IfSome r (λ x. x.now ≡ get_or xs name x.now) → MatchOption r (length xs ≤ name) (λ x. (name < length xs) × Q x)
       → MatchOption r (origin_of board.history name ≡ None) (λ x. Stands chunk board name (map_log log x.now))
   found_object chunk log board journal limit objects xs view keeps same name None Q reads past =

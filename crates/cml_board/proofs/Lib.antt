@@ -14,6 +14,7 @@ pub mod Setting
 pub mod Holding
 pub mod Stepping
 pub mod Noting
+pub mod Sparing
 pub mod Answering
 pub mod Looking
 pub mod Received

@@ -1,7 +1,7 @@
 -- The element at a place, after a write and after a push.
-use Rattle.std.proofs.Common.{◌≡◌, ◌≢◌, ℕ, zero, suc, ◌⊎◌, inl, inr, List, [], ◌∷◌, ◌++◌, length, slice_get, slice_set, Some, Result, Ok, Err, OnOk, OnErr, false, refl, ap}
+use Rattle.std.proofs.Common.{◌≡◌, ◌≢◌, ℕ, zero, suc, ◌⊎◌, inl, inr, List, [], ◌∷◌, ◌++◌, length, slice_get, slice_set, Some, Result, Ok, Err, OnOk, OnErr, true, false, refl, ap}
 use Rattle.std.proofs.lemmas.Option.{same_Some, none-some}
-use Rattle.std.proofs.lemmas.Bool.{true≢false}
+use Rattle.std.proofs.lemmas.Bool.{true≢false, false≢true}
 use Rattle.std.specs.Result.{is_err}
 
 module _ {X : Type 0} where
@@ -38,6 +38,11 @@ module _ {X : Type 0} where
 pub on_err_given : {X E P : Type 0} (r : Result X E) → P → OnErr r P
 on_err_given (Ok x) p = tt
 on_err_given (Err e) p = p
+
+-- what holds of an error holds where there is one
+pub on_err : {X E P : Type 0} (r : Result X E) → is_err r ≡ true → OnErr r P → P
+on_err (Ok x) e p = absurd (false≢true e)
+on_err (Err error) e p = p
 
 -- what holds of a success holds where there is no error
 pub on_ok : {X E P : Type 0} (r : Result X E) → is_err r ≡ false → OnOk r P → P

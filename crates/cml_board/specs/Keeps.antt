@@ -52,5 +52,5 @@ module _ {M : Type 0} where
     pub holds_one : 0 < chunk
     pub small : chunk ≤ 1024
 
-  abbrev pub shown : {A : Type 0} → (A → Log M) → List (Entry M) → ℕ → List (Object M A) → Shown M
-  shown log journal limit objects = record { history = reverse journal; limit = limit; objects = seen_all log objects }
+  abbrev pub shown : {A : Type 0} → (A → Log M) → List (Entry M) → ℕ → List (Object M A) → ℕ → Shown M
+  shown log journal limit objects reserved = record { history = reverse journal; limit = limit; objects = seen_all log objects; reserved = reserved }

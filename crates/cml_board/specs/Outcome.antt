@@ -1,5 +1,5 @@
 -- What a board is to those who call it, and what becomes of a call.
-use Rattle.std.specs.Prelude.{◌≡◌, ◌≢◌, ◌<◌, ◌∷◌, length, Some, None}
+use Rattle.std.specs.Prelude.{ℕ, ◌≡◌, ◌≢◌, ◌+◌, ◌<◌, ◌≤◌, Bool, ◌∷◌, length, Some, None}
 use Rattle.cml_board.specs.declared.call.Call.{Call}
 use Rattle.cml_board.specs.declared.entry.Who.{Who}
 use Rattle.cml_board.specs.declared.entry.Reply.{Reply}
@@ -8,29 +8,40 @@ use Rattle.cml_board.specs.declared.outcome.Refusal.TheVariants.{NoSuch, WrongKi
 use Rattle.cml_board.specs.declared.outcome.Outcome.{Outcome}
 use Rattle.cml_board.specs.declared.outcome.Outcome.TheVariants.{Answered, WouldWait, Refused}
 use Rattle.cml_board.specs.Shown.{Shown}
+use Rattle.cml_board.specs.Sparing.{IsSpared}
 use Rattle.cml_board.specs.History.{IsMade, IsTaken, Fits, answer}
 
 module _ {M : Type 0} where
   abbrev pub HasRoom : Shown M → Type 0
   HasRoom board = length board.history < board.limit
 
-  -- when each refusal comes: they are tested in this order, and want of memory stands behind all of them
-  abbrev pub Refuses : Shown M → Call M → Refusal → Type 0
-  Refuses board call NoSuch = ¬ (IsMade board.history call)
-  Refuses board call WrongKind = IsMade board.history call × ¬ (IsTaken board.history call)
-  Refuses board call JournalFull = Fits board.history call × (length board.history ≡ board.limit)
-  Refuses board call NoMemory = Fits board.history call × HasRoom board × (answer board.history call ≢ None)
+  -- when each refusal comes: they are tested in this order, and want of memory stands behind all of them, and never
+  -- before a call that needs none but what was reserved
+  abbrev pub Refuses : ℕ → Bool → Shown M → Call M → Refusal → Type 0
+  Refuses chunk sure board call NoSuch = ¬ (IsMade board.history call)
+  Refuses chunk sure board call WrongKind = IsMade board.history call × ¬ (IsTaken board.history call)
+  Refuses chunk sure board call JournalFull = Fits board.history call × (length board.history ≡ board.limit)
+  Refuses chunk sure board call NoMemory = Fits board.history call × HasRoom board × (answer board.history call ≢ None)
+      × ¬ (IsSpared chunk sure board call)
 
-  -- the board has one entry more, and the same limit
+  -- the board is as it was, and nothing of what stands reserved is lost
+  pub record IsAsBefore (old new : Shown M) : Type 0 where
+    pub history : new.history ≡ old.history
+    pub limit : new.limit ≡ old.limit
+    pub objects : new.objects ≡ old.objects
+    pub reserved : old.reserved ≤ new.reserved
+
+  -- the board has one entry more, and the same limit, and lost what was reserved for one entry at most
   pub record AddsEntry (old new : Shown M) (who : Who) (call : Call M) (reply : Reply M) : Type 0 where
     pub history : new.history ≡ record { who = who; call = call; reply = reply } ∷ old.history
     pub limit : new.limit ≡ old.limit
+    pub reserved : old.reserved ≤ new.reserved + 1
 
   -- what becomes of a call: an answered one adds just its entry, and every other changes nothing and is handed back
-  abbrev pub Applies : Shown M → Shown M → Who → Call M → Outcome M → Type 0
-  Applies old new who call (Refused refusal back) = Refuses old call refusal × (back ≡ call) × (new ≡ old)
-  Applies old new who call (WouldWait back) =
-      Fits old.history call × HasRoom old × (answer old.history call ≡ None) × (back ≡ call) × (new ≡ old)
-  Applies old new who call (Answered a) =
+  abbrev pub Applies : ℕ → Bool → Shown M → Shown M → Who → Call M → Outcome M → Type 0
+  Applies chunk sure old new who call (Refused refusal back) = Refuses chunk sure old call refusal × (back ≡ call) × IsAsBefore old new
+  Applies chunk sure old new who call (WouldWait back) =
+      Fits old.history call × HasRoom old × (answer old.history call ≡ None) × (back ≡ call) × IsAsBefore old new
+  Applies chunk sure old new who call (Answered a) =
       Fits old.history call × HasRoom old × (answer old.history call ≡ Some a.reply)
       × (a.call ≡ call) × (a.at ≡ length old.history) × AddsEntry old new who call a.reply

@@ -11,11 +11,13 @@ use Rattle.cml_board.specs.History.{kind_of, origin_of, is_open, sent, got, due,
 use Rattle.cml_board.specs.Counts.{is_a}
 use Rattle.cml_board.specs.Holdings.{log_at, cursor_at, held_at}
 
--- the journal, newest entry first; its limit; and by name what each object really holds
+-- the journal, newest entry first; its limit; by name what each object really holds; and how many more entries the
+-- journal has memory for
 pub record Shown (M : Type 0) : Type 0 where
   pub history : List (Entry M)
   pub limit : ℕ
   pub objects : List (Object M (Log M))
+  pub reserved : ℕ
 
 module _ {M : Type 0} where
   -- the log that an object reads, with its cursor there: no chunk is given back that the cursor's place is in, nor any

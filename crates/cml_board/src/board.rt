@@ -1,10 +1,11 @@
-ghost use Rattle.std.specs.Prelude.{◌≡◌, ◌^◌, ◌<◌, ◌≤◌, ◌↔◌, ◌&&◌, false, [], length, reverse, Some, None, option_map, option_copied, IfOk, IsTrue, MatchOption};
+ghost use Rattle.std.specs.Prelude.{◌≡◌, ◌^◌, ◌<◌, ◌≤◌, ◌↔◌, ◌&&◌, false, [], length, reverse, Some, None, option_map, option_copied, IfOk, OnOk, OnErr, IsTrue, MatchOption};
 ghost use Rattle.cml_board.specs.Objects.{is_receiver};
 ghost use Rattle.cml_board.specs.History.{Fits, answer, Lawful, origin_of, kind_of, is_open};
 ghost use Rattle.cml_board.specs.Counts.{is_a, sent_count, got_count, owed_count, channel_of, start_of, first_of, kept_count, port_is_open, held_by};
 ghost use Rattle.cml_board.specs.Holdings.{map_log, log_at, HasLog};
 ghost use Rattle.cml_board.specs.Standing.{ReadsAt, Stands};
 ghost use Rattle.cml_board.specs.Checking.{IsNoted};
+ghost use Rattle.cml_board.specs.Outcome.{IsAsBefore};
 ghost use Rattle.cml_board.specs.Shown.{KeepsMailboxes, KeepsPorts, KeepsClosed, KeepsVariables};
 
 mod apply;
@@ -41,11 +42,12 @@ impl<M, L: MessageLog<M>> Model for Board<M, L> {
 
     ghost Value = { Shown M };
 
+    ghost use Rattle.std.specs.Prelude.{◌-◌, vec_len, vec_capacity};
     ghost use Rattle.cml_board.specs.Keeps.{shown, Keeps};
 
-    ghost view = { λ b. shown L.log b.journal.items b.limit b.objects.items };
+    ghost view = { λ b. shown L.log b.journal.items b.limit b.objects.items (vec_capacity b.journal - vec_len b.journal) };
 
-    ghost invariant = { λ b. Keeps L.CHUNK (shown L.log b.journal.items b.limit b.objects.items) };
+    ghost invariant = { λ b. Keeps L.CHUNK (shown L.log b.journal.items b.limit b.objects.items (vec_capacity b.journal - vec_len b.journal)) };
 }
 
 impl<M: Message, L: MessageLog<M>> Board<M, L> {
@@ -103,6 +105,16 @@ impl<M: Message, L: MessageLog<M>> Board<M, L> {
             Some(entry) => { entry.call.same(answer.call()) && entry.reply.same(answer.reply()) }
             None => false,
         }
+    }
+
+    /// Takes memory for `n` more entries. Until `n` calls were answered, a call is not refused for want of memory if
+    /// it makes no object and fills no chunk, and its messages are such that a share of one is never refused.
+    pub fn reserve(&mut self, n: usize) -> Result<(), AllocError>
+        ensures kept { IsAsBefore self.old self.new }
+        ensures reserved { OnOk result (n ≤ self.new.reserved) }
+        ensures refused { OnErr result (self.old.reserved < n) }
+    {
+        self.journal.reserve(n)
     }
 
     /// The object's kind.

@@ -1,12 +1,16 @@
-ghost use Rattle.std.specs.Prelude.{◌≡◌, ◌↔◌, IsTrue, IfOk};
+ghost use Rattle.std.specs.Prelude.{◌≡◌, ◌↔◌, Bool, true, false, IsTrue, IfOk, OnErr};
 
 use std::alloc::{AllocError, Global};
 
 /// What mailboxes carry and variables hold. A journal keeps a copy of each message beside the one that is delivered.
 pub trait Message: Drop + Sized {
+    /// Whether a share of such a message is never refused.
+    ghost SURE: { Bool };
+
     /// A second message equal to this one. Only want of memory refuses it.
     fn share(&self, alloc: Global) -> Result<Self, AllocError>
-        ensures { IfOk result (λ copy. copy ≡ self.now) };
+        ensures copy { IfOk result (λ copy. copy ≡ self.now) }
+        ensures sure { OnErr result (SURE ≡ false) };
 
     /// Whether two messages are equal.
     fn same(&self, other: &Self) -> bool
@@ -14,6 +18,8 @@ pub trait Message: Drop + Sized {
 }
 
 impl Message for u64 {
+    ghost SURE = { true };
+
     fn share(&self, _alloc: Global) -> Result<u64, AllocError> {
         Ok(*self)
     }

@@ -1,5 +1,5 @@
 //! The objects of a board, and what a call does to one of them.
-ghost use Rattle.std.specs.Prelude.{◌≡◌, ℕ, ◌<◌, length, Some, IsSome, OnOk, OnErr, IfOk};
+ghost use Rattle.std.specs.Prelude.{◌≡◌, ℕ, ◌-◌, ◌%◌, ◌<◌, length, Some, IsSome, OnOk, OnErr, IfOk};
 ghost use Rattle.std.specs.Option.{option_map};
 ghost use Rattle.cml_log.specs.Log.{Log, next_of, IsOpen, place_of, owed_items, Opens};
 ghost use Rattle.cml_board.specs.Holdings.{map_log, log_in, cursor_in, held_in, with_held, pushed, advanced, shut, OpensIn};
@@ -87,6 +87,8 @@ pub fn push<M, L: MessageLog<M>>(object: &mut Object<M, L>, message: M) -> Resul
     requires room { (log : Log M) → log_in (map_log L.log object.old) ≡ Some log → next_of log < 18446744073709551614 }
     ensures ok { OnOk result (map_log L.log object.new ≡ map_log (pushed L.CHUNK message) (map_log L.log object.old)) }
     ensures err { OnErr result (map_log L.log object.new ≡ map_log L.log object.old) }
+    ensures refused { OnErr result
+        ((log : Log M) → log_in (map_log L.log object.old) ≡ Some log → next_of log % L.CHUNK ≡ L.CHUNK - 1) }
 {
     match object {
         Object::Mailbox(log, _) => log.push(message),

@@ -15,7 +15,7 @@ use cml_log::MessageLog;
 impl<M: Message, L: MessageLog<M>> Board<M, L> {
     /// Makes a call for `who`. An answered call adds its entry to the journal, and nothing else changes the board.
     pub fn apply(&mut self, who: Who, call: Call<M>) -> Outcome<M>
-        ensures { Applies self.old self.new who call result }
+        ensures { Applies L.CHUNK M.SURE self.old self.new who call result }
     {
         if let Some(refusal) = self.refusal(&call) {
             return Outcome::Refused(refusal, call);
@@ -45,7 +45,7 @@ impl<M: Message, L: MessageLog<M>> Board<M, L> {
     /// Why the call is refused, whatever memory there is.
     fn refusal(&self, call: &Call<M>) -> Option<Refusal>
         ensures { MatchOption result (Fits self.now.history call.now × HasRoom self.now)
-            (λ refusal. (refusal ≢ Refusal.NoMemory) × Refuses self.now call.now refusal) }
+            (λ refusal. (refusal ≢ Refusal.NoMemory) × Refuses L.CHUNK M.SURE self.now call.now refusal) }
     {
         if let Some(name) = call.object() {
             let Some(kind) = self.kind(name) else {

@@ -20,7 +20,7 @@ use cml_log::{Key, MessageLog};
 impl<M: Message, L: MessageLog<M>> Board<M, L> {
     pub(super) fn make_mailbox(&mut self, who: Who) -> Outcome<M>
         requires { HasRoom self.old }
-        ensures { Applies self.old self.new who Call.NewMailbox result }
+        ensures { Applies L.CHUNK M.SURE self.old self.new who Call.NewMailbox result }
     {
         if self.journal.reserve(1).is_err() {
             return Outcome::Refused(Refusal::NoMemory, Call::NewMailbox);
@@ -44,7 +44,7 @@ impl<M: Message, L: MessageLog<M>> Board<M, L> {
 
     pub(super) fn make_channel(&mut self, who: Who) -> Outcome<M>
         requires { HasRoom self.old }
-        ensures { Applies self.old self.new who Call.NewChannel result }
+        ensures { Applies L.CHUNK M.SURE self.old self.new who Call.NewChannel result }
     {
         if self.journal.reserve(1).is_err() {
             return Outcome::Refused(Refusal::NoMemory, Call::NewChannel);
@@ -69,7 +69,7 @@ impl<M: Message, L: MessageLog<M>> Board<M, L> {
     pub(super) fn make_port(&mut self, who: Who, channel: Name) -> Outcome<M>
         requires fits { is_a is_channel self.old.history channel.0 ≡ true }
         requires room { HasRoom self.old }
-        ensures { Applies self.old self.new who (Call.NewPort channel) result }
+        ensures { Applies L.CHUNK M.SURE self.old self.new who (Call.NewPort channel) result }
     {
         if self.journal.reserve(1).is_err() {
             return Outcome::Refused(Refusal::NoMemory, Call::NewPort(channel));
@@ -94,7 +94,7 @@ impl<M: Message, L: MessageLog<M>> Board<M, L> {
     pub(super) fn copy_port(&mut self, who: Who, port: Name) -> Outcome<M>
         requires fits { is_a is_port self.old.history port.0 ≡ true }
         requires room { HasRoom self.old }
-        ensures { Applies self.old self.new who (Call.CopyPort port) result }
+        ensures { Applies L.CHUNK M.SURE self.old self.new who (Call.CopyPort port) result }
     {
         match self.cursor(port) {
             None => self.find_closed(who, port, Asking::Copy),
@@ -106,7 +106,7 @@ impl<M: Message, L: MessageLog<M>> Board<M, L> {
         requires fits { is_a is_port self.old.history port.0 ≡ true }
         requires reads { ReadsAt self.old port.0 channel.0 key }
         requires room { HasRoom self.old }
-        ensures { Applies self.old self.new who (Call.CopyPort port) result }
+        ensures { Applies L.CHUNK M.SURE self.old self.new who (Call.CopyPort port) result }
     {
         if self.journal.reserve(1).is_err() {
             return Outcome::Refused(Refusal::NoMemory, Call::CopyPort(port));
@@ -131,7 +131,7 @@ impl<M: Message, L: MessageLog<M>> Board<M, L> {
     pub(super) fn close_port(&mut self, who: Who, port: Name) -> Outcome<M>
         requires fits { is_a is_port self.old.history port.0 ≡ true }
         requires room { HasRoom self.old }
-        ensures { Applies self.old self.new who (Call.ClosePort port) result }
+        ensures { Applies L.CHUNK M.SURE self.old self.new who (Call.ClosePort port) result }
     {
         match self.open_port(port) {
             None => self.find_closed(who, port, Asking::Close),
@@ -164,7 +164,7 @@ impl<M: Message, L: MessageLog<M>> Board<M, L> {
     ) -> Outcome<M>
         requires stands { slice_get self.old.objects port.0 ≡ Some (open_port channel.0 start key) }
         requires room { HasRoom self.old }
-        ensures { Applies self.old self.new who (Call.ClosePort port) result }
+        ensures { Applies L.CHUNK M.SURE self.old self.new who (Call.ClosePort port) result }
     {
         if self.journal.reserve(1).is_err() {
             return Outcome::Refused(Refusal::NoMemory, Call::ClosePort(port));

@@ -1,5 +1,5 @@
 //! Calls that put a message into a log or take one out of it.
-ghost use Rattle.std.specs.Prelude.{◌≡◌, ◌≢◌, ◌<◌, true, false, [], length, Some, IfOk, slice_get};
+ghost use Rattle.std.specs.Prelude.{◌≡◌, ◌≢◌, ◌<◌, true, false, [], length, Some, IfOk, OnErr, slice_get};
 ghost use Rattle.cml_log.specs.Log.{IsOpen, owed_items};
 ghost use Rattle.cml_board.specs.Objects.{is_receiver};
 ghost use Rattle.cml_board.specs.Counts.{is_a};
@@ -23,7 +23,7 @@ impl<M: Message, L: MessageLog<M>> Board<M, L> {
     pub(super) fn put(&mut self, who: Who, name: Name, message: M, putting: Putting) -> Outcome<M>
         requires fits { Fits self.old.history (putting_call putting name message) }
         requires room { HasRoom self.old }
-        ensures { Applies self.old self.new who (putting_call putting name message) result }
+        ensures { Applies L.CHUNK M.SURE self.old self.new who (putting_call putting name message) result }
     {
         let Ok((stored, noted)) = share_twice(self.alloc, &message) else {
             return Outcome::Refused(Refusal::NoMemory, putting.call(name, message));
@@ -46,7 +46,7 @@ impl<M: Message, L: MessageLog<M>> Board<M, L> {
     pub(super) fn receive(&mut self, who: Who, name: Name) -> Outcome<M>
         requires fits { is_a is_receiver self.old.history name.0 ≡ true }
         requires room { HasRoom self.old }
-        ensures { Applies self.old self.new who (Call.Recv name) result }
+        ensures { Applies L.CHUNK M.SURE self.old self.new who (Call.Recv name) result }
     {
         let Some((source, key)) = self.cursor(name) else {
             return self.find_closed(who, name, Asking::Receive);
@@ -60,7 +60,7 @@ impl<M: Message, L: MessageLog<M>> Board<M, L> {
     pub(super) fn poll(&mut self, who: Who, name: Name) -> Outcome<M>
         requires fits { is_a is_receiver self.old.history name.0 ≡ true }
         requires room { HasRoom self.old }
-        ensures { Applies self.old self.new who (Call.Poll name) result }
+        ensures { Applies L.CHUNK M.SURE self.old self.new who (Call.Poll name) result }
     {
         let Some((source, key)) = self.cursor(name) else {
             return self.find_closed(who, name, Asking::Poll);
@@ -76,7 +76,7 @@ impl<M: Message, L: MessageLog<M>> Board<M, L> {
         requires fits { Fits self.old.history (asking_call asking name) }
         requires closed { is_open self.old.history name.0 ≡ false }
         requires room { HasRoom self.old }
-        ensures { Applies self.old self.new who (asking_call asking name) result }
+        ensures { Applies L.CHUNK M.SURE self.old self.new who (asking_call asking name) result }
     {
         if self.journal.reserve(1).is_err() {
             return Outcome::Refused(Refusal::NoMemory, asking.call(name));
@@ -96,7 +96,7 @@ impl<M: Message, L: MessageLog<M>> Board<M, L> {
         requires opened { is_open self.old.history name.0 ≡ true }
         requires empty { owed self.old.history name.0 ≡ [] }
         requires room { HasRoom self.old }
-        ensures { Applies self.old self.new who (Call.Poll name) result }
+        ensures { Applies L.CHUNK M.SURE self.old self.new who (Call.Poll name) result }
     {
         if self.journal.reserve(1).is_err() {
             return Outcome::Refused(Refusal::NoMemory, Call::Poll(name));
@@ -114,7 +114,7 @@ impl<M: Message, L: MessageLog<M>> Board<M, L> {
         requires reads { ReadsAt self.old name.0 source.0 key }
         requires owed { owed self.old.history name.0 ≢ [] }
         requires room { HasRoom self.old }
-        ensures { Applies self.old self.new who (taking_call taking name) result }
+        ensures { Applies L.CHUNK M.SURE self.old self.new who (taking_call taking name) result }
     {
         let Ok((message, noted)) = share_first(self.log(source), self.alloc, key) else {
             return Outcome::Refused(Refusal::NoMemory, taking.call(name));
@@ -134,7 +134,8 @@ impl<M: Message, L: MessageLog<M>> Board<M, L> {
 }
 
 pub(super) fn share_twice<M: Message>(alloc: Global, message: &M) -> Result<(M, M), AllocError>
-    ensures { IfOk result (λ copies. (copies.0 ≡ message.now) × (copies.1 ≡ message.now)) }
+    ensures copies { IfOk result (λ copies. (copies.0 ≡ message.now) × (copies.1 ≡ message.now)) }
+    ensures sure { OnErr result (M.SURE ≡ false) }
 {
     let first = message.share(alloc)?;
     let second = message.share(alloc)?;
@@ -149,8 +150,9 @@ fn share_first<M: Message, L: MessageLog<M>>(
 ) -> Result<(M, M), AllocError>
     requires opened { IsOpen (L.log log.now) key }
     requires owed { 0 < length (owed_items (L.log log.now) key) }
-    ensures { IfOk result (λ copies. (slice_get (owed_items (L.log log.now) key) 0 ≡ Some copies.0)
+    ensures copies { IfOk result (λ copies. (slice_get (owed_items (L.log log.now) key) 0 ≡ Some copies.0)
         × (slice_get (owed_items (L.log log.now) key) 0 ≡ Some copies.1)) }
+    ensures sure { OnErr result (M.SURE ≡ false) }
 {
     match log.peek(key) {
         Some(message) => share_twice(alloc, message),

@@ -1,5 +1,5 @@
 //! An entry is added to the journal, and told of.
-ghost use Rattle.std.specs.Prelude.{◌≡◌, ◌<◌, [], ◌∷◌, ◌++◌, length, vec_len, vec_capacity};
+ghost use Rattle.std.specs.Prelude.{◌≡◌, ◌+◌, ◌-◌, ◌<◌, [], ◌∷◌, ◌++◌, length, vec_len, vec_capacity};
 ghost use Rattle.cml_board.specs.Calls.{taking_call, asking_call, putting_call, looking_call, waits, empties};
 
 use crate::answer::Answer;
@@ -116,6 +116,7 @@ pub fn note<M>(
 ) -> Outcome<M>
     requires { vec_len journal.old < vec_capacity journal.old }
     ensures entries { journal.new.items ≡ journal.old.items ++ entry ∷ [] }
+    ensures spare { vec_capacity journal.old - vec_len journal.old ≡ vec_capacity journal.new - vec_len journal.new + 1 }
     ensures answer { result ≡ Outcome.Answered (record { call = call; reply = reply; at = length journal.old.items }) }
 {
     let at = journal.len() as u64;

@@ -1,6 +1,6 @@
 //! What a call does to the objects of a board, by their names.
-ghost use Rattle.std.specs.Prelude.{◌≡◌, ◌<◌, ◌≤◌, ◌++◌, ◌∷◌, [], Some, OnOk, OnErr};
-ghost use Rattle.cml_log.specs.Log.{empty_log, next_of, place_of};
+ghost use Rattle.std.specs.Prelude.{◌≡◌, ◌-◌, ◌%◌, ◌<◌, ◌≤◌, ◌++◌, ◌∷◌, [], Some, OnOk, OnErr};
+ghost use Rattle.cml_log.specs.Log.{Log, empty_log, next_of, place_of};
 ghost use Rattle.cml_board.specs.declared.object.Object.TheVariants.{Channel, Variable};
 ghost use Rattle.cml_board.specs.Holdings.{seen_all, log_at, on_log, pushed, advanced, HasLog, HasRoomAt, HasCursor, HasOwed, HasPort, HasVariable, AddsMailbox, AddsPort, ClosesPort, SetsHeld};
 
@@ -25,6 +25,8 @@ pub fn push_at<M, L: MessageLog<M>>(
     requires { HasRoomAt (seen_all L.log objects.old.items) name.0 }
     ensures ok { OnOk result (seen_all L.log objects.new.items ≡ on_log (pushed L.CHUNK message) (seen_all L.log objects.old.items) name.0) }
     ensures err { OnErr result (seen_all L.log objects.new.items ≡ seen_all L.log objects.old.items) }
+    ensures refused { OnErr result
+        ((log : Log M) → log_at (seen_all L.log objects.old.items) name.0 ≡ Some log → next_of log % L.CHUNK ≡ L.CHUNK - 1) }
 {
     object::push(&mut objects[name.0 as usize], message)
 }

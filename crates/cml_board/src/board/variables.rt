@@ -1,5 +1,5 @@
 //! Calls that make a variable, fill it or read it.
-ghost use Rattle.std.specs.Prelude.{◌≡◌, ◌≢◌, true, false, Some, None, option_copied, IfOk};
+ghost use Rattle.std.specs.Prelude.{◌≡◌, ◌≢◌, true, false, Some, None, option_copied, IfOk, OnErr};
 ghost use Rattle.cml_board.specs.Objects.{is_variable};
 ghost use Rattle.cml_board.specs.Counts.{is_a};
 ghost use Rattle.cml_board.specs.Held.{held};
@@ -23,7 +23,7 @@ impl<M: Message, L: MessageLog<M>> Board<M, L> {
     /// Makes an empty variable.
     pub(super) fn make_variable(&mut self, who: Who, form: Form) -> Outcome<M>
         requires { HasRoom self.old }
-        ensures { Applies self.old self.new who (making_call form) result }
+        ensures { Applies L.CHUNK M.SURE self.old self.new who (making_call form) result }
     {
         if self.journal.reserve(1).is_err() {
             return Outcome::Refused(Refusal::NoMemory, form.call());
@@ -44,7 +44,7 @@ impl<M: Message, L: MessageLog<M>> Board<M, L> {
     /// Makes an m-variable that holds this.
     pub(super) fn make_full(&mut self, who: Who, message: M) -> Outcome<M>
         requires { HasRoom self.old }
-        ensures { Applies self.old self.new who (Call.MVarInit message) result }
+        ensures { Applies L.CHUNK M.SURE self.old self.new who (Call.MVarInit message) result }
     {
         let Ok((stored, noted)) = share_twice(self.alloc, &message) else {
             return Outcome::Refused(Refusal::NoMemory, Call::MVarInit(message));
@@ -73,7 +73,7 @@ impl<M: Message, L: MessageLog<M>> Board<M, L> {
     pub(super) fn fill(&mut self, who: Who, name: Name, message: M) -> Outcome<M>
         requires fits { Fits self.old.history (Call.Put name message) }
         requires room { HasRoom self.old }
-        ensures { Applies self.old self.new who (Call.Put name message) result }
+        ensures { Applies L.CHUNK M.SURE self.old self.new who (Call.Put name message) result }
     {
         if self.content(name).is_some() {
             return self.find_full(who, name, message);
@@ -85,7 +85,7 @@ impl<M: Message, L: MessageLog<M>> Board<M, L> {
         requires fits { Fits self.old.history (Call.Put name message) }
         requires empty { held self.old.history name.0 ≡ None }
         requires room { HasRoom self.old }
-        ensures { Applies self.old self.new who (Call.Put name message) result }
+        ensures { Applies L.CHUNK M.SURE self.old self.new who (Call.Put name message) result }
     {
         let Ok((stored, noted)) = share_twice(self.alloc, &message) else {
             return Outcome::Refused(Refusal::NoMemory, Call::Put(name, message));
@@ -112,7 +112,7 @@ impl<M: Message, L: MessageLog<M>> Board<M, L> {
         requires fits { Fits self.old.history (Call.Put name message) }
         requires full { held self.old.history name.0 ≢ None }
         requires room { HasRoom self.old }
-        ensures { Applies self.old self.new who (Call.Put name message) result }
+        ensures { Applies L.CHUNK M.SURE self.old self.new who (Call.Put name message) result }
     {
         let Ok(noted) = message.share(self.alloc) else {
             return Outcome::Refused(Refusal::NoMemory, Call::Put(name, message));
@@ -137,7 +137,7 @@ impl<M: Message, L: MessageLog<M>> Board<M, L> {
     pub(super) fn look(&mut self, who: Who, name: Name, looking: Looking) -> Outcome<M>
         requires fits { Fits self.old.history (looking_call looking name) }
         requires room { HasRoom self.old }
-        ensures { Applies self.old self.new who (looking_call looking name) result }
+        ensures { Applies L.CHUNK M.SURE self.old self.new who (looking_call looking name) result }
     {
         if self.content(name).is_some() {
             return if looking.empties() {
@@ -157,7 +157,7 @@ impl<M: Message, L: MessageLog<M>> Board<M, L> {
         requires leaves { empties looking ≡ false }
         requires full { held self.old.history name.0 ≢ None }
         requires room { HasRoom self.old }
-        ensures { Applies self.old self.new who (looking_call looking name) result }
+        ensures { Applies L.CHUNK M.SURE self.old self.new who (looking_call looking name) result }
     {
         let Ok(message) = self.share_held(name) else {
             return Outcome::Refused(Refusal::NoMemory, looking.call(name));
@@ -182,7 +182,7 @@ impl<M: Message, L: MessageLog<M>> Board<M, L> {
         requires empties { empties looking ≡ true }
         requires full { held self.old.history name.0 ≢ None }
         requires room { HasRoom self.old }
-        ensures { Applies self.old self.new who (looking_call looking name) result }
+        ensures { Applies L.CHUNK M.SURE self.old self.new who (looking_call looking name) result }
     {
         let Ok(noted) = self.share_held(name) else {
             return Outcome::Refused(Refusal::NoMemory, looking.call(name));
@@ -208,7 +208,7 @@ impl<M: Message, L: MessageLog<M>> Board<M, L> {
         requires polls { waits looking ≡ false }
         requires empty { held self.old.history name.0 ≡ None }
         requires room { HasRoom self.old }
-        ensures { Applies self.old self.new who (looking_call looking name) result }
+        ensures { Applies L.CHUNK M.SURE self.old self.new who (looking_call looking name) result }
     {
         if self.journal.reserve(1).is_err() {
             return Outcome::Refused(Refusal::NoMemory, looking.call(name));
@@ -226,7 +226,7 @@ impl<M: Message, L: MessageLog<M>> Board<M, L> {
     pub(super) fn swap(&mut self, who: Who, name: Name, message: M) -> Outcome<M>
         requires fits { Fits self.old.history (Call.Swap name message) }
         requires room { HasRoom self.old }
-        ensures { Applies self.old self.new who (Call.Swap name message) result }
+        ensures { Applies L.CHUNK M.SURE self.old self.new who (Call.Swap name message) result }
     {
         if self.content(name).is_some() {
             return self.swap_full(who, name, message);
@@ -238,7 +238,7 @@ impl<M: Message, L: MessageLog<M>> Board<M, L> {
         requires fits { Fits self.old.history (Call.Swap name message) }
         requires full { held self.old.history name.0 ≢ None }
         requires room { HasRoom self.old }
-        ensures { Applies self.old self.new who (Call.Swap name message) result }
+        ensures { Applies L.CHUNK M.SURE self.old self.new who (Call.Swap name message) result }
     {
         let Ok((stored, noted)) = share_twice(self.alloc, &message) else {
             return Outcome::Refused(Refusal::NoMemory, Call::Swap(name, message));
@@ -277,7 +277,8 @@ impl<M: Message, L: MessageLog<M>> Board<M, L> {
     fn share_held(&self, name: Name) -> Result<M, AllocError>
         requires stands { is_a is_variable self.now.history name.0 ≡ true }
         requires full { held self.now.history name.0 ≢ None }
-        ensures { IfOk result (λ message. held self.now.history name.0 ≡ Some message) }
+        ensures copy { IfOk result (λ message. held self.now.history name.0 ≡ Some message) }
+        ensures sure { OnErr result (M.SURE ≡ false) }
     {
         match self.content(name) {
             Some(message) => message.share(self.alloc),

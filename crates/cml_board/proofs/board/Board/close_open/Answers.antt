@@ -1,23 +1,25 @@
 use Rattle.std.proofs.Common.{refl, sym, ◌∙◌, ◌≡◌, arith, reverse, Some, slice_get}
-use Rattle.cml_board.proofs.ListLemmas.{on_ok}
+use Rattle.cml_board.proofs.ListLemmas.{on_ok, on_err}
 use Rattle.cml_board.specs.declared.call.Call.TheVariants.{ClosePort}
 use Rattle.cml_board.specs.declared.entry.Reply.TheVariants.{Done}
 use Rattle.cml_board.specs.Objects.{is_port}
 use Rattle.cml_board.specs.Holdings.{seen_all, open_port}
 use Rattle.cml_board.specs.Shown.{Shown}
-use Rattle.cml_board.proofs.Noting.{keeps_at, keeps_call, seen_same, inside, refused, applies_answered, adds_entry, noted_at}
+use Rattle.cml_board.proofs.Noting.{keeps_at, keeps_call, as_before, inside, refused, applies_answered, adds_entry, noted_at}
 use Rattle.cml_board.proofs.Answering.{fits_by, answer_shut}
 use Rattle.cml_board.proofs.Sources.{open_port_told}
 use Rattle.cml_board.proofs.Stepping.{step_closed, has_port}
+use Rattle.cml_board.proofs.Sparing.{no_room}
 use Rattle.cml_board.proofs.board.Board.close_open.Goals as goal
 
 pub returns-then-is_err : goal.returns-then-is_err
 returns-then-is_err g c =
     let h = c.args.self.now.history in
     let told = open_port_told g.L.MessageLog.CHUNK c.args.self.now c.args.port.0 c.args.channel.0 c.args.start c.args.key (keeps_at g.L.MessageLog.CHUNK c.self.view_is c.self.invariant) c.requires.stands in (
-      refused c.args.self.now (ClosePort c.args.port) Done (fits_by is_port h c.args.port (ClosePort c.args.port) refl (λ k. refl) told.0) c.requires.room (answer_shut h c.args.port told.1),
+      refused c.args.self.now (ClosePort c.args.port) Done (fits_by is_port h c.args.port (ClosePort c.args.port) refl (λ k. refl) told.0) c.requires.room (answer_shut h c.args.port told.1)
+          (no_room (ClosePort c.args.port) c.self.view_is (omega (arith, on_err c.reserve.result (sym c.is_err.ensures.value ∙ c.if-is_err.true) c.reserve.ensures.full))),
       refl,
-      seen_same _ _ _ _ _ c.self.view_is c.reserve.ensures.items refl,
+      as_before c.self.view_is c.reserve.ensures.items refl (omega (arith, c.reserve.ensures.len, c.reserve.ensures.capacity)),
     )
 
 pub close_port-requires : goal.close_port-requires
@@ -48,8 +50,8 @@ returns g c =
     let chunk = g.L.MessageLog.CHUNK in
     let h = c.args.self.now.history in
     let told = open_port_told chunk c.args.self.now c.args.port.0 c.args.channel.0 c.args.start c.args.key (keeps_at chunk c.self.view_is c.self.invariant) c.requires.stands in
-    applies_answered c.args.self.now _ c.args.who (ClosePort c.args.port) c.note.result _ c.note.ensures.answer
+    applies_answered _ _ c.args.self.now _ c.args.who (ClosePort c.args.port) c.note.result _ c.note.ensures.answer
     (fits_by is_port h c.args.port (ClosePort c.args.port) refl (λ k. refl) told.0) c.requires.room (answer_shut h c.args.port told.1)
     refl
     (noted_at c.self.view_is c.reserve.ensures.items)
-    (adds_entry c.args.who (ClosePort c.args.port) (ClosePort c.args.port) Done Done c.self.view_is c.note.ensures.entries c.reserve.ensures.items refl refl)
+    (adds_entry c.args.who (ClosePort c.args.port) (ClosePort c.args.port) Done Done c.self.view_is c.note.ensures.entries c.reserve.ensures.items refl refl (omega (arith, c.reserve.ensures.len, c.reserve.ensures.capacity, c.note.ensures.spare)))

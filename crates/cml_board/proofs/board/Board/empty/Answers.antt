@@ -1,14 +1,16 @@
-use Rattle.std.proofs.Common.{refl, sym, ap, ◌∙◌, ◌≡◌, reverse, Some, None}
+use Rattle.std.proofs.Common.{refl, sym, ap, ◌∙◌, ◌≡◌, reverse, Some, None, arith}
 use Rattle.std.proofs.lemmas.Option.{same_Some}
 use Rattle.cml_board.specs.declared.entry.Reply.TheVariants.{Got}
 use Rattle.cml_board.specs.Calls.{looking_call}
 use Rattle.cml_board.specs.Held.{held}
 use Rattle.cml_board.specs.Holdings.{seen_all, HasVariable}
 use Rattle.cml_board.specs.Shown.{Shown}
-use Rattle.cml_board.proofs.Noting.{keeps_at, keeps_call, seen_same, inside, refused, applies_answered, adds_entry, noted_at}
+use Rattle.cml_board.proofs.Noting.{keeps_at, keeps_call, as_before, inside, refused, applies_answered, adds_entry, noted_at, unchanged}
 use Rattle.cml_board.proofs.Holding.{look_variable, some_message, answer_read, variable_stands, was_held}
 use Rattle.cml_board.proofs.Leaving.{taken_sets}
 use Rattle.cml_board.proofs.Setting.{step_set}
+use Rattle.cml_board.proofs.ListLemmas.{on_err}
+use Rattle.cml_board.proofs.Sparing.{no_room, answer_takes}
 use Rattle.cml_board.proofs.board.Board.empty.Goals as goal
 
 pub share_held-requires-clause-stands : goal.share_held-requires-clause-stands
@@ -18,18 +20,20 @@ pub returns-in_default : goal.returns-in_default
 returns-in_default g c =
     let h = c.args.self.now.history in
     let some = some_message (held h c.args.name.0) c.requires.full in (
-      refused c.args.self.now (looking_call c.args.looking c.args.name) (Got some.0) c.requires.fits c.requires.room (answer_read h c.args.looking c.args.name some.0 some.1),
+      refused c.args.self.now (looking_call c.args.looking c.args.name) (Got some.0) c.requires.fits c.requires.room (answer_read h c.args.looking c.args.name some.0 some.1)
+          (answer_takes c.args.self.now (looking_call c.args.looking c.args.name) some.0 (answer_read h c.args.looking c.args.name some.0 some.1) c.in_default.ensures.sure),
       c.call.ensures,
-      refl,
+      unchanged c.args.self.now,
     )
 
 pub returns-then-is_err : goal.returns-then-is_err
 returns-then-is_err g c =
     let h = c.args.self.now.history in
     let some = some_message (held h c.args.name.0) c.requires.full in (
-      refused c.args.self.now (looking_call c.args.looking c.args.name) (Got some.0) c.requires.fits c.requires.room (answer_read h c.args.looking c.args.name some.0 some.1),
+      refused c.args.self.now (looking_call c.args.looking c.args.name) (Got some.0) c.requires.fits c.requires.room (answer_read h c.args.looking c.args.name some.0 some.1)
+          (no_room (looking_call c.args.looking c.args.name) c.self.view_is (omega (arith, on_err c.reserve.result (sym c.is_err.ensures.value ∙ c.if-is_err.true) c.reserve.ensures.full))),
       c.call-then-is_err.ensures,
-      seen_same _ _ _ _ _ c.self.view_is c.reserve.ensures.items refl,
+      as_before c.self.view_is c.reserve.ensures.items refl (omega (arith, c.reserve.ensures.len, c.reserve.ensures.capacity)),
     )
 
 pub hold_at-requires : goal.hold_at-requires
@@ -52,7 +56,7 @@ invariant_of-self-2 g c =
     let asked = looking_call c.args.looking c.args.name in
     keeps_call chunk c.args.who asked c.call-2.result (Got c.in-Ok.noted) (Got c.in-Ok.noted) c.self.view_is c.self.invariant c.note.ensures.entries c.reserve.ensures.items
     c.call-2.ensures refl c.requires.room c.requires.fits
-    (answer_read c.args.self.now.history c.args.looking c.args.name c.in-Ok.noted c.in-Ok.ensures)
+    (answer_read c.args.self.now.history c.args.looking c.args.name c.in-Ok.noted c.in-Ok.ensures.copy)
     (λ lawful shows. step_set chunk c.args.who asked (Got c.in-Ok.noted) c.args.name c.hold_at.result None
     (reverse c.self.inside.journal.items) (seen_all log c.self.inside.objects.items) (seen_all log c.hold_at.new.objects.items)
     (taken_sets c.args.looking c.args.name c.in-Ok.noted c.requires.empties) shows c.hold_at.ensures)
@@ -64,10 +68,10 @@ returns g c =
     let asked = looking_call c.args.looking c.args.name in
     let full : held h c.args.name.0 ≡ Some c.in-Some.message =
     was_held chunk c.self.view_is c.self.invariant (seen_all g.L.MessageLog.log c.hold_at.new.objects.items) c.args.name.0 c.hold_at.result None c.hold_at.ensures ∙ c.in-Some.is in
-    let same : c.in-Ok.noted ≡ c.in-Some.message = same_Some _ _ (sym c.in-Ok.ensures ∙ full) in
-    applies_answered c.args.self.now _ c.args.who asked c.note.result _ c.note.ensures.answer
+    let same : c.in-Ok.noted ≡ c.in-Some.message = same_Some _ _ (sym c.in-Ok.ensures.copy ∙ full) in
+    applies_answered _ _ c.args.self.now _ c.args.who asked c.note.result _ c.note.ensures.answer
     c.requires.fits c.requires.room (answer_read h c.args.looking c.args.name c.in-Some.message full)
     c.call-call.ensures
     (noted_at c.self.view_is c.reserve.ensures.items)
     (adds_entry c.args.who asked c.call-2.result (Got c.in-Ok.noted) (Got c.in-Some.message) c.self.view_is c.note.ensures.entries c.reserve.ensures.items
-    c.call-2.ensures (ap Got same))
+    c.call-2.ensures (ap Got same) (omega (arith, c.reserve.ensures.len, c.reserve.ensures.capacity, c.note.ensures.spare)))

@@ -5,8 +5,9 @@ use Rattle.cml_board.specs.Holdings.{seen_all}
 use Rattle.cml_board.proofs.Noting.{keeps_call, applies_answered, adds_entry, noted_at}
 use Rattle.cml_board.proofs.Answering.{answer_closed}
 use Rattle.cml_board.proofs.Stepping.{step_asking}
-use Rattle.cml_board.proofs.ListLemmas.{on_ok}
-use Rattle.cml_board.proofs.Noting.{seen_same, refused}
+use Rattle.cml_board.proofs.ListLemmas.{on_ok, on_err}
+use Rattle.cml_board.proofs.Noting.{as_before, refused}
+use Rattle.cml_board.proofs.Sparing.{no_room}
 use Rattle.cml_board.proofs.board.Board.find_closed.Goals as goal
 
 pub invariant_of-self-2 : goal.invariant_of-self-2
@@ -19,18 +20,19 @@ invariant_of-self-2 g c =
 pub returns : goal.returns
 returns g c =
     let call = asking_call c.args.asking c.args.name in
-    applies_answered c.args.self.now _ c.args.who call c.note.result _ c.note.ensures.answer
+    applies_answered _ _ c.args.self.now _ c.args.who call c.note.result _ c.note.ensures.answer
     c.requires.fits c.requires.room (answer_closed c.args.self.now.history c.args.asking c.args.name c.requires.closed)
     c.call-call.ensures
     (noted_at c.self.view_is c.reserve.ensures.items)
-    (adds_entry c.args.who call c.call-2.result Closed Closed c.self.view_is c.note.ensures.entries c.reserve.ensures.items c.call-2.ensures refl)
+    (adds_entry c.args.who call c.call-2.result Closed Closed c.self.view_is c.note.ensures.entries c.reserve.ensures.items c.call-2.ensures refl (omega (arith, c.reserve.ensures.len, c.reserve.ensures.capacity, c.note.ensures.spare)))
 
 pub returns-then-is_err : goal.returns-then-is_err
 returns-then-is_err g c =
     let h = c.args.self.now.history in (
-      refused c.args.self.now (asking_call c.args.asking c.args.name) Closed c.requires.fits c.requires.room (answer_closed h c.args.asking c.args.name c.requires.closed),
+      refused c.args.self.now (asking_call c.args.asking c.args.name) Closed c.requires.fits c.requires.room (answer_closed h c.args.asking c.args.name c.requires.closed)
+          (no_room (asking_call c.args.asking c.args.name) c.self.view_is (omega (arith, on_err c.reserve.result (sym c.is_err.ensures.value ∙ c.if-is_err.true) c.reserve.ensures.full))),
       c.call.ensures,
-      seen_same _ _ _ _ _ c.self.view_is c.reserve.ensures.items refl,
+      as_before c.self.view_is c.reserve.ensures.items refl (omega (arith, c.reserve.ensures.len, c.reserve.ensures.capacity)),
     )
 
 pub note-requires : goal.note-requires

@@ -18,7 +18,7 @@ invariant_of-self-2 g c =
     let chunk = g.L.MessageLog.CHUNK in
     let asked = call.Put c.args.name c.args.message in
     keeps_call chunk c.args.who asked (call.Put c.args.name c.in-Ok.noted) Put Put c.self.view_is c.self.invariant c.note.ensures.entries c.reserve.ensures.items
-    (ap (call.Put c.args.name) c.in-Ok.ensures) refl
+    (ap (call.Put c.args.name) c.in-Ok.ensures.copy) refl
     c.requires.room c.requires.fits (answer_full c.args.self.now.history c.args.name c.args.message c.requires.full)
     (λ lawful shows. step_spared chunk c.args.who asked Put (reverse c.self.inside.journal.items) (seen_all g.L.MessageLog.log c.self.inside.objects.items)
     (full_spares c.args.name c.args.message) (λ k. refl) shows)
@@ -26,9 +26,9 @@ invariant_of-self-2 g c =
 pub returns : goal.returns
 returns g c =
     let asked = call.Put c.args.name c.args.message in
-    applies_answered c.args.self.now _ c.args.who asked c.note.result _ c.note.ensures.answer
+    applies_answered _ _ c.args.self.now _ c.args.who asked c.note.result _ c.note.ensures.answer
     c.requires.fits c.requires.room (answer_full c.args.self.now.history c.args.name c.args.message c.requires.full)
     refl
     (noted_at c.self.view_is c.reserve.ensures.items)
     (adds_entry c.args.who asked (call.Put c.args.name c.in-Ok.noted) Put Put c.self.view_is c.note.ensures.entries c.reserve.ensures.items
-    (ap (call.Put c.args.name) c.in-Ok.ensures) refl)
+    (ap (call.Put c.args.name) c.in-Ok.ensures.copy) refl (omega (arith, c.reserve.ensures.len, c.reserve.ensures.capacity, c.note.ensures.spare)))

@@ -1,4 +1,4 @@
-use Rattle.std.proofs.Common.{refl, sym, ap, subst, ◌∙◌, ◌≡◌, reverse, Some}
+use Rattle.std.proofs.Common.{refl, sym, ap, subst, ◌∙◌, ◌≡◌, reverse, Some, arith}
 use Rattle.std.proofs.lemmas.Option.{same_Some}
 use Rattle.cml_board.specs.declared.call.Call.TheVariants.{Swap}
 use Rattle.cml_board.specs.declared.entry.Reply.TheVariants.{Got}
@@ -31,10 +31,10 @@ invariant_of-self-2 g c =
     let objects = seen_all log c.self.inside.objects.items in
     let after = seen_all log c.hold_at.new.objects.items in
     let told = c.in-Ok-share_held.told in
-    let sets = subst (λ value. SetsHeld objects after c.args.name.0 c.hold_at.result (Some value)) c.in-Ok.ensures.0 c.hold_at.ensures in
+    let sets = subst (λ value. SetsHeld objects after c.args.name.0 c.hold_at.result (Some value)) c.in-Ok.ensures.copies.0 c.hold_at.ensures in
     keeps_call chunk c.args.who (Swap c.args.name c.args.message) (Swap c.args.name c.in-Ok.noted) (Got told) (Got told) c.self.view_is c.self.invariant c.note.ensures.entries c.reserve.ensures.items
-    (ap (Swap c.args.name) c.in-Ok.ensures.1) refl
-    c.requires.room c.requires.fits (answer_swapped c.args.self.now.history c.args.name c.args.message told c.in-Ok-share_held.ensures)
+    (ap (Swap c.args.name) c.in-Ok.ensures.copies.1) refl
+    c.requires.room c.requires.fits (answer_swapped c.args.self.now.history c.args.name c.args.message told c.in-Ok-share_held.ensures.copy)
     (λ lawful shows. step_set chunk c.args.who (Swap c.args.name c.args.message) (Got told) c.args.name c.hold_at.result (Some c.args.message)
     (reverse c.self.inside.journal.items) objects after (swapped_sets c.args.name c.args.message told) shows sets)
 
@@ -44,10 +44,10 @@ returns g c =
     let h = c.args.self.now.history in
     let full : held h c.args.name.0 ≡ Some c.in-Some.old =
     was_held chunk c.self.view_is c.self.invariant (seen_all g.L.MessageLog.log c.hold_at.new.objects.items) c.args.name.0 c.hold_at.result (Some c.in-Ok.stored) c.hold_at.ensures ∙ c.in-Some.is in
-    let same : c.in-Ok-share_held.told ≡ c.in-Some.old = same_Some _ _ (sym c.in-Ok-share_held.ensures ∙ full) in
-    applies_answered c.args.self.now _ c.args.who (Swap c.args.name c.args.message) c.note.result _ c.note.ensures.answer
+    let same : c.in-Ok-share_held.told ≡ c.in-Some.old = same_Some _ _ (sym c.in-Ok-share_held.ensures.copy ∙ full) in
+    applies_answered _ _ c.args.self.now _ c.args.who (Swap c.args.name c.args.message) c.note.result _ c.note.ensures.answer
     c.requires.fits c.requires.room (answer_swapped h c.args.name c.args.message c.in-Some.old full)
     refl
     (noted_at c.self.view_is c.reserve.ensures.items)
     (adds_entry c.args.who (Swap c.args.name c.args.message) (Swap c.args.name c.in-Ok.noted) (Got c.in-Ok-share_held.told) (Got c.in-Some.old) c.self.view_is c.note.ensures.entries c.reserve.ensures.items
-    (ap (Swap c.args.name) c.in-Ok.ensures.1) (ap Got same))
+    (ap (Swap c.args.name) c.in-Ok.ensures.copies.1) (ap Got same) (omega (arith, c.reserve.ensures.len, c.reserve.ensures.capacity, c.note.ensures.spare)))
