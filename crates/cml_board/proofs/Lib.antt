@@ -15,6 +15,7 @@ pub mod Holding
 pub mod Stepping
 pub mod Noting
 pub mod Sparing
+pub mod Lasting
 pub mod Answering
 pub mod Looking
 pub mod Received

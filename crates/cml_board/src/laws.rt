@@ -1,12 +1,34 @@
 //! What the definitions come to, in other words.
-ghost use Rattle.std.specs.Prelude.{List, reverse};
+ghost use Rattle.std.specs.Prelude.{◌≡◌, ℕ, ◌+◌, ◌<◌, ◌≤◌, ◌||◌, Bool, true, false, not, List, reverse};
+ghost use Rattle.cml_board.specs.declared.call.Call.{Call};
 ghost use Rattle.cml_board.specs.declared.entry.Entry.{Entry};
 ghost use Rattle.cml_board.specs.History.{Lawful};
+ghost use Rattle.cml_board.specs.declared.outcome.Refusal.TheVariants.{NoMemory};
 ghost use Rattle.cml_board.specs.Positions.{IsLawfulEverywhere};
+ghost use Rattle.cml_board.specs.Shown.{Shown};
+ghost use Rattle.cml_board.specs.Sparing.{makes_object, fills_chunk, shares};
+ghost use Rattle.cml_board.specs.Outcome.{Refuses};
+ghost use Rattle.cml_board.specs.Running.{Step, Runs, answered_count};
 
 /// A journal is a lawful history just where, at every position, the call fits the entries before it and its
 /// reply is the answer there and not a wait.
 pub fn lawful_at_every_position<M>()
     ensures each { (history : List (Entry M)) → Lawful history → IsLawfulEverywhere (reverse history) }
     ensures only { (history : List (Entry M)) → IsLawfulEverywhere (reverse history) → Lawful history }
+{}
+
+/// Over a run of calls, what was reserved is lost by answered calls alone, one entry by each. So while some is left,
+/// a call that takes no other memory is not refused for want of memory.
+pub fn reserved_lasts<M>()
+    ensures lasts { (chunk : ℕ) (sure : Bool) (steps : List (Step M)) (old new : Shown M)
+        → Runs chunk sure steps old new
+        → old.reserved ≤ new.reserved + answered_count steps }
+    ensures serves { (chunk : ℕ) (sure : Bool) (steps : List (Step M)) (old new : Shown M)
+        → Runs chunk sure steps old new
+        → answered_count steps < old.reserved
+        → (call : Call M)
+        → makes_object new.history call ≡ false
+        → fills_chunk chunk new.history call ≡ false
+        → (sure || not (shares new.history call)) ≡ true
+        → ¬ (Refuses chunk sure new call NoMemory) }
 {}

@@ -18,6 +18,6 @@ pub use board::{Board, BoardLog};
 pub use call::{Call, Kind, Name};
 pub use checking::check;
 pub use entry::{Entry, Reply, Who};
-pub use laws::lawful_at_every_position;
+pub use laws::{lawful_at_every_position, reserved_lasts};
 pub use message::Message;
 pub use outcome::{Outcome, Refusal};

@@ -9,6 +9,7 @@ mod kept;
 mod mailboxes;
 mod memory;
 mod ports;
+mod reserve;
 mod variables;
 
 type Numbers = Board<u64, BoardLog<u64>>;
