@@ -1,11 +1,14 @@
 -- Names that stand for an object of a kind, and the calls that it takes.
-use Rattle.std.proofs.Common.{◌≡◌, ℕ, true, inl, inr, List, map, slice_get, Some, refl, ap, ◌∙◌}
+use Rattle.std.proofs.Common.{◌≡◌, ℕ, true, inl, inr, List, map, slice_get, Option, Some, refl, ap, ◌∙◌}
 use Rattle.std.specs.Prelude.{All}
-use Rattle.std.specs.Option.{option_and_then}
+use Rattle.std.specs.Option.{option_map, option_and_then}
 use Rattle.cml_board.specs.declared.call.Name.{Name}
 use Rattle.cml_board.specs.declared.call.Kind.{Kind}
 use Rattle.cml_board.specs.declared.call.Kind.TheVariants as kind
 use Rattle.cml_board.specs.declared.call.Call.{Call}
+use Rattle.cml_board.specs.declared.call.Call.TheVariants as call
+use Rattle.cml_grammar.specs.declared.forms.Action.{Action}
+use Rattle.cml_grammar.specs.declared.forms.Action.TheVariants as action
 use Rattle.cml_board.specs.Objects.{object_in, takes}
 use Rattle.cml_board.specs.History.{Fits, kind_of}
 use Rattle.cml_grammar.specs.declared.names.Named.TheVariants as called
@@ -13,9 +16,9 @@ use Rattle.cml_grammar.specs.declared.script.Step.{Step}
 use Rattle.cml_grammar.specs.Names.{Given}
 use Rattle.cml_grammar.specs.Meaning.{names_of, action_of}
 use Rattle.cml_grammar.specs.Script.{Lines}
-use Rattle.cml_grammar.specs.Reading.{IsMailboxAt, IsChannelAt, IsPortAt, IsReceiverAt, IsMVarAt, IsVariableAt, source_of, ReadsStep}
+use Rattle.cml_grammar.specs.Reading.{IsMailboxAt, IsChannelAt, IsPortAt, IsReceiverAt, IsMVarAt, IsVariableAt, UsesWell, used_by, source_of, ReadsStep}
 use Rattle.cml_script.specs.Schedule.{History, call_of, object_of, step_call}
-use Rattle.cml_script.specs.Stage.{IsObject, IsObjectAt}
+use Rattle.cml_script.specs.Stage.{IsObject, IsObjectAt, call_on}
 use Rattle.cml_script.proofs.ListLemmas.{mapped_at}
 use Rattle.cml_script.proofs.LineLemmas.{all_at}
 
@@ -79,3 +82,35 @@ step_calls script history items i s c lines reads found calls =
     ap (option_and_then (λ line. option_and_then (call_of (object_of script history)) (action_of (names_of script) line.words))) (mapped_at (λ x. source_of x.line) items script.steps i s lines found)
     ∙ ap (option_and_then (call_of (object_of script history))) (all_at (ReadsStep (names_of script)) items i s reads found).action
     ∙ calls
+
+-- the call of a step is what it asks of the object that its name stands for
+pub call_is : (object : ℕ → Option ℕ) (a : Action) → call_of object a ≡ option_map (λ o. call_on a (record { 0 = o })) (object (used_by a))
+call_is object (action.Send at message) = refl
+call_is object (action.Multicast at message) = refl
+call_is object (action.Recv at) = refl
+call_is object (action.Poll at) = refl
+call_is object (action.Port at) = refl
+call_is object (action.Copy at) = refl
+call_is object (action.Close at) = refl
+call_is object (action.Put at message) = refl
+call_is object (action.Get at) = refl
+call_is object (action.GetPoll at) = refl
+call_is object (action.Take at) = refl
+call_is object (action.TakePoll at) = refl
+call_is object (action.Swap at message) = refl
+
+-- and fits an object of a kind that can take the step
+pub fits_use : (names : List Given) (a : Action) (history : History) (name : Name) → UsesWell names a → ((k : Kind) → IsObjectAt names (used_by a) k → kind_of history name.0 ≡ Some k) → Fits history (call_on a name)
+fits_use names (action.Send at message) history name uses kinds = fits_kind history name kind.Mailbox (call.Send name message) (kinds kind.Mailbox (mailbox_at names at uses.0)) refl refl
+fits_use names (action.Multicast at message) history name uses kinds = fits_kind history name kind.Channel (call.Cast name message) (kinds kind.Channel (channel_at names at uses.0)) refl refl
+fits_use names (action.Recv at) history name uses kinds = fits_receiver names at history name (call.Recv name) uses kinds refl refl refl
+fits_use names (action.Poll at) history name uses kinds = fits_receiver names at history name (call.Poll name) uses kinds refl refl refl
+fits_use names (action.Port at) history name uses kinds = fits_kind history name kind.Channel (call.NewPort name) (kinds kind.Channel (channel_at names at uses)) refl refl
+fits_use names (action.Copy at) history name uses kinds = fits_kind history name kind.Port (call.CopyPort name) (kinds kind.Port (port_at names at uses)) refl refl
+fits_use names (action.Close at) history name uses kinds = fits_kind history name kind.Port (call.ClosePort name) (kinds kind.Port (port_at names at uses)) refl refl
+fits_use names (action.Put at message) history name uses kinds = fits_variable names at history name (call.Put name message) uses.0 kinds refl refl refl
+fits_use names (action.Get at) history name uses kinds = fits_variable names at history name (call.Get name) uses kinds refl refl refl
+fits_use names (action.GetPoll at) history name uses kinds = fits_variable names at history name (call.GetPoll name) uses kinds refl refl refl
+fits_use names (action.Take at) history name uses kinds = fits_kind history name kind.MVar (call.Take name) (kinds kind.MVar (mvar_at names at uses)) refl refl
+fits_use names (action.TakePoll at) history name uses kinds = fits_kind history name kind.MVar (call.TakePoll name) (kinds kind.MVar (mvar_at names at uses)) refl refl
+fits_use names (action.Swap at message) history name uses kinds = fits_kind history name kind.MVar (call.Swap name message) (kinds kind.MVar (mvar_at names at uses.0)) refl refl

@@ -26,7 +26,7 @@ use Rattle.cml_grammar.specs.declared.names.Named.TheVariants as called
 use Rattle.cml_grammar.specs.declared.names.Users.TheVariants as users
 use Rattle.cml_grammar.specs.Giving.{is_giving, names_before, NamesAreGiven}
 use Rattle.cml_script.specs.Schedule.{History, IsReady, IsStep, IsDeclaration, Follows, is_seated, is_seat, is_by, is_object, performed, positions_from, next_position, step_call, declared_count, declared_object, object_of, made_of, given_by, bound_by, binding_of, port_bound, port_made}
-use Rattle.cml_script.specs.Stage.{Play, Stands, HasSeats, AsksForPorts, IsObject, IsObjectAt, IsNextObject, AreQueues, AreCounts, AreBindings, with_entry, with_binding, items_of, IsStepAt, IsLeast}
+use Rattle.cml_script.specs.Stage.{Play, Stands, HasSeats, AsksForPorts, IsObject, IsObjectAt, IsNextObject, AreNumbers, AreQueues, AreGivings, AreCounts, AreBindings, with_entry, with_binding, items_of, IsStepAt, IsLeast}
 use Rattle.cml_script.proofs.ListLemmas.{how_many-le, mapped_at, set_at, set_off}
 use Rattle.cml_script.proofs.GivingLemmas.{giver, given_at, next_is, none_first}
 use Rattle.cml_script.proofs.BindingLemmas.{bound_more}
@@ -55,13 +55,34 @@ module _ (play : Play) (at : ℕ) where
   unfolding made_of
   made_given ge = ap (λ t. cond t (declared_object play.script play.history at) (port_made (binding_of play.script play.history at))) (le-ltb at (length play.script.declarations) ge)
 
+-- what is read of the lists that are kept
+
+pub number_at : (script : Lines) (numbers : List ℕ) (at n : ℕ) → AreNumbers script numbers → at < length script.declarations → n ≡ get_or numbers at n → n ≡ how_many (is_object script) (take at script.declarations)
+number_at script numbers at n numbered lt read =
+    let within : at < length numbers = omega (arith, lt, numbered.all) in
+    same_Some _ _ (sym (slice_get_read numbers (length numbers) at n refl within read) ∙ numbered.each at within)
+
+pub binding_at : (script : Lines) (history : History) (bindings : List Binding) (at : ℕ) (b : Binding) → AreBindings script history bindings → at < length (names_of script) → b ≡ get_or bindings at b → b ≡ binding_of script history at
+binding_at script history bindings at b bound within read =
+    let lt : at < length bindings = omega (arith, within, bound.all) in
+    same_Some _ _ (sym (slice_get_read bindings (length bindings) at b refl lt read) ∙ bound.each at lt)
+
+pub giving_at : (script : Lines) (givings : List (Option ℕ)) (i : ℕ) (g : Option ℕ) → AreGivings script givings → i < length script.steps → g ≡ get_or givings i g → g ≡ given_by script i
+giving_at script givings i g giving within read =
+    let lt : i < length givings = omega (arith, within, giving.all) in
+    same_Some _ _ (sym (slice_get_read givings (length givings) i g refl lt read) ∙ giving.each i lt)
+
+pub count_at : (history : History) (counts : List ℕ) (thread n : ℕ) → AreCounts history counts → thread < 64 → n ≡ get_or counts thread n → n ≡ performed history (thread + 1)
+count_at history counts thread n counted lt read =
+    let within : thread < length counts = omega (arith, counted.seats) in
+    same_Some _ _ (sym (slice_get_read counts (length counts) thread n refl within read) ∙ counted.each thread lt)
+
 module _ (play : Play) (numbers : List ℕ) (queues : List (List ℕ)) (givings : List (Option ℕ)) (counts : List ℕ) (bindings : List Binding) (stands : Stands play numbers queues givings counts bindings) where
   pub object_within : (at : ℕ) → at < length play.script.declarations → at < length numbers
   object_within at lt = omega (arith, lt, stands.planned.numbered.all)
 
   number_is : (at n : ℕ) → at < length play.script.declarations → n ≡ get_or numbers at n → n ≡ how_many (is_object play.script) (take at play.script.declarations)
-  number_is at n lt read =
-      same_Some _ _ (sym (slice_get_read numbers (length numbers) at n refl (object_within at lt) read) ∙ stands.planned.numbered.each at (object_within at lt))
+  number_is at n = number_at play.script numbers at n stands.planned.numbered
 
   -- an object that was made
   pub object_is : (at n : ℕ) → n < length play.history → at < length play.script.declarations → n ≡ get_or numbers at n → IsObjectOf play at n
@@ -106,19 +127,13 @@ module _ (play : Play) (numbers : List ℕ) (queues : List (List ℕ)) (givings 
       )
 
   pub binding_is : (at : ℕ) (b : Binding) → at < length (names_of play.script) → b ≡ get_or bindings at b → b ≡ binding_of play.script play.history at
-  binding_is at b within read =
-      let lt : at < length bindings = omega (arith, within, stands.bound.all) in
-      same_Some _ _ (sym (slice_get_read bindings (length bindings) at b refl lt read) ∙ stands.bound.each at lt)
+  binding_is at b = binding_at play.script play.history bindings at b stands.bound
 
   pub giving_is : (i : ℕ) (g : Option ℕ) → i < length play.script.steps → g ≡ get_or givings i g → g ≡ given_by play.script i
-  giving_is i g within read =
-      let lt : i < length givings = omega (arith, within, stands.planned.giving.all) in
-      same_Some _ _ (sym (slice_get_read givings (length givings) i g refl lt read) ∙ stands.planned.giving.each i lt)
+  giving_is i g = giving_at play.script givings i g stands.planned.giving
 
   pub count_is : (thread n : ℕ) → thread < 64 → n ≡ get_or counts thread n → n ≡ performed play.history (thread + 1)
-  count_is thread n lt read =
-      let within : thread < length counts = omega (arith, stands.counted.seats) in
-      same_Some _ _ (sym (slice_get_read counts (length counts) thread n refl within read) ∙ stands.counted.each thread lt)
+  count_is thread n = count_at play.history counts thread n stands.counted
 
   pub performed_small : (seat : ℕ) → performed play.history seat ≤ length play.history
   performed_small seat = how_many-le (is_by seat) play.history

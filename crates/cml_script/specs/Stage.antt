@@ -4,6 +4,7 @@ use Rattle.std.specs.Global.{Global}
 use Rattle.std.specs.Option.{option_and_then}
 use Rattle.cml_script.specs.Counting.{how_many}
 use Rattle.std.specs.Prelude.{Vec}
+use Rattle.cml_board.specs.declared.call.Name.{Name}
 use Rattle.cml_board.specs.declared.call.Call.{Call}
 use Rattle.cml_board.specs.declared.call.Call.TheVariants as call
 use Rattle.cml_board.specs.declared.entry.Who.TheVariants.{Seat}
@@ -20,6 +21,7 @@ use Rattle.cml_grammar.specs.Reading.{IsChannelAt, gives_name}
 use Rattle.cml_board.specs.declared.call.Kind.{Kind}
 use Rattle.cml_board.specs.declared.call.Kind.TheVariants as kind
 use Rattle.cml_grammar.specs.declared.forms.Action.{Action}
+use Rattle.cml_grammar.specs.declared.forms.Action.TheVariants as action
 use Rattle.cml_grammar.specs.Giving.{is_giving, NamesAreGiven}
 use Rattle.cml_script.specs.declared.binding.Binding.{Binding}
 use Rattle.cml_script.specs.Schedule.{objects_of, object_of, declared_object, declared_count, call_in, History, is_object, is_seated, positions_from, next_position, given_by, binding_of, performed, Follows, IsReady}
@@ -120,6 +122,22 @@ items_of queues = map (λ queue. queue.items) queues
 -- one entry more was performed
 abbrev pub with_entry : Play → Entry ℕ → Play
 with_entry play entry = record { script = play.script; history = entry ∷ play.history; limit = play.limit }
+
+-- what a step asks of the object that its name stands for
+abbrev pub call_on : Action → Name → Call ℕ
+call_on (action.Send at message) name = call.Send name message
+call_on (action.Multicast at message) name = call.Cast name message
+call_on (action.Recv at) name = call.Recv name
+call_on (action.Poll at) name = call.Poll name
+call_on (action.Port at) name = call.NewPort name
+call_on (action.Copy at) name = call.CopyPort name
+call_on (action.Close at) name = call.ClosePort name
+call_on (action.Put at message) name = call.Put name message
+call_on (action.Get at) name = call.Get name
+call_on (action.GetPoll at) name = call.GetPoll name
+call_on (action.Take at) name = call.Take name
+call_on (action.TakePoll at) name = call.TakePoll name
+call_on (action.Swap at message) name = call.Swap name message
 
 -- the earlier of two steps, where there are two
 abbrev pub earlier_of : Option ℕ → Option ℕ → Option ℕ

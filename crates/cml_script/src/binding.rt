@@ -4,7 +4,7 @@ ghost use Rattle.std.specs.Option.{option_map};
 ghost use Rattle.cml_script.specs.Schedule.{bound_by, closed_by, port_bound, port_made};
 ghost use Rattle.cml_script.specs.Stage.{with_binding};
 
-use cml_board::{Answer, Call, Name, Reply};
+use cml_board::{Call, Name, Reply};
 
 /// What a name that a step gives stands for.
 #[derive(Clone, Copy, Debug, PartialEq, Eq)]
@@ -18,13 +18,13 @@ pub enum Binding {
 }
 
 impl Binding {
-    /// What the answer of its step gives the name.
-    fn by(answer: &Answer<u64>) -> Binding
-        ensures { result ≡ bound_by answer.now.call answer.now.reply }
+    /// What its step's call and the reply give the name.
+    fn by(call: &Call<u64>, reply: &Reply<u64>) -> Binding
+        ensures { result ≡ bound_by call.now reply.now }
     {
-        match answer.reply() {
+        match reply {
             Reply::Made(name) => Binding::Made(*name),
-            Reply::Closed => closed_by(answer.call()),
+            Reply::Closed => closed_by(call),
             Reply::Done | Reply::Got(_) | Reply::Nothing | Reply::Put => Binding::Unbound,
         }
     }
@@ -59,12 +59,12 @@ fn closed_by(call: &Call<u64>) -> Binding
     }
 }
 
-/// Keeps what a step's answer gives the name at this position.
-pub fn bind(bindings: &mut Vec<Binding>, given: Option<usize>, answer: &Answer<u64>)
+/// Keeps what a step's call and its reply give the name at this position.
+pub fn bind(bindings: &mut Vec<Binding>, given: Option<usize>, call: &Call<u64>, reply: &Reply<u64>)
     requires { IfSome given (λ at. at < length bindings.old.items) }
-    ensures { bindings.new.items ≡ with_binding bindings.old.items given (bound_by answer.now.call answer.now.reply) }
+    ensures { bindings.new.items ≡ with_binding bindings.old.items given (bound_by call.now reply.now) }
 {
     if let Some(at) = given {
-        bindings[at] = Binding::by(answer);
+        bindings[at] = Binding::by(call, reply);
     }
 }

@@ -3,6 +3,7 @@
 
 mod asked;
 mod binding;
+mod calls;
 mod command_line;
 mod ending;
 mod laws;

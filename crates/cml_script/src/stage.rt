@@ -12,6 +12,7 @@ ghost use Rattle.cml_script.specs.Counting.{one_if};
 ghost use Rattle.cml_script.specs.Stage.{with_entry, IsObject, IsObjectAt, IsNextObject, IsNext, IsNextStep, IsBound, earlier_of, IsLeast, IsReadyOf, NoneReadyOf, IsStepAt};
 
 use crate::binding::{Binding, bind};
+use crate::calls::{call_on, used_by};
 use crate::plan::{THREADS, count_objects, number_givings, number_objects, queue_steps};
 use cml_board::{Answer, Board, BoardLog, Call, Entry, Name, Outcome, Refusal, Who};
 use cml_grammar::{Action, Makes, Script};
@@ -240,21 +241,7 @@ impl<'a> Stage<'a> {
         ensures call { call_of (object_of self.now.script self.now.history) action ≡ Some result }
         ensures fits { Fits self.now.history result }
     {
-        match action {
-            Action::Send(at, message) => Call::Send(self.bound_object(at), message),
-            Action::Multicast(at, message) => Call::Cast(self.bound_object(at), message),
-            Action::Recv(at) => Call::Recv(self.bound_object(at)),
-            Action::Poll(at) => Call::Poll(self.bound_object(at)),
-            Action::Port(at) => Call::NewPort(self.bound_object(at)),
-            Action::Copy(at) => Call::CopyPort(self.bound_object(at)),
-            Action::Close(at) => Call::ClosePort(self.bound_object(at)),
-            Action::Put(at, message) => Call::Put(self.bound_object(at), message),
-            Action::Get(at) => Call::Get(self.bound_object(at)),
-            Action::GetPoll(at) => Call::GetPoll(self.bound_object(at)),
-            Action::Take(at) => Call::Take(self.bound_object(at)),
-            Action::TakePoll(at) => Call::TakePoll(self.bound_object(at)),
-            Action::Swap(at, message) => Call::Swap(self.bound_object(at), message),
-        }
+        call_on(action, self.bound_object(used_by(action)))
     }
 
     /// The object that this name stands for.
@@ -296,7 +283,7 @@ impl<'a> Stage<'a> {
             Outcome::Answered(answer) => {
                 let given = self.givings[i];
                 self.counts[seat as usize - 1] += 1;
-                bind(&mut self.bindings, given, &answer);
+                bind(&mut self.bindings, given, answer.call(), answer.reply());
                 Ok(answer)
             }
             Outcome::WouldWait(_) => unreachable!(),

@@ -1,6 +1,7 @@
 use Rattle.std.proofs.Common.{ℕ, ◌+◌, ◌-◌, List, length, get_or, slice_set, refl, sym, ap, subst, ◌∙◌, arith}
 use Rattle.std.proofs.lemmas.Option.{slice_get_within}
 use Rattle.cml_board.specs.declared.call.Call.{Call}
+use Rattle.cml_board.specs.declared.entry.Reply.{Reply}
 use Rattle.cml_script.specs.declared.binding.Binding.{Binding}
 use Rattle.cml_script.specs.Schedule.{bound_by}
 use Rattle.cml_script.specs.Stage.{Play, Stands, with_binding, items_of}
@@ -23,7 +24,7 @@ invariant_of-self c =
     let adds = c.in-Answered.ensures.5 in
     let entry : Entry ℕ = record { who = Seat (get_or c.steps.result.now c.args.i c.index-steps-i.result).seat; call = c.call-call.result; reply = answer.reply } in
     subst (λ (bs : List Binding). Stands (record { script = c.self.inside.script.now; history = c.apply.new.self.history; limit = c.apply.new.self.limit }) c.self.inside.numbers.items (items_of c.self.inside.queues.items) c.self.inside.givings.items (slice_set c.self.inside.counts.items ((get_or c.steps.result.now c.args.i c.index-steps-i.result).seat - 1) (c.index_mut.result.now + 1)) bs)
-    (sym (c.bind.ensures ∙ ap (λ (asked : Call ℕ). with_binding c.self.inside.bindings.items c.index-given.result.now (bound_by asked answer.reply)) c.in-Answered.ensures.3)) (stands_performed _ _ _ _ _ _ _ entry c.args.i _ c.index_mut.result.now c.index-given.result.now c.self.invariant
+    (sym (c.bind.ensures ∙ ap (λ (asked : Call ℕ). with_binding c.self.inside.bindings.items c.index-given.result.now (bound_by asked c.reply.result.now)) (c.call.ensures ∙ c.in-Answered.ensures.3) ∙ ap (λ (r : Reply ℕ). with_binding c.self.inside.bindings.items c.index-given.result.now (bound_by c.call-call.result r)) c.reply.ensures)) (stands_performed _ _ _ _ _ _ _ entry c.args.i _ c.index_mut.result.now c.index-given.result.now c.self.invariant
     (new_play c.self.inside.script.now c.self.inside.board.history _ c.self.inside.board.limit _ entry adds.history adds.limit)
     c.in-Answered.ensures.0 c.in-Answered.ensures.1 c.in-Answered.ensures.2 performed.declared (performed.step answer.reply) refl performed.low performed.high c.index_mut.ensures.value c.index-given.ensures)
 
