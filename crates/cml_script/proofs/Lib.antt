@@ -12,3 +12,5 @@ pub mod FitLemmas
 pub mod UseLemmas
 pub mod CountLemmas
 pub mod ScheduleLemmas
+pub mod JournalLemmas
+pub mod TrailLemmas

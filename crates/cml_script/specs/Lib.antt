@@ -3,11 +3,15 @@ pub use Rattle.cml_grammar.specs.Meaning
 pub use Rattle.cml_grammar.specs.Faults
 pub use Rattle.cml_board.specs.History
 pub use Rattle.cml_board.specs.Kept
+pub use Rattle.cml_board.specs.Positions
+pub use Rattle.cml_board.specs.Checking
 pub mod Counting
 pub mod Schedule
 pub mod Report
 pub mod Play
 pub mod Stage
+pub mod Audit
+pub mod Trail
 pub mod Endings
 pub mod Replay
 pub mod CommandLine

@@ -2,6 +2,7 @@
 #![tactic(auto)]
 
 mod asked;
+mod auditing;
 mod binding;
 mod calls;
 mod command_line;
@@ -14,8 +15,11 @@ mod replaying;
 mod report;
 mod stage;
 mod stop;
+mod trail;
+mod verdict;
 
 pub use asked::Order;
+pub use auditing::audit;
 pub use cml_grammar::{Fault, Script, What, read_script};
 pub use command_line::{order, status_of_error};
 pub use ending::{Ending, status_of};
@@ -23,6 +27,7 @@ pub use laws::schedules_are_one;
 pub use perform::{Played, play};
 pub use replaying::replay;
 pub use stop::Stop;
+pub use verdict::Verdict;
 
 #[cfg(test)]
 mod tests;

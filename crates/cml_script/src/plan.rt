@@ -3,6 +3,7 @@ ghost use Rattle.std.specs.Prelude.{◌≡◌, List, [], length, All, IfOk};
 ghost use Rattle.cml_script.specs.Schedule.{makes_object, declared_count};
 ghost use Rattle.cml_grammar.specs.Reading.{gives_name};
 ghost use Rattle.cml_script.specs.Stage.{AreNumbers, AreQueues, AreGivings, NamesObjects, HasSeats, AsksForPorts, items_of};
+ghost use Rattle.cml_script.specs.Trail.{AreMakes};
 
 use cml_grammar::{Action, Makes, Script};
 use std::alloc::{AllocError, Global};
@@ -34,6 +35,19 @@ pub fn count_objects(script: &Script) -> usize
         objects += usize::from(makes_object(declaration.makes));
     }
     objects
+}
+
+/// By declared object, what its declaration makes.
+pub fn list_makes(alloc: Global, script: &Script) -> Result<Vec<Makes>, AllocError>
+    ensures { IfOk result (λ list. AreMakes script.now script.now.declarations list.items) }
+{
+    let mut list = Vec::new(alloc);
+    for declaration in script.declarations() {
+        if makes_object(declaration.makes) {
+            list.push(declaration.makes)?;
+        }
+    }
+    Ok(list)
 }
 
 fn makes_object(makes: Makes) -> bool

@@ -1,0 +1,44 @@
+//! A journal that someone made, against the rules of boards and against a script.
+ghost use Rattle.std.specs.Prelude.{◌≤◌, ◌^◌, length, reverse, IfOk, MatchOption};
+ghost use Rattle.cml_script.specs.Audit.{IsOfScript, IsFirstForeign, Judges};
+
+use crate::trail::Trail;
+use crate::verdict::Verdict;
+use cml_board::{Entry, check};
+use cml_grammar::Script;
+use std::alloc::{AllocError, Global};
+
+/// Whether a journal is lawful and a script's: the declared objects first, and then the steps of its threads, each
+/// thread's in order. Else where it first isn't. A journal that breaks off is judged as far as it goes. It takes time
+/// and memory in proportion to the script and the journal.
+pub fn audit(alloc: Global, script: &Script, entries: &[Entry<u64>]) -> Result<Verdict, AllocError>
+    requires { length entries.now ≤ 2 ^ 32 }
+    ensures { IfOk result (λ verdict. Judges script.now entries.now verdict) }
+{
+    if let Err(k) = check(alloc, entries)? {
+        return Ok(Verdict::Unlawful(k));
+    }
+    let verdict = match first_foreign(alloc, script, entries)? {
+        Some(k) => Verdict::Foreign(k),
+        None => Verdict::Lawful,
+    };
+    Ok(verdict)
+}
+
+/// The first entry that isn't the script's, if there is one.
+fn first_foreign(
+    alloc: Global,
+    script: &Script,
+    entries: &[Entry<u64>],
+) -> Result<Option<usize>, AllocError>
+    ensures { IfOk result (λ first. MatchOption first (IsOfScript script.now (reverse entries.now)) (IsFirstForeign script.now entries.now)) }
+{
+    let mut trail = Trail::new(alloc, script, entries)?;
+    for (k, entry) in entries.iter().enumerate() {
+        if !trail.is_own(entry) {
+            return Ok(Some(k));
+        }
+        trail.follow();
+    }
+    Ok(None)
+}
