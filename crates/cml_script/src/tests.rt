@@ -1,4 +1,5 @@
 //! What no clause says: scripts and their reports, streams that fail, and texts of the command line.
+mod auditing;
 mod command_line;
 mod made;
 mod ports;
