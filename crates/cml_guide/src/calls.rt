@@ -1,7 +1,7 @@
 //! Calls that are to be answered, and what else can become of them.
-ghost use Rattle.std.specs.Prelude.{◌≡◌, IfOk, OnErr, None, Some, unwrap_or};
+ghost use Rattle.std.specs.Prelude.{◌≡◌, true, IfOk, OnErr, None, Some, unwrap_or};
 ghost use Rattle.cml_board.specs.History.{answer, given};
-ghost use Rattle.cml_board.specs.Outcome.{AddsEntry, Refuses};
+ghost use Rattle.cml_board.specs.Outcome.{AddsEntry, IsAsBefore, Refuses};
 
 use cml_board::{Answer, Board, BoardLog, Call, Name, Outcome, Refusal, Reply, Who};
 use std::alloc::AllocError;
@@ -33,8 +33,8 @@ pub fn ask(board: &mut Numbers, call: Call<u64>) -> Result<Answer<u64>, Trouble>
     ensures added { IfOk result (λ told. AddsEntry board.old board.new SEAT call told.reply) }
     ensures waits { result ≡ Err Trouble.WouldWait → answer board.old.history call ≡ None }
     ensures refused { (refusal : Refusal) → result ≡ Err (Trouble.Refused refusal)
-        → Refuses board.old call refusal }
-    ensures unchanged { OnErr result (board.new ≡ board.old) }
+        → Refuses 4 true board.old call refusal }
+    ensures unchanged { OnErr result (IsAsBefore board.old board.new) }
 {
     match board.apply(SEAT, call) {
         Outcome::Answered(answer) => Ok(answer),
@@ -71,6 +71,8 @@ pub fn poll(board: &mut Numbers, call: Call<u64>) -> Result<Option<u64>, Trouble
         ≡ Some (unwrap_or (given found) Reply.Nothing)) }
     ensures added { IfOk result (λ found. AddsEntry board.old board.new SEAT call
         (unwrap_or (given found) Reply.Nothing)) }
+    ensures refused { (refusal : Refusal) → result ≡ Err (Trouble.Refused refusal)
+        → Refuses 4 true board.old call refusal }
 {
     match ask(board, call)?.reply() {
         Reply::Got(message) => Ok(Some(*message)),

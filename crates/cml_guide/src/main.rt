@@ -7,6 +7,7 @@ mod journals;
 mod mailboxes;
 mod readers;
 mod refusals;
+mod reserving;
 mod variables;
 
 use std::io;
@@ -55,7 +56,11 @@ fn show_refusals(rt: &HostRuntime) -> io::Result<()> {
     let alloc = rt.alloc();
     println!(rt; "refusals::told_why: {:?}", refusals::told_why(alloc))?;
     println!(rt; "refusals::kept: {:?}", refusals::kept(alloc))?;
-    println!(rt; "refusals::made_again: {:?}", refusals::made_again(alloc))
+    println!(rt; "refusals::made_again: {:?}", refusals::made_again(alloc))?;
+    println!(rt;
+        "reserving::found_nothing: {:?}",
+        reserving::found_nothing(alloc)
+    )
 }
 
 fn show_readers(rt: &HostRuntime) -> io::Result<()> {

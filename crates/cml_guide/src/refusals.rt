@@ -1,6 +1,6 @@
 //! Calls that are refused: they change nothing and are handed back.
-ghost use Rattle.std.specs.Prelude.{◌≡◌, [], ◌∷◌, IfNone, IfOk, IfSome, OnSome};
-ghost use Rattle.cml_board.specs.Outcome.{AddsEntry, Applies, Refuses};
+ghost use Rattle.std.specs.Prelude.{◌≡◌, true, [], ◌∷◌, IfNone, IfOk, IfSome, OnSome};
+ghost use Rattle.cml_board.specs.Outcome.{AddsEntry, Applies, IsAsBefore, Refuses};
 
 use crate::calls::{Numbers, SEAT, Trouble, make};
 use cml_board::{Call, Name, Outcome, Refusal, Reply};
@@ -21,8 +21,8 @@ pub fn told_why(alloc: Global) -> Result<[Refusal; 3], Trouble>
 
 /// Makes a call that is to be refused.
 fn refusal_of(board: &mut Numbers, call: Call<u64>) -> Result<Refusal, Trouble>
-    ensures refused { IfOk result (λ refusal. Refuses board.old call refusal) }
-    ensures unchanged { IfOk result (λ _. board.new ≡ board.old) }
+    ensures refused { IfOk result (λ refusal. Refuses 4 true board.old call refusal) }
+    ensures unchanged { IfOk result (λ _. IsAsBefore board.old board.new) }
 {
     match board.apply(SEAT, call) {
         Outcome::Refused(refusal, _) => Ok(refusal),
@@ -35,7 +35,7 @@ fn refusal_of(board: &mut Numbers, call: Call<u64>) -> Result<Refusal, Trouble>
 pub fn send_or_keep(board: &mut Numbers, letters: Name, message: u64) -> Option<u64>
     ensures sent { IfNone result (AddsEntry board.old board.new SEAT (Call.Send letters message) Reply.Done) }
     ensures kept { IfSome result (λ kept. kept ≡ message) }
-    ensures unchanged { OnSome result (board.new ≡ board.old) }
+    ensures unchanged { OnSome result (IsAsBefore board.old board.new) }
 {
     match board.apply(SEAT, Call::Send(letters, message)) {
         Outcome::Refused(_, Call::Send(_, kept)) => Some(kept),
@@ -54,7 +54,7 @@ pub fn kept(alloc: Global) -> Result<[Option<u64>; 2], Trouble> {
 
 /// Makes a call, and makes it again where there was no memory for it.
 pub fn apply_twice(board: &mut Numbers, call: Call<u64>) -> Outcome<u64>
-    ensures { Applies board.old board.new SEAT call result }
+    ensures { Applies 4 true board.old board.new SEAT call result }
 {
     match board.apply(SEAT, call) {
         Outcome::Refused(Refusal::NoMemory, back) => board.apply(SEAT, back),
