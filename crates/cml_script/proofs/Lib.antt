@@ -7,6 +7,11 @@ pub mod BindingLemmas
 pub mod ReadyLemmas
 pub mod StandLemmas
 pub mod ReportLemmas
+pub mod RefusalLemmas
+pub mod LimitTexts
+pub mod LimitLemmas
+pub mod LimitWalks
+pub mod LimitTaken
 pub mod CommandLineLemmas
 pub mod FitLemmas
 pub mod UseLemmas

@@ -1,16 +1,19 @@
 //! The words of the command line, by `clap`, which also writes the help.
-ghost use Rattle.std.specs.Prelude.{◌≡◌, ◌⊎◌, IfOk, IfErr, IsErrAnd, OnOk, map};
-ghost use Rattle.clap.specs.Words.{app_of, FailsBy, kind_of};
-ghost use Rattle.cml_script.specs.CommandLine.{usage, faults_of, error_status, AsksReplay, AsksHelp};
+ghost use Rattle.std.specs.Prelude.{◌≡◌, ◌⊎◌, ◌≤◌, ◌^◌, ℕ, IfOk, IfErr, IsErrAnd, Some, false, map};
+ghost use Rattle.clap.specs.Words.{app_of, FailsBy, kind_of, rule_of, subcommand_of, subcommand_rows_of};
+ghost use Rattle.cml_script.specs.CommandLine.{usage, faults_of, error_status, limit_rule, AsksReplay, AsksHelp, HasLimit};
 
 use crate::asked::Order;
 use clap::error::ErrorKind;
-use clap::{ArgMatches, Command, Error};
+use clap::{Arg, ArgMatches, Command, Error, value_parser};
 use std::alloc::{AllocError, Global};
 use std::convert::AsStr;
 
 /// How many entries a journal takes where the words don't say it.
-const DEFAULT_LIMIT: u64 = 65_536;
+const DEFAULT_LIMIT: &str = "65536";
+
+const LIMIT_HELP: &str =
+    "How many entries the journal of all that was done takes, from 1 to 4294967296";
 
 const ABOUT: &str = "Replays a script of threads that send each other messages";
 
@@ -26,8 +29,7 @@ const REPLAY_ABOUT: &str =
 const REPLAY_LONG_ABOUT: &str =
     "Replays the script on standard input and writes its report to standard output.
 
-The whole script is read and performed before anything is written. The journal of all that was done
-takes 65536 entries.";
+The whole script is read and performed before anything is written.";
 
 const AFTER_HELP: &str = "Example, hello.cml:
   cml 1
@@ -55,28 +57,42 @@ Exit status:
   6  the journal is full";
 
 /// What the program's words ask for. The first word is the program's own name.
-#[tactic(auto, using(crate::proofs::CommandLineLemmas::understood, crate::proofs::CommandLineLemmas::help_is_no_replay))]
+#[tactic(auto, using(crate::proofs::CommandLineLemmas::help_is_no_replay))]
 pub fn order<S: AsStr>(alloc: Global, words: &[S]) -> Result<Order, Error>
-    ensures replay { IfOk result (λ asked. asked ≡ Order.Replay 65536) }
-
     // Just these words are understood.
-    ensures understood { OnOk result (AsksReplay (map S.text words.now)) }
-    ensures asked { AsksReplay (map S.text words.now)
+    ensures replay { IfOk result (λ asked. (limit : ℕ) × (asked ≡ Order.Replay limit)
+        × AsksReplay (map S.text words.now) limit) }
+    ensures asked { (limit : ℕ) → AsksReplay (map S.text words.now) limit
         → IfErr result (λ error. kind_of error ≡ ErrorKind.OutOfMemory) }
+    ensures range { IfOk result (λ asked. (limit : ℕ) × (asked ≡ Order.Replay limit)
+        × (1 ≤ limit) × (limit ≤ 2 ^ 32)) }
 
     ensures help { AsksHelp (map S.text words.now) → IsErrAnd result (λ error.
         (kind_of error ≡ ErrorKind.DisplayHelp) ⊎ (kind_of error ≡ ErrorKind.OutOfMemory)) }
     ensures kinds { FailsBy (faults_of (map S.text words.now)) result }
 {
-    // There is one subcommand, and it is required.
-    matches(alloc, words)?;
-    Ok(Order::Replay(DEFAULT_LIMIT))
+    // There is one subcommand, it is required, and its option has a default.
+    let matches = matches(alloc, words)?;
+    match limit_of(&matches) {
+        Some(limit) => Ok(Order::Replay(limit)),
+        None => unreachable!(),
+    }
 }
 
 fn matches<'a, S: AsStr>(alloc: Global, words: &'a [S]) -> Result<ArgMatches<'a>, Error>
-    ensures { FailsBy (faults_of (map S.text words.now)) result }
+    ensures fails { FailsBy (faults_of (map S.text words.now)) result }
+    ensures found { IfOk result (λ matches.
+        subcommand_rows_of matches ≡ subcommand_of usage (map S.text words.now)) }
 {
     command(alloc)?.try_get_matches_from(words)
+}
+
+/// The number of `--limit`.
+fn limit_of(matches: &ArgMatches<'_>) -> Option<u64>
+    ensures { (limit : ℕ) → HasLimit (subcommand_rows_of matches.now) limit → result ≡ Some limit }
+{
+    let (_, replay) = matches.subcommand()?;
+    replay.get_one::<u64>("limit")
 }
 
 fn command<'a>(alloc: Global) -> Result<Command<'a>, AllocError>
@@ -85,7 +101,8 @@ fn command<'a>(alloc: Global) -> Result<Command<'a>, AllocError>
     let replay = Command::new(alloc, "replay")
         .about(REPLAY_ABOUT)
         .long_about(REPLAY_LONG_ABOUT)
-        .after_help(AFTER_HELP);
+        .after_help(AFTER_HELP)
+        .arg(limit(alloc))?;
     Command::new(alloc, "cml")
         .about(ABOUT)
         .long_about(LONG_ABOUT)
@@ -94,6 +111,17 @@ fn command<'a>(alloc: Global) -> Result<Command<'a>, AllocError>
         .arg_required_else_help(true)
         .bin_name("cml")?
         .subcommand(replay)
+}
+
+fn limit<'a>(alloc: Global) -> Arg<'a>
+    ensures { (rule_of result ≡ limit_rule) × (result.global ≡ false) }
+{
+    Arg::new(alloc, "limit")
+        .long("limit")
+        .value_name("N")
+        .value_parser(value_parser!(u64).range(1..=4_294_967_296))
+        .default_value(DEFAULT_LIMIT)
+        .help(LIMIT_HELP)
 }
 
 /// The exit status for words that were not understood, or that ask for help.

@@ -26,6 +26,94 @@ fn replays_with_the_limit_that_stands_for_none(rt: HostRuntime) {
 }
 
 #[test]
+fn replays_with_the_limit_that_is_given(rt: HostRuntime) {
+    let rows: [(&str, &[&str], u64); 9] = [
+        ("two words", &["cml", "replay", "--limit", "4"], 4),
+        ("one word", &["cml", "replay", "--limit=4"], 4),
+        ("the least", &["cml", "replay", "--limit", "1"], 1),
+        ("the least, in one word", &["cml", "replay", "--limit=1"], 1),
+        (
+            "the most",
+            &["cml", "replay", "--limit", "4294967296"],
+            4_294_967_296,
+        ),
+        (
+            "the most, in one word",
+            &["cml", "replay", "--limit=4294967296"],
+            4_294_967_296,
+        ),
+        (
+            "two words, and the end of options",
+            &["cml", "replay", "--limit", "4", "--"],
+            4,
+        ),
+        (
+            "one word, and the end of options",
+            &["cml", "replay", "--limit=4", "--"],
+            4,
+        ),
+        (
+            "a plus and a zero first",
+            &["cml", "replay", "--limit", "+04"],
+            4,
+        ),
+    ];
+    for (case, words, limit) in rows {
+        assert_eq!(rt; asked(rt.alloc(), words), Ok(limit), "{case}");
+    }
+}
+
+#[test]
+fn refuses_what_is_no_limit_as_usage(rt: HostRuntime) {
+    let rows: [(&str, &[&str]); 16] = [
+        ("below the least", &["cml", "replay", "--limit", "0"]),
+        ("past the most", &["cml", "replay", "--limit", "4294967297"]),
+        (
+            "past the most, in one word",
+            &["cml", "replay", "--limit=4294967297"],
+        ),
+        (
+            "past a u64",
+            &["cml", "replay", "--limit", "18446744073709551617"],
+        ),
+        ("no number", &["cml", "replay", "--limit", "x"]),
+        ("a negative number", &["cml", "replay", "--limit", "-4"]),
+        (
+            "a negative number, in one word",
+            &["cml", "replay", "--limit=-4"],
+        ),
+        ("no value", &["cml", "replay", "--limit"]),
+        (
+            "no value before the end of options",
+            &["cml", "replay", "--limit", "--"],
+        ),
+        ("an empty value", &["cml", "replay", "--limit", ""]),
+        (
+            "an empty value, in one word",
+            &["cml", "replay", "--limit="],
+        ),
+        (
+            "two limits",
+            &["cml", "replay", "--limit", "4", "--limit", "5"],
+        ),
+        (
+            "two limits, each in one word",
+            &["cml", "replay", "--limit=4", "--limit=4"],
+        ),
+        ("two values", &["cml", "replay", "--limit", "4", "5"]),
+        ("a short name", &["cml", "replay", "-l", "4"]),
+        (
+            "the option before the subcommand",
+            &["cml", "--limit", "4", "replay"],
+        ),
+    ];
+    for (case, words) in rows {
+        assert_eq!(rt; asked(rt.alloc(), words), Err(3), "{case}");
+        assert!(rt; error_of(&rt, words).use_stderr(), "{case}");
+    }
+}
+
+#[test]
 fn refuses_all_other_words_as_usage(rt: HostRuntime) {
     let rows: [(&str, &[&str]); 13] = [
         ("no words at all", &[]),
@@ -42,11 +130,11 @@ fn refuses_all_other_words_as_usage(rt: HostRuntime) {
         ("a hyphen alone", &["cml", "-"]),
         (
             "an option of the program that is none",
-            &["cml", "--limit", "4", "replay"],
+            &["cml", "--threads", "4", "replay"],
         ),
         (
             "an option of the subcommand that is none",
-            &["cml", "replay", "--limit", "4"],
+            &["cml", "replay", "--threads", "4"],
         ),
         ("a file's name", &["cml", "replay", "hello.cml"]),
         ("no version is shown", &["cml", "--version"]),
@@ -84,7 +172,10 @@ fn help_says_what_is_read_and_written(rt: HostRuntime) {
     let phrases = [
         "standard input",
         "standard output",
-        "Usage: cml replay",
+        "Usage: cml replay [OPTIONS]",
+        "--limit <N>",
+        "from 1 to 4294967296",
+        "[default: 65536]",
         "Ann send letters 5",
         "Ben recv letters: 5",
         "mailbox letters: sent 1 got 1 waits 0",

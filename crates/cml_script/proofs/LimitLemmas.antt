@@ -1,0 +1,133 @@
+-- Which words the level of `replay` understands.
+use Rattle.std.proofs.Common.{◌≡◌, ◌∙◌, ap, ap₂, subst, refl, ℕ, Bool, true, false, List, [], ◌∷◌, Option, Some, None, codes}
+use Rattle.std.specs.Prelude.{fold, slice_get, slice_index_or, ◌==◌}
+use Rattle.std.specs.Str.{bytes_eq, chars}
+use Rattle.clap.specs.Walk.{Held, Row, Text, Waiting, Walk, arg_by_long, bundle_met, idle, long_or_other, option, positional, short_or_plain, walked}
+use Rattle.clap.specs.Simple.{Shape, built}
+use Rattle.clap.specs.Kinds.{Kinds, or_else}
+use Rattle.clap.specs.Lexer.{long_of, short_of}
+use Rattle.clap.specs.Faults.{bundle_fault, flag_word_fault, flags_fault, long_fault, settle_fault, step_fault, turn_fault, walk_fault}
+use Rattle.clap.specs.declared.builder.value_parser.Reading.TheVariants as reading
+use Rattle.clap.specs.declared.parser.matches.ValueSource.TheVariants.{CommandLine}
+use Rattle.cml_script.specs.CommandLine.{usage}
+use Rattle.cml_script.proofs.RefusalLemmas.{or_else-nil, or_else-refuses, or_else-refuses_next, refused_is_some, refuses, same_text}
+
+-- the subcommand's level of words
+abbrev pub below : Shape
+below = slice_index_or (built usage).subs 0 (built usage).top
+
+abbrev pub holding : List Row → Option (Text × List Text) → Held
+holding rows pending = record { rows = rows; pending = pending; skip = 0 }
+
+abbrev pub standing : Waiting → Bool → Held → Walk
+standing waiting is_trailing held =
+    record { held = held; waiting = waiting; position = 1; is_trailing = is_trailing; stopped = None }
+
+-- what the words to come, and the end, find at fault
+abbrev pub rest_fault : Walk → List Text → Kinds
+rest_fault w words =
+    or_else (walk_fault below [] w words) (settle_fault below.rules false (fold (walked below.rules []) w words).held)
+
+pub first_turn : (w : Walk) (word : Text) (rest : List Text) → rest_fault w (word ∷ rest) ≡ []
+    → (turn_fault below [] w word ≡ []) × (rest_fault (walked below.rules [] w word) rest ≡ [])
+unfolding walk_fault
+first_turn w word rest none =
+    let all = or_else-nil (walk_fault below [] w (word ∷ rest)) _ none in
+    let words = or_else-nil (turn_fault below [] w word) _ all.0 in
+    (words.0, ap (λ k. or_else k (settle_fault below.rules false (fold (walked below.rules []) (walked below.rules [] w word) rest).held)) words.1 ∙ all.1)
+
+-- ---- after `--` there is no word
+
+after_dashes : (waiting : Waiting) (h : Held) (rest : List Text) → rest_fault (standing waiting true h) rest ≡ []
+    → (rest ≡ []) × (settle_fault below.rules false h ≡ [])
+unfolding walk_fault walked
+after_dashes waiting h [] none = (refl, none)
+after_dashes waiting h (word ∷ rest) none = absurd (refused_is_some _ (first_turn (standing waiting true h) word rest none).0 refl)
+
+pub dashes_end : (waiting : Waiting) (h : Held) (word : Text) (rest : List Text) → bytes_eq word (codes "--") ≡ true → rest_fault (standing waiting false h) (word ∷ rest) ≡ []
+    → (word ∷ rest ≡ codes "--" ∷ []) × (settle_fault below.rules false h ≡ [])
+unfolding walked
+dashes_end waiting h word rest t none =
+    let turn = first_turn (standing waiting false h) word rest none in
+    let end = after_dashes waiting h rest (subst (λ w. rest_fault w rest ≡ []) (trails waiting) turn.1) in
+    (ap₂ (λ w ws. w ∷ ws) (same_text word (codes "--") t) end.0, end.1)
+  where
+    trails : (v : Waiting) → walked below.rules [] (standing v false h) word ≡ standing v true h
+    trails idle = rw t refl
+    trails (option id) = rw t refl
+    trails positional = rw t refl
+
+-- ---- a word that is neither `--` nor the option's
+
+-- the word names the option
+abbrev pub names_limit : Option (Text × Option Text) → Bool
+names_limit None = false
+names_limit (Some p) = bytes_eq (codes "limit") p.0
+
+abbrev refusal : Held → Option (Text × Option Text) → Text → Kinds
+refusal h long word = or_else (flag_word_fault below.rules false long word h)
+    (step_fault below 1 (long_or_other below.rules idle word long h).0 (long_or_other below.rules idle word long h).1)
+
+other_flag_is_refused : (h : Held) (name : Text) (value : Option Text) → bytes_eq (codes "limit") name ≡ false
+    → refuses (long_fault below.rules false (arg_by_long below.rules name) value h) ≡ true
+other_flag_is_refused h name value other = go (bytes_eq (codes "help") name) refl value
+  where
+    go : (t : Bool) → bytes_eq (codes "help") name ≡ t → (v : Option Text) → refuses (long_fault below.rules false (arg_by_long below.rules name) v h) ≡ true
+    go true t None = rw (other, t) (or_else-refuses_next (settle_fault below.rules false h) _ refl)
+    go true t (Some x) = rw (other, t) refl
+    go false t v = rw (other, t) refl
+
+-- what a word of short flags comes to
+abbrev bundle_refusal : Held → Text → Text → Kinds
+bundle_refusal h flags word = or_else (bundle_fault below.rules false flags h)
+    (step_fault below 1 (short_or_plain below.rules idle word (Some flags) h).0 (short_or_plain below.rules idle word (Some flags) h).1)
+
+bundle_is_refused : (rows : List Row) (pending : Option (Text × List Text)) (flags word : Text) → refuses (bundle_refusal (holding rows pending) flags word) ≡ true
+unfolding flags_fault bundle_met
+bundle_is_refused rows pending [] word = refl
+bundle_is_refused rows pending (f ∷ fs) word = go (slice_get (chars (f ∷ fs)) 0) refl
+  where
+    with_first : (x : ℕ) → slice_get (chars (f ∷ fs)) 0 ≡ Some x → (t : Bool) → (104 == x) ≡ t → refuses (bundle_refusal (holding rows pending) (f ∷ fs) word) ≡ true
+    with_first x e true t =
+        rw (e, t) (or_else-refuses _ _ (or_else-refuses _ _ (or_else-refuses_next (settle_fault below.rules false (holding rows pending)) _ refl)))
+    with_first x e false t = rw (e, t) refl
+
+    go : (c : Option ℕ) → slice_get (chars (f ∷ fs)) 0 ≡ c → refuses (bundle_refusal (holding rows pending) (f ∷ fs) word) ≡ true
+    go None e = rw e refl
+    go (Some x) e = with_first x e (104 == x) refl
+
+other_word_is_refused : (rows : List Row) (pending : Option (Text × List Text)) (word : Text) → names_limit (long_of word) ≡ false
+    → refuses (refusal (holding rows pending) (long_of word) word) ≡ true
+other_word_is_refused rows pending word other = go (long_of word) refl
+  where
+    short : (o : Option Text) → short_of word ≡ o → refuses (refusal (holding rows pending) None word) ≡ true
+    short None e = rw e refl
+    short (Some flags) e = rw e (bundle_is_refused rows pending flags word)
+
+    go : (o : Option (Text × Option Text)) → long_of word ≡ o → refuses (refusal (holding rows pending) (long_of word) word) ≡ true
+    go (Some p) e = rw e (or_else-refuses _ _ (other_flag_is_refused (holding rows pending) p.0 p.1 (rw e at other)))
+    go None e = rw e (short (short_of word) refl)
+
+pub idle_refuses : (rows : List Row) (pending : Option (Text × List Text)) (word : Text) → bytes_eq word (codes "--") ≡ false → names_limit (long_of word) ≡ false
+    → refuses (turn_fault below [] (standing idle false (holding rows pending)) word) ≡ true
+idle_refuses rows pending word dashes other = let h = other_word_is_refused rows pending word other in rw dashes h
+
+-- ---- the option's word
+
+abbrev pub waits : List Row → Walk
+waits rows = standing (option (codes "limit")) false (holding rows (Some (codes "limit", [])))
+
+abbrev pub pushed : List Row → Text → Walk
+pushed rows text = standing idle false (holding rows (Some (codes "limit", text ∷ [])))
+
+abbrev pub limit_row : Text → List Row
+limit_row text = record {
+  id = codes "limit";
+  values = text ∷ [];
+  count = None;
+  source = Some CommandLine;
+  reading = reading.AsWritten;
+} ∷ []
+
+abbrev pub used_limit : Text → Walk
+used_limit text = standing idle false (holding (limit_row text) None)
