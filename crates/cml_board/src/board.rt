@@ -234,11 +234,7 @@ impl<M: Message, L: MessageLog<M>> Board<M, L> {
             Call::Take(name) | Call::Swap(name, _) => {
                 self.kind(*name) == Some(Kind::MVar) && self.is_empty(*name)
             }
-            Call::NewMailbox | Call::NewChannel | Call::NewPort(_) => false,
-            Call::NewIVar | Call::NewMVar | Call::MVarInit(_) => false,
-            Call::CopyPort(_) | Call::ClosePort(_) => false,
-            Call::Send(_, _) | Call::Cast(_, _) | Call::Poll(_) => false,
-            Call::Put(_, _) | Call::GetPoll(_) | Call::TakePoll(_) => false,
+            _ => false,
         }
     }
 

@@ -78,13 +78,7 @@ pub fn number_givings(alloc: Global, script: &Script) -> Result<Vec<Option<usize
 fn gives_name(action: Action) -> bool
     ensures { result ≡ gives_name action }
 {
-    match action {
-        Action::Port(_) | Action::Copy(_) => true,
-        Action::Send(_, _) | Action::Multicast(_, _) | Action::Close(_) => false,
-        Action::Recv(_) | Action::Poll(_) => false,
-        Action::Put(_, _) | Action::Get(_) | Action::GetPoll(_) => false,
-        Action::Take(_) | Action::TakePoll(_) | Action::Swap(_, _) => false,
-    }
+    matches!(action, Action::Port(_) | Action::Copy(_))
 }
 
 /// By thread, the positions of its steps.
