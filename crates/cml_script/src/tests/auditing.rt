@@ -2,6 +2,7 @@
 use crate::{Verdict, audit, read_script};
 use cml_board::{Call, Entry, Name, Reply, Who};
 use std::alloc::{AllocError, Global};
+use std::process::Abort;
 use std::test::Fail;
 
 const MESSAGE: &str = "cml 1\nmailbox m\nthread A\nthread B\nA send m 5\nB recv m\nB poll m\n";
@@ -66,8 +67,25 @@ fn beginnings_are_lawful(rt: HostRuntime) -> Result<(), Fail> {
     Ok(())
 }
 
+/// A case in plain words, how much of the journal stands before the entry, the entry, and the verdict.
+type Row = (&'static str, usize, Entry<u64>, Verdict);
+
+/// Audits the beginning of the journal with another entry behind it.
+fn judge(rt: &(impl Abort + AllocGlobal), rows: Vec<Row>) -> Result<(), AllocError> {
+    for (case, at, entry, verdict) in rows {
+        let mut entries = journal(rt.alloc())?;
+        entries.truncate(at);
+        entries.push(entry)?;
+        let told = audited(rt.alloc(), MESSAGE, &entries);
+        assert_eq!(rt; told, Some(verdict), "{case}");
+    }
+    Ok(())
+}
+
 #[test]
-fn tells_the_entry_that_is_not_the_script_s(rt: HostRuntime) -> Result<(), Fail> {
+fn an_entry_of_another_caller_is_foreign(rt: HostRuntime) -> Result<(), Fail> {
+    let beyond = sent(65, 5);
+    let by_thread = by(1, Call::NewMailbox, Reply::Made(Name(0)));
     let rows = vec![in rt.alloc();
         ("another seat", 2, received(1, 5), Verdict::Foreign(2)),
         (
@@ -76,19 +94,7 @@ fn tells_the_entry_that_is_not_the_script_s(rt: HostRuntime) -> Result<(), Fail>
             sent(9, 5),
             Verdict::Foreign(1)
         ),
-        (
-            "a seat beyond all threads",
-            1,
-            sent(65, 5),
-            Verdict::Foreign(1)
-        ),
-        ("another message", 1, sent(1, 6), Verdict::Foreign(1)),
-        (
-            "another call",
-            1,
-            by(1, Call::Poll(Name(0)), Reply::Nothing),
-            Verdict::Foreign(1)
-        ),
+        ("a seat beyond all threads", 1, beyond, Verdict::Foreign(1)),
         (
             "seat 0 behind the declarations",
             1,
@@ -96,23 +102,32 @@ fn tells_the_entry_that_is_not_the_script_s(rt: HostRuntime) -> Result<(), Fail>
             Verdict::Foreign(1)
         ),
         (
-            "one object too many",
-            1,
-            made(Call::NewMailbox, 1),
-            Verdict::Foreign(1)
-        ),
-        (
-            "another object",
-            0,
-            made(Call::NewChannel, 0),
-            Verdict::Foreign(0)
-        ),
-        (
             "an object that a thread makes",
             0,
-            by(1, Call::NewMailbox, Reply::Made(Name(0))),
+            by_thread,
             Verdict::Foreign(0)
         ),
+    ]?;
+    Ok(judge(&rt, rows)?)
+}
+
+#[test]
+fn another_call_than_the_script_s_is_foreign(rt: HostRuntime) -> Result<(), Fail> {
+    let polled_early = by(1, Call::Poll(Name(0)), Reply::Nothing);
+    let (one_more, other) = (made(Call::NewMailbox, 1), made(Call::NewChannel, 0));
+    let rows = vec![in rt.alloc();
+        ("another message", 1, sent(1, 6), Verdict::Foreign(1)),
+        ("another call", 1, polled_early, Verdict::Foreign(1)),
+        ("one object too many", 1, one_more, Verdict::Foreign(1)),
+        ("another object", 0, other, Verdict::Foreign(0)),
+    ]?;
+    Ok(judge(&rt, rows)?)
+}
+
+#[test]
+fn what_can_not_be_is_unlawful(rt: HostRuntime) -> Result<(), Fail> {
+    let unmade = by(1, Call::Send(Name(1), 5), Reply::Done);
+    let rows = vec![in rt.alloc();
         (
             "a reply that isn't the answer",
             2,
@@ -125,24 +140,9 @@ fn tells_the_entry_that_is_not_the_script_s(rt: HostRuntime) -> Result<(), Fail>
             received(2, 5),
             Verdict::Unlawful(1)
         ),
-        (
-            "a name that isn't made",
-            1,
-            by(1, Call::Send(Name(1), 5), Reply::Done),
-            Verdict::Unlawful(1)
-        ),
+        ("a name that isn't made", 1, unmade, Verdict::Unlawful(1)),
     ]?;
-    for (case, at, entry, verdict) in rows {
-        let mut entries = journal(rt.alloc())?;
-        entries.truncate(at);
-        entries.push(entry)?;
-        assert_eq!(rt;
-            audited(rt.alloc(), MESSAGE, &entries),
-            Some(verdict),
-            "{case}"
-        );
-    }
-    Ok(())
+    Ok(judge(&rt, rows)?)
 }
 
 #[test]
