@@ -22,6 +22,14 @@ fn after_a_mailbox(
     Ok(vec![in alloc; made, entry(call, reply)]?)
 }
 
+/// What a check tells of a short journal.
+fn told_of(alloc: Global, entries: &[Entry<u64>]) -> Option<Result<(), usize>> {
+    if entries.len() > 100 {
+        return None;
+    }
+    check(alloc, entries).ok()
+}
+
 #[test]
 fn an_unlawful_entry_is_told_by_its_position(rt: HostRuntime) -> Result<(), Fail> {
     let rows = vec![in rt.alloc();
@@ -64,7 +72,7 @@ fn an_unlawful_entry_is_told_by_its_position(rt: HostRuntime) -> Result<(), Fail
     ]?;
     for (case, call, reply) in rows {
         let journal = after_a_mailbox(rt.alloc(), call, reply)?;
-        assert_eq!(rt; check(rt.alloc(), &journal)?, Err(1), "{case}");
+        assert_eq!(rt; told_of(rt.alloc(), &journal), Some(Err(1)), "{case}");
     }
     Ok(())
 }
@@ -72,15 +80,15 @@ fn an_unlawful_entry_is_told_by_its_position(rt: HostRuntime) -> Result<(), Fail
 #[test]
 fn a_lawful_journal_is_told_so(rt: HostRuntime) -> Result<(), Fail> {
     let none: [Entry<u64>; 0] = [];
-    assert_eq!(rt; check(rt.alloc(), &none)?, Ok(()));
+    assert_eq!(rt; told_of(rt.alloc(), &none), Some(Ok(())));
     let journal = after_a_mailbox(rt.alloc(), Call::Poll(MAILBOX), Reply::Nothing)?;
-    assert_eq!(rt; check(rt.alloc(), &journal)?, Ok(()));
+    assert_eq!(rt; told_of(rt.alloc(), &journal), Some(Ok(())));
     let mut board = Numbers::new(rt.alloc(), 100)?;
     for step in 0..memory::CALLS {
         let outcome = board.apply(SEAT, memory::call_at(step));
         assert_eq!(rt; told(&outcome), memory::answer_at(step), "at {step}");
     }
-    assert_eq!(rt; check(rt.alloc(), board.journal())?, Ok(()));
+    assert_eq!(rt; told_of(rt.alloc(), board.journal()), Some(Ok(())));
     Ok(())
 }
 
@@ -93,9 +101,9 @@ fn the_first_unlawful_entry_is_told(rt: HostRuntime) -> Result<(), Fail> {
         entry(Call::Poll(MAILBOX), Reply::Got(7)),
         entry(Call::Recv(Name(9)), Reply::Done),
     ]?;
-    assert_eq!(rt; check(rt.alloc(), &journal)?, Err(2));
-    assert_eq!(rt; check(rt.alloc(), &journal[..2])?, Ok(()));
-    assert_eq!(rt; check(rt.alloc(), &journal[1..])?, Err(0));
+    assert_eq!(rt; told_of(rt.alloc(), &journal), Some(Err(2)));
+    assert_eq!(rt; told_of(rt.alloc(), &journal[..2]), Some(Ok(())));
+    assert_eq!(rt; told_of(rt.alloc(), &journal[1..]), Some(Err(0)));
     Ok(())
 }
 
