@@ -1,5 +1,5 @@
 -- Where want of memory refuses a call, the call needed more than what was reserved.
-use Rattle.std.proofs.Common.{◌≡◌, ℕ, ◌-◌, ◌<◌, ◌==◌, ◌%◌, ◌||◌, Bool, true, false, not, List, length, Some, refl, sym, ap, subst, ◌∙◌, arith}
+use Rattle.std.proofs.Common.{◌≡◌, ℕ, ◌-◌, ◌<◌, ◌%◌, ◌||◌, Bool, true, false, not, List, length, Some, refl, sym, ap, ◌∙◌, arith}
 use Rattle.std.proofs.lemmas.Bool.{false≢true, true≢false, eq-eqb}
 use Rattle.cml_log.specs.Log.{Log, next_of}
 use Rattle.cml_board.specs.declared.call.Call.{Call}
@@ -14,7 +14,7 @@ use Rattle.cml_board.specs.Facts.{facts_of}
 use Rattle.cml_board.specs.Holdings.{log_at, HasLog}
 use Rattle.cml_board.specs.Shown.{Shown}
 use Rattle.cml_board.specs.Keeps.{Keeps}
-use Rattle.cml_board.specs.Sparing.{IsSpared, tells_name, tells_message, has_message, makes_object, fills_chunk, ends_chunk, shares}
+use Rattle.cml_board.specs.Sparing.{IsSpared, tells_name, tells_message, has_message, fills_chunk, ends_chunk, shares}
 use Rattle.cml_board.proofs.Standing.{next_is}
 
 or_true : (b c : Bool) → b ≡ true → (b || c) ≡ true

@@ -5,7 +5,7 @@ use Rattle.std.specs.Option.{option_map, option_and_then}
 use Rattle.std.proofs.lemmas.Option.{same_Some, none-some, slice_get-map, slice_get_within}
 use Rattle.std.proofs.lemmas.List.{length-map, map-append, append-nil}
 use Rattle.std.proofs.lemmas.List.Elements.{All-push, filter-append}
-use Rattle.std.proofs.lemmas.Bool.{ne_eqb, le-ltb, lt-ltb}
+use Rattle.std.proofs.lemmas.Bool.{le-ltb, lt-ltb}
 use Rattle.cml_board.specs.declared.entry.Who.{Who}
 use Rattle.cml_board.specs.declared.entry.Who.TheVariants.{Seat, Lane, Feed}
 use Rattle.cml_board.specs.declared.entry.Entry.{Entry}
@@ -19,7 +19,6 @@ use Rattle.cml_grammar.specs.Meaning.{names_of, makes_of, action_of}
 use Rattle.cml_grammar.specs.Giving.{NamesAreGiven}
 use Rattle.cml_grammar.specs.Reading.{source_of, IsMadeWell, ReadsStep, used_by}
 use Rattle.cml_board.specs.Positions.{before}
-use Rattle.cml_script.specs.Counting.{one_if}
 use Rattle.cml_script.specs.Audit.{IsOwn}
 use Rattle.cml_script.specs.declared.binding.Binding.{Binding}
 use Rattle.cml_script.specs.Schedule.{History, objects_of, declared_count, declared_object, is_object, is_seat, making_call, call_in, performed, next_position, given_by, step_call, call_of, object_of, bound_by}
