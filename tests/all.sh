@@ -1,6 +1,6 @@
 #!/bin/sh
-# Everything: every crate is proved from nothing, its wrong edits are refused and its tests run; and then the built
-# program is tried from outside. The last line is `N passed, M failed`.
+# Everything: every crate is proved from nothing, its wrong edits are refused and its tests run; then the guide's
+# code is compared with the sources, and the built program is tried from outside. The last line is `N passed, M failed`.
 cd "$(dirname "$0")/.." || exit 1
 work=$(mktemp -d) || exit 1
 trap 'rm -rf "$work"' EXIT
@@ -18,6 +18,7 @@ step() {
 counted() { tail -n 1 "$work/$1" | sed -n "s/.*\\b\\([0-9][0-9]*\\) $2.*/\\1/p"; }
 
 step crates rt ci
+step guide sh tests/guide.sh
 step program sh tests/program.sh crates/cml/out/cml
-echo "$(($(counted crates passed) + $(counted program passed))) passed," \
-    "$(($(counted crates failed) + $(counted program failed))) failed"
+echo "$(($(counted crates passed) + $(counted guide passed) + $(counted program passed))) passed," \
+    "$(($(counted crates failed) + $(counted guide failed) + $(counted program failed))) failed"
