@@ -1,15 +1,16 @@
 #!/bin/sh
-# Each paragraph of code in docs/GUIDE.md stands in crates/cml_guide/src, word for word, where it is proved.
+# Each paragraph of Rattle in docs/GUIDE.md and in the README stands in crates/cml_guide/src, word for word,
+# where it is proved.
 # The last line is `N passed, M failed`.
 cd "$(dirname "$0")/.." || exit 1
 awk '
     function compare() {
         if (paragraph == "") return
         if (index(sources, "\n" paragraph)) passed++
-        else { failed++; print "failed: docs/GUIDE.md, line " first ", is not in the sources:\n" paragraph }
+        else { failed++; print "failed: " FILENAME ", line " first ", is not in the sources:\n" paragraph }
         paragraph = ""
     }
-    FILENAME != "docs/GUIDE.md" { sources = sources "\n" $0; next }
+    FILENAME !~ /\.md$/ { sources = sources "\n" $0; next }
     /^```rust$/ { inside = 1; next }
     /^```$/ || (inside && $0 == "") { compare(); if (/^```$/) inside = 0; next }
     inside { if (paragraph == "") first = FNR; paragraph = paragraph $0 "\n" }
@@ -17,4 +18,4 @@ awk '
         printf "%d passed, %d failed\n", passed, failed
         exit failed > 0 || passed == 0
     }
-' crates/cml_guide/src/*.rt docs/GUIDE.md
+' crates/cml_guide/src/*.rt docs/GUIDE.md README.md
