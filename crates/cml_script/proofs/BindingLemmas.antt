@@ -22,7 +22,7 @@ use Rattle.cml_grammar.specs.Giving.{is_giving, names_before}
 use Rattle.cml_grammar.specs.Reading.{gives_name}
 use Rattle.cml_script.specs.Counting.{one_if}
 use Rattle.cml_script.specs.Schedule.{History, IsReady, IsStep, IsDeclaration, Follows, is_seated, is_seat, earlier, performed, declared_count, object_of, call_of, next_position, given_by, gives_next, bound_by, binding_of, port_bound}
-use Rattle.cml_script.specs.Stage.{HasSeats, AsksForPorts}
+use Rattle.cml_script.specs.Plan.{HasSeats, AsksForPorts}
 use Rattle.cml_script.proofs.ListLemmas.{slice_get_pushed}
 use Rattle.cml_script.proofs.GivingLemmas.{giver, given_at, given_once, next_is, next_at, none_first, gives_as, gives_that}
 

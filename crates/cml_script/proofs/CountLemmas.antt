@@ -13,7 +13,7 @@ use Rattle.cml_grammar.specs.declared.names.Named.TheVariants as called
 use Rattle.cml_grammar.specs.Names.{Given}
 use Rattle.cml_grammar.specs.Reading.{IsVariableAt}
 use Rattle.cml_script.specs.Schedule.{History}
-use Rattle.cml_script.specs.Stage.{IsObjectAt}
+use Rattle.cml_script.specs.Plan.{IsObjectAt}
 
 -- an object of the right kind has the number
 pub some_count : (test : Kind → Bool) (o : Option Kind) (k : Kind) (n : ℕ) (r : Option ℕ) → r ≡ only_if (option_map_or test o false) n → o ≡ Some k → test k ≡ true → IsSome r

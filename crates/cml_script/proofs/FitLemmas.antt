@@ -18,7 +18,8 @@ use Rattle.cml_grammar.specs.Meaning.{names_of, action_of}
 use Rattle.cml_grammar.specs.Script.{Lines}
 use Rattle.cml_grammar.specs.Reading.{IsMailboxAt, IsChannelAt, IsPortAt, IsReceiverAt, IsMVarAt, IsVariableAt, UsesWell, used_by, source_of, ReadsStep}
 use Rattle.cml_script.specs.Schedule.{History, call_of, object_of, step_call}
-use Rattle.cml_script.specs.Stage.{IsObject, IsObjectAt, call_on}
+use Rattle.cml_script.specs.Plan.{IsObject, IsObjectAt}
+use Rattle.cml_script.specs.Stage.{call_on}
 use Rattle.cml_script.proofs.ListLemmas.{mapped_at}
 use Rattle.cml_script.proofs.LineLemmas.{all_at}
 

@@ -11,7 +11,7 @@ use Rattle.cml_grammar.specs.Script.{SourceLine, Lines}
 use Rattle.cml_grammar.specs.Giving.{is_giving, names_before}
 use Rattle.cml_script.specs.Counting.{one_if, how_many}
 use Rattle.cml_script.specs.Schedule.{History, IsReady, is_seated, earlier, performed, positions_from, next_position, given_by, gives_next}
-use Rattle.cml_script.specs.Stage.{HasSeats}
+use Rattle.cml_script.specs.Plan.{HasSeats}
 use Rattle.cml_script.proofs.ListLemmas.{counted_mono, taken_count, count_taken}
 use Rattle.cml_script.proofs.QueueLemmas.{position_is, position_of_step}
 

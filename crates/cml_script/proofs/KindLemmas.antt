@@ -18,7 +18,8 @@ use Rattle.cml_grammar.specs.Script.{SourceLine, Lines}
 use Rattle.cml_grammar.specs.Meaning.{names_of, makes_of}
 use Rattle.cml_grammar.specs.declared.script.Declaration.{Declaration}
 use Rattle.cml_grammar.specs.Reading.{source_of, ReadsDeclaration, IsMadeWell}
-use Rattle.cml_script.specs.Stage.{Play, IsNextObject, IsNext, NamesObjects, kind_made, kind_declared}
+use Rattle.cml_script.specs.Plan.{NamesObjects, kind_made, kind_declared}
+use Rattle.cml_script.specs.Stage.{Play, IsNextObject, IsNext}
 use Rattle.cml_script.specs.Counting.{one_if, how_many}
 use Rattle.cml_script.specs.Schedule.{History, Follows, IsDeclaration, IsStep, declared_count, objects_of, call_in, making_call, makes_object, is_object, declared_object}
 use Rattle.cml_script.proofs.ListLemmas.{slice_get-append_left, slice_get_pushed, filter_at, counted_mono}

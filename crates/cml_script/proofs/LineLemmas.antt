@@ -12,7 +12,7 @@ use Rattle.cml_grammar.specs.declared.names.Named.TheVariants as called
 use Rattle.cml_grammar.specs.declared.names.Users.TheVariants as users
 use Rattle.cml_board.specs.declared.call.Kind.{Kind}
 use Rattle.cml_grammar.specs.Meaning.{names_of, action_of}
-use Rattle.cml_script.specs.Stage.{NamesObjects, HasSeats, AsksForPorts, IsObjectAt, kind_made, kind_named}
+use Rattle.cml_script.specs.Plan.{NamesObjects, HasSeats, AsksForPorts, IsObjectAt, kind_made, kind_named}
 use Rattle.std.proofs.lemmas.List.Elements.{All-get_or}
 use Rattle.std.proofs.lemmas.Option.{slice_get_within, get_or_from_slice_get, same_Some, some_pair_parts}
 use mir.Val.{bool_byte}

@@ -14,7 +14,7 @@ use Rattle.cml_script.proofs.LineLemmas.{all_at, step_seated}
 use Rattle.cml_grammar.specs.Script.{SourceLine, Lines}
 use Rattle.cml_script.specs.Counting.{one_if, how_many}
 use Rattle.cml_script.specs.Schedule.{is_seated, positions_from}
-use Rattle.cml_script.specs.Stage.{AreQueues, items_of}
+use Rattle.cml_script.specs.Plan.{AreQueues, items_of}
 use Rattle.cml_script.proofs.ListLemmas.{taken_more, mapped_at, set_at, set_off}
 
 module _ (script : Lines) (seat : ℕ) where

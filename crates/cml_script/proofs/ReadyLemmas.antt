@@ -7,7 +7,8 @@ use Rattle.cml_board.specs.History.{answer}
 use Rattle.cml_grammar.specs.Script.{Lines}
 use Rattle.cml_script.specs.Counting.{how_many}
 use Rattle.cml_script.specs.Schedule.{History, IsReady, NoneReady, is_seated, performed, positions_from, step_call}
-use Rattle.cml_script.specs.Stage.{earlier_of, IsReadyOf, NoneReadyOf, IsLeast, IsLeastBelow, HasSeats}
+use Rattle.cml_script.specs.Plan.{HasSeats}
+use Rattle.cml_script.specs.Stage.{earlier_of, IsReadyOf, NoneReadyOf, IsLeast, IsLeastBelow}
 use Rattle.cml_script.proofs.QueueLemmas.{position_is, position_of_step}
 
 module _ (script : Lines) (history : History) where

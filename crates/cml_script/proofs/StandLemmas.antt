@@ -1,14 +1,12 @@
 -- What a stage keeps, and how it goes on with one more entry.
-use Rattle.std.proofs.Common.{◌≡◌, ℕ, ◌+◌, ◌-◌, ◌<◌, ◌≤◌, ◌^◌, Bool, true, false, cond, eqb, ltb, List, [], ◌∷◌, length, take, get_or, slice_get, slice_set, replicate, Option, Some, None, MatchBool, MatchOption, IfSome, IsSome, refl, sym, ap, subst, ◌∙◌, arith, inl, inr}
-use Rattle.std.specs.Prelude.{map, Vec, All}
+use Rattle.std.proofs.Common.{◌≡◌, ℕ, ◌+◌, ◌-◌, ◌<◌, ◌≤◌, ◌^◌, Bool, true, false, cond, eqb, ltb, List, [], ◌∷◌, length, take, get_or, slice_get, slice_set, replicate, Option, Some, None, MatchBool, IfSome, IsSome, refl, sym, ap, subst, ◌∙◌, arith, inl, inr}
+use Rattle.std.specs.Prelude.{map, All}
 use Rattle.cml_board.specs.declared.entry.Reply.{Reply}
 use Rattle.cml_grammar.specs.declared.script.Step.{Step}
 use Rattle.cml_grammar.specs.Names.{thread_count}
 use Rattle.cml_script.proofs.LineLemmas.{all_at, step_seated}
-use Rattle.std.specs.Global.{Global}
-use Rattle.std.specs.Borrow.{Bor}
-use Rattle.std.specs.Option.{option_map, option_map_or, option_and_then}
-use Rattle.std.proofs.lemmas.Option.{same_Some, none-some, slice_get_within, slice_get_past, slice_get-map, slice_get_read, slice_get-get_or}
+use Rattle.std.specs.Option.{option_map_or, option_and_then}
+use Rattle.std.proofs.lemmas.Option.{same_Some, none-some, slice_get_within, slice_get_read, slice_get-get_or}
 use Rattle.std.proofs.lemmas.List.{length-set, length-map, length-replicate, get_or-replicate}
 use Rattle.std.proofs.lemmas.Bool.{eqb-true, eq-eqb, ne_eqb, cases_eq, cases_lt, le-ltb, lt-ltb, false≢true}
 use Rattle.cml_board.specs.declared.call.Call.{Call}
@@ -25,123 +23,83 @@ use Rattle.cml_script.specs.declared.binding.Binding.TheVariants as binding
 use Rattle.cml_grammar.specs.declared.names.Named.TheVariants as called
 use Rattle.cml_grammar.specs.declared.names.Users.TheVariants as users
 use Rattle.cml_grammar.specs.Giving.{is_giving, names_before, NamesAreGiven}
-use Rattle.cml_script.specs.Schedule.{History, IsReady, IsStep, IsDeclaration, Follows, is_seated, is_seat, is_by, is_object, performed, positions_from, next_position, step_call, declared_count, declared_object, object_of, made_of, given_by, bound_by, binding_of, port_bound, port_made}
-use Rattle.cml_script.specs.Stage.{Play, Stands, HasSeats, AsksForPorts, IsObject, IsObjectAt, IsNextObject, AreNumbers, AreQueues, AreGivings, AreCounts, AreBindings, with_entry, with_binding, items_of, IsStepAt, IsLeast}
+use Rattle.cml_script.specs.Schedule.{History, IsReady, IsStep, IsDeclaration, Follows, is_seated, is_seat, is_by, is_object, performed, next_position, step_call, declared_count, declared_object, object_of, made_of, given_by, bound_by, binding_of, port_bound, port_made}
+use Rattle.cml_script.specs.Plan.{IsKnown, HasSeats, AsksForPorts, IsObject, IsObjectAt}
+use Rattle.cml_script.specs.Stage.{Play, Stands, IsNextObject, AreCounts, AreBindings, with_entry, with_binding, IsStepAt, IsLeast}
 use Rattle.cml_script.proofs.ListLemmas.{how_many-le, mapped_at, set_at, set_off}
 use Rattle.cml_script.proofs.GivingLemmas.{giver, given_at, next_is, none_first}
 use Rattle.cml_script.proofs.BindingLemmas.{bound_more}
 use Rattle.cml_script.proofs.KindLemmas.{object_made, object_kind_is, declared_made}
 
-pub stands_at : (p q : Play) (numbers : List ℕ) (queues : List (List ℕ)) (givings : List (Option ℕ)) (counts : List ℕ) (bindings : List Binding) → p ≡ q → Stands p numbers queues givings counts bindings → Stands q numbers queues givings counts bindings
-stands_at p q numbers queues givings counts bindings e s = subst (λ r. Stands r numbers queues givings counts bindings) e s
+pub stands_at : {p q : Play} {counts : List ℕ} {bindings : List Binding} → p ≡ q → Stands p counts bindings → Stands q counts bindings
+stands_at {counts = counts} {bindings = bindings} e s = subst (λ (r : Play). Stands r counts bindings) e s
 
--- the object that a declared name stands for
-pub record IsObjectOf (play : Play) (at n : ℕ) : Type 0 where
-  pub object : declared_object play.script play.history at ≡ Some n
-  pub kind : (k : Kind) → IsObjectAt (names_of play.script) at k → kind_of play.history n ≡ Some k
+module _ (script : Lines) (history : History) (at : ℕ) where
+  pub object_declared : at < length script.declarations → object_of script history at ≡ declared_object script history at
+  object_declared lt = ap (λ t. cond t (declared_object script history at) (port_bound (binding_of script history at))) (lt-ltb at (length script.declarations) lt)
 
-module _ (play : Play) (at : ℕ) where
-  pub object_declared : at < length play.script.declarations → object_of play.script play.history at ≡ declared_object play.script play.history at
-  object_declared lt = ap (λ t. cond t (declared_object play.script play.history at) (port_bound (binding_of play.script play.history at))) (lt-ltb at (length play.script.declarations) lt)
+  pub object_given : length script.declarations ≤ at → object_of script history at ≡ port_bound (binding_of script history at)
+  object_given ge = ap (λ t. cond t (declared_object script history at) (port_bound (binding_of script history at))) (le-ltb at (length script.declarations) ge)
 
-  pub object_given : length play.script.declarations ≤ at → object_of play.script play.history at ≡ port_bound (binding_of play.script play.history at)
-  object_given ge = ap (λ t. cond t (declared_object play.script play.history at) (port_bound (binding_of play.script play.history at))) (le-ltb at (length play.script.declarations) ge)
-
-  pub made_declared : at < length play.script.declarations → made_of play.script play.history at ≡ declared_object play.script play.history at
+  pub made_declared : at < length script.declarations → made_of script history at ≡ declared_object script history at
   unfolding made_of
-  made_declared lt = ap (λ t. cond t (declared_object play.script play.history at) (port_made (binding_of play.script play.history at))) (lt-ltb at (length play.script.declarations) lt)
+  made_declared lt = ap (λ t. cond t (declared_object script history at) (port_made (binding_of script history at))) (lt-ltb at (length script.declarations) lt)
 
-  pub made_given : length play.script.declarations ≤ at → made_of play.script play.history at ≡ port_made (binding_of play.script play.history at)
+  pub made_given : length script.declarations ≤ at → made_of script history at ≡ port_made (binding_of script history at)
   unfolding made_of
-  made_given ge = ap (λ t. cond t (declared_object play.script play.history at) (port_made (binding_of play.script play.history at))) (le-ltb at (length play.script.declarations) ge)
+  made_given ge = ap (λ t. cond t (declared_object script history at) (port_made (binding_of script history at))) (le-ltb at (length script.declarations) ge)
 
 -- what is read of the lists that are kept
-
-pub number_at : (script : Lines) (numbers : List ℕ) (at n : ℕ) → AreNumbers script numbers → at < length script.declarations → n ≡ get_or numbers at n → n ≡ how_many (is_object script) (take at script.declarations)
-number_at script numbers at n numbered lt read =
-    let within : at < length numbers = omega (arith, lt, numbered.all) in
-    same_Some _ _ (sym (slice_get_read numbers (length numbers) at n refl within read) ∙ numbered.each at within)
 
 pub binding_at : (script : Lines) (history : History) (bindings : List Binding) (at : ℕ) (b : Binding) → AreBindings script history bindings → at < length (names_of script) → b ≡ get_or bindings at b → b ≡ binding_of script history at
 binding_at script history bindings at b bound within read =
     let lt : at < length bindings = omega (arith, within, bound.all) in
     same_Some _ _ (sym (slice_get_read bindings (length bindings) at b refl lt read) ∙ bound.each at lt)
 
-pub giving_at : (script : Lines) (givings : List (Option ℕ)) (i : ℕ) (g : Option ℕ) → AreGivings script givings → i < length script.steps → g ≡ get_or givings i g → g ≡ given_by script i
-giving_at script givings i g giving within read =
-    let lt : i < length givings = omega (arith, within, giving.all) in
-    same_Some _ _ (sym (slice_get_read givings (length givings) i g refl lt read) ∙ giving.each i lt)
-
 pub count_at : (history : History) (counts : List ℕ) (thread n : ℕ) → AreCounts history counts → thread < 64 → n ≡ get_or counts thread n → n ≡ performed history (thread + 1)
 count_at history counts thread n counted lt read =
     let within : thread < length counts = omega (arith, counted.seats) in
     same_Some _ _ (sym (slice_get_read counts (length counts) thread n refl within read) ∙ counted.each thread lt)
 
-module _ (play : Play) (numbers : List ℕ) (queues : List (List ℕ)) (givings : List (Option ℕ)) (counts : List ℕ) (bindings : List Binding) (stands : Stands play numbers queues givings counts bindings) where
-  pub object_within : (at : ℕ) → at < length play.script.declarations → at < length numbers
-  object_within at lt = omega (arith, lt, stands.planned.numbered.all)
+-- a declared name that stands for an object stands for the one of its number
+pub declared_is : (script : Lines) (history : History) (at n : ℕ) → n ≡ how_many (is_object script) (take at script.declarations) → IsSome (declared_object script history at) → declared_object script history at ≡ Some n
+declared_is script history at n number made = by_test (ltb (how_many (is_object script) (take at script.declarations)) (length history)) made
+  where
+    by_test : (t : Bool) → IsSome (cond t (Some (how_many (is_object script) (take at script.declarations))) None) → cond t (Some (how_many (is_object script) (take at script.declarations))) None ≡ Some n
+    by_test true some = ap Some (sym number)
+    by_test false none = absurd (false≢true none)
 
-  number_is : (at n : ℕ) → at < length play.script.declarations → n ≡ get_or numbers at n → n ≡ how_many (is_object play.script) (take at play.script.declarations)
-  number_is at n = number_at play.script numbers at n stands.planned.numbered
+-- an object that is looked up among those that are made is itself, and made
+below : (object made n : ℕ) → cond (ltb object made) (Some object) None ≡ Some n → (object < made) × (object ≡ n)
+below object made n e = elim (cases_lt object made) [
+  | inl lt ↦ (lt, same_Some object n (sym (ap (λ t. cond t (Some object) None) (lt-ltb object made lt)) ∙ e))
+  | inr ge ↦ absurd (none-some n (sym (ap (λ t. cond t (Some object) None) (le-ltb object made ge)) ∙ e))
+]
 
-  -- an object that was made
-  pub object_is : (at n : ℕ) → n < length play.history → at < length play.script.declarations → n ≡ get_or numbers at n → IsObjectOf play at n
-  unfolding number_is
-  object_is at n made within read =
-      let here = number_is at n within read in
-      let lt : how_many (is_object play.script) (take at play.script.declarations) < length play.history = omega (arith, here, made) in
-      record {
-        object = object_made play.script play.history at lt ∙ ap Some (sym here);
-        kind = λ k is.
-            let d = stands.planned.named at k within is in
-            ap (kind_of play.history) here ∙ object_kind_is play.script play.history at d.0 k stands.follows stands.lawful lt d.1 d.2;
-      }
-
-  pub not_made : (at n : ℕ) → length play.history ≤ n → at < length play.script.declarations → n ≡ get_or numbers at n → declared_object play.script play.history at ≡ None
-  unfolding number_is
-  not_made at n unmade within read =
-      let here = number_is at n within read in
-      let test : ltb (how_many (is_object play.script) (take at play.script.declarations)) (length play.history) ≡ false = le-ltb _ _ (omega (arith, here, unmade)) in
-      rw test refl
-
-  -- a name that stands for an object has its number below those of objects that are not made
-  pub stands_made : (at n : ℕ) → IsSome (declared_object play.script play.history at) → at < length play.script.declarations → n ≡ get_or numbers at n → n < length play.history
-  unfolding not_made
-  stands_made at n made within read = elim (cases_lt n (length play.history)) [
-    | inl lt ↦ lt
-    | inr ge ↦ absurd (false≢true (subst IsSome (not_made at n ge within read) made))
-  ]
+module _ {play : Play} {counts : List ℕ} {bindings : List Binding} (stands : Stands play counts bindings) where
+  -- the object that a declared name stands for is of its kind
+  pub declared_kind : (at n : ℕ) (k : Kind) → at < length play.script.declarations → declared_object play.script play.history at ≡ Some n → IsObjectAt (names_of play.script) at k → kind_of play.history n ≡ Some k
+  declared_kind at n k within e is =
+      let here = below (how_many (is_object play.script) (take at play.script.declarations)) (length play.history) n e in
+      let d = stands.known.named at k within is in
+      ap (kind_of play.history) (sym here.1) ∙ object_kind_is play.script play.history at d.0 k stands.follows stands.lawful here.0 d.1 d.2
 
   -- once all are made, each declared name stands for its object
-  pub declared_stands : (at : ℕ) → declared_count play.script ≤ length play.history → at < length play.script.declarations → IsObject (names_of play.script) at → (n : ℕ) × IsObjectOf play at n
+  pub declared_stands : (at : ℕ) → declared_count play.script ≤ length play.history → at < length play.script.declarations → IsObject (names_of play.script) at → (n : ℕ) × (declared_object play.script play.history at ≡ Some n)
   declared_stands at declared within object =
-      let d = stands.planned.named at object.0 within object.1 in
-      let lt = declared_made play.script play.history at d.0 object.0 declared d.1 d.2 in (
+      let d = stands.known.named at object.0 within object.1 in (
         how_many (is_object play.script) (take at play.script.declarations),
-        record {
-          object = object_made play.script play.history at lt;
-          kind = λ k is.
-              let there = stands.planned.named at k within is in
-              object_kind_is play.script play.history at there.0 k stands.follows stands.lawful lt there.1 there.2;
-        },
+        object_made play.script play.history at (declared_made play.script play.history at d.0 object.0 declared d.1 d.2),
       )
 
   pub binding_is : (at : ℕ) (b : Binding) → at < length (names_of play.script) → b ≡ get_or bindings at b → b ≡ binding_of play.script play.history at
   binding_is at b = binding_at play.script play.history bindings at b stands.bound
-
-  pub giving_is : (i : ℕ) (g : Option ℕ) → i < length play.script.steps → g ≡ get_or givings i g → g ≡ given_by play.script i
-  giving_is i g = giving_at play.script givings i g stands.planned.giving
 
   pub count_is : (thread n : ℕ) → thread < 64 → n ≡ get_or counts thread n → n ≡ performed play.history (thread + 1)
   count_is thread n = count_at play.history counts thread n stands.counted
 
   pub performed_small : (seat : ℕ) → performed play.history seat ≤ length play.history
   performed_small seat = how_many-le (is_by seat) play.history
-
-pub queue_is : (script : Lines) (steps : List SourceLine) (vecs : List (Vec ℕ Global)) (queue : Vec ℕ Global) (thread : ℕ) → AreQueues script steps (items_of vecs) → thread < 64 → queue ≡ get_or vecs thread queue → queue.items ≡ positions_from script (thread + 1) 0 steps
-queue_is script steps vecs queue thread queues lt read =
-    let long : thread < length vecs = omega (arith, queues.seats, length-map vecs (λ (q : Vec ℕ Global). q.items)) in
-    queues.each thread queue.items (slice_get-map (λ q. q.items) vecs thread ∙ ap (option_map (λ q. q.items)) (slice_get_read vecs (length vecs) thread queue refl long read))
 
 -- counts
 
@@ -203,33 +161,33 @@ bindings_more script before entry bindings (Some n) asks seats e b = record {
   ];
 }
 
-pub stands_more : (play new : Play) (numbers : List ℕ) (queues : List (List ℕ)) (givings : List (Option ℕ)) (counts later : List ℕ) (bindings : List Binding) (g : Option ℕ) (entry : Entry ℕ) → new ≡ with_entry play entry → Stands play numbers queues givings counts bindings → Fits play.history entry.call → length play.history < play.limit → answer play.history entry.call ≡ Some entry.reply → Follows play.script (entry ∷ play.history) → AreCounts (entry ∷ play.history) later → giver play.script play.history entry.who ≡ g → Stands new numbers queues givings later (with_binding bindings g (bound_by entry.call entry.reply))
-stands_more play new numbers queues givings counts later bindings g entry e s fits room answers follows counted gives = subst (λ r. Stands r numbers queues givings later (with_binding bindings g (bound_by entry.call entry.reply))) (sym e) (record {
+pub stands_more : (play new : Play) (counts later : List ℕ) (bindings : List Binding) (g : Option ℕ) (entry : Entry ℕ) → new ≡ with_entry play entry → Stands play counts bindings → Fits play.history entry.call → length play.history < play.limit → answer play.history entry.call ≡ Some entry.reply → Follows play.script (entry ∷ play.history) → AreCounts (entry ∷ play.history) later → giver play.script play.history entry.who ≡ g → Stands new later (with_binding bindings g (bound_by entry.call entry.reply))
+stands_more play new counts later bindings g entry e s fits room answers follows counted gives = subst (λ r. Stands r later (with_binding bindings g (bound_by entry.call entry.reply))) (sym e) (record {
   lawful = (fits, answers, s.lawful);
   room = room;
   bounded = s.bounded;
   follows = follows;
-  planned = s.planned;
+  known = s.known;
   counted = counted;
-  bound = bindings_more play.script play.history entry bindings g s.planned.asks s.planned.seats gives s.bound;
+  bound = bindings_more play.script play.history entry bindings g s.known.asks s.known.seats gives s.bound;
 })
 
 pub new_play : (script : Lines) (history later : History) (limit same : ℕ) (entry : Entry ℕ) → later ≡ entry ∷ history → same ≡ limit → ◌≡◌ {A = Play} (record { script = script; history = later; limit = same }) (with_entry (record { script = script; history = history; limit = limit }) entry)
 new_play script history later limit same entry h l = rw (h, l) refl
 
 -- a declared object was made
-pub stands_declared : (p old : Play) (numbers : List ℕ) (queues : List (List ℕ)) (givings : List (Option ℕ)) (counts : List ℕ) (bindings : List Binding) (later : History) (same : ℕ) (asked : Call ℕ) (r : Reply ℕ) → p ≡ old → Stands p numbers queues givings counts bindings → IsNextObject old asked
-    → later ≡ (record { who = Seat 0; call = asked; reply = r }) ∷ p.history → same ≡ p.limit → Fits p.history asked → length p.history < p.limit → answer p.history asked ≡ Some r → Stands (record { script = p.script; history = later; limit = same }) numbers queues givings counts bindings
-stands_declared p old numbers queues givings counts bindings later same asked r view s next grown kept fits room answers =
+pub stands_declared : (p old : Play) (counts : List ℕ) (bindings : List Binding) (later : History) (same : ℕ) (asked : Call ℕ) (r : Reply ℕ) → p ≡ old → Stands p counts bindings → IsNextObject old asked
+    → later ≡ (record { who = Seat 0; call = asked; reply = r }) ∷ p.history → same ≡ p.limit → Fits p.history asked → length p.history < p.limit → answer p.history asked ≡ Some r → Stands (record { script = p.script; history = later; limit = same }) counts bindings
+stands_declared p old counts bindings later same asked r view s next grown kept fits room answers =
     let entry : Entry ℕ = record { who = Seat 0; call = asked; reply = r } in
     let here = subst (λ (q : Play). IsNextObject q asked) (sym view) next in
-    stands_more p (record { script = p.script; history = later; limit = same }) numbers queues givings counts counts bindings None entry (new_play p.script p.history later p.limit same entry grown kept) s fits room answers
+    stands_more p (record { script = p.script; history = later; limit = same }) counts counts bindings None entry (new_play p.script p.history later p.limit same entry grown kept) s fits room answers
     (follows_declaration p.script p.history entry here.left (record {
       by = refl;
       makes = here.makes;
     }) s.follows)
     (counts_declared p.history entry counts refl s.counted)
-    (ap (option_and_then (given_by p.script)) (none_first p.script p.history s.planned.seats))
+    (ap (option_and_then (given_by p.script)) (none_first p.script p.history s.known.seats))
 
 pub step_of : (script : Lines) (before : History) (entry : Entry ℕ) (i : ℕ) → IsStepAt script before entry i → IsStep script before entry
 step_of script before entry i s = record {
@@ -239,11 +197,6 @@ step_of script before entry i s = record {
   ready = subst (λ c. IsReady script before i s.least.seat c) (sym s.call) s.least.ready;
   least = λ other by asked ready. s.least.least other by asked ready;
 }
-
--- what `get` finds
-pub get_is : {X : Type 0} (xs : List X) (i : ℕ) (r : Option (Bor X)) (Q : Bor X → Type 0) → IfSome r (λ x. x.now ≡ get_or xs i x.now) → MatchOption r (length xs ≤ i) (λ x. (i < length xs) × Q x) → option_map (λ x. x.now) r ≡ slice_get xs i
-get_is xs i None Q reads past = sym (slice_get_past xs i past)
-get_is xs i (Some x) Q reads within = sym (slice_get_read xs (length xs) i x.now refl within.0 reads)
 
 -- the thread and the seat of the step that is performed
 pub seat_is : (script : Lines) (history : History) (items : List Step) (i : ℕ) (s : Step) → map (λ x. source_of x.line) items ≡ script.steps → All (ReadsStep (names_of script)) items → slice_get items i ≡ Some s → (l : IsLeast script history i) → s.seat ≡ l.seat
@@ -266,21 +219,20 @@ step_at script history i seat asked reply l same calls = record {
   call = same_Some _ _ (sym calls ∙ l.ready.calls);
 }
 
-pub stands_performed : (p new : Play) (numbers : List ℕ) (queues : List (List ℕ)) (givings : List (Option ℕ)) (counts : List ℕ) (bindings : List Binding) (entry : Entry ℕ) (i seat n : ℕ) (g : Option ℕ) → Stands p numbers queues givings counts bindings → new ≡ with_entry p entry → Fits p.history entry.call → length p.history < p.limit → answer p.history entry.call ≡ Some entry.reply → declared_count p.script ≤ length p.history → IsStepAt p.script p.history entry i → entry.who ≡ Seat seat → 1 ≤ seat → seat ≤ 64 → n ≡ get_or counts (seat - 1) n → g ≡ get_or givings i g → Stands new numbers queues givings (slice_set counts (seat - 1) (n + 1)) (with_binding bindings g (bound_by entry.call entry.reply))
-stands_performed p new numbers queues givings counts bindings entry i seat n g s e fits room answers declared step who low high read given =
+pub stands_performed : (p new : Play) (counts : List ℕ) (bindings : List Binding) (entry : Entry ℕ) (i seat n : ℕ) (g : Option ℕ) → Stands p counts bindings → new ≡ with_entry p entry → Fits p.history entry.call → length p.history < p.limit → answer p.history entry.call ≡ Some entry.reply → declared_count p.script ≤ length p.history → IsStepAt p.script p.history entry i → entry.who ≡ Seat seat → 1 ≤ seat → seat ≤ 64 → n ≡ get_or counts (seat - 1) n → g ≡ given_by p.script i → Stands new (slice_set counts (seat - 1) (n + 1)) (with_binding bindings g (bound_by entry.call entry.reply))
+stands_performed p new counts bindings entry i seat n g s e fits room answers declared step who low high read given =
     let here : seat - 1 + 1 ≡ seat = omega (arith, low) in
     let lt : seat - 1 < 64 = omega (arith, low, high) in
-    let within = slice_get_within p.script.steps i step.least.ready.line step.least.ready.found in
     let next : next_position p.script p.history entry.who ≡ Some i = ap (next_position p.script p.history) step.who ∙ next_is p.script p.history step.least.seat i step.least.asked step.least.ready in
-    stands_more p new numbers queues givings counts (slice_set counts (seat - 1) (n + 1)) bindings g entry e s fits room answers
+    stands_more p new counts (slice_set counts (seat - 1) (n + 1)) bindings g entry e s fits room answers
     (follows_step p.script p.history entry declared (step_of p.script p.history entry i step) s.follows)
-    (counts_performed p.history entry counts (seat - 1) n (who ∙ ap Seat (sym here)) lt (count_is p numbers queues givings counts bindings s (seat - 1) n lt read) s.counted)
-    (ap (option_and_then (given_by p.script)) next ∙ sym (giving_is p numbers queues givings counts bindings s i g within given))
+    (counts_performed p.history entry counts (seat - 1) n (who ∙ ap Seat (sym here)) lt (count_is s (seat - 1) n lt read) s.counted)
+    (ap (option_and_then (given_by p.script)) next ∙ sym given)
 
-pub count_fits : (p : Play) (numbers : List ℕ) (queues : List (List ℕ)) (givings : List (Option ℕ)) (counts : List ℕ) (bindings : List Binding) (seat n : ℕ) → Stands p numbers queues givings counts bindings → 1 ≤ seat → seat ≤ 64 → n ≡ get_or counts (seat - 1) n → length p.history < p.limit → n + 1 < 2 ^ 64
-count_fits p numbers queues givings counts bindings seat n s low high read room =
+pub count_fits : (p : Play) (counts : List ℕ) (bindings : List Binding) (seat n : ℕ) → Stands p counts bindings → 1 ≤ seat → seat ≤ 64 → n ≡ get_or counts (seat - 1) n → length p.history < p.limit → n + 1 < 2 ^ 64
+count_fits p counts bindings seat n s low high read room =
     let lt : seat - 1 < 64 = omega (arith, low, high) in
-    omega (arith, count_is p numbers queues givings counts bindings s (seat - 1) n lt read, performed_small p numbers queues givings counts bindings s (seat - 1 + 1), room, s.bounded)
+    omega (arith, count_is s (seat - 1) n lt read, performed_small s (seat - 1 + 1), room, s.bounded)
 
 -- the step that is performed, as it was read
 pub record IsPerformed (p : Play) (i : ℕ) (s : Step) (asked : Call ℕ) : Type 0 where
@@ -325,12 +277,9 @@ given_within script i at given by = by_line (slice_get script.steps i) refl
     by_line None e = absurd (none-some at (sym (ap (λ (l : Option SourceLine). cond (option_map_or is_giving l false) (Some (names_before script.declarations script.steps i)) None) e) ∙ by))
     by_line (Some line) e = by_gives line (is_giving line) e refl (sym (given_at script i line e) ∙ by)
 
-pub bind_within : (p : Play) (numbers : List ℕ) (queues : List (List ℕ)) (givings : List (Option ℕ)) (counts : List ℕ) (bindings : List Binding) → Stands p numbers queues givings counts bindings → (i : ℕ) (g : Option ℕ) → i < length p.script.steps → g ≡ get_or givings i g → IfSome g (λ at. at < length bindings)
-bind_within p numbers queues givings counts bindings s i g within read = by_given g (giving_is p numbers queues givings counts bindings s i g within read)
-  where
-    by_given : (o : Option ℕ) → o ≡ given_by p.script i → IfSome o (λ at. at < length bindings)
-    by_given None e = tt
-    by_given (Some at) e = omega (arith, given_within p.script i at s.planned.given (sym e), s.bound.all)
+pub bind_within : (script : Lines) (history : History) (bindings : List Binding) (i : ℕ) (g : Option ℕ) → IsKnown script → AreBindings script history bindings → g ≡ given_by script i → IfSome g (λ at. at < length bindings)
+bind_within script history bindings i None known bound given = tt
+bind_within script history bindings i (Some at) known bound given = omega (arith, given_within script i at known.given (sym given), bound.all)
 
 slice_get_replicated : {X : Type 0} (n i : ℕ) (x : X) → i < n → slice_get (replicate n x) i ≡ Some x
 slice_get_replicated n i x lt =

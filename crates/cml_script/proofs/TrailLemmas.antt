@@ -22,7 +22,8 @@ use Rattle.cml_board.specs.Positions.{before}
 use Rattle.cml_script.specs.Audit.{IsOwn}
 use Rattle.cml_script.specs.declared.binding.Binding.{Binding}
 use Rattle.cml_script.specs.Schedule.{History, objects_of, declared_count, declared_object, is_object, is_seat, making_call, call_in, performed, next_position, given_by, step_call, call_of, object_of, bound_by}
-use Rattle.cml_script.specs.Stage.{AreCounts, AreBindings, HasSeats, with_binding, call_on}
+use Rattle.cml_script.specs.Plan.{HasSeats}
+use Rattle.cml_script.specs.Stage.{AreCounts, AreBindings, with_binding, call_on}
 use Rattle.cml_script.specs.Trail.{Progress, history_of, with_next, AreMakes, IsMadeOfDeclared, IsFollowed, IsNoThread, CountsOneMore, next_given, declared_call, next_call, own_call}
 use Rattle.cml_script.proofs.ListLemmas.{mapped_at}
 use Rattle.cml_script.proofs.KindLemmas.{length_filter}
@@ -32,8 +33,8 @@ use Rattle.cml_script.proofs.LineLemmas.{all_at}
 use Rattle.cml_script.proofs.FitLemmas.{call_is}
 use Rattle.cml_script.proofs.JournalLemmas.{before_more}
 
-pub followed_at : (p q : Progress) (list : List Makes) (numbers : List ℕ) (queues : List (List ℕ)) (givings : List (Option ℕ)) (counts : List ℕ) (bindings : List Binding) → p ≡ q → IsFollowed p list numbers queues givings counts bindings → IsFollowed q list numbers queues givings counts bindings
-followed_at p q list numbers queues givings counts bindings e f = subst (λ r. IsFollowed r list numbers queues givings counts bindings) e f
+pub followed_at : {p q : Progress} {list : List Makes} {counts : List ℕ} {bindings : List Binding} → p ≡ q → IsFollowed p list counts bindings → IsFollowed q list counts bindings
+followed_at {list = list} {counts = counts} {bindings = bindings} e f = subst (λ (r : Progress). IsFollowed r list counts bindings) e f
 
 -- What the declarations make.
 
@@ -110,18 +111,18 @@ next_given_within script None (Some at) given e = absurd (none-some at (sym e))
 next_given_within script (Some i) (Some at) given e = given_within script i at given (sym e)
 
 -- one entry more
-pub follows_more : (p q : Progress) (list : List Makes) (numbers : List ℕ) (queues : List (List ℕ)) (givings : List (Option ℕ)) (counts later : List ℕ) (bindings after : List Binding) (entry : Entry ℕ) (g : Option ℕ) → p ≡ q → IsFollowed p list numbers queues givings counts bindings
-    → slice_get p.journal p.followed ≡ Some entry → g ≡ next_given q.script (history_of q) entry.who → CountsOneMore counts entry.who later → after ≡ with_binding bindings g (bound_by entry.call entry.reply) → IsFollowed (with_next p) list numbers queues givings later after
-follows_more p q list numbers queues givings counts later bindings after entry g e f found gives counted bound =
+pub follows_more : (p q : Progress) (list : List Makes) (counts later : List ℕ) (bindings after : List Binding) (entry : Entry ℕ) (g : Option ℕ) → p ≡ q → IsFollowed p list counts bindings
+    → slice_get p.journal p.followed ≡ Some entry → g ≡ next_given q.script (history_of q) entry.who → CountsOneMore counts entry.who later → after ≡ with_binding bindings g (bound_by entry.call entry.reply) → IsFollowed (with_next p) list later after
+follows_more p q list counts later bindings after entry g e f found gives counted bound =
     let more = sym (before_more p.journal p.followed entry found) in
     record {
       within = omega (arith, slice_get_within p.journal p.followed entry found);
-      planned = f.planned;
+      known = f.known;
       made = f.made;
       counted = subst (λ (h : History). AreCounts h later) more (counted (history_of p) entry refl f.counted);
       bound =
           subst (λ (h : History). AreBindings p.script h after) more
-          (subst (AreBindings p.script (entry ∷ history_of p)) (sym bound) (bindings_more p.script (history_of p) entry bindings g f.planned.asks f.planned.seats (ap (λ (r : Progress). next_given r.script (history_of r) entry.who) e ∙ sym gives) f.bound));
+          (subst (AreBindings p.script (entry ∷ history_of p)) (sym bound) (bindings_more p.script (history_of p) entry bindings g f.known.asks f.known.seats (ap (λ (r : Progress). next_given r.script (history_of r) entry.who) e ∙ sym gives) f.bound));
     }
 
 -- The call of the caller's next step.
@@ -159,10 +160,10 @@ module _ (script : Lines) (history : History) (who : Who) where
       ap (λ b. cond b (cond (is_seat 0 who) (declared_call script history) None) (next_call script history who)) (lt-ltb (length history) (declared_count script) lt)
       ∙ ap (λ b. cond b (declared_call script history) None) seat
 
-pub step_within : (p q : Progress) (list : List Makes) (numbers : List ℕ) (queues : List (List ℕ)) (givings : List (Option ℕ)) (counts : List ℕ) (bindings : List Binding) → p ≡ q → IsFollowed p list numbers queues givings counts bindings
+pub step_within : (p q : Progress) (list : List Makes) (counts : List ℕ) (bindings : List Binding) → p ≡ q → IsFollowed p list counts bindings
     → (items : List Step) (who : Who) (i : ℕ) → map (λ x. source_of x.line) items ≡ p.script.steps → next_position q.script (history_of q) who ≡ Some i → i < length items
-step_within p q list numbers queues givings counts bindings e f items who i lines next =
-    let there = thread_seat p.script (history_of p) who i f.planned.seats (ap (λ (r : Progress). next_position r.script (history_of r) who) e ∙ next) in
+step_within p q list counts bindings e f items who i lines next =
+    let there = thread_seat p.script (history_of p) who i f.known.seats (ap (λ (r : Progress). next_position r.script (history_of r) who) e ∙ next) in
     omega (arith, there.3, ap length lines, length-map items (λ (x : Step). source_of x.line))
 
 pub used_at : (p q : Progress) (items : List Step) (i : ℕ) (s : Step) → p ≡ q → All (ReadsStep (names_of p.script)) items → slice_get items i ≡ Some s → used_by s.action < length (names_of q.script)

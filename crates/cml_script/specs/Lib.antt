@@ -9,6 +9,7 @@ pub mod Counting
 pub mod Schedule
 pub mod Report
 pub mod Play
+pub mod Plan
 pub mod Stage
 pub mod Audit
 pub mod Trail

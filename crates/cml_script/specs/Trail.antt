@@ -12,7 +12,8 @@ use Rattle.cml_grammar.specs.Script.{SourceLine, Lines}
 use Rattle.cml_grammar.specs.Meaning.{names_of, makes_of}
 use Rattle.cml_script.specs.declared.binding.Binding.{Binding}
 use Rattle.cml_script.specs.Schedule.{History, objects_of, declared_count, is_object, is_seat, call_in, step_call, next_position, given_by}
-use Rattle.cml_script.specs.Stage.{AreCounts, AreBindings, IsPlanned}
+use Rattle.cml_script.specs.Plan.{IsKnown}
+use Rattle.cml_script.specs.Stage.{AreCounts, AreBindings}
 
 -- the script, a journal, and how many of its entries were followed
 pub record Progress : Type 0 where
@@ -74,9 +75,9 @@ own_call script history who =
     else next_call script history who
 
 -- what a trail keeps is so of the entries that were followed
-pub record IsFollowed (progress : Progress) (list : List Makes) (numbers : List ℕ) (queues : List (List ℕ)) (givings : List (Option ℕ)) (counts : List ℕ) (bindings : List Binding) : Type 0 where
+pub record IsFollowed (progress : Progress) (list : List Makes) (counts : List ℕ) (bindings : List Binding) : Type 0 where
   pub within : progress.followed ≤ length progress.journal
-  pub planned : IsPlanned progress.script numbers queues givings
+  pub known : IsKnown progress.script
   pub made : AreMakes progress.script progress.script.declarations list
   pub counted : AreCounts (history_of progress) counts
   pub bound : AreBindings progress.script (history_of progress) bindings

@@ -1,18 +1,126 @@
 //! What is known of a script before any of it is performed.
-ghost use Rattle.std.specs.Prelude.{◌≡◌, List, [], length, All, IfOk};
-ghost use Rattle.cml_script.specs.Schedule.{makes_object, declared_count};
+ghost use Rattle.std.specs.Prelude.{◌≡◌, ◌+◌, ◌<◌, [], length, take, slice_get, All, IfOk};
+ghost use Rattle.std.specs.Option.{option_map};
+ghost use Rattle.cml_script.specs.Counting.{how_many};
+ghost use Rattle.cml_script.specs.Schedule.{History, makes_object, is_object, declared_count, positions_from, given_by, object_of};
 ghost use Rattle.cml_grammar.specs.Reading.{gives_name};
-ghost use Rattle.cml_script.specs.Stage.{AreNumbers, AreQueues, AreGivings, NamesObjects, HasSeats, AsksForPorts, items_of};
+ghost use Rattle.cml_script.specs.Plan.{IsKnown, AreNumbers, AreQueues, AreGivings, NamesObjects, HasSeats, AsksForPorts, items_of, object_among};
+ghost use Rattle.cml_script.specs.Stage.{AreBindings};
 ghost use Rattle.cml_script.specs.Trail.{AreMakes};
 
+use crate::binding::Binding;
+use cml_board::Name;
 use cml_grammar::{Action, Makes, Script};
 use std::alloc::{AllocError, Global};
+use std::marker::Model;
 
 /// How many threads a script may have.
 pub const THREADS: usize = 64;
 
+/// A script, and where each of its parts stands in it.
+#[derive(Drop)]
+pub struct Plan<'a> {
+    script: &'a Script,
+    // By name, how many objects are declared before it.
+    numbers: Vec<u64>,
+    // By thread, the positions of its steps in the script.
+    queues: Vec<Vec<usize>>,
+    // By step, the position of the name that it gives.
+    givings: Vec<Option<usize>>,
+}
+
+impl<'a> Model for Plan<'a> {
+    ghost use Rattle.cml_grammar.specs.Script.{Lines};
+    ghost use Rattle.cml_script.specs.Plan.{IsPlanned, items_of};
+
+    ghost Value = { Lines };
+
+    ghost view = { λ p. p.script.now };
+
+    ghost invariant = { λ p. IsPlanned p.script.now p.numbers.items (items_of p.queues.items) p.givings.items };
+}
+
+impl<'a> Plan<'a> {
+    pub fn new(alloc: Global, script: &'a Script) -> Result<Plan<'a>, AllocError>
+        ensures script { IfOk result (λ plan. plan ≡ script.now) }
+        ensures known { IfOk result (λ plan. IsKnown plan) }
+    {
+        let numbers = number_objects(alloc, script)?;
+        let queues = queue_steps(alloc, script)?;
+        let givings = number_givings(alloc, script)?;
+        // Only for what it ensures of the names that steps give.
+        let _ = script.names();
+        Ok(Plan {
+            script,
+            numbers,
+            queues,
+            givings,
+        })
+    }
+
+    pub fn script(&self) -> &'a Script
+        ensures { result.now ≡ self.now }
+    {
+        self.script
+    }
+
+    /// The position of the thread's nth step.
+    pub fn step(&self, thread: usize, nth: usize) -> Option<usize>
+        requires { thread < 64 }
+        ensures { result ≡ slice_get (positions_from self.now (thread + 1) 0 self.now.steps) nth }
+    {
+        let queue = &self.queues[thread];
+        queue.get(nth).copied()
+    }
+
+    /// The position of the name that the step gives.
+    pub fn given(&self, step: usize) -> Option<usize>
+        requires { step < length self.now.steps }
+        ensures { result ≡ given_by self.now step }
+    {
+        self.givings[step]
+    }
+
+    /// The object that a declared name stands for, once it is made.
+    pub fn number(&self, at: usize) -> Name
+        requires { at < length self.now.declarations }
+        ensures { result.0 ≡ how_many (is_object self.now) (take at self.now.declarations) }
+    {
+        Name(self.numbers[at])
+    }
+
+    /// The object that a declared name stands for, where so many objects are made.
+    pub fn declared_object(&self, at: usize, made: u64) -> Option<Name>
+        requires { at < length self.now.declarations }
+        ensures { result ≡ option_map (λ o. record { 0 = o }) (object_among self.now made at) }
+    {
+        let object = self.number(at);
+        (object.0 < made).then_some(object)
+    }
+
+    /// The object that a name stands for, where so many objects are made and steps gave their names this.
+    pub fn object(&self, at: usize, made: u64, bindings: &[Binding]) -> Option<Name>
+        requires { at < length bindings.now }
+        ensures { (history : History) → length history ≡ made → AreBindings self.now history bindings.now
+            → result ≡ option_map (λ o. record { 0 = o }) (object_of self.now history at) }
+    {
+        if at < self.script.declarations().len() {
+            self.declared_object(at, made)
+        } else {
+            bindings[at].port()
+        }
+    }
+
+    /// What steps gave their names before any was performed.
+    pub fn unbound(&self, alloc: Global) -> Result<Vec<Binding>, AllocError>
+        ensures { IfOk result (λ bindings. AreBindings self.now [] bindings.items) }
+    {
+        vec![in alloc; Binding::Unbound; self.script.names().len()]
+    }
+}
+
 /// By name, how many objects are declared before it.
-pub fn number_objects(alloc: Global, script: &Script) -> Result<Vec<u64>, AllocError>
+fn number_objects(alloc: Global, script: &Script) -> Result<Vec<u64>, AllocError>
     ensures numbers { IfOk result (λ numbers. AreNumbers script.now numbers.items) }
     ensures named { IfOk result (λ _. NamesObjects script.now) }
 {
@@ -61,7 +169,7 @@ fn makes_object(makes: Makes) -> bool
 }
 
 /// By step, the position of the name that it gives.
-pub fn number_givings(alloc: Global, script: &Script) -> Result<Vec<Option<usize>>, AllocError>
+fn number_givings(alloc: Global, script: &Script) -> Result<Vec<Option<usize>>, AllocError>
     ensures givings { IfOk result (λ givings. AreGivings script.now givings.items) }
     ensures asks { IfOk result (λ _. AsksForPorts script.now) }
 {
@@ -82,7 +190,7 @@ fn gives_name(action: Action) -> bool
 }
 
 /// By thread, the positions of its steps.
-pub fn queue_steps(alloc: Global, script: &Script) -> Result<Vec<Vec<usize>>, AllocError>
+fn queue_steps(alloc: Global, script: &Script) -> Result<Vec<Vec<usize>>, AllocError>
     ensures queues { IfOk result (λ queues. AreQueues script.now script.now.steps (items_of queues.items)) }
     ensures seats { IfOk result (λ _. HasSeats script.now) }
 {

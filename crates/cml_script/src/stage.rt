@@ -9,11 +9,12 @@ ghost use Rattle.cml_grammar.specs.Reading.{UsesWell, used_by};
 ghost use Rattle.cml_script.specs.Schedule.{NoneReady, Follows, left, declared_count, makes_object, declared_object, object_of, made_of, next_position, call_of, step_call};
 ghost use Rattle.cml_script.specs.Report.{performed_count};
 ghost use Rattle.cml_script.specs.Counting.{one_if};
-ghost use Rattle.cml_script.specs.Stage.{with_entry, IsObject, IsObjectAt, IsNextObject, IsNext, IsNextStep, IsBound, earlier_of, IsLeast, IsReadyOf, NoneReadyOf, IsStepAt};
+ghost use Rattle.cml_script.specs.Plan.{IsObject, IsObjectAt};
+ghost use Rattle.cml_script.specs.Stage.{with_entry, IsNextObject, IsNext, IsNextStep, IsBound, earlier_of, IsLeast, IsReadyOf, NoneReadyOf, IsStepAt};
 
 use crate::binding::{Binding, bind};
 use crate::calls::{call_on, used_by};
-use crate::plan::{THREADS, count_objects, number_givings, number_objects, queue_steps};
+use crate::plan::{Plan, THREADS, count_objects};
 use cml_board::{Answer, Board, BoardLog, Call, Entry, Name, Outcome, Refusal, Who};
 use cml_grammar::{Action, Makes, Script};
 use std::alloc::{AllocError, Global};
@@ -22,26 +23,22 @@ use std::marker::Model;
 /// A script under way: its board, and how far each of its threads is.
 #[derive(Drop)]
 pub struct Stage<'a> {
-    script: &'a Script,
+    plan: Plan<'a>,
     board: Board<u64, BoardLog<u64>>,
-    // By name, how many objects are declared before it.
-    numbers: Vec<u64>,
-    // By thread, the positions of its steps in the script, and how many of them were performed.
-    queues: Vec<Vec<usize>>,
+    // By thread, how many of its steps were performed.
     counts: Vec<usize>,
-    // By step, the position of the name that it gives. By name, what a step gave it.
-    givings: Vec<Option<usize>>,
+    // By name, what a step gave it.
     bindings: Vec<Binding>,
 }
 
 impl<'a> Model for Stage<'a> {
-    ghost use Rattle.cml_script.specs.Stage.{Play, Stands, items_of};
+    ghost use Rattle.cml_script.specs.Stage.{Play, Stands};
 
     ghost Value = { Play };
 
-    ghost view = { λ s. record { script = s.script.now; history = s.board.history; limit = s.board.limit } };
+    ghost view = { λ s. record { script = s.plan; history = s.board.history; limit = s.board.limit } };
 
-    ghost invariant = { λ s. Stands (record { script = s.script.now; history = s.board.history; limit = s.board.limit }) s.numbers.items (items_of s.queues.items) s.givings.items s.counts.items s.bindings.items };
+    ghost invariant = { λ s. Stands (record { script = s.plan; history = s.board.history; limit = s.board.limit }) s.counts.items s.bindings.items };
 }
 
 impl<'a> Stage<'a> {
@@ -51,18 +48,15 @@ impl<'a> Stage<'a> {
         requires most { limit ≤ 2 ^ 32 }
         ensures { IfOk result (λ stage. stage ≡ record { script = script.now; history = []; limit = limit }) }
     {
-        let numbers = number_objects(alloc, script)?;
-        let queues = queue_steps(alloc, script)?;
-        let givings = number_givings(alloc, script)?;
-        let names = script.names().len();
+        let plan = Plan::new(alloc, script)?;
+        let board = Board::new(alloc, limit)?;
+        let counts = vec![in alloc; 0; THREADS]?;
+        let bindings = plan.unbound(alloc)?;
         Ok(Stage {
-            script,
-            board: Board::new(alloc, limit)?,
-            numbers,
-            queues,
-            counts: vec![in alloc; 0; THREADS]?,
-            givings,
-            bindings: vec![in alloc; Binding::Unbound; names]?,
+            plan,
+            board,
+            counts,
+            bindings,
         })
     }
 
@@ -77,7 +71,7 @@ impl<'a> Stage<'a> {
     pub fn script(&self) -> &'a Script
         ensures { result.now ≡ self.now.script }
     {
-        self.script
+        self.plan.script()
     }
 
     /// What was performed so far, oldest first.
@@ -96,14 +90,14 @@ impl<'a> Stage<'a> {
     {
         self.journal()
             .len()
-            .saturating_sub(count_objects(self.script))
+            .saturating_sub(count_objects(self.script()))
     }
 
     /// How many steps are left.
     pub fn left(&self) -> usize
         ensures { result ≡ left self.now.script self.now.history }
     {
-        self.script.steps().len().saturating_sub(self.performed())
+        self.script().steps().len().saturating_sub(self.performed())
     }
 
     /// Whether the journal has as many entries as its limit.
@@ -120,15 +114,11 @@ impl<'a> Stage<'a> {
         ensures object { MatchOption result (made_of self.now.script self.now.history at ≡ None) (λ name. made_of self.now.script self.now.history at ≡ Some name.0) }
         ensures kind { IfSome result (λ name. (k : Kind) → IsObjectAt (names_of self.now.script) at k → kind_of self.now.history name.0 ≡ Some k) }
     {
-        if at >= self.script.declarations().len() {
+        if at >= self.plan.script().declarations().len() {
             return self.bindings[at].made();
         }
-        let object = self.numbers[at];
-        if object < self.board.journal().len() as u64 {
-            Some(Name(object))
-        } else {
-            None
-        }
+        let made = self.board.journal().len() as u64;
+        self.plan.declared_object(at, made)
     }
 
     /// Makes the declared objects in text order, and answers false where the journal was full before all were made.
@@ -140,7 +130,7 @@ impl<'a> Stage<'a> {
             (length self.new.history ≡ declared_count self.new.script)
             ((length self.new.history ≡ self.new.limit) × (length self.new.history < declared_count self.new.script))) }
     {
-        let script = self.script;
+        let script = self.plan.script();
         for declaration in script.declarations() {
             if !self.declare_next(declaration.makes)? {
                 return Ok(false);
@@ -194,7 +184,7 @@ impl<'a> Stage<'a> {
         ensures { MatchOption result (NoneReady self.now.script self.now.history) (IsLeast self.now.script self.now.history) }
     {
         let mut least = None;
-        for thread in 0..self.queues.len() {
+        for thread in 0..self.counts.len() {
             least = earlier_of(least, self.candidate(thread));
         }
         least
@@ -219,8 +209,7 @@ impl<'a> Stage<'a> {
         requires { thread < 64 }
         ensures { result ≡ next_position self.now.script self.now.history (Who.Seat (thread + 1)) }
     {
-        let queue = &self.queues[thread];
-        queue.get(self.counts[thread]).copied()
+        self.plan.step(thread, self.counts[thread])
     }
 
     /// The call of the i-th step, which is its thread's next.
@@ -231,7 +220,7 @@ impl<'a> Stage<'a> {
         ensures call { step_call self.now.script self.now.history i ≡ Some result }
         ensures fits { Fits self.now.history result }
     {
-        self.call_for(self.script.steps()[i].action)
+        self.call_for(self.plan.script().steps()[i].action)
     }
 
     /// The call that asks for this.
@@ -250,11 +239,8 @@ impl<'a> Stage<'a> {
         ensures object { object_of self.now.script self.now.history at ≡ Some result.0 }
         ensures kind { (k : Kind) → IsObjectAt (names_of self.now.script) at k → kind_of self.now.history result.0 ≡ Some k }
     {
-        if at < self.script.declarations().len() {
-            Name(self.numbers[at])
-        } else {
-            self.bindings[at].port().unwrap()
-        }
+        let made = self.board.journal().len() as u64;
+        self.plan.object(at, made, &self.bindings).unwrap()
     }
 
     /// The object of a declared name, which is made.
@@ -265,7 +251,7 @@ impl<'a> Stage<'a> {
         ensures object { declared_object self.now.script self.now.history at ≡ Some result.0 }
         ensures kind { (k : Kind) → IsObjectAt (names_of self.now.script) at k → kind_of self.now.history result.0 ≡ Some k }
     {
-        Name(self.numbers[at])
+        self.plan.number(at)
     }
 
     /// Performs the least step that is ready.
@@ -278,10 +264,10 @@ impl<'a> Stage<'a> {
         ensures err { OnErr result (self.new ≡ self.old) }
     {
         let call = self.call(i);
-        let seat = self.script.steps()[i].seat;
+        let seat = self.plan.script().steps()[i].seat;
         match self.board.apply(Who::Seat(seat), call) {
             Outcome::Answered(answer) => {
-                let given = self.givings[i];
+                let given = self.plan.given(i);
                 self.counts[seat as usize - 1] += 1;
                 bind(&mut self.bindings, given, answer.call(), answer.reply());
                 Ok(answer)

@@ -8,7 +8,7 @@ ghost use Rattle.cml_script.specs.Trail.{history_of, with_next, IsMadeOfDeclared
 
 use crate::binding::{Binding, bind};
 use crate::calls::{call_on, used_by};
-use crate::plan::{THREADS, list_makes, number_givings, number_objects, queue_steps};
+use crate::plan::{Plan, THREADS, list_makes};
 use cml_board::{Call, Entry, Name, Who};
 use cml_grammar::{Makes, Script};
 use std::alloc::{AllocError, Global};
@@ -17,29 +17,25 @@ use std::marker::Model;
 /// A journal that is followed entry by entry beside a script.
 #[derive(Drop)]
 pub struct Trail<'a> {
-    script: &'a Script,
+    plan: Plan<'a>,
     journal: &'a [Entry<u64>],
     followed: usize,
-    // By object, what its declaration makes. By name, how many objects are declared before it.
+    // By object, what its declaration makes.
     makes: Vec<Makes>,
-    numbers: Vec<u64>,
-    // By thread, the positions of its steps in the script, and how many calls it made.
-    queues: Vec<Vec<usize>>,
+    // By thread, how many calls it made.
     counts: Vec<usize>,
-    // By step, the position of the name that it gives. By name, what a step gave it.
-    givings: Vec<Option<usize>>,
+    // By name, what a step gave it.
     bindings: Vec<Binding>,
 }
 
 impl<'a> Model for Trail<'a> {
-    ghost use Rattle.cml_script.specs.Stage.{items_of};
     ghost use Rattle.cml_script.specs.Trail.{Progress, IsFollowed};
 
     ghost Value = { Progress };
 
-    ghost view = { λ t. record { script = t.script.now; journal = t.journal.now; followed = t.followed } };
+    ghost view = { λ t. record { script = t.plan; journal = t.journal.now; followed = t.followed } };
 
-    ghost invariant = { λ t. IsFollowed (record { script = t.script.now; journal = t.journal.now; followed = t.followed }) t.makes.items t.numbers.items (items_of t.queues.items) t.givings.items t.counts.items t.bindings.items };
+    ghost invariant = { λ t. IsFollowed (record { script = t.plan; journal = t.journal.now; followed = t.followed }) t.makes.items t.counts.items t.bindings.items };
 }
 
 impl<'a> Trail<'a> {
@@ -51,21 +47,17 @@ impl<'a> Trail<'a> {
     ) -> Result<Trail<'a>, AllocError>
         ensures { IfOk result (λ trail. trail ≡ record { script = script.now; journal = journal.now; followed = 0 }) }
     {
+        let plan = Plan::new(alloc, script)?;
         let makes = list_makes(alloc, script)?;
-        let numbers = number_objects(alloc, script)?;
-        let queues = queue_steps(alloc, script)?;
-        let givings = number_givings(alloc, script)?;
-        let names = script.names().len();
+        let counts = vec![in alloc; 0; THREADS]?;
+        let bindings = plan.unbound(alloc)?;
         Ok(Trail {
-            script,
+            plan,
             journal,
             followed: 0,
             makes,
-            numbers,
-            queues,
-            counts: vec![in alloc; 0; THREADS]?,
-            givings,
-            bindings: vec![in alloc; Binding::Unbound; names]?,
+            counts,
+            bindings,
         })
     }
 
@@ -125,7 +117,7 @@ impl<'a> Trail<'a> {
         ensures { result ≡ next_call self.now.script (history_of self.now) who }
     {
         let step = self.next_step(who)?;
-        let action = self.script.steps()[step].action;
+        let action = self.plan.script().steps()[step].action;
         Some(call_on(action, self.object(used_by(action))?))
     }
 
@@ -133,16 +125,16 @@ impl<'a> Trail<'a> {
     fn next_given(&self, who: Who) -> Option<usize>
         ensures { result ≡ next_given self.now.script (history_of self.now) who }
     {
-        self.givings[self.next_step(who)?]
+        self.plan.given(self.next_step(who)?)
     }
 
     /// The position of the caller's next step.
     fn next_step(&self, who: Who) -> Option<usize>
         ensures { result ≡ next_position self.now.script (history_of self.now) who }
     {
-        let (queues, counts) = (&self.queues, &self.counts);
+        let (plan, counts) = (&self.plan, &self.counts);
         let thread = thread_of(who)?;
-        queues[thread].get(counts[thread]).copied()
+        plan.step(thread, counts[thread])
     }
 
     /// The object that a name stands for.
@@ -150,11 +142,7 @@ impl<'a> Trail<'a> {
         requires { at < length (names_of self.now.script) }
         ensures { result ≡ option_map (λ o. record { 0 = o }) (object_of self.now.script (history_of self.now) at) }
     {
-        if at < self.script.declarations().len() {
-            self.declared_object(at)
-        } else {
-            self.bindings[at].port()
-        }
+        self.plan.object(at, self.followed as u64, &self.bindings)
     }
 
     /// The object that a declared name stands for.
@@ -162,8 +150,7 @@ impl<'a> Trail<'a> {
         requires { at < length self.now.script.declarations }
         ensures { result ≡ option_map (λ o. record { 0 = o }) (declared_object self.now.script (history_of self.now) at) }
     {
-        let object = self.numbers[at];
-        (object < self.followed as u64).then_some(Name(object))
+        self.plan.declared_object(at, self.followed as u64)
     }
 }
 

@@ -1,5 +1,5 @@
 use Rattle.std.proofs.Common.{take}
-use Rattle.cml_script.specs.Stage.{AreQueues, items_of}
+use Rattle.cml_script.specs.Plan.{AreQueues, items_of}
 use Rattle.cml_script.proofs.plan.queue_steps.Given as goal
 
 abbrev pub invariant-loop-i : goal.invariant-loop-i

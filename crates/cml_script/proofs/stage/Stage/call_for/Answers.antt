@@ -4,7 +4,8 @@ use Rattle.cml_board.specs.History.{kind_of, Fits}
 use Rattle.cml_board.specs.declared.call.Kind.{Kind}
 use Rattle.cml_grammar.specs.Meaning.{names_of}
 use Rattle.cml_script.specs.Schedule.{object_of}
-use Rattle.cml_script.specs.Stage.{IsObjectAt, call_on}
+use Rattle.cml_script.specs.Plan.{IsObjectAt}
+use Rattle.cml_script.specs.Stage.{call_on}
 use Rattle.cml_script.proofs.FitLemmas.{call_is, fits_use}
 use Rattle.cml_script.proofs.stage.Stage.call_for.Goals as goal
 

@@ -1,20 +1,12 @@
-use Rattle.std.proofs.Common.{arith}
-use Rattle.cml_script.proofs.StandLemmas.{stands_at, object_within, object_is, stands_made}
+use Rattle.std.proofs.Common.{◌∙◌, ap, take}
+use Rattle.cml_script.specs.Counting.{how_many}
+use Rattle.cml_script.specs.Schedule.{is_object}
+use Rattle.cml_script.specs.Stage.{Play}
+use Rattle.cml_script.proofs.StandLemmas.{stands_at, declared_kind, declared_is}
 use Rattle.cml_script.proofs.stage.Stage.declared_object.Goals as goal
 
-pub index-requires : goal.index-requires
-index-requires c =
-    let within = object_within c.args.self.now _ _ _ _ _ (stands_at _ _ _ _ _ _ _ c.self.view_is c.self.invariant) c.args.at c.requires.within in
-    omega (arith, within, c.self.inside.numbers.ok.0)
-
-pub returns-clause-object : goal.returns-clause-object
-returns-clause-object c =
-    let stands = stands_at _ _ _ _ _ _ _ c.self.view_is c.self.invariant in
-    let made = stands_made c.args.self.now _ _ _ _ _ stands c.args.at c.index.result.now c.requires.made c.requires.within c.index.ensures in
-    (object_is c.args.self.now _ _ _ _ _ stands c.args.at c.index.result.now made c.requires.within c.index.ensures).object
-
 pub returns-clause-kind : goal.returns-clause-kind
-returns-clause-kind c =
-    let stands = stands_at _ _ _ _ _ _ _ c.self.view_is c.self.invariant in
-    let made = stands_made c.args.self.now _ _ _ _ _ stands c.args.at c.index.result.now c.requires.made c.requires.within c.index.ensures in
-    (object_is c.args.self.now _ _ _ _ _ stands c.args.at c.index.result.now made c.requires.within c.index.ensures).kind
+returns-clause-kind c = λ k is.
+    let number = c.number.ensures ∙ ap (λ (p : Play). how_many (is_object p.script) (take c.args.at p.script.declarations)) c.self.view_is in
+    declared_kind (stands_at c.self.view_is c.self.invariant) c.args.at c.number.result.0 k c.requires.within
+    (declared_is c.args.self.now.script c.args.self.now.history c.args.at c.number.result.0 number c.requires.made) is

@@ -10,12 +10,12 @@ returns-in-Answered-clause-made c =
     let adds = c.in-Answered.ensures.5 in
     let entry : Entry ℕ = record { who = Seat 0; call = c.args.call; reply = c.in-Answered.field-0.reply } in (
       c.in-Answered.field-0.reply,
-      new_play c.self.inside.script.now c.self.inside.board.history _ c.self.inside.board.limit _ entry adds.history adds.limit
+      new_play c.self.inside.plan c.self.inside.board.history _ c.self.inside.board.limit _ entry adds.history adds.limit
           ∙ ap (λ (p : Play). with_entry p entry) c.self.view_is,
     )
 
 pub invariant_of-self : goal.invariant_of-self
 invariant_of-self c =
     let adds = c.in-Answered.ensures.5 in
-    stands_declared _ c.args.self.now _ _ _ _ _ c.apply.new.self.history c.apply.new.self.limit c.args.call c.in-Answered.field-0.reply c.self.view_is c.self.invariant c.requires.next
+    stands_declared _ c.args.self.now _ _ c.apply.new.self.history c.apply.new.self.limit c.args.call c.in-Answered.field-0.reply c.self.view_is c.self.invariant c.requires.next
     adds.history adds.limit c.in-Answered.ensures.0 c.in-Answered.ensures.1 c.in-Answered.ensures.2

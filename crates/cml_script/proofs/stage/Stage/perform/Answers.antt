@@ -4,7 +4,7 @@ use Rattle.cml_board.specs.declared.call.Call.{Call}
 use Rattle.cml_board.specs.declared.entry.Reply.{Reply}
 use Rattle.cml_script.specs.declared.binding.Binding.{Binding}
 use Rattle.cml_script.specs.Schedule.{bound_by}
-use Rattle.cml_script.specs.Stage.{Play, Stands, with_binding, items_of}
+use Rattle.cml_script.specs.Stage.{Play, Stands, with_binding}
 use Rattle.cml_board.specs.declared.entry.Who.TheVariants.{Seat}
 use Rattle.cml_board.specs.declared.entry.Entry.{Entry}
 use Rattle.cml_script.proofs.StandLemmas.{new_play, is_performed, performs, stands_performed, count_fits, bind_within}
@@ -13,29 +13,32 @@ use Rattle.cml_script.proofs.stage.Stage.perform.Goals as goal
 
 pub overflow_add-index_mut : goal.overflow_add-index_mut
 overflow_add-index_mut c =
-    let performed = is_performed _ c.args.self.now c.steps.result.now c.args.i c.index-steps-i.result c.call-call.result c.self.view_is c.steps.ensures.lines c.steps.ensures.asked c.steps.ensures.threads c.requires.ready c.requires.declared c.call-call.ensures.call in
-    let small = count_fits _ _ _ _ _ _ _ c.index_mut.result.now c.self.invariant performed.low performed.high c.index_mut.ensures.value c.in-Answered.ensures.1 in
+    let steps = rw c.script.ensures at c.steps.ensures in
+    let performed = is_performed _ c.args.self.now c.steps.result.now c.args.i c.index-steps-i.result c.call-call.result c.self.view_is steps.lines steps.asked steps.threads c.requires.ready c.requires.declared c.call-call.ensures.call in
+    let small = count_fits _ _ _ _ c.index_mut.result.now c.self.invariant performed.low performed.high c.index_mut.ensures.value c.in-Answered.ensures.1 in
     omega (arith, small)
 
 pub invariant_of-self : goal.invariant_of-self
 invariant_of-self c =
-    let performed = is_performed _ c.args.self.now c.steps.result.now c.args.i c.index-steps-i.result c.call-call.result c.self.view_is c.steps.ensures.lines c.steps.ensures.asked c.steps.ensures.threads c.requires.ready c.requires.declared c.call-call.ensures.call in
+    let steps = rw c.script.ensures at c.steps.ensures in
+    let performed = is_performed _ c.args.self.now c.steps.result.now c.args.i c.index-steps-i.result c.call-call.result c.self.view_is steps.lines steps.asked steps.threads c.requires.ready c.requires.declared c.call-call.ensures.call in
     let answer = c.in-Answered.answer in
     let adds = c.in-Answered.ensures.5 in
     let entry : Entry ℕ = record { who = Seat (get_or c.steps.result.now c.args.i c.index-steps-i.result).seat; call = c.call-call.result; reply = answer.reply } in
-    subst (λ (bs : List Binding). Stands (record { script = c.self.inside.script.now; history = c.apply.new.self.history; limit = c.apply.new.self.limit }) c.self.inside.numbers.items (items_of c.self.inside.queues.items) c.self.inside.givings.items (slice_set c.self.inside.counts.items ((get_or c.steps.result.now c.args.i c.index-steps-i.result).seat - 1) (c.index_mut.result.now + 1)) bs)
-    (sym (c.bind.ensures ∙ ap (λ (asked : Call ℕ). with_binding c.self.inside.bindings.items c.index-given.result.now (bound_by asked c.reply.result.now)) (c.call.ensures ∙ c.in-Answered.ensures.3) ∙ ap (λ (r : Reply ℕ). with_binding c.self.inside.bindings.items c.index-given.result.now (bound_by c.call-call.result r)) c.reply.ensures)) (stands_performed _ _ _ _ _ _ _ entry c.args.i _ c.index_mut.result.now c.index-given.result.now c.self.invariant
-    (new_play c.self.inside.script.now c.self.inside.board.history _ c.self.inside.board.limit _ entry adds.history adds.limit)
-    c.in-Answered.ensures.0 c.in-Answered.ensures.1 c.in-Answered.ensures.2 performed.declared (performed.step answer.reply) refl performed.low performed.high c.index_mut.ensures.value c.index-given.ensures)
+    subst (λ (bs : List Binding). Stands (record { script = c.self.inside.plan; history = c.apply.new.self.history; limit = c.apply.new.self.limit }) (slice_set c.self.inside.counts.items ((get_or c.steps.result.now c.args.i c.index-steps-i.result).seat - 1) (c.index_mut.result.now + 1)) bs)
+    (sym (c.bind.ensures ∙ ap (λ (asked : Call ℕ). with_binding c.self.inside.bindings.items c.given-given.result (bound_by asked c.reply.result.now)) (c.call.ensures ∙ c.in-Answered.ensures.3) ∙ ap (λ (r : Reply ℕ). with_binding c.self.inside.bindings.items c.given-given.result (bound_by c.call-call.result r)) c.reply.ensures)) (stands_performed _ _ _ _ entry c.args.i _ c.index_mut.result.now c.given-given.result c.self.invariant
+    (new_play c.self.inside.plan c.self.inside.board.history _ c.self.inside.board.limit _ entry adds.history adds.limit)
+    c.in-Answered.ensures.0 c.in-Answered.ensures.1 c.in-Answered.ensures.2 performed.declared (performed.step answer.reply) refl performed.low performed.high c.index_mut.ensures.value c.given-given.ensures)
 
 pub returns-in-Answered-clause-performed : goal.returns-in-Answered-clause-performed
 returns-in-Answered-clause-performed c =
-    let performed = is_performed _ c.args.self.now c.steps.result.now c.args.i c.index-steps-i.result c.call-call.result c.self.view_is c.steps.ensures.lines c.steps.ensures.asked c.steps.ensures.threads c.requires.ready c.requires.declared c.call-call.ensures.call in
+    let steps = rw c.script.ensures at c.steps.ensures in
+    let performed = is_performed _ c.args.self.now c.steps.result.now c.args.i c.index-steps-i.result c.call-call.result c.self.view_is steps.lines steps.asked steps.threads c.requires.ready c.requires.declared c.call-call.ensures.call in
     let answer = c.in-Answered.answer in
     let adds = c.in-Answered.ensures.5 in
     let entry : Entry ℕ = record { who = Seat (get_or c.steps.result.now c.args.i c.index-steps-i.result).seat; call = c.call-call.result; reply = answer.reply } in
     performs _ c.args.self.now _ c.args.i _ c.call-call.result answer.reply c.self.view_is
-    (new_play c.self.inside.script.now c.self.inside.board.history _ c.self.inside.board.limit _ entry adds.history adds.limit)
+    (new_play c.self.inside.plan c.self.inside.board.history _ c.self.inside.board.limit _ entry adds.history adds.limit)
     performed
 
 pub call-call-requires-clause-next : goal.call-call-requires-clause-next
@@ -43,8 +46,11 @@ call-call-requires-clause-next c =
     let ready = c.requires.ready in
     (ready.seat, next_is c.args.self.now.script c.args.self.now.history ready.seat c.args.i ready.asked ready.ready)
 
-pub bind-requires : goal.bind-requires
-bind-requires c =
+pub given-given-requires : goal.given-given-requires
+given-given-requires c =
     let ready = c.requires.ready.ready in
     let within = slice_get_within c.args.self.now.script.steps c.args.i ready.line ready.found in
-    bind_within _ _ _ _ _ _ c.self.invariant c.args.i c.index-given.result.now (omega (arith, within, ap (λ (p : Play). length p.script.steps) c.self.view_is)) c.index-given.ensures
+    omega (arith, within, ap (λ (p : Play). length p.script.steps) c.self.view_is)
+
+pub bind-requires : goal.bind-requires
+bind-requires c = bind_within c.self.inside.plan _ _ c.args.i c.given-given.result c.self.invariant.known c.self.invariant.bound c.given-given.ensures

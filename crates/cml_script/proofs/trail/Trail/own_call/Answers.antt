@@ -9,7 +9,7 @@ use Rattle.cml_script.proofs.trail.Trail.own_call.Goals as goal
 pub returns-then-self-len : goal.returns-then-self-len
 returns-then-self-len c =
     let trail = c.args.self.now in
-    let follows = followed_at _ trail _ _ _ _ _ _ c.self.view_is c.self.invariant in
+    let follows = followed_at c.self.view_is c.self.invariant in
     let long = before_length trail.journal trail.followed follows.within in
     let made = makes_length trail.script c.self.inside.makes.items follows.made in
     let same = ap (λ (p : Progress). p.followed) c.self.view_is in
@@ -18,7 +18,7 @@ returns-then-self-len c =
 pub making_call-requires : goal.making_call-requires
 making_call-requires c =
     let trail = c.args.self.now in
-    let follows = followed_at _ trail _ _ _ _ _ _ c.self.view_is c.self.invariant in
+    let follows = followed_at c.self.view_is c.self.invariant in
     let items = c.self.inside.makes.items in
     let within : c.self.inside.followed < length items = omega (arith, c.if-self-len.false, c.len.ensures, c.self.inside.makes.ok.0) in
     all_at (IsMadeOfDeclared trail.script) items c.self.inside.followed c.index.result.now follows.made.declared (slice_get_read items (length items) c.self.inside.followed c.index.result.now refl within c.index.ensures)
@@ -26,7 +26,7 @@ making_call-requires c =
 pub returns-then-not-is_first : goal.returns-then-not-is_first
 returns-then-not-is_first c =
     let trail = c.args.self.now in
-    let follows = followed_at _ trail _ _ _ _ _ _ c.self.view_is c.self.invariant in
+    let follows = followed_at c.self.view_is c.self.invariant in
     let long = before_length trail.journal trail.followed follows.within in
     let made = makes_length trail.script c.self.inside.makes.items follows.made in
     let same = ap (λ (p : Progress). p.followed) c.self.view_is in
@@ -35,7 +35,7 @@ returns-then-not-is_first c =
 pub returns : goal.returns
 returns c =
     let trail = c.args.self.now in
-    let follows = followed_at _ trail _ _ _ _ _ _ c.self.view_is c.self.invariant in
+    let follows = followed_at c.self.view_is c.self.invariant in
     let items = c.self.inside.makes.items in
     let long = before_length trail.journal trail.followed follows.within in
     let made = makes_length trail.script items follows.made in

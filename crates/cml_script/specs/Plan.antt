@@ -1,0 +1,95 @@
+-- What is known of a script before any of it is performed.
+use Rattle.std.specs.Prelude.{ℕ, ◌≡◌, ◌+◌, ◌<◌, ◌≤◌, List, true, nat_lt, length, take, map, slice_get, Option, Some, None, if◌then◌else◌, Vec}
+use Rattle.std.specs.Global.{Global}
+use Rattle.std.specs.Option.{option_and_then}
+use Rattle.cml_board.specs.declared.call.Kind.{Kind}
+use Rattle.cml_board.specs.declared.call.Kind.TheVariants as kind
+use Rattle.cml_grammar.specs.Script.{SourceLine, Lines}
+use Rattle.cml_grammar.specs.Meaning.{names_of, makes_of, action_of}
+use Rattle.cml_grammar.specs.Names.{Given}
+use Rattle.cml_grammar.specs.declared.names.Named.{Named}
+use Rattle.cml_grammar.specs.declared.names.Named.TheVariants as called
+use Rattle.cml_grammar.specs.declared.forms.Makes.{Makes}
+use Rattle.cml_grammar.specs.declared.forms.Makes.TheVariants as makes
+use Rattle.cml_grammar.specs.declared.forms.Action.{Action}
+use Rattle.cml_grammar.specs.Reading.{gives_name}
+use Rattle.cml_grammar.specs.Giving.{is_giving, NamesAreGiven}
+use Rattle.cml_script.specs.Counting.{how_many}
+use Rattle.cml_script.specs.Schedule.{is_object, is_seated, positions_from, given_by}
+
+-- the kind of object that a name names, and that a declaration makes
+abbrev pub kind_named : Named → Option Kind
+kind_named (called.Thread seat) = None
+kind_named called.Mailbox = Some kind.Mailbox
+kind_named called.Channel = Some kind.Channel
+kind_named (called.Port whose) = Some kind.Port
+kind_named called.IVar = Some kind.IVar
+kind_named called.MVar = Some kind.MVar
+
+abbrev pub kind_made : Makes → Option Kind
+kind_made makes.Thread = None
+kind_made makes.Mailbox = Some kind.Mailbox
+kind_made makes.Channel = Some kind.Channel
+kind_made (makes.Port channel) = Some kind.Port
+kind_made makes.IVar = Some kind.IVar
+kind_made makes.MVar = Some kind.MVar
+kind_made (makes.MVarInit message) = Some kind.MVar
+
+abbrev pub kind_declared : Lines → SourceLine → Option Kind
+kind_declared script line = option_and_then kind_made (makes_of (names_of script) line.words)
+
+-- the name at this position is an object's of this kind
+abbrev pub IsObjectAt : List Given → ℕ → Kind → Type 0
+IsObjectAt names at k = (word : List ℕ) × (n : Named) × (slice_get names at ≡ Some (word, n)) × (kind_named n ≡ Some k)
+
+abbrev pub IsObject : List Given → ℕ → Type 0
+IsObject names at = (k : Kind) × IsObjectAt names at k
+
+-- each object's name that a declaration gives is that of such an object
+abbrev pub NamesObjects : Lines → Type 0
+NamesObjects script = (at : ℕ) (k : Kind) → at < length script.declarations → IsObjectAt (names_of script) at k → (line : SourceLine) × (slice_get script.declarations at ≡ Some line) × (kind_declared script line ≡ Some k)
+
+-- each step is a thread's, whose seat is 1 to 64
+abbrev pub HasSeats : Lines → Type 0
+HasSeats script = (i : ℕ) (line : SourceLine) (seat : ℕ) → slice_get script.steps i ≡ Some line → is_seated script seat line ≡ true → (1 ≤ seat) × (seat ≤ 64)
+
+-- just the steps that ask for a port give a name
+abbrev pub AsksForPorts : Lines → Type 0
+AsksForPorts script = (i : ℕ) (line : SourceLine) (asked : Action) → slice_get script.steps i ≡ Some line → action_of (names_of script) line.words ≡ Some asked → gives_name asked ≡ is_giving line
+
+-- what is so of each script without fault
+pub record IsKnown (script : Lines) : Type 0 where
+  pub named : NamesObjects script
+  pub seats : HasSeats script
+  pub given : NamesAreGiven (names_of script) script.declarations script.steps
+  pub asks : AsksForPorts script
+
+-- by name, how many objects are declared before it
+pub record AreNumbers (script : Lines) (numbers : List ℕ) : Type 0 where
+  pub all : length numbers ≡ length script.declarations
+  pub each : (at : ℕ) → at < length numbers → slice_get numbers at ≡ Some (how_many (is_object script) (take at script.declarations))
+
+-- by thread, the positions of its steps among these
+pub record AreQueues (script : Lines) (steps : List SourceLine) (queues : List (List ℕ)) : Type 0 where
+  pub seats : length queues ≡ 64
+  pub each : (thread : ℕ) (queue : List ℕ) → slice_get queues thread ≡ Some queue → queue ≡ positions_from script (thread + 1) 0 steps
+
+-- by step, the position of the name that it gives
+pub record AreGivings (script : Lines) (givings : List (Option ℕ)) : Type 0 where
+  pub all : length givings ≡ length script.steps
+  pub each : (i : ℕ) → i < length givings → slice_get givings i ≡ Some (given_by script i)
+
+-- what a plan keeps is so of its script
+pub record IsPlanned (script : Lines) (numbers : List ℕ) (queues : List (List ℕ)) (givings : List (Option ℕ)) : Type 0 where
+  pub numbered : AreNumbers script numbers
+  pub queued : AreQueues script script.steps queues
+  pub giving : AreGivings script givings
+
+abbrev pub items_of : List (Vec ℕ Global) → List (List ℕ)
+items_of queues = map (λ queue. queue.items) queues
+
+-- the object that a declared name stands for, where so many objects are made
+abbrev pub object_among : Lines → ℕ → ℕ → Option ℕ
+object_among script made at =
+    let object = how_many (is_object script) (take at script.declarations) in
+    if nat_lt object made then Some object else None
