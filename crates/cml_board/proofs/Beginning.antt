@@ -7,7 +7,7 @@ use Rattle.cml_board.specs.declared.entry.Entry.{Entry}
 use Rattle.cml_board.specs.declared.object.Form.{Form}
 use Rattle.cml_board.specs.declared.object.Form.TheVariants.{Once, Mutable}
 use Rattle.cml_board.specs.Origins.{mailbox, channel, port, mvar, copy_of}
-use Rattle.cml_board.specs.Calls.{making_call}
+use Rattle.cml_board.specs.Calls.{variable_call}
 use Rattle.cml_board.specs.History.{made, origin_of, sent, got}
 use Rattle.cml_board.specs.Keeps.{begun_as}
 use Rattle.cml_board.proofs.Unmade.{none_at}
@@ -40,7 +40,7 @@ module _ {M : Type 0} where
   }
 
   -- an empty variable
-  pub variable_makes : (h : List (Entry M)) (form : Form) (n : Name) → Makes h (making_call form) n (begun_as form) None
+  pub variable_makes : (h : List (Entry M)) (form : Form) (n : Name) → Makes h (variable_call form) n (begun_as form) None
   variable_makes h Once n =
       record { begins = refl; sends = λ k. refl; gets = λ k reply. refl; shuts = λ k reply. refl; leaves = refl; others = λ k other. refl }
   variable_makes h Mutable n =

@@ -17,7 +17,7 @@ use Rattle.cml_board.specs.declared.object.Object.{Object}
 use Rattle.cml_board.specs.declared.object.Object.TheVariants.{Mailbox, Channel, Port, Variable}
 use Rattle.cml_board.specs.Origins.{kind_by}
 use Rattle.cml_board.specs.Objects.{is_variable, is_mvar}
-use Rattle.cml_board.specs.Calls.{making_call, looking_call, waits}
+use Rattle.cml_board.specs.Calls.{variable_call, looking_call, waits}
 use Rattle.cml_board.specs.Held.{held}
 use Rattle.cml_board.specs.History.{Fits, kind_of, answer, new_name}
 use Rattle.cml_board.specs.Counts.{is_a}
@@ -54,11 +54,11 @@ module _ {M : Type 0} where
   look_variable h looking.TakePoll name fits = mvar_kind (kind_of h name.0) fits.0 fits.1
 
   -- one that makes a variable is answered everywhere
-  pub fits_making : (h : List (Entry M)) (form : Form) → Fits h (making_call form)
+  pub fits_making : (h : List (Entry M)) (form : Form) → Fits h (variable_call form)
   fits_making h Once = (tt, tt)
   fits_making h Mutable = (tt, tt)
 
-  pub answer_making : (h : List (Entry M)) (form : Form) → answer h (making_call form) ≡ Some (new_name h)
+  pub answer_making : (h : List (Entry M)) (form : Form) → answer h (variable_call form) ≡ Some (new_name h)
   answer_making h Once = refl
   answer_making h Mutable = refl
 

@@ -1,5 +1,5 @@
 -- What is really kept of a log is what the history tells.
-use Rattle.std.proofs.Common.{◌≡◌, inl, inr, ℕ, zero, suc, ◌-◌, ◌*◌, ◌/◌, ◌<◌, ◌≤◌, min, true, false, eqb, List, length, slice_get, Option, Some, refl, sym, ap, ◌∙◌, arith}
+use Rattle.std.proofs.Common.{◌≡◌, inl, inr, ℕ, zero, suc, ◌-◌, ◌*◌, ◌/◌, ◌<◌, ◌≤◌, min, true, false, eqb, List, length, slice_get, Option, Some, None, refl, sym, ap, ◌∙◌, arith}
 use Rattle.std.specs.Option.{option_map}
 use Rattle.std.proofs.lemmas.Bool.{cases_eq, cases_Bool, false≢true, eq-eqb, eqb-true, and_parts, and_from, cond-true, cond-false}
 use Rattle.std.proofs.lemmas.List.{length-drop}
@@ -12,13 +12,15 @@ use Rattle.cml_board.specs.declared.object.Object.TheVariants.{Mailbox, Channel,
 use Rattle.cml_board.specs.declared.object.Reading.{Reading}
 use Rattle.cml_board.specs.declared.object.Reading.TheVariants.{Open, Closed}
 use Rattle.cml_board.specs.Origins.{Origin, mailbox, port}
-use Rattle.cml_board.specs.History.{made, sent, place}
+use Rattle.cml_board.specs.History.{made, origin_of, is_open, sent, place}
 use Rattle.cml_board.specs.Facts.{Facts, facts_of}
 use Rattle.cml_board.specs.Holdings.{key_in, cursor_in, log_at, cursor_at}
-use Rattle.cml_board.specs.Keeps.{Agrees, AgreesReading, Shows}
+use Rattle.cml_board.specs.Shown.{Shown, KeepsLogs}
+use Rattle.cml_board.specs.Keeps.{Agrees, AgreesReading, Shows, Keeps}
 use Rattle.cml_board.specs.Kept.{reads_by, reads, least_of, least_place, kept_from, kept_size}
 use Rattle.cml_board.proofs.Changing.{cursor_place}
 use Rattle.cml_board.proofs.Standing.{cursor_of_mailbox, cursor_of_port}
+use Rattle.cml_board.proofs.Sources.{source_stands}
 
 module _ {M : Type 0} where
   -- one object more
@@ -140,3 +142,31 @@ module _ {M : Type 0} where
   kept_is_told chunk history objects source log shows found =
       ap length (shows.logs source log found).kept ∙ length-drop log.first (sent history source)
       ∙ ap (λ p. length (sent history source) - p) (first_is_told chunk history objects source log shows found)
+
+  -- an object that is told to read a log was made
+  reader_made : (history : List (Entry M)) (source name : ℕ) → reads history source name ≡ true → name < length (made history)
+  reader_made history source name reader = by_origin (origin_of history name) refl reader
+    where
+      by_origin : (origin : Option Origin) → origin_of history name ≡ origin → reads_by name origin (is_open history name) source ≡ true → name < length (made history)
+      by_origin None begun reader = absurd (false≢true reader)
+      by_origin (Some origin) begun reader = slice_get_within (made history) name origin begun
+
+  -- every log holds what it is told to hold
+  pub keeps_logs : (chunk : ℕ) (board : Shown M) → Keeps chunk board → KeepsLogs chunk board
+  keeps_logs chunk board keeps = λ name source.
+      let n : ℕ = length (made board.history) in
+      let f : ℕ → Facts M = facts_of board.history in
+      let stands = source_stands chunk board name keeps source in
+      record {
+        log = stands.log;
+        found = stands.found;
+        first = first_is_told chunk board.history board.objects name stands.log keeps.shows stands.found;
+        kept = (keeps.shows.logs name stands.log stands.found).kept;
+        readers = λ reader reads.
+            let own = told_reader chunk n f board.objects reader name keeps.shows (reader_made board.history name reader reads) reads in
+            (own.0, own.1, cursor_place chunk n f board.objects reader name own.0 stands.log keeps.shows own.1 stands.found);
+        cursors = λ key at placed.
+            let owner = keeps.shows.owners name stands.log key at stands.found placed in
+            (owner.0, (reader_told chunk n f board.objects owner.0 name key keeps.shows owner.1).1, owner.1);
+        apart = λ one two key first second. keeps.shows.distinct one two name key first second;
+      }

@@ -26,3 +26,4 @@ pub mod Following
 pub mod Finding
 pub mod Counting
 pub mod Closing
+pub mod Making

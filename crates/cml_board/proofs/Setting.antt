@@ -17,7 +17,7 @@ use Rattle.cml_board.specs.declared.object.Form.{Form}
 use Rattle.cml_board.specs.declared.object.Form.TheVariants.{Mutable}
 use Rattle.cml_board.specs.declared.object.Object.{Object}
 use Rattle.cml_board.specs.declared.object.Object.TheVariants.{Variable}
-use Rattle.cml_board.specs.Calls.{making_call}
+use Rattle.cml_board.specs.Calls.{variable_call}
 use Rattle.cml_board.specs.History.{Lawful, made}
 use Rattle.cml_board.specs.Held.{left_by}
 use Rattle.cml_board.specs.Facts.{Facts, facts_of, new_facts, place_by}
@@ -154,9 +154,9 @@ module _ {M : Type 0} where
 
   -- an empty variable was made
   pub step_variable : (chunk : ℕ) (who : Who) (form : Form) (n : Name) (h : List (Entry M)) (objects : List (Object M (Log M)))
-      → Lawful h → ShowsAll chunk h objects → ShowsAll chunk (noted who (making_call form) (Made n) ∷ h) (objects ++ Variable form None ∷ [])
+      → Lawful h → ShowsAll chunk h objects → ShowsAll chunk (noted who (variable_call form) (Made n) ∷ h) (objects ++ Variable form None ∷ [])
   step_variable chunk who form n h objects lawful shows =
-      step_made chunk who (making_call form) n form None h objects (variable_makes h form n) lawful shows
+      step_made chunk who (variable_call form) n form None h objects (variable_makes h form n) lawful shows
 
   -- an m-variable was made that holds something
   pub step_full : (chunk : ℕ) (who : Who) (message : M) (n : Name) (h : List (Entry M)) (objects : List (Object M (Log M))) → n.0 ≡ length objects

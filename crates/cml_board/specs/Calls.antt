@@ -2,9 +2,11 @@
 use Rattle.std.specs.Prelude.{Bool, true, false}
 use Rattle.cml_board.specs.declared.call.Name.{Name}
 use Rattle.cml_board.specs.declared.call.Call.{Call}
-use Rattle.cml_board.specs.declared.call.Call.TheVariants.{CopyPort, ClosePort, NewIVar, NewMVar, Send, Cast, Recv, Poll, Get, GetPoll, Take, TakePoll}
+use Rattle.cml_board.specs.declared.call.Call.TheVariants.{NewMailbox, NewChannel, NewPort, CopyPort, ClosePort, NewIVar, NewMVar, Send, Cast, Recv, Poll, Get, GetPoll, Take, TakePoll}
 use Rattle.cml_board.specs.declared.object.Form.{Form}
 use Rattle.cml_board.specs.declared.object.Form.TheVariants.{Once, Mutable}
+use Rattle.cml_board.specs.declared.board.note.Making.{Making}
+use Rattle.cml_board.specs.declared.board.note.Making.TheVariants as making
 use Rattle.cml_board.specs.declared.board.note.Taking.{Taking}
 use Rattle.cml_board.specs.declared.board.note.Taking.TheVariants as taking
 use Rattle.cml_board.specs.declared.board.note.Putting.{Putting}
@@ -28,9 +30,16 @@ asking_call asking.Poll name = Poll name
 asking_call asking.Copy name = CopyPort name
 asking_call asking.Close name = ClosePort name
 
-abbrev pub making_call : {M : Type 0} → Form → Call M
-making_call Once = NewIVar
-making_call Mutable = NewMVar
+abbrev pub variable_call : {M : Type 0} → Form → Call M
+variable_call Once = NewIVar
+variable_call Mutable = NewMVar
+
+abbrev pub making_call : {M : Type 0} → Making → Call M
+making_call making.Mailbox = NewMailbox
+making_call making.Channel = NewChannel
+making_call (making.Port channel) = NewPort channel
+making_call (making.Copy port channel key) = CopyPort port
+making_call (making.Variable form) = variable_call form
 
 abbrev pub looking_call : {M : Type 0} → Looking → Name → Call M
 looking_call looking.Get name = Get name

@@ -1,13 +1,14 @@
 -- What a board shows of itself, and what always holds of it.
-use Rattle.std.specs.Prelude.{ℕ, ◌≡◌, ◌≤◌, true, false, List, ◌++◌, Some}
-use Rattle.cml_log.specs.Log.{Log, next_of, owed_items}
+use Rattle.std.specs.Prelude.{ℕ, ◌≡◌, ◌≤◌, true, false, List, ◌++◌, drop, Some}
+use Rattle.cml_log.specs.Log.{Log, next_of, place_at, owed_items}
 use Rattle.cml_board.specs.declared.call.Kind.TheVariants.{Mailbox}
 use Rattle.cml_board.specs.declared.entry.Entry.{Entry}
 use Rattle.cml_board.specs.declared.object.Object.{Object}
 use Rattle.cml_board.specs.Origins.{port}
-use Rattle.cml_board.specs.Objects.{is_variable}
+use Rattle.cml_board.specs.Objects.{is_source, is_variable}
 use Rattle.cml_board.specs.Held.{held}
 use Rattle.cml_board.specs.History.{kind_of, origin_of, is_open, sent, got, due, place}
+use Rattle.cml_board.specs.Kept.{reads, kept_from}
 use Rattle.cml_board.specs.Counts.{is_a}
 use Rattle.cml_board.specs.Holdings.{log_at, cursor_at, held_at}
 
@@ -45,6 +46,23 @@ module _ {M : Type 0} where
   abbrev pub KeepsClosed : Shown M → Type 0
   KeepsClosed board = (name channel start : ℕ) → origin_of board.history name ≡ Some (port channel start) → is_open board.history name ≡ false
       → (rest : List M) × (got board.history name ++ rest ≡ due board.history name)
+
+  -- the log of a mailbox or a channel: it holds just what was sent from its first kept place on, and that is the one that
+  -- the history tells; its open cursors are one for each object that reads it, at the object's place, and no others
+  pub record HoldsLog (chunk : ℕ) (board : Shown M) (source : ℕ) : Type 0 where
+    pub log : Log M
+    pub found : log_at board.objects source ≡ Some log
+    pub first : log.first ≡ kept_from chunk board.history source
+    pub kept : log.kept ≡ drop log.first (sent board.history source)
+    pub readers : (reader : ℕ) → reads board.history source reader ≡ true
+        → (key : ℕ) × (cursor_at board.objects reader ≡ Some (source, key)) × (place_at log key ≡ Some (place board.history reader))
+    pub cursors : (key at : ℕ) → place_at log key ≡ Some at
+        → (reader : ℕ) × (reads board.history source reader ≡ true) × (cursor_at board.objects reader ≡ Some (source, key))
+    pub apart : (one two key : ℕ) → cursor_at board.objects one ≡ Some (source, key) → cursor_at board.objects two ≡ Some (source, key) → one ≡ two
+
+  -- every mailbox and every channel has such a log
+  abbrev pub KeepsLogs : ℕ → Shown M → Type 0
+  KeepsLogs chunk board = (name : ℕ) → is_a is_source board.history name ≡ true → HoldsLog chunk board name
 
   -- every variable really holds what the history tells
   abbrev pub KeepsVariables : Shown M → Type 0

@@ -6,7 +6,7 @@ ghost use Rattle.cml_board.specs.Holdings.{map_log, log_at, HasLog};
 ghost use Rattle.cml_board.specs.Standing.{ReadsAt, Stands};
 ghost use Rattle.cml_board.specs.Checking.{IsNoted};
 ghost use Rattle.cml_board.specs.Outcome.{IsAsBefore};
-ghost use Rattle.cml_board.specs.Shown.{KeepsMailboxes, KeepsPorts, KeepsClosed, KeepsVariables};
+ghost use Rattle.cml_board.specs.Shown.{KeepsMailboxes, KeepsPorts, KeepsClosed, KeepsVariables, KeepsLogs};
 
 mod apply;
 mod making;
@@ -55,8 +55,6 @@ impl<M: Message, L: MessageLog<M>> Board<M, L> {
     pub fn new(alloc: Global, limit: u64) -> Result<Board<M, L>, AllocError>
         requires least { 1 ≤ limit }
         requires most { limit ≤ 2 ^ 32 }
-        requires holds_one { 0 < L.CHUNK }
-        requires small { L.CHUNK ≤ 1024 }
         ensures history { IfOk result (λ board. board.history ≡ []) }
         ensures limit { IfOk result (λ board. board.limit ≡ limit) }
         ensures objects { IfOk result (λ board. board.objects ≡ []) }
@@ -71,7 +69,8 @@ impl<M: Message, L: MessageLog<M>> Board<M, L> {
 
     /// How many entries the journal takes.
     pub fn limit(&self) -> u64
-        ensures { result ≡ self.now.limit }
+        ensures limit { result ≡ self.now.limit }
+        ensures bounded { result ≤ 2 ^ 32 }
     {
         self.limit
     }
@@ -93,6 +92,9 @@ impl<M: Message, L: MessageLog<M>> Board<M, L> {
 
         // What a variable really holds is what it was made with, or was last put or swapped into it, unless it was taken.
         ensures variables { KeepsVariables self.now }
+
+        // What the log of a mailbox or a channel really holds, from which place on, and which cursors are open in it.
+        ensures logs { KeepsLogs L.CHUNK self.now }
     {
         self.journal.as_slice()
     }

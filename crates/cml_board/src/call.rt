@@ -1,4 +1,4 @@
-ghost use Rattle.std.specs.Prelude.{◌≡◌, ◌↔◌, IsTrue, IfOk};
+ghost use Rattle.std.specs.Prelude.{◌≡◌, ◌↔◌, false, IsTrue, IfOk, OnErr};
 ghost use Rattle.cml_board.specs.Objects.{object_in, takes, is_receiver, is_variable};
 
 use crate::message::Message;
@@ -107,7 +107,8 @@ impl<M: Message> Call<M> {
 
     /// A second call equal to this one. Only want of memory refuses it.
     pub fn share(&self, alloc: Global) -> Result<Call<M>, AllocError>
-        ensures { IfOk result (λ copy. copy ≡ self.now) }
+        ensures copy { IfOk result (λ copy. copy ≡ self.now) }
+        ensures sure { OnErr result (M.SURE ≡ false) }
     {
         match self {
             Call::NewMailbox => Ok(Call::NewMailbox),

@@ -10,8 +10,6 @@ mod laws;
 mod message;
 mod object;
 mod outcome;
-#[cfg(test)]
-mod tests;
 
 pub use answer::Answer;
 pub use board::{Board, BoardLog};

@@ -4,7 +4,7 @@ ghost use Rattle.std.specs.Option.{option_map};
 ghost use Rattle.cml_log.specs.Log.{Log, next_of, IsOpen, place_of, owed_items, Opens};
 ghost use Rattle.cml_board.specs.Holdings.{map_log, log_in, cursor_in, held_in, with_held, pushed, advanced, shut, OpensIn};
 ghost use Rattle.cml_board.specs.Origins.{kind_by};
-ghost use Rattle.cml_board.specs.Calls.{making_call};
+ghost use Rattle.cml_board.specs.Calls.{variable_call};
 ghost use Rattle.cml_board.specs.Keeps.{begun_as};
 
 use crate::call::{Call, Kind, Name};
@@ -60,7 +60,7 @@ impl Form {
 
     /// The call that makes an empty variable.
     pub fn call<M>(self) -> Call<M>
-        ensures { result ≡ making_call self }
+        ensures { result ≡ variable_call self }
     {
         match self {
             Form::Once => Call::NewIVar,

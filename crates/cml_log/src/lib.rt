@@ -6,8 +6,8 @@ mod key;
 mod message_log;
 mod places;
 mod plain_log;
-#[cfg(test)]
-mod tests;
+
+
 
 pub use back::Back;
 pub use key::Key;

@@ -10,7 +10,7 @@ use std::alloc::{AllocError, Global};
 /// and without a cursor what lies before the chunk of the next place.
 /// Memory is taken only by `new`, by a push that fills its chunk, and where one more cursor is opened.
 pub trait MessageLog<T>: Drop {
-    /// How many places a chunk has.
+    /// How many places a chunk has, from 1 to 1,024.
     const CHUNK: u64;
 
     ghost CHUNK: { ℕ };
@@ -19,8 +19,6 @@ pub trait MessageLog<T>: Drop {
 
     /// An empty log.
     fn new(alloc: Global) -> Result<Self, AllocError>
-        requires holds_one { 0 < CHUNK }
-        requires small { CHUNK ≤ 1024 }
         ensures { IfOk result (λ made. log made ≡ empty_log) };
 
     /// Adds an item at the next place, or hands it back.
@@ -93,4 +91,6 @@ pub trait MessageLog<T>: Drop {
     /// Whether a key's cursor is open.
     fn is_open(&self, k: Key) -> bool
         ensures { IsTrue result ↔ IsOpen (log self.now) k };
+
+    ghost bounded: { (0 < CHUNK) × (CHUNK ≤ 1024) };
 }

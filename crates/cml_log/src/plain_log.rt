@@ -1,4 +1,6 @@
 ghost use Rattle.std.specs.Prelude.{◌≡◌, ℕ, ◌+◌, ◌-◌, ◌*◌, ◌/◌, ◌<◌, ◌≤◌};
+ghost use Rattle.std.proofs.Common.{rules};
+ghost use Rattle.cml_log.specs.PlainLog.{chunk_of};
 
 use crate::places::{least_place, make_room, step, trim};
 use crate::{Back, Key, MessageLog};
@@ -9,7 +11,7 @@ use std::marker::Model;
 
 /// A log whose items lie in one queue, in chunks of `N` places.
 ///
-/// `N` is from 1 to 1,024.
+/// `N` is from 1 to 1,024; a smaller or larger one is taken as the nearest of these.
 #[derive(Drop)]
 pub struct PlainLog<T, const N: usize> {
     first: u64,
@@ -20,7 +22,7 @@ pub struct PlainLog<T, const N: usize> {
 impl<T, const N: usize> Model for PlainLog<T, N> {
     ghost use Rattle.std.specs.VecDeque.{deque_capacity};
     ghost use Rattle.cml_log.specs.Log.{Log, log_code};
-    ghost use Rattle.cml_log.specs.PlainLog.{IsSound};
+    ghost use Rattle.cml_log.specs.PlainLog.{chunk_of, IsSound};
 
     ghost Value = { Log T };
 
@@ -29,29 +31,30 @@ impl<T, const N: usize> Model for PlainLog<T, N> {
     ghost view = { λ a. record { first = a.first; kept = a.items.items; places = a.places.slots } };
 
     ghost invariant = { λ a. IsSound
-        N
+        (chunk_of N)
         (record { first = a.first; kept = a.items.items; places = a.places.slots })
         (deque_capacity a.items) };
 }
 
 impl<T: Drop, const N: usize> MessageLog<T> for PlainLog<T, N> {
-    const CHUNK: u64 = N as u64;
+    const CHUNK: u64 = if N == 0 { 1 } else if N > 1024 { 1024 } else { N as u64 };
 
-    ghost CHUNK = { N };
+    ghost CHUNK = { chunk_of N };
 
     ghost log = { λ shown. shown };
 
     fn new(alloc: Global) -> Result<Self, AllocError> {
         Ok(PlainLog {
             first: 0,
-            items: VecDeque::with_capacity(alloc, N)?,
+            items: VecDeque::with_capacity(alloc, Self::CHUNK as usize)?,
             places: Slab::new(alloc),
         })
     }
 
     fn push(&mut self, item: T) -> Result<(), Back<T>> {
+        let chunk = Self::CHUNK as usize;
         let next = self.first + self.items.len() as u64;
-        if make_room(&mut self.items, next, N).is_err() {
+        if make_room(&mut self.items, next, chunk).is_err() {
             return Err(Back(item));
         }
         self.items.push_back_reserved(item);
@@ -59,7 +62,7 @@ impl<T: Drop, const N: usize> MessageLog<T> for PlainLog<T, N> {
         if !self.places.is_empty() {
             return Ok(());
         }
-        trim(&mut self.first, &mut self.items, next + 1, N);
+        trim(&mut self.first, &mut self.items, next + 1, chunk);
         Ok(())
     }
 
@@ -79,7 +82,7 @@ impl<T: Drop, const N: usize> MessageLog<T> for PlainLog<T, N> {
         let next = self.next();
         self.places.remove(k.0);
         let least = least_place(&self.places, next);
-        trim(&mut self.first, &mut self.items, least, N);
+        trim(&mut self.first, &mut self.items, least, Self::CHUNK as usize);
     }
 
     fn peek(&self, k: Key) -> Option<&T> {
@@ -91,7 +94,7 @@ impl<T: Drop, const N: usize> MessageLog<T> for PlainLog<T, N> {
         let next = self.next();
         step(&mut self.places, k.0);
         let least = least_place(&self.places, next);
-        trim(&mut self.first, &mut self.items, least, N);
+        trim(&mut self.first, &mut self.items, least, Self::CHUNK as usize);
     }
 
     fn first(&self) -> u64 {
@@ -123,4 +126,6 @@ impl<T: Drop, const N: usize> MessageLog<T> for PlainLog<T, N> {
     fn is_open(&self, k: Key) -> bool {
         self.places.contains(k.0)
     }
+
+    ghost bounded = { Prim.search rules };
 }

@@ -1,11 +1,13 @@
 //! An entry is added to the journal, and told of.
 ghost use Rattle.std.specs.Prelude.{◌≡◌, ◌+◌, ◌-◌, ◌<◌, [], ◌∷◌, ◌++◌, length, vec_len, vec_capacity};
-ghost use Rattle.cml_board.specs.Calls.{taking_call, asking_call, putting_call, looking_call, waits, empties};
+ghost use Rattle.cml_board.specs.Calls.{making_call, taking_call, asking_call, putting_call, looking_call, waits, empties};
 
 use crate::answer::Answer;
 use crate::call::{Call, Name};
 use crate::entry::{Entry, Reply};
+use crate::object::Form;
 use crate::outcome::Outcome;
+use cml_log::Key;
 
 /// The calls that take a message: one waits for it.
 #[derive(Clone, Copy)]
@@ -37,6 +39,32 @@ pub enum Looking {
     GetPoll,
     Take,
     TakePoll,
+}
+
+/// The calls that make an object and hold no message.
+#[derive(Clone, Copy)]
+pub enum Making {
+    Mailbox,
+    Channel,
+    /// At the end of this channel.
+    Port(Name),
+    /// Where this open port reads its channel, by that cursor.
+    Copy(Name, Name, Key),
+    Variable(Form),
+}
+
+impl Making {
+    pub fn call<M>(&self) -> Call<M>
+        ensures { result ≡ making_call self.now }
+    {
+        match self {
+            Making::Mailbox => Call::NewMailbox,
+            Making::Channel => Call::NewChannel,
+            Making::Port(channel) => Call::NewPort(*channel),
+            Making::Copy(port, _, _) => Call::CopyPort(*port),
+            Making::Variable(form) => form.call(),
+        }
+    }
 }
 
 impl Taking {

@@ -2,8 +2,10 @@
 ghost use Rattle.std.specs.Prelude.{◌≡◌, ◌-◌, ◌%◌, ◌<◌, ◌≤◌, ◌++◌, ◌∷◌, [], Some, OnOk, OnErr};
 ghost use Rattle.cml_log.specs.Log.{Log, empty_log, next_of, place_of};
 ghost use Rattle.cml_board.specs.declared.object.Object.TheVariants.{Channel, Variable};
+ghost use Rattle.cml_board.specs.Making.{HasSource, AddsMade};
 ghost use Rattle.cml_board.specs.Holdings.{seen_all, log_at, on_log, pushed, advanced, HasLog, HasRoomAt, HasCursor, HasOwed, HasPort, HasVariable, AddsMailbox, AddsPort, ClosesPort, SetsHeld};
 
+use super::note::Making;
 use crate::call::Name;
 use crate::object::{self, Form, Object, Port, Reading};
 use cml_log::{Back, Key, MessageLog};
@@ -39,12 +41,10 @@ pub fn advance_at<M, L: MessageLog<M>>(objects: &mut Vec<Object<M, L>>, name: Na
     object::advance(&mut objects[name.0 as usize], key)
 }
 
-pub fn add_mailbox<M, L: MessageLog<M>>(
+fn add_mailbox<M, L: MessageLog<M>>(
     objects: &mut Vec<Object<M, L>>,
     alloc: Global,
 ) -> Result<(), AllocError>
-    requires holds_one { 0 < L.CHUNK }
-    requires small { L.CHUNK ≤ 1024 }
     ensures ok { OnOk result (AddsMailbox (seen_all L.log objects.old.items) (seen_all L.log objects.new.items)) }
     ensures err { OnErr result (seen_all L.log objects.new.items ≡ seen_all L.log objects.old.items) }
 {
@@ -55,12 +55,10 @@ pub fn add_mailbox<M, L: MessageLog<M>>(
     Ok(())
 }
 
-pub fn add_channel<M, L: MessageLog<M>>(
+fn add_channel<M, L: MessageLog<M>>(
     objects: &mut Vec<Object<M, L>>,
     alloc: Global,
 ) -> Result<(), AllocError>
-    requires holds_one { 0 < L.CHUNK }
-    requires small { L.CHUNK ≤ 1024 }
     ensures ok { OnOk result (seen_all L.log objects.new.items ≡ seen_all L.log objects.old.items ++ Channel empty_log ∷ []) }
     ensures err { OnErr result (seen_all L.log objects.new.items ≡ seen_all L.log objects.old.items) }
 {
@@ -71,7 +69,7 @@ pub fn add_channel<M, L: MessageLog<M>>(
 }
 
 /// Adds a port at the end of a channel.
-pub fn add_port<M, L: MessageLog<M>>(
+fn add_port<M, L: MessageLog<M>>(
     objects: &mut Vec<Object<M, L>>,
     channel: Name,
 ) -> Result<(), AllocError>
@@ -93,7 +91,7 @@ pub fn add_port<M, L: MessageLog<M>>(
 }
 
 /// Adds a port where a cursor of its channel stands.
-pub fn add_copy<M, L: MessageLog<M>>(
+fn add_copy<M, L: MessageLog<M>>(
     objects: &mut Vec<Object<M, L>>,
     channel: Name,
     key: Key,
@@ -149,6 +147,25 @@ pub fn add_variable<M: Drop, L: MessageLog<M>>(
     objects.reserve(1)?;
     objects.push_reserved(Object::Variable(form, held));
     Ok(())
+}
+
+/// Adds what a call makes.
+pub fn add_made<M: Drop, L: MessageLog<M>>(
+    objects: &mut Vec<Object<M, L>>,
+    alloc: Global,
+    making: Making,
+) -> Result<(), AllocError>
+    requires { HasSource (seen_all L.log objects.old.items) making }
+    ensures ok { OnOk result (AddsMade making (seen_all L.log objects.old.items) (seen_all L.log objects.new.items)) }
+    ensures err { OnErr result (seen_all L.log objects.new.items ≡ seen_all L.log objects.old.items) }
+{
+    match making {
+        Making::Mailbox => add_mailbox(objects, alloc),
+        Making::Channel => add_channel(objects, alloc),
+        Making::Port(channel) => add_port(objects, channel),
+        Making::Copy(_, channel, key) => add_copy(objects, channel, key),
+        Making::Variable(form) => add_variable(objects, form, None),
+    }
 }
 
 /// Gives a variable another value, or none, and tells what it held.

@@ -4,7 +4,7 @@ ghost use Rattle.cml_board.specs.Objects.{is_variable};
 ghost use Rattle.cml_board.specs.Counts.{is_a};
 ghost use Rattle.cml_board.specs.Held.{held};
 ghost use Rattle.cml_board.specs.History.{Fits};
-ghost use Rattle.cml_board.specs.Calls.{making_call, looking_call, waits, empties};
+ghost use Rattle.cml_board.specs.Calls.{looking_call, waits, empties};
 ghost use Rattle.cml_board.specs.Outcome.{Applies, HasRoom};
 
 use super::Board;
@@ -20,27 +20,6 @@ use cml_log::MessageLog;
 use std::alloc::AllocError;
 
 impl<M: Message, L: MessageLog<M>> Board<M, L> {
-    /// Makes an empty variable.
-    pub(super) fn make_variable(&mut self, who: Who, form: Form) -> Outcome<M>
-        requires { HasRoom self.old }
-        ensures { Applies L.CHUNK M.SURE self.old self.new who (making_call form) result }
-    {
-        if self.journal.reserve(1).is_err() {
-            return Outcome::Refused(Refusal::NoMemory, form.call());
-        }
-        let reply = Name(self.objects.len() as u64);
-        let Ok(()) = add_variable(&mut self.objects, form, None) else {
-            return Outcome::Refused(Refusal::NoMemory, form.call());
-        };
-        let entry = Entry {
-            who,
-            call: form.call(),
-            reply: Reply::Made(reply),
-        };
-        let call = form.call();
-        note(&mut self.journal, entry, call, Reply::Made(reply))
-    }
-
     /// Makes an m-variable that holds this.
     pub(super) fn make_full(&mut self, who: Who, message: M) -> Outcome<M>
         requires { HasRoom self.old }

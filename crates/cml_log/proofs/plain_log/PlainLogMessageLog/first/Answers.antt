@@ -1,6 +1,7 @@
 use Rattle.std.proofs.Common.{ap, ◌∙◌}
 use Rattle.cml_log.specs.Log.{chunk_start}
+use Rattle.cml_log.specs.PlainLog.{chunk_of}
 use Rattle.cml_log.proofs.plain_log.PlainLogMessageLog.first.Goals as goal
 
 pub returns-clause-starts_chunk : goal.returns-clause-starts_chunk
-returns-clause-starts_chunk g c = c.self.invariant.tidy.first ∙ ap (λ l. chunk_start g.row.N l) c.self.view_is
+returns-clause-starts_chunk g c = c.self.invariant.tidy.first ∙ ap (λ l. chunk_start (chunk_of g.row.N) l) c.self.view_is
