@@ -14,6 +14,18 @@ use Rattle.cml_board.specs.Objects.{object_in, takes}
 use Rattle.cml_board.specs.Held.{held}
 
 module _ {M : Type 0} where
+  -- the history of a board on which nothing was done
+  abbrev pub no_entries : List (Entry M)
+  no_entries = []
+
+  -- how many entries there were since the board was made
+  abbrev pub entries_in : List (Entry M) → ℕ
+  entries_in history = length history
+
+  -- one entry more
+  abbrev pub with_entry : List (Entry M) → Entry M → List (Entry M)
+  with_entry history entry = entry ∷ history
+
   -- the message that a call sends to a mailbox or casts on a channel
   abbrev pub sent_by : Call M → ℕ → List M
   sent_by (Send name message) object = if name.0 == object then message ∷ [] else []

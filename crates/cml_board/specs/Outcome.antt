@@ -1,5 +1,5 @@
 -- What a board is to those who call it, and what becomes of a call.
-use Rattle.std.specs.Prelude.{ℕ, ◌≡◌, ◌≢◌, ◌+◌, ◌<◌, ◌≤◌, Bool, ◌∷◌, length, Some, None}
+use Rattle.std.specs.Prelude.{ℕ, ◌≡◌, ◌≢◌, ◌+◌, ◌<◌, ◌≤◌, Bool, length, Some, None}
 use Rattle.cml_board.specs.declared.call.Call.{Call}
 use Rattle.cml_board.specs.declared.entry.Who.{Who}
 use Rattle.cml_board.specs.declared.entry.Reply.{Reply}
@@ -9,7 +9,7 @@ use Rattle.cml_board.specs.declared.outcome.Outcome.{Outcome}
 use Rattle.cml_board.specs.declared.outcome.Outcome.TheVariants.{Answered, WouldWait, Refused}
 use Rattle.cml_board.specs.Shown.{Shown}
 use Rattle.cml_board.specs.Sparing.{IsSpared}
-use Rattle.cml_board.specs.History.{IsMade, IsTaken, Fits, answer}
+use Rattle.cml_board.specs.History.{entries_in, with_entry, IsMade, IsTaken, Fits, answer}
 
 module _ {M : Type 0} where
   abbrev pub HasRoom : Shown M → Type 0
@@ -33,7 +33,7 @@ module _ {M : Type 0} where
 
   -- the board has one entry more, and the same limit, and lost what was reserved for one entry at most
   pub record AddsEntry (old new : Shown M) (who : Who) (call : Call M) (reply : Reply M) : Type 0 where
-    pub history : new.history ≡ record { who = who; call = call; reply = reply } ∷ old.history
+    pub history : new.history ≡ with_entry old.history (record { who = who; call = call; reply = reply })
     pub limit : new.limit ≡ old.limit
     pub reserved : old.reserved ≤ new.reserved + 1
 
@@ -44,4 +44,4 @@ module _ {M : Type 0} where
       Fits old.history call × HasRoom old × (answer old.history call ≡ None) × (back ≡ call) × IsAsBefore old new
   Applies chunk sure old new who call (Answered a) =
       Fits old.history call × HasRoom old × (answer old.history call ≡ Some a.reply)
-      × (a.call ≡ call) × (a.at ≡ length old.history) × AddsEntry old new who call a.reply
+      × (a.call ≡ call) × (a.at ≡ entries_in old.history) × AddsEntry old new who call a.reply

@@ -1,6 +1,6 @@
 ghost use Rattle.std.specs.Prelude.{◌≡◌, ◌^◌, ◌<◌, ◌≤◌, ◌↔◌, ◌&&◌, false, [], length, reverse, Some, None, option_map, option_copied, IfOk, OnOk, OnErr, IsTrue, MatchOption};
 ghost use Rattle.cml_board.specs.Objects.{is_receiver};
-ghost use Rattle.cml_board.specs.History.{Fits, answer, Lawful, origin_of, kind_of, is_open};
+ghost use Rattle.cml_board.specs.History.{no_entries, Fits, answer, Lawful, origin_of, kind_of, is_open};
 ghost use Rattle.cml_board.specs.Counts.{is_a, sent_count, got_count, owed_count, channel_of, start_of, first_of, kept_count, port_is_open, held_by};
 ghost use Rattle.cml_board.specs.Holdings.{map_log, log_at, HasLog};
 ghost use Rattle.cml_board.specs.Standing.{ReadsAt, Stands};
@@ -55,7 +55,7 @@ impl<M: Message, L: MessageLog<M>> Board<M, L> {
     pub fn new(alloc: Global, limit: u64) -> Result<Board<M, L>, AllocError>
         requires least { 1 ≤ limit }
         requires most { limit ≤ 2 ^ 32 }
-        ensures history { IfOk result (λ board. board.history ≡ []) }
+        ensures history { IfOk result (λ board. board.history ≡ no_entries) }
         ensures limit { IfOk result (λ board. board.limit ≡ limit) }
         ensures objects { IfOk result (λ board. board.objects ≡ []) }
     {

@@ -1,5 +1,6 @@
 //! Whether a journal from elsewhere is a lawful history of one thread.
-ghost use Rattle.std.specs.Prelude.{◌≡◌, ◌≤◌, ◌<◌, ◌^◌, ◌∷◌, length, IfOk, MatchBool};
+ghost use Rattle.std.specs.Prelude.{◌≡◌, ◌≤◌, ◌<◌, ◌^◌, length, IfOk, MatchBool};
+ghost use Rattle.cml_board.specs.History.{with_entry};
 ghost use Rattle.cml_board.specs.Checking.{Checks, IsLawfulNext};
 
 use crate::board::{Board, BoardLog};
@@ -36,7 +37,7 @@ fn follow<M: Message, L: MessageLog<M>>(
 ) -> Result<bool, AllocError>
     requires { length board.old.history < board.old.limit }
     ensures followed { IfOk result (λ lawful. MatchBool lawful
-        (IsLawfulNext board.old.history entry.now × (board.new.history ≡ entry.now ∷ board.old.history) × (board.new.limit ≡ board.old.limit))
+        (IsLawfulNext board.old.history entry.now × (board.new.history ≡ with_entry board.old.history entry.now) × (board.new.limit ≡ board.old.limit))
         (IsLawfulNext board.old.history entry.now → ⊥)) }
 {
     let call = entry.call.share(alloc)?;

@@ -1,0 +1,30 @@
+#!/bin/sh
+# The tables of calls in tests/board, performed by the built program: `sh tests/board.sh PROGRAM`. The program writes
+# each line again with what it comes to, so what it writes is to be the table. A case begins with a line `== its name`.
+# The last line is `N passed, M failed`.
+program=$(cd "$(dirname "$1")" && pwd)/$(basename "$1")
+cd "$(dirname "$0")/board" || exit 1
+for table in *.rows; do
+    "$program" < "$table" | awk -v table="$table" '
+        function end() {
+            if (name == "") return
+            if (wrong == "") passed++
+            else { failed++; print "failed: " table ", " name wrong }
+            name = wrong = ""
+        }
+        {
+            told = (getline want < table) > 0 ? want : "nothing"
+            if (told ~ /^== /) { end(); name = substr(told, 4) }
+            if ($0 != told) wrong = wrong "\n    " $0 "\n    where the table has\n    " told
+        }
+        END {
+            if ((getline want < table) > 0) wrong = wrong "\n    nothing more, where the table has\n    " want
+            end()
+            print passed + 0, failed + 0 > "/dev/stderr"
+        }
+    ' 2>&1
+done | awk '
+    /^[0-9]+ [0-9]+$/ { passed += $1; failed += $2; next }
+    { print }
+    END { print passed + 0 " passed, " failed + 0 " failed"; exit failed > 0 || passed == 0 }
+'
