@@ -8,13 +8,14 @@ use Rattle.clap.specs.Simple.{Shape, built, entered, names_of}
 use Rattle.clap.specs.Kinds.{HasKind, IsAmong, Kinds, or_else}
 use Rattle.clap.specs.Lexer.{long_of, short_of}
 use Rattle.clap.specs.Faults.{built_fault, check_fault, defaults_fault, entered_fault, flag_word_fault, flags_fault, level_fault, settle_fault, step_fault, turn_fault, walk_fault}
+use Rattle.clap.specs.declared.error.kind.ErrorKind.{ErrorKind}
 use Rattle.clap.specs.declared.error.kind.ErrorKind.TheVariants as kind
 use Rattle.clap.specs.declared.error.Error.{Error}
 use Rattle.clap.specs.Values.{kind_of}
 use Rattle.clap.proofs.FaultLemmas.{stopped_fault}
 use Rattle.clap.proofs.OnLiterals.{clap_on_literals}
 use Rattle.clap.proofs.WalkLemmas.{walk_stopped}
-use Rattle.cml_script.specs.CommandLine.{AsksHelp, AsksReplay, HasLimit, asked_of, faults_of, usage}
+use Rattle.cml_script.specs.CommandLine.{AsksHelp, AsksReplay, HasLimit, asked_of, error_status, faults_of, usage}
 use Rattle.cml_script.proofs.RefusalLemmas.{or_else-nil, or_else-refuses, refused_is_some, refuses, same_text}
 use Rattle.cml_script.proofs.LimitLemmas.{below}
 use Rattle.cml_script.proofs.LimitWalks.{understood_below}
@@ -238,3 +239,9 @@ pub help_is_no_replay : (words : List Text) → faults_of words ≡ [] → AsksH
 help_is_no_replay words none asks =
     let bad : (kind.DisplayHelp ∷ []) ≡ [] = sym (help_is_shown words asks) ∙ none in
     cc
+
+-- each error is a usage fault, asks for help, or is want of memory
+pub usage_or_help : (k : ErrorKind) → (error_status k ≡ 3) ⊎ ((k ≡ kind.DisplayHelp) ⊎ (k ≡ kind.OutOfMemory))
+usage_or_help kind.DisplayHelp = inr (inl refl)
+usage_or_help kind.OutOfMemory = inr (inr refl)
+usage_or_help _ = inl refl

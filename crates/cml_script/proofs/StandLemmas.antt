@@ -25,7 +25,8 @@ use Rattle.cml_grammar.specs.declared.names.Users.TheVariants as users
 use Rattle.cml_grammar.specs.Giving.{is_giving, names_before, NamesAreGiven}
 use Rattle.cml_script.specs.Schedule.{History, IsReady, IsStep, IsDeclaration, Follows, is_seated, is_seat, is_by, is_object, performed, next_position, step_call, declared_count, declared_object, object_of, made_of, given_by, bound_by, binding_of, port_bound, port_made}
 use Rattle.cml_script.specs.Plan.{IsKnown, HasSeats, AsksForPorts, IsObject, IsObjectAt}
-use Rattle.cml_script.specs.Stage.{Play, Stands, IsNextObject, AreCounts, AreBindings, with_entry, with_binding, IsStepAt, IsLeast}
+use Rattle.cml_script.specs.Bindings.{AreBindings, with_binding}
+use Rattle.cml_script.specs.Stage.{Play, Stands, IsNextObject, AreCounts, with_entry, IsStepAt, IsLeast}
 use Rattle.cml_script.proofs.ListLemmas.{how_many-le, mapped_at, set_at, set_off}
 use Rattle.cml_script.proofs.GivingLemmas.{giver, given_at, next_is, none_first}
 use Rattle.cml_script.proofs.BindingLemmas.{bound_more}

@@ -23,8 +23,10 @@ use Rattle.cml_script.specs.Audit.{IsOwn}
 use Rattle.cml_script.specs.declared.binding.Binding.{Binding}
 use Rattle.cml_script.specs.Schedule.{History, objects_of, declared_count, declared_object, is_object, is_seat, making_call, call_in, performed, next_position, given_by, step_call, call_of, object_of, bound_by}
 use Rattle.cml_script.specs.Plan.{HasSeats}
-use Rattle.cml_script.specs.Stage.{AreCounts, AreBindings, with_binding, call_on}
-use Rattle.cml_script.specs.Trail.{Progress, history_of, with_next, AreMakes, IsMadeOfDeclared, IsFollowed, IsNoThread, CountsOneMore, next_given, declared_call, next_call, own_call}
+use Rattle.cml_script.specs.Bindings.{AreBindings, with_binding}
+use Rattle.cml_script.specs.Stage.{AreCounts, call_on}
+use Rattle.cml_script.specs.Makes.{AreMakes, IsMadeOfDeclared}
+use Rattle.cml_script.specs.Trail.{Progress, history_of, with_next, IsFollowed, IsNoThread, CountsOneMore, next_given, declared_call, next_call, own_call}
 use Rattle.cml_script.proofs.ListLemmas.{mapped_at}
 use Rattle.cml_script.proofs.KindLemmas.{length_filter}
 use Rattle.cml_script.proofs.QueueLemmas.{position_is}

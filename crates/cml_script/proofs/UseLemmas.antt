@@ -25,7 +25,8 @@ use Rattle.cml_script.specs.declared.binding.Binding.{Binding}
 use Rattle.cml_script.specs.declared.binding.Binding.TheVariants as binding
 use Rattle.cml_script.specs.Schedule.{History, is_seated, earlier, performed, next_position, declared_count, declared_object, object_of, binding_of, port_bound, port_made}
 use Rattle.cml_script.specs.Plan.{IsObject, IsObjectAt, kind_named}
-use Rattle.cml_script.specs.Stage.{Play, Stands, AreBindings, IsNextStep, IsBound}
+use Rattle.cml_script.specs.Bindings.{AreBindings}
+use Rattle.cml_script.specs.Stage.{Play, Stands, IsNextStep, IsBound}
 use Rattle.cml_script.proofs.ListLemmas.{mapped_at, counted_mono}
 use Rattle.cml_script.proofs.LineLemmas.{all_at, step_seated}
 use Rattle.cml_script.proofs.QueueLemmas.{position_is}

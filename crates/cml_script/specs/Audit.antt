@@ -1,7 +1,7 @@
 -- Whether a journal is one of a script, whatever order its threads went in.
 use Rattle.std.specs.Prelude.{ℕ, ◌≡◌, List, [], ◌∷◌, length, reverse, slice_get, nat_lt, Some, MatchBool, ⊤}
 use Rattle.cml_board.specs.declared.entry.Entry.{Entry}
-use Rattle.cml_board.specs.History.{Lawful}
+use Rattle.cml_board.specs.History.{entries_in, Lawful}
 use Rattle.cml_board.specs.Positions.{before}
 use Rattle.cml_board.specs.Checking.{IsFirstUnlawful}
 use Rattle.cml_grammar.specs.Script.{Lines}
@@ -18,7 +18,7 @@ pub record IsNextOfThread (script : Lines) (before : History) (entry : Entry ℕ
 -- the entry is the script's: the declared objects come first, and then steps of its threads, each thread's in order
 abbrev pub IsOwn : Lines → History → Entry ℕ → Type 0
 IsOwn script before entry =
-    MatchBool (nat_lt (length before) (declared_count script)) (IsDeclaration script before entry) (IsNextOfThread script before entry)
+    MatchBool (nat_lt (entries_in before) (declared_count script)) (IsDeclaration script before entry) (IsNextOfThread script before entry)
 
 -- each entry is
 abbrev pub IsOfScript : Lines → History → Type 0

@@ -70,5 +70,4 @@ faults_of words = fault_of usage words
 abbrev pub error_status : ErrorKind → ℕ
 error_status kind.OutOfMemory = 5
 error_status kind.DisplayHelp = 0
-error_status kind.DisplayVersion = 0
 error_status _ = 3

@@ -10,6 +10,8 @@ pub mod Schedule
 pub mod Report
 pub mod Play
 pub mod Plan
+pub mod Bindings
+pub mod Makes
 pub mod Stage
 pub mod Audit
 pub mod Trail

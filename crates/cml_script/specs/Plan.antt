@@ -80,7 +80,8 @@ pub record AreGivings (script : Lines) (givings : List (Option ℕ)) : Type 0 wh
   pub each : (i : ℕ) → i < length givings → slice_get givings i ≡ Some (given_by script i)
 
 -- what a plan keeps is so of its script
-pub record IsPlanned (script : Lines) (numbers : List ℕ) (queues : List (List ℕ)) (givings : List (Option ℕ)) : Type 0 where
+pub record IsPlanned (script : Lines) (names : ℕ) (numbers : List ℕ) (queues : List (List ℕ)) (givings : List (Option ℕ)) : Type 0 where
+  pub total : names ≡ length (names_of script)
   pub numbered : AreNumbers script numbers
   pub queued : AreQueues script script.steps queues
   pub giving : AreGivings script givings

@@ -8,7 +8,7 @@ use Rattle.cml_board.specs.declared.entry.Reply.{Reply}
 use Rattle.cml_board.specs.declared.entry.Reply.TheVariants as reply
 use Rattle.cml_board.specs.declared.entry.Entry.{Entry}
 use Rattle.cml_board.specs.Origins.{start_by}
-use Rattle.cml_board.specs.History.{origin_of, sent, got, owed, is_open}
+use Rattle.cml_board.specs.History.{entries_in, origin_of, sent, got, owed, is_open}
 use Rattle.cml_board.specs.Held.{held}
 use Rattle.cml_board.specs.Kept.{kept_from, kept_size}
 use Rattle.cml_grammar.specs.declared.names.Named.{Named}
@@ -49,7 +49,7 @@ entry_line script before entry =
 abbrev pub entry_lines : Lines → History → List ℕ
 entry_lines script [] = []
 entry_lines script (entry ∷ before) =
-    if nat_lt (length before) (declared_count script) then entry_lines script before
+    if nat_lt (entries_in before) (declared_count script) then entry_lines script before
     else entry_lines script before ++ entry_line script before entry
 
 -- Second part: a line for each object.
@@ -112,7 +112,7 @@ object_lines_from script history at (given ∷ names) =
 -- Third part: how it ended.
 
 abbrev pub performed_count : Lines → History → ℕ
-performed_count script history = length history - declared_count script
+performed_count script history = entries_in history - declared_count script
 
 abbrev pub end_line : Lines → History → Stop → List ℕ
 end_line script history Done = codes "end: done " ++ decimal (performed_count script history) ++ line_end

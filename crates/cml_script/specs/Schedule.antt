@@ -9,7 +9,7 @@ use Rattle.cml_board.specs.declared.entry.Who.TheVariants.{Seat, Lane, Feed}
 use Rattle.cml_board.specs.declared.entry.Reply.{Reply}
 use Rattle.cml_board.specs.declared.entry.Reply.TheVariants as reply
 use Rattle.cml_board.specs.declared.entry.Entry.{Entry}
-use Rattle.cml_board.specs.History.{Lawful, answer}
+use Rattle.cml_board.specs.History.{entries_in, Lawful, answer}
 use Rattle.cml_grammar.specs.declared.forms.Makes.{Makes}
 use Rattle.cml_grammar.specs.declared.forms.Makes.TheVariants as makes
 use Rattle.cml_grammar.specs.declared.forms.Action.{Action}
@@ -22,6 +22,7 @@ use Rattle.cml_script.specs.declared.binding.Binding.TheVariants as binding
 use Rattle.cml_script.specs.declared.stop.Stop.{Stop}
 use Rattle.cml_script.specs.declared.stop.Stop.TheVariants.{Done, Stalled, Full}
 
+-- a script's history is the whole journal of a board since it was made: behind its oldest entry stands nothing
 abbrev pub History : Type 0
 History = List (Entry ℕ)
 
@@ -46,7 +47,7 @@ declared_count script = how_many (is_object script) script.declarations
 abbrev pub declared_object : Lines → History → ℕ → Option ℕ
 declared_object script history at =
     let object = how_many (is_object script) (take at script.declarations) in
-    if nat_lt object (length history) then Some object else None
+    if nat_lt object (entries_in history) then Some object else None
 
 -- the call that makes what a declaration makes, of the objects that its names stand for
 abbrev pub making_call : (ℕ → Option ℕ) → Makes → Option (Call ℕ)
@@ -191,29 +192,29 @@ pub record IsStep (script : Lines) (before : History) (entry : Entry ℕ) : Type
 -- the entry makes the next declared object, by seat 0
 pub record IsDeclaration (script : Lines) (before : History) (entry : Entry ℕ) : Type 0 where
   pub by : entry.who ≡ Seat 0
-  pub makes : option_and_then (call_in script before) (slice_get (objects_of script) (length before)) ≡ Some entry.call
+  pub makes : option_and_then (call_in script before) (slice_get (objects_of script) (entries_in before)) ≡ Some entry.call
 
 -- each entry is the one that comes next: the declared objects first, and then always the least step that is ready
 abbrev pub Follows : Lines → History → Type 0
 Follows script [] = ⊤
 Follows script (entry ∷ before) =
-    MatchBool (nat_lt (length before) (declared_count script)) (IsDeclaration script before entry) (IsStep script before entry) × Follows script before
+    MatchBool (nat_lt (entries_in before) (declared_count script)) (IsDeclaration script before entry) (IsStep script before entry) × Follows script before
 
 -- how many steps are left
 abbrev pub left : Lines → History → ℕ
-left script history = length script.steps - (length history - declared_count script)
+left script history = length script.steps - (entries_in history - declared_count script)
 
 -- when each ending comes
 abbrev pub Ends : Lines → ℕ → History → Stop → Type 0
 Ends script limit history Full =
-    (length history ≡ limit) × ((0 < left script history) ⊎ (length history < declared_count script))
+    (entries_in history ≡ limit) × ((0 < left script history) ⊎ (entries_in history < declared_count script))
 Ends script limit history Stalled =
-    (length history < limit) × (declared_count script ≤ length history) × (0 < left script history) × NoneReady script history
-Ends script limit history Done = (declared_count script ≤ length history) × (left script history ≡ 0)
+    (entries_in history < limit) × (declared_count script ≤ entries_in history) × (0 < left script history) × NoneReady script history
+Ends script limit history Done = (declared_count script ≤ entries_in history) × (left script history ≡ 0)
 
 -- the history is that of the script under this limit, and ends so
 pub record Schedule (script : Lines) (limit : ℕ) (history : History) (stop : Stop) : Type 0 where
   pub lawful : Lawful history
-  pub room : length history ≤ limit
+  pub room : entries_in history ≤ limit
   pub follows : Follows script history
   pub ends : Ends script limit history stop

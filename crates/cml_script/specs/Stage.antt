@@ -7,7 +7,7 @@ use Rattle.cml_board.specs.declared.call.Call.TheVariants as call
 use Rattle.cml_board.specs.declared.call.Kind.{Kind}
 use Rattle.cml_board.specs.declared.entry.Who.TheVariants.{Seat}
 use Rattle.cml_board.specs.declared.entry.Entry.{Entry}
-use Rattle.cml_board.specs.History.{Lawful, kind_of}
+use Rattle.cml_board.specs.History.{entries_in, Lawful, kind_of}
 use Rattle.cml_grammar.specs.Script.{Lines}
 use Rattle.cml_grammar.specs.Meaning.{names_of}
 use Rattle.cml_grammar.specs.declared.forms.Makes.{Makes}
@@ -16,7 +16,8 @@ use Rattle.cml_grammar.specs.declared.forms.Action.{Action}
 use Rattle.cml_grammar.specs.declared.forms.Action.TheVariants as action
 use Rattle.cml_grammar.specs.Reading.{IsChannelAt}
 use Rattle.cml_script.specs.declared.binding.Binding.{Binding}
-use Rattle.cml_script.specs.Schedule.{objects_of, object_of, declared_object, declared_count, call_in, History, next_position, binding_of, performed, Follows, IsReady}
+use Rattle.cml_script.specs.Schedule.{objects_of, object_of, declared_object, declared_count, call_in, History, next_position, performed, Follows, IsReady}
+use Rattle.cml_script.specs.Bindings.{AreBindings}
 use Rattle.cml_script.specs.Plan.{IsKnown, IsObject, IsObjectAt}
 
 -- the script, what was performed of it, newest first, and how many entries there may be
@@ -30,15 +31,10 @@ pub record AreCounts (history : History) (counts : List ℕ) : Type 0 where
   pub seats : length counts ≡ 64
   pub each : (thread : ℕ) → thread < 64 → slice_get counts thread ≡ Some (performed history (thread + 1))
 
--- by name, what a step gave it
-pub record AreBindings (script : Lines) (history : History) (bindings : List Binding) : Type 0 where
-  pub all : length bindings ≡ length (names_of script)
-  pub each : (at : ℕ) → at < length bindings → slice_get bindings at ≡ Some (binding_of script history at)
-
 -- what a stage keeps is so of what was performed
 pub record Stands (play : Play) (counts : List ℕ) (bindings : List Binding) : Type 0 where
   pub lawful : Lawful play.history
-  pub room : length play.history ≤ play.limit
+  pub room : entries_in play.history ≤ play.limit
   pub bounded : play.limit ≤ 2 ^ 32
   pub follows : Follows play.script play.history
   pub known : IsKnown play.script
@@ -110,15 +106,10 @@ pub record IsBound (play : Play) (at : ℕ) : Type 0 where
   pub stands : object_of play.script play.history at ≡ Some object
   pub kind : (k : Kind) → IsObjectAt (names_of play.script) at k → kind_of play.history object ≡ Some k
 
--- with what a step gave the name at this position, if it gave one
-abbrev pub with_binding : List Binding → Option ℕ → Binding → List Binding
-with_binding bindings None given = bindings
-with_binding bindings (Some at) given = slice_set bindings at given
-
 -- the call makes the next declared object
 pub record IsNextObject (play : Play) (making : Call ℕ) : Type 0 where
-  pub left : length play.history < declared_count play.script
-  pub makes : option_and_then (call_in play.script play.history) (slice_get (objects_of play.script) (length play.history)) ≡ Some making
+  pub left : entries_in play.history < declared_count play.script
+  pub makes : option_and_then (call_in play.script play.history) (slice_get (objects_of play.script) (entries_in play.history)) ≡ Some making
 
 -- the next object is what this declaration makes, of objects that are made
 abbrev pub IsNext : Play → Makes → Type 0

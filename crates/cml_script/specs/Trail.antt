@@ -5,6 +5,7 @@ use Rattle.cml_board.specs.declared.call.Call.{Call}
 use Rattle.cml_board.specs.declared.entry.Who.{Who}
 use Rattle.cml_board.specs.declared.entry.Who.TheVariants.{Seat}
 use Rattle.cml_board.specs.declared.entry.Entry.{Entry}
+use Rattle.cml_board.specs.History.{entries_in}
 use Rattle.cml_board.specs.Positions.{before}
 use Rattle.cml_grammar.specs.declared.forms.Makes.{Makes}
 use Rattle.cml_grammar.specs.declared.forms.Makes.TheVariants as makes
@@ -13,7 +14,9 @@ use Rattle.cml_grammar.specs.Meaning.{names_of, makes_of}
 use Rattle.cml_script.specs.declared.binding.Binding.{Binding}
 use Rattle.cml_script.specs.Schedule.{History, objects_of, declared_count, is_object, is_seat, call_in, step_call, next_position, given_by}
 use Rattle.cml_script.specs.Plan.{IsKnown}
-use Rattle.cml_script.specs.Stage.{AreCounts, AreBindings}
+use Rattle.cml_script.specs.Bindings.{AreBindings}
+use Rattle.cml_script.specs.Makes.{AreMakes}
+use Rattle.cml_script.specs.Stage.{AreCounts}
 
 -- the script, a journal, and how many of its entries were followed
 pub record Progress : Type 0 where
@@ -29,16 +32,6 @@ history_of progress = before progress.journal progress.followed
 abbrev pub with_next : Progress → Progress
 with_next progress = record { script = progress.script; journal = progress.journal; followed = progress.followed + 1 }
 
--- what is made is made of declared names
-abbrev pub IsMadeOfDeclared : Lines → Makes → Type 0
-IsMadeOfDeclared script (makes.Port channel) = channel < length script.declarations
-IsMadeOfDeclared script _ = ⊤
-
--- what these declarations make that make an object, in order, where what is used was declared
-pub record AreMakes (script : Lines) (declarations : List SourceLine) (list : List Makes) : Type 0 where
-  pub each : map (λ m. Some m) list ≡ map (λ line. makes_of (names_of script) line.words) (filter (is_object script) declarations)
-  pub declared : All (IsMadeOfDeclared script) list
-
 -- the caller is this thread: threads have the seats from 1 to 64
 abbrev pub IsThread : Who → ℕ → Type 0
 IsThread who thread = (thread < 64) × (who ≡ Seat (thread + 1))
@@ -49,7 +42,7 @@ IsNoThread who = (thread : ℕ) → thread < 64 → who ≢ Seat (thread + 1)
 
 -- by thread, how many calls it made in some history that isn't too long to count
 abbrev pub AreSmallCounts : List ℕ → Type 0
-AreSmallCounts counts = (history : History) × AreCounts history counts × (length history + 1 < 2 ^ 64)
+AreSmallCounts counts = (history : History) × AreCounts history counts × (entries_in history + 1 < 2 ^ 64)
 
 -- the same of any history with one more entry by this caller
 abbrev pub CountsOneMore : List ℕ → Who → List ℕ → Type 0
@@ -65,12 +58,12 @@ next_call script history who = option_and_then (step_call script history) (next_
 
 -- the call that makes the next declared object
 abbrev pub declared_call : Lines → History → Option (Call ℕ)
-declared_call script history = option_and_then (call_in script history) (slice_get (objects_of script) (length history))
+declared_call script history = option_and_then (call_in script history) (slice_get (objects_of script) (entries_in history))
 
 -- the call that the script has next for the caller, if it has one
 abbrev pub own_call : Lines → History → Who → Option (Call ℕ)
 own_call script history who =
-    if nat_lt (length history) (declared_count script)
+    if nat_lt (entries_in history) (declared_count script)
     then (if is_seat 0 who then declared_call script history else None)
     else next_call script history who
 

@@ -70,6 +70,11 @@ pub fn order<S: AsStr>(alloc: Global, words: &[S]) -> Result<Order, Error>
     ensures help { AsksHelp (map S.text words.now) → IsErrAnd result (λ error.
         (kind_of error ≡ ErrorKind.DisplayHelp) ⊎ (kind_of error ≡ ErrorKind.OutOfMemory)) }
     ensures kinds { FailsBy (faults_of (map S.text words.now)) result }
+
+    // All other words are a usage fault, but for those that ask for help.
+    ensures others { ((limit : ℕ) → ¬ (AsksReplay (map S.text words.now) limit)) → IsErrAnd result (λ error.
+        (error_status (kind_of error) ≡ 3)
+        ⊎ ((kind_of error ≡ ErrorKind.DisplayHelp) ⊎ (kind_of error ≡ ErrorKind.OutOfMemory))) }
 {
     // There is one subcommand, it is required, and its option has a default.
     let matches = matches(alloc, words)?;
@@ -130,7 +135,7 @@ pub fn status_of_error(error: &Error) -> u8
 {
     match error.kind() {
         ErrorKind::OutOfMemory => 5,
-        ErrorKind::DisplayHelp | ErrorKind::DisplayVersion => 0,
+        ErrorKind::DisplayHelp => 0,
         _ => 3,
     }
 }

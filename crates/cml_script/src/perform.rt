@@ -1,5 +1,6 @@
 //! A whole script, performed and reported.
 ghost use Rattle.std.specs.Prelude.{◌≡◌, ◌≤◌, ◌^◌, [], length, IfOk, OnOk, string_bytes};
+ghost use Rattle.cml_board.specs.History.{no_entries, entries_in};
 ghost use Rattle.cml_script.specs.Schedule.{declared_count, Ends};
 ghost use Rattle.cml_script.specs.Report.{entry_lines};
 ghost use Rattle.cml_script.specs.Play.{IsPlayed};
@@ -33,7 +34,7 @@ pub fn play(alloc: Global, script: &Script, limit: u64) -> Result<Played, AllocE
 
 /// Makes the declared objects, and then performs the steps.
 fn perform(stage: &mut Stage<'_>, report: &mut String) -> Result<Stop, AllocError>
-    requires begins { stage.old.history ≡ [] }
+    requires begins { stage.old.history ≡ no_entries }
     requires empty { string_bytes report.old ≡ [] }
     ensures script { stage.new.script ≡ stage.old.script }
     ensures limit { stage.new.limit ≡ stage.old.limit }
@@ -48,7 +49,7 @@ fn perform(stage: &mut Stage<'_>, report: &mut String) -> Result<Stop, AllocErro
 
 /// Performs the steps of a script whose objects are made, and writes a line for each.
 fn perform_all(stage: &mut Stage<'_>, report: &mut String) -> Result<Stop, AllocError>
-    requires declared { length stage.old.history ≡ declared_count stage.old.script }
+    requires declared { entries_in stage.old.history ≡ declared_count stage.old.script }
     requires empty { string_bytes report.old ≡ entry_lines stage.old.script stage.old.history }
     ensures script { stage.new.script ≡ stage.old.script }
     ensures limit { stage.new.limit ≡ stage.old.limit }

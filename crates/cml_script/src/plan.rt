@@ -1,12 +1,13 @@
 //! What is known of a script before any of it is performed.
 ghost use Rattle.std.specs.Prelude.{◌≡◌, ◌+◌, ◌<◌, [], length, take, slice_get, All, IfOk};
 ghost use Rattle.std.specs.Option.{option_map};
+ghost use Rattle.cml_board.specs.History.{no_entries, entries_in};
 ghost use Rattle.cml_script.specs.Counting.{how_many};
 ghost use Rattle.cml_script.specs.Schedule.{History, makes_object, is_object, declared_count, positions_from, given_by, object_of};
 ghost use Rattle.cml_grammar.specs.Reading.{gives_name};
 ghost use Rattle.cml_script.specs.Plan.{IsKnown, AreNumbers, AreQueues, AreGivings, NamesObjects, HasSeats, AsksForPorts, items_of, object_among};
-ghost use Rattle.cml_script.specs.Stage.{AreBindings};
-ghost use Rattle.cml_script.specs.Trail.{AreMakes};
+ghost use Rattle.cml_script.specs.Bindings.{AreBindings};
+ghost use Rattle.cml_script.specs.Makes.{AreMakes};
 
 use crate::binding::Binding;
 use cml_board::Name;
@@ -21,6 +22,8 @@ pub const THREADS: usize = 64;
 #[derive(Drop)]
 pub struct Plan<'a> {
     script: &'a Script,
+    // How many names its lines give.
+    names: usize,
     // By name, how many objects are declared before it.
     numbers: Vec<u64>,
     // By thread, the positions of its steps in the script.
@@ -37,7 +40,7 @@ impl<'a> Model for Plan<'a> {
 
     ghost view = { λ p. p.script.now };
 
-    ghost invariant = { λ p. IsPlanned p.script.now p.numbers.items (items_of p.queues.items) p.givings.items };
+    ghost invariant = { λ p. IsPlanned p.script.now p.names p.numbers.items (items_of p.queues.items) p.givings.items };
 }
 
 impl<'a> Plan<'a> {
@@ -48,10 +51,9 @@ impl<'a> Plan<'a> {
         let numbers = number_objects(alloc, script)?;
         let queues = queue_steps(alloc, script)?;
         let givings = number_givings(alloc, script)?;
-        // Only for what it ensures of the names that steps give.
-        let _ = script.names();
         Ok(Plan {
             script,
+            names: script.names().len(),
             numbers,
             queues,
             givings,
@@ -101,7 +103,7 @@ impl<'a> Plan<'a> {
     /// The object that a name stands for, where so many objects are made and steps gave their names this.
     pub fn object(&self, at: usize, made: u64, bindings: &[Binding]) -> Option<Name>
         requires { at < length bindings.now }
-        ensures { (history : History) → length history ≡ made → AreBindings self.now history bindings.now
+        ensures { (history : History) → entries_in history ≡ made → AreBindings self.now history bindings.now
             → result ≡ option_map (λ o. record { 0 = o }) (object_of self.now history at) }
     {
         if at < self.script.declarations().len() {
@@ -113,9 +115,9 @@ impl<'a> Plan<'a> {
 
     /// What steps gave their names before any was performed.
     pub fn unbound(&self, alloc: Global) -> Result<Vec<Binding>, AllocError>
-        ensures { IfOk result (λ bindings. AreBindings self.now [] bindings.items) }
+        ensures { IfOk result (λ bindings. AreBindings self.now no_entries bindings.items) }
     {
-        vec![in alloc; Binding::Unbound; self.script.names().len()]
+        vec![in alloc; Binding::Unbound; self.names]
     }
 }
 

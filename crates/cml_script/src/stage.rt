@@ -1,6 +1,6 @@
 //! A script under way on a board.
 ghost use Rattle.std.specs.Prelude.{◌≡◌, ◌≢◌, ◌↔◌, ℕ, ◌+◌, ◌-◌, ◌<◌, ◌≤◌, ◌^◌, List, [], ◌∷◌, length, slice_get, Some, None, IfOk, OnErr, MatchOption, MatchBool, IsTrue, IfSome, IsSome};
-ghost use Rattle.cml_board.specs.History.{Fits, Lawful, kind_of};
+ghost use Rattle.cml_board.specs.History.{no_entries, entries_in, Fits, Lawful, kind_of};
 ghost use Rattle.cml_board.specs.declared.call.Kind.{Kind};
 ghost use Rattle.cml_board.specs.declared.entry.Reply.{Reply};
 ghost use Rattle.cml_board.specs.declared.entry.Entry.{Entry};
@@ -46,7 +46,7 @@ impl<'a> Stage<'a> {
     pub fn new(alloc: Global, script: &'a Script, limit: u64) -> Result<Stage<'a>, AllocError>
         requires least { 1 ≤ limit }
         requires most { limit ≤ 2 ^ 32 }
-        ensures { IfOk result (λ stage. stage ≡ record { script = script.now; history = []; limit = limit }) }
+        ensures { IfOk result (λ stage. stage ≡ record { script = script.now; history = no_entries; limit = limit }) }
     {
         let plan = Plan::new(alloc, script)?;
         let board = Board::new(alloc, limit)?;
@@ -76,10 +76,10 @@ impl<'a> Stage<'a> {
 
     /// What was performed so far, oldest first.
     pub fn journal(&self) -> &[Entry<u64>]
-        ensures entries { length result.now ≡ length self.now.history }
+        ensures entries { length result.now ≡ entries_in self.now.history }
         ensures lawful { Lawful self.now.history }
         ensures follows { Follows self.now.script self.now.history }
-        ensures room { length self.now.history ≤ self.now.limit }
+        ensures room { entries_in self.now.history ≤ self.now.limit }
     {
         self.board.journal()
     }
@@ -102,8 +102,8 @@ impl<'a> Stage<'a> {
 
     /// Whether the journal has as many entries as its limit.
     pub fn is_full(&self) -> bool
-        ensures full { IsTrue result ↔ (length self.now.history ≡ self.now.limit) }
-        ensures within { length self.now.history ≤ self.now.limit }
+        ensures full { IsTrue result ↔ (entries_in self.now.history ≡ self.now.limit) }
+        ensures within { entries_in self.now.history ≤ self.now.limit }
     {
         self.board.journal().len() as u64 == self.board.limit()
     }
@@ -123,12 +123,12 @@ impl<'a> Stage<'a> {
 
     /// Makes the declared objects in text order, and answers false where the journal was full before all were made.
     pub fn declare(&mut self) -> Result<bool, AllocError>
-        requires { self.old.history ≡ [] }
+        requires { self.old.history ≡ no_entries }
         ensures script { self.new.script ≡ self.old.script }
         ensures limit { self.new.limit ≡ self.old.limit }
         ensures all { IfOk result (λ all. MatchBool all
-            (length self.new.history ≡ declared_count self.new.script)
-            ((length self.new.history ≡ self.new.limit) × (length self.new.history < declared_count self.new.script))) }
+            (entries_in self.new.history ≡ declared_count self.new.script)
+            ((entries_in self.new.history ≡ self.new.limit) × (entries_in self.new.history < declared_count self.new.script))) }
     {
         let script = self.plan.script();
         for declaration in script.declarations() {
@@ -145,8 +145,8 @@ impl<'a> Stage<'a> {
         ensures script { self.new.script ≡ self.old.script }
         ensures limit { self.new.limit ≡ self.old.limit }
         ensures made { IfOk result (λ made. MatchBool made
-            (length self.new.history ≡ length self.old.history + one_if (makes_object makes))
-            ((length self.new.history ≡ self.new.limit) × (length self.new.history < declared_count self.new.script))) }
+            (entries_in self.new.history ≡ entries_in self.old.history + one_if (makes_object makes))
+            ((entries_in self.new.history ≡ self.new.limit) × (entries_in self.new.history < declared_count self.new.script))) }
     {
         match makes {
             Makes::Thread => Ok(true),
@@ -165,7 +165,7 @@ impl<'a> Stage<'a> {
         requires fits { Fits self.old.history call }
         ensures made { IfOk result (λ made. MatchBool made
             ((reply : Reply ℕ) × (self.new ≡ with_entry self.old (record { who = Who.Seat 0; call = call; reply = reply })))
-            ((length self.old.history ≡ self.old.limit) × (self.new ≡ self.old))) }
+            ((entries_in self.old.history ≡ self.old.limit) × (self.new ≡ self.old))) }
         ensures err { OnErr result (self.new ≡ self.old) }
     {
         match self.board.apply(Who::Seat(0), call) {
@@ -180,7 +180,7 @@ impl<'a> Stage<'a> {
 
     /// The least step in text order that is its thread's next one and wouldn't wait.
     pub fn least_ready(&self) -> Option<usize>
-        requires { declared_count self.now.script ≤ length self.now.history }
+        requires { declared_count self.now.script ≤ entries_in self.now.history }
         ensures { MatchOption result (NoneReady self.now.script self.now.history) (IsLeast self.now.script self.now.history) }
     {
         let mut least = None;
@@ -193,7 +193,7 @@ impl<'a> Stage<'a> {
     /// The thread's next step, where it wouldn't wait.
     fn candidate(&self, thread: usize) -> Option<usize>
         requires thread { thread < 64 }
-        requires declared { declared_count self.now.script ≤ length self.now.history }
+        requires declared { declared_count self.now.script ≤ entries_in self.now.history }
         ensures { MatchOption result (NoneReadyOf self.now.script self.now.history (thread + 1))
             (λ i. IsReadyOf self.now.script self.now.history (thread + 1) i) }
     {
@@ -216,7 +216,7 @@ impl<'a> Stage<'a> {
     fn call(&self, i: usize) -> Call<u64>
         requires within { i < length self.now.script.steps }
         requires next { IsNextStep self.now i }
-        requires declared { declared_count self.now.script ≤ length self.now.history }
+        requires declared { declared_count self.now.script ≤ entries_in self.now.history }
         ensures call { step_call self.now.script self.now.history i ≡ Some result }
         ensures fits { Fits self.now.history result }
     {
@@ -257,8 +257,8 @@ impl<'a> Stage<'a> {
     /// Performs the least step that is ready.
     pub fn perform(&mut self, i: usize) -> Result<Answer<u64>, AllocError>
         requires ready { IsLeast self.old.script self.old.history i }
-        requires declared { declared_count self.old.script ≤ length self.old.history }
-        requires room { length self.old.history < self.old.limit }
+        requires declared { declared_count self.old.script ≤ entries_in self.old.history }
+        requires room { entries_in self.old.history < self.old.limit }
         ensures performed { IfOk result (λ answer. (entry : Entry ℕ) × (self.new ≡ with_entry self.old entry)
             × IsStepAt self.old.script self.old.history entry i × (entry.reply ≡ answer.reply)) }
         ensures err { OnErr result (self.new ≡ self.old) }

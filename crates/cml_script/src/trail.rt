@@ -4,7 +4,8 @@ ghost use Rattle.std.specs.Option.{option_map};
 ghost use Rattle.cml_grammar.specs.Meaning.{names_of};
 ghost use Rattle.cml_script.specs.Schedule.{is_seat, declared_object, object_of, making_call, next_position};
 ghost use Rattle.cml_script.specs.Audit.{IsOwn};
-ghost use Rattle.cml_script.specs.Trail.{history_of, with_next, IsMadeOfDeclared, IsThread, IsNoThread, AreSmallCounts, CountsOneMore, next_given, next_call, own_call};
+ghost use Rattle.cml_script.specs.Makes.{IsMadeOfDeclared};
+ghost use Rattle.cml_script.specs.Trail.{history_of, with_next, IsThread, IsNoThread, AreSmallCounts, CountsOneMore, next_given, next_call, own_call};
 
 use crate::binding::{Binding, bind};
 use crate::calls::{call_on, used_by};

@@ -3,7 +3,7 @@ use Rattle.clap.specs.Words.{HasKind, kind_of, subcommand_rows_of}
 use Rattle.clap.specs.declared.error.kind.ErrorKind.TheVariants as kind
 use Rattle.cml_script.specs.CommandLine.{faults_of}
 use Rattle.cml_script.specs.declared.asked.Order.TheVariants.{Replay}
-use Rattle.cml_script.proofs.CommandLineLemmas.{asked_and_found, help_or_memory, limit_is_within, replay_wants_memory}
+use Rattle.cml_script.proofs.CommandLineLemmas.{asked_and_found, help_or_memory, limit_is_within, replay_wants_memory, usage_or_help}
 use Rattle.cml_script.proofs.command_line.order.Goals as goal
 
 pub unreachable-requires : goal.unreachable-requires
@@ -44,4 +44,15 @@ returns-in_err-matches-clause-help g c = λ asks.
     let error = c.in_err-matches.field-0.0 in
     let fault : HasKind (faults_of words) error = c.in_err-matches.ensures.fails in
     let either : (kind_of error ≡ kind.DisplayHelp) ⊎ (kind_of error ≡ kind.OutOfMemory) = help_or_memory words error fault asks in
+    search rules
+
+pub returns-clause-others : goal.returns-clause-others
+returns-clause-others g c = λ none.
+    let words = map g.S.AsStr.text c.args.words.now in
+    let asks = asked_and_found words (subcommand_rows_of c.in_ok-matches.matches) c.in_ok-matches.ensures.fails c.in_ok-matches.ensures.found in
+    none asks.0 asks.1
+
+pub returns-in_err-matches-clause-others : goal.returns-in_err-matches-clause-others
+returns-in_err-matches-clause-others g c = λ none.
+    let told = usage_or_help (kind_of c.in_err-matches.field-0.0) in
     search rules

@@ -6,7 +6,7 @@ use Rattle.cml_grammar.specs.declared.forms.Makes.{Makes}
 use Rattle.cml_grammar.specs.Script.{SourceLine}
 use Rattle.cml_grammar.specs.Meaning.{names_of}
 use Rattle.cml_grammar.specs.Reading.{source_of, ReadsDeclaration}
-use Rattle.cml_script.specs.Trail.{AreMakes}
+use Rattle.cml_script.specs.Makes.{AreMakes}
 use Rattle.cml_script.proofs.ListLemmas.{read_at, mapped_at, taken_more}
 use Rattle.cml_script.proofs.LineLemmas.{all_at, declaration_object}
 use Rattle.cml_script.proofs.TrailLemmas.{makes_kept, makes_added, declares_of_declared}

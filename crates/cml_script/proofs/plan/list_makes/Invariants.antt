@@ -1,5 +1,5 @@
 use Rattle.std.proofs.Common.{take}
-use Rattle.cml_script.specs.Trail.{AreMakes}
+use Rattle.cml_script.specs.Makes.{AreMakes}
 use Rattle.cml_script.proofs.plan.list_makes.Given as goal
 
 abbrev pub invariant-loop-declaration : goal.invariant-loop-declaration

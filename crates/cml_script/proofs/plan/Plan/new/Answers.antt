@@ -1,7 +1,14 @@
+use Rattle.std.proofs.Common.{ap, arith, length}
+use Rattle.std.proofs.lemmas.List.{length-map}
+use Rattle.std.specs.Prelude.{String, string_bytes}
+use Rattle.std.specs.Global.{Global}
+use Rattle.cml_grammar.specs.declared.names.Named.{Named}
+use Rattle.cml_grammar.specs.Names.{Given}
 use Rattle.cml_script.proofs.plan.Plan.new.Goals as goal
 
 pub invariant_of-result : goal.invariant_of-result
 invariant_of-result c = record {
+  total = omega (arith, c.len.ensures.len, length-map {B = Given} c.names.result.now.entries (λ (e : String Global × Named). (string_bytes e.0, e.1)), ap length c.names.ensures.names);
   numbered = c.in_ok-numbers.ensures.numbers;
   queued = c.in_ok-queues.ensures.queues;
   giving = c.in_ok-givings.ensures.givings;

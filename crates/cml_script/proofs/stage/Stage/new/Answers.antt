@@ -1,7 +1,7 @@
 use Rattle.std.proofs.Common.{sym, subst, ap, length, arith}
 use Rattle.cml_board.specs.History.{Lawful}
 use Rattle.cml_script.specs.Schedule.{Follows}
-use Rattle.cml_script.specs.Stage.{AreBindings}
+use Rattle.cml_script.specs.Bindings.{AreBindings}
 use Rattle.cml_script.proofs.StandLemmas.{counted_none}
 use Rattle.cml_script.proofs.stage.Stage.new.Goals as goal
 

@@ -4,7 +4,8 @@ use Rattle.cml_board.specs.declared.call.Call.{Call}
 use Rattle.cml_board.specs.declared.entry.Reply.{Reply}
 use Rattle.cml_script.specs.declared.binding.Binding.{Binding}
 use Rattle.cml_script.specs.Schedule.{bound_by}
-use Rattle.cml_script.specs.Stage.{Play, Stands, with_binding}
+use Rattle.cml_script.specs.Bindings.{with_binding}
+use Rattle.cml_script.specs.Stage.{Play, Stands}
 use Rattle.cml_board.specs.declared.entry.Who.TheVariants.{Seat}
 use Rattle.cml_board.specs.declared.entry.Entry.{Entry}
 use Rattle.cml_script.proofs.StandLemmas.{new_play, is_performed, performs, stands_performed, count_fits, bind_within}

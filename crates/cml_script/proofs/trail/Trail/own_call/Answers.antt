@@ -1,6 +1,7 @@
 use Rattle.std.proofs.Common.{◌<◌, true, false, length, slice_get, refl, ap, sym, ◌∙◌, arith}
 use Rattle.std.proofs.lemmas.Option.{slice_get_read}
-use Rattle.cml_script.specs.Trail.{Progress, IsMadeOfDeclared, history_of}
+use Rattle.cml_script.specs.Makes.{IsMadeOfDeclared}
+use Rattle.cml_script.specs.Trail.{Progress, history_of}
 use Rattle.cml_script.proofs.LineLemmas.{all_at}
 use Rattle.cml_script.proofs.JournalLemmas.{before_length}
 use Rattle.cml_script.proofs.TrailLemmas.{followed_at, makes_length, makes_at, own_late, own_early}

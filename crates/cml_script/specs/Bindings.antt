@@ -1,0 +1,16 @@
+-- What steps gave their names, kept by name.
+use Rattle.std.specs.Prelude.{ℕ, ◌≡◌, ◌<◌, List, length, slice_get, slice_set, Option, Some, None}
+use Rattle.cml_grammar.specs.Script.{Lines}
+use Rattle.cml_grammar.specs.Meaning.{names_of}
+use Rattle.cml_script.specs.declared.binding.Binding.{Binding}
+use Rattle.cml_script.specs.Schedule.{History, binding_of}
+
+-- by name, what a step gave it
+pub record AreBindings (script : Lines) (history : History) (bindings : List Binding) : Type 0 where
+  pub all : length bindings ≡ length (names_of script)
+  pub each : (at : ℕ) → at < length bindings → slice_get bindings at ≡ Some (binding_of script history at)
+
+-- with what a step gave the name at this position, if it gave one
+abbrev pub with_binding : List Binding → Option ℕ → Binding → List Binding
+with_binding bindings None given = bindings
+with_binding bindings (Some at) given = slice_set bindings at given
