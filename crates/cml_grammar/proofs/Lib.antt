@@ -10,3 +10,6 @@ pub mod ReadingLemmas
 pub mod ScriptLaws
 pub mod TableLemmas
 pub mod WordLemmas
+pub mod TextLemmas
+pub mod SuitingLemmas
+pub mod ReadableLemmas

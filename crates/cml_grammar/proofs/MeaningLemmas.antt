@@ -33,7 +33,7 @@ word_at words i = (get_or words i (record { ref_ptr = (0, 0); now = [] })).now
 found_used : (names : List Given) (place : Place) (word : List ℕ) (at : ℕ) → IsUsed names place word → position_of names word ≡ Some at → IsSuitedAt names place at
 found_used names place word at h found = subst (IsSuitedAt names place) (same_Some _ _ (sym h.1 ∙ found)) h.2
 
-is_port_at : (names : List Given) (at : ℕ) → IsSuitedAt names Port at → IsPortAt names at
+pub is_port_at : (names : List Given) (at : ℕ) → IsSuitedAt names Port at → IsPortAt names at
 is_port_at names at h = by h.1 h.2 h.3
   where
     by : (n : Named) → slice_get names at ≡ Some (h.0, n) → suits Port n ≡ true → IsPortAt names at
@@ -44,7 +44,7 @@ is_port_at names at h = by h.1 h.2 h.3
     by called.IVar e t = absurd (true≢false (sym t))
     by called.MVar e t = absurd (true≢false (sym t))
 
-is_receiver_at : (names : List Given) (at : ℕ) → IsSuitedAt names Receiver at → IsReceiverAt names at
+pub is_receiver_at : (names : List Given) (at : ℕ) → IsSuitedAt names Receiver at → IsReceiverAt names at
 is_receiver_at names at h = by h.1 h.2 h.3
   where
     by : (n : Named) → slice_get names at ≡ Some (h.0, n) → suits Receiver n ≡ true → IsReceiverAt names at
@@ -55,7 +55,7 @@ is_receiver_at names at h = by h.1 h.2 h.3
     by called.IVar e t = absurd (true≢false (sym t))
     by called.MVar e t = absurd (true≢false (sym t))
 
-is_variable_at : (names : List Given) (at : ℕ) → IsSuitedAt names Variable at → IsVariableAt names at
+pub is_variable_at : (names : List Given) (at : ℕ) → IsSuitedAt names Variable at → IsVariableAt names at
 is_variable_at names at h = by h.1 h.2 h.3
   where
     by : (n : Named) → slice_get names at ≡ Some (h.0, n) → suits Variable n ≡ true → IsVariableAt names at
@@ -66,7 +66,7 @@ is_variable_at names at h = by h.1 h.2 h.3
     by called.Channel e t = absurd (true≢false (sym t))
     by (called.Port whose) e t = absurd (true≢false (sym t))
 
-is_mvar_at : (names : List Given) (at : ℕ) → IsSuitedAt names MVar at → IsMVarAt names at
+pub is_mvar_at : (names : List Given) (at : ℕ) → IsSuitedAt names MVar at → IsMVarAt names at
 is_mvar_at names at h = by h.1 h.2 h.3
   where
     by : (n : Named) → slice_get names at ≡ Some (h.0, n) → suits MVar n ≡ true → IsMVarAt names at

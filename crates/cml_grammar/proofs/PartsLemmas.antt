@@ -66,7 +66,7 @@ module _ (scope : Scope) (k : ℕ) (line : List ℕ) (rest : List ℕ) where
       ∙ ap (λ ps. with_line (says k line && is_step (form_of scope.names (words_of line))) (source k line) (asked_from (after scope k line) (suc k) ps)) (sym p.2)
 
 -- ---- a script so far, and what the parts behind it add
-with_line-append : (test : Bool) (line : SourceLine) (lines more : List SourceLine) → (lines ++ with_line test line []) ++ more ≡ lines ++ with_line test line more
+pub with_line-append : (test : Bool) (line : SourceLine) (lines more : List SourceLine) → (lines ++ with_line test line []) ++ more ≡ lines ++ with_line test line more
 with_line-append true line lines more = append_assoc lines (line ∷ []) more
 with_line-append false line lines more = ap (λ ls. ls ++ more) (append-nil lines)
 

@@ -27,7 +27,7 @@ pub record Passes (scope : Scope) (form : Form) : Type 0 where
   pub numbers : any_word is_bad_number form ≡ false
   pub room : (declares_thread form && nat_le 64 (thread_count scope.names)) ≡ false
 
-not_first : (test : Bool) (what : What) (later : Option What) → (if test then Some what else later) ≡ None → (test ≡ false) × (later ≡ None)
+pub not_first : (test : Bool) (what : What) (later : Option What) → (if test then Some what else later) ≡ None → (test ≡ false) × (later ≡ None)
 not_first true what later h = absurd (none-some what (sym h))
 not_first false what later h = (refl, h)
 

@@ -19,3 +19,5 @@ pub mod CountLemmas
 pub mod ScheduleLemmas
 pub mod JournalLemmas
 pub mod TrailLemmas
+pub mod NextLemmas
+pub mod GoingOnLemmas

@@ -37,7 +37,8 @@ declaration_object script d reads = ap (λ o. option_map_or makes_object o false
 pub step_seated : (script : Lines) (s : Step) (seat : ℕ) → ReadsStep (names_of script) s → is_seated script seat (source_of s.line) ≡ eqb s.seat seat
 step_seated script s seat reads = ap (λ o. option_map_or (λ t. eqb t seat) o false) reads.seat
 
-stands : {X : Type 0} (xs : List X) (i : ℕ) → i < length xs → (x : X) × (slice_get xs i ≡ Some x)
+-- an element stands at each place of a list
+pub stands : {X : Type 0} (xs : List X) (i : ℕ) → i < length xs → (x : X) × (slice_get xs i ≡ Some x)
 stands [] i lt = absurd (omega arith)
 stands (x ∷ xs) zero lt = (x, refl)
 stands (x ∷ xs) (suc i) lt = stands xs i (omega arith)

@@ -57,6 +57,32 @@ module _ {X : Type 0} where
       by_test true there = rw (one-add (how_many p (take i ys))) there
       by_test false there = rw (zero-add (how_many p (take i ys))) there
 
+  -- the element that passes behind as many that pass
+  pub record PassesThere (p : X → Bool) (xs : List X) (n : ℕ) : Type 0 where
+    pub place : ℕ
+    pub element : X
+    pub found : slice_get xs place ≡ Some element
+    pub passes : p element ≡ true
+    pub before : how_many p (take place xs) ≡ n
+
+  passes_later : (p : X → Bool) (x : X) (xs : List X) (n : ℕ) (t : Bool) → p x ≡ t → PassesThere p xs n → PassesThere p (x ∷ xs) (one_if t + n)
+  passes_later p x xs n t e there = record {
+    place = suc there.place;
+    element = there.element;
+    found = there.found;
+    passes = there.passes;
+    before = rw e (ap (λ m. one_if t + m) there.before);
+  }
+
+  pub passes_there : (p : X → Bool) (xs : List X) (n : ℕ) → n < how_many p xs → PassesThere p xs n
+  passes_there p [] n lt = absurd (omega (arith, lt))
+  passes_there p (x ∷ xs) n lt = by_test (p x) n refl lt (λ m. passes_there p xs m)
+    where
+      by_test : (t : Bool) (n : ℕ) → p x ≡ t → n < one_if t + how_many p xs → ((m : ℕ) → m < how_many p xs → PassesThere p xs m) → PassesThere p (x ∷ xs) n
+      by_test true zero e lt ih = record { place = 0; element = x; found = refl; passes = e; before = refl }
+      by_test true (suc n) e lt ih = rw (← one-add n) (passes_later p x xs n true e (ih n (omega (arith, lt))))
+      by_test false n e lt ih = rw (← zero-add n) (passes_later p x xs n false e (ih n (omega (arith, lt))))
+
   pub slice_get-append_left : (xs ys : List X) (k : ℕ) → k < length xs → slice_get (xs ++ ys) k ≡ slice_get xs k
   slice_get-append_left [] ys k within = absurd (omega arith)
   slice_get-append_left (x ∷ xs) ys zero within = refl
@@ -87,6 +113,13 @@ module _ {X : Type 0} where
         let here : k ≡ length xs = omega (arith, length_push xs y) in
         slice_get_pushed xs y k here ∙ ap Some (last ∙ ap f (sym here))
   ]
+
+  -- a list of what a function has at each place
+  pub listed : (f : ℕ → X) (n : ℕ) → (xs : List X) × (length xs ≡ n) × ((k : ℕ) → k < length xs → slice_get xs k ≡ Some (f k))
+  listed f zero = ([], refl, λ k lt. absurd (omega (arith, lt)))
+  listed f (suc n) =
+      let l = listed f n in
+      (l.0 ++ f n ∷ [], omega (arith, length_push l.0 (f n), l.1), each_pushed f l.0 (f n) l.2 (ap f (sym l.1)))
 
   -- what a `for` reads at its index
   pub read_at : (xs : List X) (i : ℕ) (x : X) → i < length xs → x ≡ get_or xs i x → slice_get xs i ≡ Some x

@@ -33,6 +33,15 @@ module _ (script : Lines) (seat : ℕ) where
       by_test true there = ap (λ l. k ∷ l) (there ∙ moved)
       by_test false there = there ∙ moved
 
+  -- as many as the thread has steps
+  pub positions_count : (k : ℕ) (lines : List SourceLine) → length (positions_from script seat k lines) ≡ how_many (is_seated script seat) lines
+  positions_count k [] = refl
+  positions_count k (line ∷ lines) = by_test (is_seated script seat line) (positions_count (suc k) lines)
+    where
+      by_test : (t : Bool) → length (positions_from script seat (suc k) lines) ≡ how_many (is_seated script seat) lines → length (cond t (k ∷ positions_from script seat (suc k) lines) (positions_from script seat (suc k) lines)) ≡ one_if t + how_many (is_seated script seat) lines
+      by_test true ih = omega (arith, ih)
+      by_test false ih = omega (arith, ih)
+
   -- what stands at a place of the queue: a step of the thread, behind as many of its steps
   pub record StandsThere (k : ℕ) (lines : List SourceLine) (n i : ℕ) : Type 0 where
     pub place : ℕ

@@ -144,7 +144,7 @@ module _ (script : Lines) where
   ]
 
   -- so as many are performed as there are, at most
-  at_most : (history : History) → Follows script history → length history - declared_count script ≤ length script.steps
+  pub at_most : (history : History) → Follows script history → length history - declared_count script ≤ length script.steps
   at_most history follows =
       omega (
         arith,

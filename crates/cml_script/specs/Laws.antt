@@ -1,11 +1,42 @@
 -- What the definitions come to.
-use Rattle.std.specs.Prelude.{ℕ, ◌≡◌}
-use Rattle.cml_grammar.specs.Script.{Lines}
+use Rattle.std.specs.Prelude.{ℕ, ◌≡◌, ◌<◌, List, Some, None}
+use Rattle.cml_board.specs.declared.call.Call.{Call}
+use Rattle.cml_board.specs.declared.entry.Who.TheVariants.{Seat}
+use Rattle.cml_board.specs.History.{Fits, answer}
+use Rattle.cml_grammar.specs.Script.{Lines, IsScript}
 use Rattle.cml_script.specs.declared.stop.Stop.{Stop}
-use Rattle.cml_script.specs.Schedule.{History, Schedule}
+use Rattle.cml_script.specs.declared.stop.Stop.TheVariants.{Stalled}
+use Rattle.cml_script.specs.Counting.{how_many}
+use Rattle.cml_script.specs.Schedule.{History, Schedule, is_seated, performed, next_position, step_call}
 
 -- under a limit a script has one history at most, and it ends in one way
 abbrev pub SchedulesAreOne : Type 0
 SchedulesAreOne =
     (script : Lines) (limit : ℕ) (one other : History) (first second : Stop)
     → Schedule script limit one first → Schedule script limit other second → (one ≡ other) × (first ≡ second)
+
+-- under each limit a script has a history, and it ends in some way
+abbrev pub ScriptsHaveASchedule : Type 0
+ScriptsHaveASchedule =
+    (text : List ℕ) (script : Lines) (limit : ℕ)
+    → IsScript text script → (history : History) × (stop : Stop) × Schedule script limit history stop
+
+-- how many steps the thread with this seat has
+abbrev pub steps_of_seat : Lines → ℕ → ℕ
+steps_of_seat script seat = how_many (is_seated script seat) script.steps
+
+-- the thread with this seat has a next step, whose call fits and would wait
+pub record WaitsAtNext (script : Lines) (history : History) (seat : ℕ) : Type 0 where
+  pub step : ℕ
+  pub asked : Call ℕ
+  pub next : next_position script history (Seat seat) ≡ Some step
+  pub calls : step_call script history step ≡ Some asked
+  pub fits : Fits history asked
+  pub waits : answer history asked ≡ None
+
+-- where a script's history ends stalled, each thread with steps left waits at its next one
+abbrev pub StalledThreadsWait : Type 0
+StalledThreadsWait =
+    (text : List ℕ) (script : Lines) (limit : ℕ) (history : History) (seat : ℕ)
+    → IsScript text script → Schedule script limit history Stalled → performed history seat < steps_of_seat script seat
+    → WaitsAtNext script history seat

@@ -1,7 +1,17 @@
-//! What the definitions come to, as the contract of a function that does nothing.
-ghost use Rattle.cml_script.specs.Laws.{SchedulesAreOne};
+//! What the definitions come to, each law the contract of a function that does nothing.
+ghost use Rattle.cml_script.specs.Laws.{SchedulesAreOne, ScriptsHaveASchedule, StalledThreadsWait};
 
 /// Under a limit a script has one history at most, and it ends in one way.
 pub fn schedules_are_one()
     ensures { SchedulesAreOne }
+{}
+
+/// Under each limit a script has a history, and it ends in some way.
+pub fn scripts_have_a_schedule()
+    ensures { ScriptsHaveASchedule }
+{}
+
+/// Where a script's history ends stalled, each thread with steps left waits at its next one.
+pub fn stalled_threads_wait()
+    ensures { StalledThreadsWait }
 {}

@@ -23,7 +23,7 @@ pub use auditing::audit;
 pub use cml_grammar::{Fault, Script, What, read_script};
 pub use command_line::{order, status_of_error};
 pub use ending::{Ending, status_of};
-pub use laws::schedules_are_one;
+pub use laws::{schedules_are_one, scripts_have_a_schedule, stalled_threads_wait};
 pub use perform::{Played, play};
 pub use replaying::replay;
 pub use stop::Stop;

@@ -1,0 +1,189 @@
+-- Words that suit their places mean something, and what they mean uses names well.
+use Rattle.std.proofs.Common.{◌≡◌, ℕ, ◌<◌, ◌^◌, true, if◌then◌else◌, List, [], ◌∷◌, length, slice_get, Some, refl, sym, ap, ◌∙◌, subst, true≢false, arith}
+use Rattle.std.specs.Option.{option_map}
+use Rattle.std.specs.Str.Parse.{digits_value}
+use Rattle.std.proofs.lemmas.Bool.{ne_eqb, and_parts, ltb-true}
+use Rattle.std.proofs.lemmas.Option.{none-some, same_Some, slice_get_within}
+use Rattle.cml_grammar.specs.declared.names.Named.{Named}
+use Rattle.cml_grammar.specs.declared.names.Named.TheVariants as called
+use Rattle.cml_grammar.specs.declared.forms.Declares.{Declares}
+use Rattle.cml_grammar.specs.declared.forms.Declares.TheVariants as declares
+use Rattle.cml_grammar.specs.declared.forms.Makes.{Makes}
+use Rattle.cml_grammar.specs.declared.forms.Makes.TheVariants as makes
+use Rattle.cml_grammar.specs.declared.forms.Verb.{Verb}
+use Rattle.cml_grammar.specs.declared.forms.Verb.TheVariants as verb
+use Rattle.cml_grammar.specs.declared.forms.Place.{Place}
+use Rattle.cml_grammar.specs.declared.forms.Place.TheVariants.{Fresh, Mailbox, Channel, Port, Receiver, Variable, MVar, Number}
+use Rattle.cml_grammar.specs.declared.forms.Action.{Action}
+use Rattle.cml_grammar.specs.declared.forms.Action.TheVariants as action
+use Rattle.cml_grammar.specs.Names.{Given, is_name, is_number}
+use Rattle.cml_grammar.specs.Forms.{declared_places, step_places, suits, fresh_word}
+use Rattle.cml_grammar.specs.Meaning.{makes_by, action_by}
+use Rattle.cml_grammar.specs.Reading.{IsMailboxAt, IsChannelAt, UsesWell, IsMadeWell}
+use Rattle.cml_grammar.specs.Suiting.{IsSuitedAt, Suits, AllSuit}
+use Rattle.cml_grammar.proofs.MeaningLemmas.{is_port_at, is_receiver_at, is_variable_at, is_mvar_at}
+
+is_mailbox_at : (names : List Given) (at : ℕ) → IsSuitedAt names Mailbox at → IsMailboxAt names at
+is_mailbox_at names at h = by h.1 h.2 h.3
+  where
+    by : (n : Named) → slice_get names at ≡ Some (h.0, n) → suits Mailbox n ≡ true → IsMailboxAt names at
+    by called.Mailbox e t = (h.0, e)
+    by (called.Thread seat) e t = absurd (true≢false (sym t))
+    by called.Channel e t = absurd (true≢false (sym t))
+    by (called.Port whose) e t = absurd (true≢false (sym t))
+    by called.IVar e t = absurd (true≢false (sym t))
+    by called.MVar e t = absurd (true≢false (sym t))
+
+is_channel_at : (names : List Given) (at : ℕ) → IsSuitedAt names Channel at → IsChannelAt names at
+is_channel_at names at h = by h.1 h.2 h.3
+  where
+    by : (n : Named) → slice_get names at ≡ Some (h.0, n) → suits Channel n ≡ true → IsChannelAt names at
+    by called.Channel e t = (h.0, e)
+    by (called.Thread seat) e t = absurd (true≢false (sym t))
+    by called.Mailbox e t = absurd (true≢false (sym t))
+    by (called.Port whose) e t = absurd (true≢false (sym t))
+    by called.IVar e t = absurd (true≢false (sym t))
+    by called.MVar e t = absurd (true≢false (sym t))
+
+-- a number is below 2 ^ 64
+number_small : (word : List ℕ) → is_number word ≡ true → digits_value 10 word < 2 ^ 64
+number_small [] h = absurd (true≢false (sym h))
+number_small (b ∷ bs) h = ltb-true _ _ (and_parts _ _ h).1
+
+-- the word that is given is a name
+pub fresh_is_name : (names : List Given) (places : List Place) (words : List (List ℕ)) (word : List ℕ) → AllSuit names places words → fresh_word places words ≡ Some word → is_name word ≡ true
+fresh_is_name names [] words word h e = absurd (none-some word e)
+fresh_is_name names (place ∷ places) [] word h e = absurd h
+fresh_is_name names (Fresh ∷ places) (w ∷ words) word h e = ap is_name (sym (same_Some w word e)) ∙ h.0.0
+fresh_is_name names (Mailbox ∷ places) (w ∷ words) word h e = fresh_is_name names places words word h.1 e
+fresh_is_name names (Channel ∷ places) (w ∷ words) word h e = fresh_is_name names places words word h.1 e
+fresh_is_name names (Port ∷ places) (w ∷ words) word h e = fresh_is_name names places words word h.1 e
+fresh_is_name names (Receiver ∷ places) (w ∷ words) word h e = fresh_is_name names places words word h.1 e
+fresh_is_name names (Variable ∷ places) (w ∷ words) word h e = fresh_is_name names places words word h.1 e
+fresh_is_name names (MVar ∷ places) (w ∷ words) word h e = fresh_is_name names places words word h.1 e
+fresh_is_name names (Number ∷ places) (w ∷ words) word h e = fresh_is_name names places words word h.1 e
+
+-- the words of one place, and of two
+one_word : (names : List Given) (place : Place) (rest : List (List ℕ)) → AllSuit names (place ∷ []) rest → (w : List ℕ) × (rest ≡ w ∷ []) × Suits names place w
+one_word names place [] h = absurd h
+one_word names place (w ∷ []) h = (w, refl, h.0)
+one_word names place (v ∷ w ∷ ws) h = absurd h.1
+
+two_words : (names : List Given) (first second : Place) (rest : List (List ℕ)) → AllSuit names (first ∷ second ∷ []) rest → (v : List ℕ) × (w : List ℕ) × (rest ≡ v ∷ w ∷ []) × Suits names first v × Suits names second w
+two_words names first second [] h = absurd h
+two_words names first second (v ∷ []) h = absurd h.1
+two_words names first second (v ∷ w ∷ []) h = (v, w, refl, h.0, h.1.0)
+two_words names first second (v ∷ w ∷ x ∷ xs) h = absurd h.1.1
+
+-- what a declaration makes, and the name that it gives
+pub record MakesThis (names : List Given) (what : Declares) (rest : List (List ℕ)) : Type 0 where
+  pub made : Makes
+  pub name : List ℕ
+  pub makes : makes_by names what rest ≡ Some made
+  pub well : IsMadeWell names (length names) made
+  pub gives : fresh_word (declared_places what rest) rest ≡ Some name
+
+makes_alone : (names : List Given) (what : Declares) (made : Makes) → IsMadeWell names (length names) made → ((w : List ℕ) → makes_by names what (w ∷ []) ≡ Some made)
+    → ((w : List ℕ) → declared_places what (w ∷ []) ≡ Fresh ∷ []) → (rest : List (List ℕ)) → AllSuit names (Fresh ∷ []) rest → MakesThis names what rest
+makes_alone names what made well makes places rest h =
+    let w = one_word names Fresh rest h in
+    subst (MakesThis names what) (sym w.1) (record {
+      made = made;
+      name = w.0;
+      makes = makes w.0;
+      well = well;
+      gives = ap (λ (ps : List Place). fresh_word ps (w.0 ∷ [])) (places w.0);
+    })
+
+pub makes_this : (names : List Given) (what : Declares) (rest : List (List ℕ)) → AllSuit names (declared_places what rest) rest → MakesThis names what rest
+makes_this names declares.Mailbox rest h = makes_alone names declares.Mailbox makes.Mailbox tt (λ w. refl) (λ w. refl) rest h
+makes_this names declares.Channel rest h = makes_alone names declares.Channel makes.Channel tt (λ w. refl) (λ w. refl) rest h
+makes_this names declares.IVar rest h = makes_alone names declares.IVar makes.IVar tt (λ w. refl) (λ w. refl) rest h
+makes_this names declares.Thread rest h = makes_alone names declares.Thread makes.Thread tt (λ w. refl) (λ w. refl) rest h
+makes_this names declares.Port rest h =
+    let w = two_words names Channel Fresh rest h in
+    let at : ℕ = w.3.0 in
+    let is = is_channel_at names at w.3.2 in
+    subst (MakesThis names declares.Port) (sym w.2) (record {
+      made = makes.Port at;
+      name = w.1;
+      makes = ap (option_map makes.Port) w.3.1;
+      well = (is, slice_get_within names at _ is.1);
+      gives = refl;
+    })
+makes_this names declares.MVar [] h = absurd h
+makes_this names declares.MVar (w ∷ []) h = makes_alone names declares.MVar makes.MVar tt (λ w. refl) (λ w. refl) (w ∷ []) h
+makes_this names declares.MVar (w ∷ message ∷ []) h = record {
+  made = makes.MVarInit (digits_value 10 message);
+  name = w;
+  makes = refl;
+  well = number_small message h.1.0;
+  gives = refl;
+}
+makes_this names declares.MVar (w ∷ v ∷ x ∷ ws) h =
+    let words : List (List ℕ) = w ∷ v ∷ x ∷ ws in
+    let alone : AllSuit names (Fresh ∷ []) words = subst (λ t. AllSuit names (if t then Fresh ∷ Number ∷ [] else Fresh ∷ []) words) (ne_eqb (length words) 2 (λ e. omega (arith, e))) h in
+    absurd alone.1
+
+-- what a step asks for
+pub record AsksThis (names : List Given) (v : Verb) (rest : List (List ℕ)) : Type 0 where
+  pub action : Action
+  pub asks : action_by names v rest ≡ Some action
+  pub uses : UsesWell names action
+
+pub asks_this : (names : List Given) (v : Verb) (rest : List (List ℕ)) → AllSuit names (step_places v) rest → AsksThis names v rest
+asks_this names verb.Send rest h =
+    let w = two_words names Mailbox Number rest h in
+    subst (AsksThis names verb.Send) (sym w.2) (record {
+      action = action.Send w.3.0 (digits_value 10 w.1);
+      asks = ap (option_map (λ at. action.Send at (digits_value 10 w.1))) w.3.1;
+      uses = (is_mailbox_at names w.3.0 w.3.2, number_small w.1 w.4);
+    })
+asks_this names verb.Multicast rest h =
+    let w = two_words names Channel Number rest h in
+    subst (AsksThis names verb.Multicast) (sym w.2) (record {
+      action = action.Multicast w.3.0 (digits_value 10 w.1);
+      asks = ap (option_map (λ at. action.Multicast at (digits_value 10 w.1))) w.3.1;
+      uses = (is_channel_at names w.3.0 w.3.2, number_small w.1 w.4);
+    })
+asks_this names verb.Put rest h =
+    let w = two_words names Variable Number rest h in
+    subst (AsksThis names verb.Put) (sym w.2) (record {
+      action = action.Put w.3.0 (digits_value 10 w.1);
+      asks = ap (option_map (λ at. action.Put at (digits_value 10 w.1))) w.3.1;
+      uses = (is_variable_at names w.3.0 w.3.2, number_small w.1 w.4);
+    })
+asks_this names verb.Swap rest h =
+    let w = two_words names MVar Number rest h in
+    subst (AsksThis names verb.Swap) (sym w.2) (record {
+      action = action.Swap w.3.0 (digits_value 10 w.1);
+      asks = ap (option_map (λ at. action.Swap at (digits_value 10 w.1))) w.3.1;
+      uses = (is_mvar_at names w.3.0 w.3.2, number_small w.1 w.4);
+    })
+asks_this names verb.Port rest h =
+    let w = two_words names Channel Fresh rest h in
+    subst (AsksThis names verb.Port) (sym w.2) (record { action = action.Port w.3.0; asks = ap (option_map action.Port) w.3.1; uses = is_channel_at names w.3.0 w.3.2 })
+asks_this names verb.Copy rest h =
+    let w = two_words names Port Fresh rest h in
+    subst (AsksThis names verb.Copy) (sym w.2) (record { action = action.Copy w.3.0; asks = ap (option_map action.Copy) w.3.1; uses = is_port_at names w.3.0 w.3.2 })
+asks_this names verb.Recv rest h =
+    let w = one_word names Receiver rest h in
+    subst (AsksThis names verb.Recv) (sym w.1) (record { action = action.Recv w.2.0; asks = ap (option_map action.Recv) w.2.1; uses = is_receiver_at names w.2.0 w.2.2 })
+asks_this names verb.Poll rest h =
+    let w = one_word names Receiver rest h in
+    subst (AsksThis names verb.Poll) (sym w.1) (record { action = action.Poll w.2.0; asks = ap (option_map action.Poll) w.2.1; uses = is_receiver_at names w.2.0 w.2.2 })
+asks_this names verb.Close rest h =
+    let w = one_word names Port rest h in
+    subst (AsksThis names verb.Close) (sym w.1) (record { action = action.Close w.2.0; asks = ap (option_map action.Close) w.2.1; uses = is_port_at names w.2.0 w.2.2 })
+asks_this names verb.Get rest h =
+    let w = one_word names Variable rest h in
+    subst (AsksThis names verb.Get) (sym w.1) (record { action = action.Get w.2.0; asks = ap (option_map action.Get) w.2.1; uses = is_variable_at names w.2.0 w.2.2 })
+asks_this names verb.GetPoll rest h =
+    let w = one_word names Variable rest h in
+    subst (AsksThis names verb.GetPoll) (sym w.1) (record { action = action.GetPoll w.2.0; asks = ap (option_map action.GetPoll) w.2.1; uses = is_variable_at names w.2.0 w.2.2 })
+asks_this names verb.Take rest h =
+    let w = one_word names MVar rest h in
+    subst (AsksThis names verb.Take) (sym w.1) (record { action = action.Take w.2.0; asks = ap (option_map action.Take) w.2.1; uses = is_mvar_at names w.2.0 w.2.2 })
+asks_this names verb.TakePoll rest h =
+    let w = one_word names MVar rest h in
+    subst (AsksThis names verb.TakePoll) (sym w.1) (record { action = action.TakePoll w.2.0; asks = ap (option_map action.TakePoll) w.2.1; uses = is_mvar_at names w.2.0 w.2.2 })

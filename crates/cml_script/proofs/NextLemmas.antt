@@ -1,0 +1,166 @@
+-- What comes next of a script that was read: the call of each thread's next step is there and fits, and so is that of
+-- the next declared object.
+use Rattle.std.proofs.Common.{◌≡◌, ℕ, zero, suc, ◌+◌, ◌<◌, ◌≤◌, ◌^◌, List, length, slice_get, true, Option, Some, None, MatchOption, refl, sym, ap, subst, ◌∙◌, arith}
+use Rattle.std.specs.Option.{option_map}
+use Rattle.std.proofs.lemmas.Option.{same_Some, none-some, slice_get_within}
+use Rattle.std.proofs.lemmas.List.{length-map}
+use Rattle.std.proofs.lemmas.Bool.{false≢true}
+use Rattle.cml_board.specs.declared.call.Name.{Name}
+use Rattle.cml_board.specs.declared.call.Kind.TheVariants as kind
+use Rattle.cml_board.specs.declared.call.Call.{Call}
+use Rattle.cml_board.specs.declared.call.Call.TheVariants as call
+use Rattle.cml_board.specs.declared.entry.Who.TheVariants.{Seat}
+use Rattle.cml_board.specs.declared.entry.Reply.{Reply}
+use Rattle.cml_board.specs.History.{Lawful, Fits, answer, new_name}
+use Rattle.cml_grammar.specs.declared.forms.Makes.{Makes}
+use Rattle.cml_grammar.specs.declared.forms.Makes.TheVariants as makes
+use Rattle.cml_grammar.specs.declared.script.Declaration.{Declaration}
+use Rattle.cml_grammar.specs.declared.script.Step.{Step}
+use Rattle.cml_grammar.specs.Script.{Lines}
+use Rattle.cml_grammar.specs.Meaning.{names_of}
+use Rattle.cml_grammar.specs.Reading.{source_of, ReadsDeclaration, ReadsStep}
+use Rattle.cml_grammar.proofs.ReadableLemmas.{CanBeRead}
+use Rattle.cml_script.specs.declared.binding.Binding.{Binding}
+use Rattle.cml_script.specs.Schedule.{History, Follows, NoneReady, makes_object, is_object, declared_count, performed, next_position, step_call, object_of, binding_of}
+use Rattle.cml_script.specs.Plan.{IsKnown}
+use Rattle.cml_script.specs.Stage.{Play, Stands, IsNextObject, IsNext, IsReadyOf, NoneReadyOf, IsLeast, IsLeastBelow, earlier_of, call_on}
+use Rattle.cml_script.proofs.ListLemmas.{mapped_at, how_many-le, passes_there, listed}
+use Rattle.cml_script.proofs.LineLemmas.{all_at, stands, names_objects, has_seats, asks_for_ports, declaration_object}
+use Rattle.cml_script.proofs.KindLemmas.{next_object}
+use Rattle.cml_script.proofs.ReadyLemmas.{none_queued, queued_within, waits_there, ready_there, least_at_first, least_more, least_of_all}
+use Rattle.cml_script.proofs.FitLemmas.{fits_kind, channel_at, step_calls, call_is, fits_use}
+use Rattle.cml_script.proofs.StandLemmas.{declared_kind}
+use Rattle.cml_script.proofs.UseLemmas.{used_is_bound}
+use Rattle.cml_script.proofs.ScheduleLemmas.{at_most}
+
+pub known : (script : Lines) → CanBeRead script → IsKnown script
+known script read = record {
+  named = names_objects script read.declarations read.declared read.reading.gives read.reading.declarations;
+  seats = has_seats script read.steps read.asked read.reading.steps read.reading.threads;
+  given = read.reading.given;
+  asks = asks_for_ports script read.steps read.asked read.reading.steps;
+}
+
+-- the call of a step is there, and fits
+pub record IsCall (script : Lines) (history : History) (i : ℕ) : Type 0 where
+  pub asked : Call ℕ
+  pub calls : step_call script history i ≡ Some asked
+  pub fits : Fits history asked
+
+-- the call that makes the next declared object is there, fits, and makes it
+pub record IsMaking (play : Play) : Type 0 where
+  pub asked : Call ℕ
+  pub next : IsNextObject play asked
+  pub fits : Fits play.history asked
+  pub answers : answer play.history asked ≡ Some (new_name play.history)
+
+-- whether a thread's next step is ready
+abbrev Candidate : Lines → History → ℕ → Type 0
+Candidate script history seat = (o : Option ℕ) × MatchOption o (NoneReadyOf script history seat) (λ i. IsReadyOf script history seat i)
+
+module _ (script : Lines) (read : CanBeRead script) (history : History) (lawful : Lawful history) (follows : Follows script history) where
+  -- the limit isn't looked at, and is as high as a stage's may be
+  abbrev play : Play
+  play = record { script = script; history = history; limit = 2 ^ 32 }
+
+  counts : (xs : List ℕ) × (length xs ≡ 64) × ((k : ℕ) → k < length xs → slice_get xs k ≡ Some (performed history (k + 1)))
+  counts = listed (λ thread. performed history (thread + 1)) 64
+
+  bindings : (xs : List Binding) × (length xs ≡ length (names_of script)) × ((k : ℕ) → k < length xs → slice_get xs k ≡ Some (binding_of script history k))
+  bindings = listed (binding_of script history) (length (names_of script))
+
+  -- so many entries can't be more than there are lines
+  room : length history ≤ 2 ^ 32
+  room =
+      omega (
+        arith,
+        at_most script history follows,
+        how_many-le (is_object script) script.declarations,
+        ap length read.declared,
+        ap length read.asked,
+        length-map read.declarations (λ (d : Declaration). source_of d.line),
+        length-map read.steps (λ (s : Step). source_of s.line),
+        read.reading.few,
+        read.reading.short,
+      )
+
+  all_stands : Stands play counts.0 bindings.0
+  all_stands = record {
+    lawful = lawful;
+    room = room;
+    bounded = omega arith;
+    follows = follows;
+    known = known script read;
+    counted = record { seats = counts.1; each = λ thread lt. counts.2 thread (omega (arith, lt, counts.1)) };
+    bound = record { all = bindings.1; each = bindings.2 };
+  }
+
+  -- Steps.
+
+  pub next_call : (seat i : ℕ) → declared_count script ≤ length history → next_position script history (Seat seat) ≡ Some i → IsCall script history i
+  next_call seat i all next =
+      let within = queued_within script history seat i next in
+      let there = stands read.steps i (omega (arith, within, ap length read.asked, length-map read.steps (λ (x : Step). source_of x.line))) in
+      let s = there.0 in
+      let uses = (all_at (ReadsStep (names_of script)) read.steps i s read.reading.steps there.1).uses in
+      let bound = used_is_bound all_stands read.steps i seat s read.asked read.reading.steps read.reading.earlier there.1 next all in
+      let name : Name = record { 0 = bound.object } in
+      record {
+        asked = call_on s.action name;
+        calls = step_calls script history read.steps i s (call_on s.action name) read.asked read.reading.steps there.1
+            (call_is (object_of script history) s.action ∙ ap (option_map (λ (o : ℕ). call_on s.action (record { 0 = o }))) bound.stands);
+        fits = fits_use (names_of script) s.action history name uses bound.kind;
+      }
+
+  candidate : declared_count script ≤ length history → (seat : ℕ) → Candidate script history seat
+  candidate all seat = by_next (next_position script history (Seat seat)) refl
+    where
+      by_answer : (i : ℕ) (c : Call ℕ) (r : Option (Reply ℕ)) → next_position script history (Seat seat) ≡ Some i → step_call script history i ≡ Some c → answer history c ≡ r → Candidate script history seat
+      by_answer i c None next calls e = (None, waits_there script history seat i c next calls e)
+      by_answer i c (Some r) next calls e = (Some i, ready_there script history seat i c next calls (λ none. none-some r (sym none ∙ e)))
+
+      by_next : (n : Option ℕ) → next_position script history (Seat seat) ≡ n → Candidate script history seat
+      by_next None e = (None, none_queued script history seat e)
+      by_next (Some i) e = let c = next_call seat i all e in by_answer i c.asked (answer history c.asked) e c.calls refl
+
+  least_below : declared_count script ≤ length history → (n : ℕ) → (o : Option ℕ) × IsLeastBelow script history n o
+  least_below all zero = (None, least_at_first script history (known script read).seats)
+  least_below all (suc n) =
+      let below = least_below all n in
+      let next = candidate all (n + 1) in
+      let same : n + 1 ≡ suc n = omega arith in
+      (earlier_of below.0 next.0, subst (λ m. IsLeastBelow script history m (earlier_of below.0 next.0)) same (least_more script history n below.0 next.0 below.1 next.1))
+
+  -- a step is the least that is ready, or none is
+  pub least_ready : declared_count script ≤ length history → (o : Option ℕ) × MatchOption o (NoneReady script history) (IsLeast script history)
+  least_ready all =
+      let least = least_below all 64 in
+      (least.0, least_of_all script history (known script read).seats least.0 least.1)
+
+  -- Declarations.
+
+  pub next_making : length history < declared_count script → IsMaking play
+  next_making lt =
+      let there = passes_there (is_object script) script.declarations (length history) lt in
+      let given = stands read.declarations there.place (omega (arith, slice_get_within script.declarations there.place there.element there.found, ap length read.declared, length-map read.declarations (λ (x : Declaration). source_of x.line))) in
+      let d = given.0 in
+      let line = mapped_at (λ (x : Declaration). source_of x.line) read.declarations script.declarations there.place d read.declared given.1 in
+      let reads = all_at (ReadsDeclaration (names_of script)) read.declarations there.place d read.reading.declarations given.1 in
+      let object = sym (declaration_object script d reads) ∙ ap (is_object script) (same_Some _ _ (sym line ∙ there.found)) ∙ there.passes in
+      by_makes d.makes object (next_object play (known script read).named there.place d (sym there.before) line reads (read.reading.gives.made there.place d given.1))
+    where
+      by_makes : (m : Makes) → makes_object m ≡ true → IsNext play m → IsMaking play
+      by_makes makes.Thread is next = absurd (false≢true is)
+      by_makes makes.Mailbox is next = record { asked = call.NewMailbox; next = next; fits = (tt, tt); answers = refl }
+      by_makes makes.Channel is next = record { asked = call.NewChannel; next = next; fits = (tt, tt); answers = refl }
+      by_makes makes.IVar is next = record { asked = call.NewIVar; next = next; fits = (tt, tt); answers = refl }
+      by_makes makes.MVar is next = record { asked = call.NewMVar; next = next; fits = (tt, tt); answers = refl }
+      by_makes (makes.MVarInit message) is next = record { asked = call.MVarInit message; next = next.0; fits = (tt, tt); answers = refl }
+      by_makes (makes.Port channel) is (is_channel, within, o, object, next) =
+          let name : Name = record { 0 = o } in
+          record {
+            asked = call.NewPort name;
+            next = next;
+            fits = fits_kind history name kind.Channel (call.NewPort name) (declared_kind all_stands channel o kind.Channel within object (channel_at (names_of script) channel is_channel)) refl refl;
+            answers = refl;
+          }
