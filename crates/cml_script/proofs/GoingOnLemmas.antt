@@ -13,12 +13,13 @@ use Rattle.cml_script.specs.declared.stop.Stop.{Stop}
 use Rattle.cml_script.specs.declared.stop.Stop.TheVariants.{Done, Stalled, Full}
 use Rattle.cml_script.specs.Schedule.{History, Schedule, Follows, Ends, NoneReady, declared_count, left, performed, positions_from, step_call}
 use Rattle.cml_script.specs.Stage.{IsLeast}
-use Rattle.cml_script.specs.Laws.{ScriptsHaveASchedule, StalledThreadsWait, WaitsAtNext, steps_of_seat}
+use Rattle.cml_script.specs.Laws.{ScriptsHaveASchedule, StalledThreadsWait, SomeThreadWaits, WaitsAtNext, steps_of_seat}
 use Rattle.cml_script.proofs.LineLemmas.{stands}
 use Rattle.cml_script.proofs.QueueLemmas.{positions_count}
 use Rattle.cml_script.proofs.GivingLemmas.{next_is}
 use Rattle.cml_script.proofs.ReadyLemmas.{ready_there}
 use Rattle.cml_script.proofs.StandLemmas.{follows_declaration, follows_step}
+use Rattle.cml_script.proofs.WaitingLemmas.{some_behind}
 use Rattle.cml_script.proofs.NextLemmas.{next_call, next_making, least_ready}
 
 -- one more entry comes next
@@ -118,3 +119,9 @@ has_schedule text script limit is = schedule_from script (can_be_read text scrip
 
 pub stalled_wait : StalledThreadsWait
 stalled_wait text script limit history seat is = waits_at_next script (can_be_read text script is) limit history seat
+
+pub some_waits : SomeThreadWaits
+some_waits text script limit history is s =
+    let read = can_be_read text script is in
+    let behind = some_behind script read history s.follows s.ends.2 in
+    (behind.0, waits_at_next script read limit history behind.0 s behind.1)

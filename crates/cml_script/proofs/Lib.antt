@@ -20,4 +20,5 @@ pub mod ScheduleLemmas
 pub mod JournalLemmas
 pub mod TrailLemmas
 pub mod NextLemmas
+pub mod WaitingLemmas
 pub mod GoingOnLemmas

@@ -44,10 +44,10 @@ with_step false None rest = rest
 with_step false (Some i) rest = i ∷ rest
 
 module _ (script : Lines) where
-  declares : (before : History) (entry : Entry ℕ) → Follows script (entry ∷ before) → length before < declared_count script → IsDeclaration script before entry
+  pub declares : (before : History) (entry : Entry ℕ) → Follows script (entry ∷ before) → length before < declared_count script → IsDeclaration script before entry
   declares before entry follows lt = subst (λ t. MatchBool t (IsDeclaration script before entry) (IsStep script before entry)) (lt-ltb (length before) (declared_count script) lt) follows.0
 
-  steps : (before : History) (entry : Entry ℕ) → Follows script (entry ∷ before) → declared_count script ≤ length before → IsStep script before entry
+  pub steps : (before : History) (entry : Entry ℕ) → Follows script (entry ∷ before) → declared_count script ≤ length before → IsStep script before entry
   steps before entry follows ge = subst (λ t. MatchBool t (IsDeclaration script before entry) (IsStep script before entry)) (le-ltb (length before) (declared_count script) ge) follows.0
 
   -- a line is one thread's

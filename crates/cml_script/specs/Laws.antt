@@ -40,3 +40,9 @@ StalledThreadsWait =
     (text : List ℕ) (script : Lines) (limit : ℕ) (history : History) (seat : ℕ)
     → IsScript text script → Schedule script limit history Stalled → performed history seat < steps_of_seat script seat
     → WaitsAtNext script history seat
+
+-- and there is such a thread
+abbrev pub SomeThreadWaits : Type 0
+SomeThreadWaits =
+    (text : List ℕ) (script : Lines) (limit : ℕ) (history : History)
+    → IsScript text script → Schedule script limit history Stalled → (seat : ℕ) × WaitsAtNext script history seat

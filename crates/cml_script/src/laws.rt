@@ -1,5 +1,5 @@
 //! What the definitions come to, each law the contract of a function that does nothing.
-ghost use Rattle.cml_script.specs.Laws.{SchedulesAreOne, ScriptsHaveASchedule, StalledThreadsWait};
+ghost use Rattle.cml_script.specs.Laws.{SchedulesAreOne, ScriptsHaveASchedule, StalledThreadsWait, SomeThreadWaits};
 
 /// Under a limit a script has one history at most, and it ends in one way.
 pub fn schedules_are_one()
@@ -11,7 +11,9 @@ pub fn scripts_have_a_schedule()
     ensures { ScriptsHaveASchedule }
 {}
 
-/// Where a script's history ends stalled, each thread with steps left waits at its next one.
+/// Where a script's history ends stalled, each thread with steps left waits at its next one, and there is
+/// such a thread.
 pub fn stalled_threads_wait()
-    ensures { StalledThreadsWait }
+    ensures each { StalledThreadsWait }
+    ensures some { SomeThreadWaits }
 {}

@@ -1,5 +1,8 @@
-use Rattle.cml_script.proofs.GoingOnLemmas.{stalled_wait}
+use Rattle.cml_script.proofs.GoingOnLemmas.{stalled_wait, some_waits}
 use Rattle.cml_script.proofs.laws.stalled_threads_wait.Goals as goal
 
-pub returns : goal.returns
-returns c = stalled_wait
+pub returns-clause-each : goal.returns-clause-each
+returns-clause-each c = stalled_wait
+
+pub returns-clause-some : goal.returns-clause-some
+returns-clause-some c = some_waits
