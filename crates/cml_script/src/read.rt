@@ -39,7 +39,7 @@ pub fn read_all<R: Read>(alloc: Global, reader: &mut R) -> Result<Vec<u8>, Unrea
     let mut bytes = Vec::new(alloc);
     let mut room = [0; ROOM];
     for _ in 0..MOST_CALLS {
-        if bytes.len() >= MOST_BYTES || read_more(reader, &mut room, &mut bytes)? {
+        if read_more(reader, &mut room, &mut bytes)? || bytes.len() >= MOST_BYTES {
             return Ok(bytes);
         }
     }
