@@ -1,6 +1,7 @@
 #!/bin/sh
-# The built program from outside: `sh tests/program.sh PROGRAM`. Each example, each exit status, each fault, and many
-# texts for which the plain program of tests/plain.awk says what is to come. Its last line is `N passed, M failed`.
+# The built program from outside: `sh tests/program.sh PROGRAM`. Each example, the cases of tests/faults and
+# tests/reports (tests/tables.sh says how they are written), each exit status, and many texts for which the plain
+# program of tests/plain.awk says what is to come. Its last line is `N passed, M failed`.
 LC_ALL=C
 export LC_ALL
 program=$(cd "$(dirname "$1")" && pwd)/$(basename "$1")
@@ -41,56 +42,67 @@ holds() {
 }
 
 # A script, whose lines are parted by ` / `, to standard output.
-script() { printf '%s\n' "$1" | sed 's| */ *|\n|g'; }
+script() { printf '%s\n' "$1" | sed 's| / |\n|g'; }
+
+. tests/tables.sh
 
 examples() {
     for example in examples/*.cml; do
-        report=${example%.cml}.report
-        want=0
-        grep -q '^end: stalled' "$report" && want=1
-        run replay < "$example"
-        if [ "$status" = "$want" ] && cmp -s "$work/out" "$report" && [ ! -s "$work/err" ]; then
-            pass
-        else
-            fail "$example: status $status"
-        fi
+        reported "$example" "$example" "${example%.cml}.report"
     done
 }
 
-# fault SCRIPT FAULT
-fault() {
-    script "$1" > "$work/in"
-    run replay < "$work/in"
-    expect "$2" 2 none "script: $2"
+# written CASE TEXT FAULT: a text as printf writes it.
+written() {
+    # shellcheck disable=SC2059
+    printf "$2" > "$work/in"
+    told "$1" "$3"
 }
 
-faults() {
-    printf 'cml 1' > "$work/in"
+# Texts that no line of a table can hold.
+odd_texts() {
+    written 'nothing' '' 'line 1: bad header'
+    written 'no line end' 'cml 1' 'line 1: no line end'
+    written 'a last line without its end, after good steps' \
+        'cml 1\nmailbox m\nthread A\nA send m 5\nA send m 6\nA recv' 'line 6: no line end'
+    written 'a bad byte in a last line without line end' 'cml 1\n\t' 'line 2: no line end'
+    written 'an empty first line' '\n' 'line 1: bad header'
+    written 'a space at the front' 'cml 1\n thread A\n' 'line 2: bad words'
+    written 'a space at the end' 'cml 1\nthread A \n' 'line 2: bad words'
+    written 'a line that is a space' 'cml 1\n \n' 'line 2: bad words'
+    written "a bad byte in the header's line" 'cml\t1\n' 'line 1: bad bytes'
+    written 'a carriage return' 'cml 1\r\n' 'line 1: bad bytes'
+    written 'a carriage return in a note' 'cml 1\n#\r\n' 'line 2: bad bytes'
+    written 'a tab in a note' 'cml 1\n#\tnote\n' 'line 2: bad bytes'
+    written 'a byte of 31' 'cml 1\n#\037\n' 'line 2: bad bytes'
+    written 'a byte of 127' 'cml 1\n#\177\n' 'line 2: bad bytes'
+    written 'a byte of 128' 'cml 1\n#\200\n' 'line 2: bad bytes'
+    written 'bytes of 32 and 126' 'cml 1\n# ~\n' none
+}
+
+# So many threads, T1 and so on.
+threads() { awk -v count="$1" 'BEGIN { print "cml 1"; for (i = 1; i <= count; i++) print "thread T" i }'; }
+
+# A script of so many bytes, most of them a note.
+note() { awk -v bytes="$1" 'BEGIN { printf "cml 1\n#"; for (n = 8; n < bytes; n++) printf "#"; print "" }'; }
+
+long_texts() {
+    threads 64 > "$work/in"
+    told '64 threads' none
+    threads 65 > "$work/in"
+    told '65 threads' 'line 66: too many threads'
+    { threads 64; echo 'thread T1'; } > "$work/in"
+    told 'a name that is taken, at the limit of threads' 'line 66: name taken'
+    note 1048576 > "$work/in"
+    [ "$(wc -c < "$work/in")" -eq 1048576 ] || fail 'the longest script has another length'
     run replay < "$work/in"
-    expect 'no line end' 2 none 'script: line 1: no line end'
-    printf 'cml 1\n#\r\n' > "$work/in"
-    run replay < "$work/in"
-    expect 'bad bytes' 2 none 'script: line 2: bad bytes'
-    run replay < /dev/null
-    expect 'an empty input' 2 none 'script: line 1: bad header'
-    fault 'cml 2' 'line 1: bad header'
-    fault 'cml 1 / thread A / A  recv m' 'line 3: bad words'
-    fault 'cml 1 / lane A' 'line 2: unknown line'
-    fault 'cml 1 / mailbox m / thread A / A poll m / mailbox k' 'line 5: late declaration'
-    fault 'cml 1 / thread A / A jump' 'line 3: unknown step'
-    fault 'cml 1 / mailbox m / thread A / A send m' 'line 4: word count'
-    fault 'cml 1 / thread port' 'line 2: bad name'
-    fault 'cml 1 / mailbox m / mailbox m' 'line 3: name taken'
-    fault 'cml 1 / thread A / A recv m' 'line 3: unknown name'
-    fault 'cml 1 / ivar i / thread A / A take i' 'line 4: wrong kind'
-    fault 'cml 1 / channel c / thread A / thread B / A port c p / B recv p' 'line 6: not yours'
-    fault 'cml 1 / mailbox m / thread A / A send m 05' 'line 4: bad number'
-    { echo 'cml 1'; awk 'BEGIN { for (i = 1; i <= 65; i++) print "thread A" i }'; } > "$work/in"
-    run replay < "$work/in"
-    expect '65 threads' 2 none 'script: line 66: too many threads'
+    expect 'the longest script, of 1,048,576 bytes' 0 'end: done 0' none
+    note 1048577 > "$work/in"
+    told 'a byte more than a script has' 'too long'
+    awk 'BEGIN { while (n++ < 1048577) printf "?" }' > "$work/in"
+    told 'the length before all other faults' 'too long'
     head -c 1048577 /dev/zero > "$work/in"
-    run replay < "$work/in"
-    expect 'a byte more than a script has' 2 none 'script: too long'
+    told 'a byte too many, and all of them bad' 'too long'
 }
 
 endings() {
@@ -106,10 +118,6 @@ endings() {
     run replay --limit=1 < "$work/in"
     expect 'a declaration that the limit leaves out' 6 \
         "$(printf 'mailbox m: sent 0 got 0 waits 0\nmailbox k: not made\nend: full 0 left 1')" none
-    awk 'BEGIN { print "cml 1"; n = 7; printf "#"; while (++n < 1048576) printf "."; print "" }' > "$work/in"
-    [ "$(wc -c < "$work/in")" -eq 1048576 ] || fail 'the longest script has another length'
-    run replay < "$work/in"
-    expect 'the longest script' 0 'end: done 0' none
 }
 
 usages() {
@@ -174,7 +182,10 @@ agree() {
 }
 
 examples
-faults
+fault_tables
+odd_texts
+long_texts
+report_tables
 endings
 usages
 troubles
