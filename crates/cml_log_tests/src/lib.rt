@@ -1,0 +1,5 @@
+//! Tests that any log of numbers passes.
+#![tactic(auto)]
+
+#[cfg(test)]
+mod tests;

@@ -1,0 +1,152 @@
+//! Short runs whose every reader is known.
+use super::calls::{advance, close, copy, push, seen, shape};
+use cml_log::{Key, MessageLog};
+use std::alloc::{AllocError, Global};
+use std::process::Abort;
+use std::test::Fail;
+
+/// A call, or several. A cursor is named by how many were opened or copied before it.
+pub enum Call {
+    /// The first of so many items, each one more than the one before.
+    Push(u64, u64),
+    Open,
+    Copy(usize),
+    Close(usize),
+    /// A cursor, past so many items.
+    Advance(usize, usize),
+}
+
+use Call::{Advance, Close, Copy, Open, Push};
+
+/// A call in plain words, the call, and what the readers say behind it: the first kept place, the next place, how many
+/// chunks and open cursors there are, and of each cursor where it stands, how many items it is owed, and the next one.
+pub type Row = (&'static str, Call, &'static str);
+
+/// A log in chunks of 4.
+pub const IN_CHUNKS_OF_FOUR: &[Row] = &[
+    (
+        "no cursor, and the chunk isn't full",
+        Push(10, 3),
+        "(0, 3, 1, 0)",
+    ),
+    (
+        "one cursor before the last item",
+        Open,
+        "(0, 3, 1, 1) Some((3, 0, None))",
+    ),
+    (
+        "the next chunk is made by the item that fills the first",
+        Push(13, 1),
+        "(0, 4, 2, 1) Some((3, 1, Some(13)))",
+    ),
+    (
+        "the first chunk is given back",
+        Advance(0, 1),
+        "(4, 4, 1, 1) Some((4, 0, None))",
+    ),
+];
+
+/// A log in chunks of 1.
+pub const IN_CHUNKS_OF_ONE: &[Row] = &[
+    ("a cursor", Open, "(0, 0, 1, 1) Some((0, 0, None))"),
+    (
+        "one item before the next place",
+        Push(5, 1),
+        "(0, 1, 2, 1) Some((0, 1, Some(5)))",
+    ),
+    (
+        "none is kept",
+        Advance(0, 1),
+        "(1, 1, 1, 1) Some((1, 0, None))",
+    ),
+];
+
+/// A log in chunks of 4, with a cursor that is copied and one that is closed.
+pub const CLOSED_AND_COPIED: &[Row] = &[
+    ("a slow cursor", Open, "(0, 0, 1, 1) Some((0, 0, None))"),
+    (
+        "that is owed all",
+        Push(20, 5),
+        "(0, 5, 2, 1) Some((0, 5, Some(20)))",
+    ),
+    (
+        "a copy stands where its source stands",
+        Copy(0),
+        "(0, 5, 2, 2) Some((0, 5, Some(20))) Some((0, 5, Some(20)))",
+    ),
+    (
+        "a cursor moves alone, and leaves the other",
+        Advance(1, 5),
+        "(0, 5, 2, 2) Some((0, 5, Some(20))) Some((5, 0, None))",
+    ),
+    (
+        "the slow one's chunk is given back",
+        Close(0),
+        "(4, 5, 1, 1) None Some((5, 0, None))",
+    ),
+    (
+        "a closed key is given again, at the next place",
+        Open,
+        "(4, 5, 1, 2) Some((5, 0, None)) Some((5, 0, None)) Some((5, 0, None))",
+    ),
+];
+
+/// Makes the calls, and compares the readers behind each.
+pub fn shows<L: MessageLog<u64>>(
+    rt: &(impl Abort + AllocGlobal),
+    mut log: L,
+    rows: &[Row],
+) -> Result<(), Fail> {
+    let mut keys = Vec::new(rt.alloc());
+    for (case, call, expected) in rows.iter() {
+        perform(&mut log, &mut keys, call)?;
+        let text = shown(rt.alloc(), &log, &keys)?;
+        assert_eq!(rt; text.as_str(), *expected, "{case}");
+    }
+    Ok(())
+}
+
+fn perform<L: MessageLog<u64>>(log: &mut L, keys: &mut Vec<Key>, call: &Call) -> Result<(), Fail> {
+    match *call {
+        Push(first, count) => push_all(log, first, count)?,
+        Open => keys.push(log.open_cursor()?)?,
+        Copy(cursor) => {
+            let key = key_of(keys, cursor)?;
+            keys.push(copy(log, key)?)?;
+        }
+        Close(cursor) => close(log, key_of(keys, cursor)?)?,
+        Advance(cursor, times) => advance_often(log, key_of(keys, cursor)?, times)?,
+    }
+    Ok(())
+}
+
+fn push_all<L: MessageLog<u64>>(log: &mut L, first: u64, count: u64) -> Result<(), Fail> {
+    for item in first..first.saturating_add(count) {
+        push(log, item)?;
+    }
+    Ok(())
+}
+
+fn advance_often<L: MessageLog<u64>>(log: &mut L, key: Key, times: usize) -> Result<(), Fail> {
+    for _ in 0..times {
+        advance(log, key)?;
+    }
+    Ok(())
+}
+
+fn key_of(keys: &[Key], cursor: usize) -> Result<Key, Fail> {
+    match keys.get(cursor) {
+        Some(key) => Ok(*key),
+        None => Err(Fail::from("there is no such cursor")),
+    }
+}
+
+/// What all readers say.
+fn shown<L: MessageLog<u64>>(alloc: Global, log: &L, keys: &[Key]) -> Result<String, AllocError> {
+    let mut text = format!(in alloc; "{:?}", shape(log))?;
+    for key in keys {
+        let cursor = format!(in alloc; " {:?}", seen(log, *key))?;
+        text.push_str(cursor.as_str())?;
+    }
+    Ok(text)
+}
