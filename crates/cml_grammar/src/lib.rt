@@ -21,6 +21,3 @@ pub use laws::{
 pub use names::{Named, Users};
 pub use read::read_script;
 pub use script::{Declaration, Line, Script, Step};
-
-#[cfg(test)]
-mod tests;

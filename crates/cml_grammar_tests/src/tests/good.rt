@@ -1,0 +1,155 @@
+//! Good scripts, and what all readers say of each: the version, where each name stands and what it names, and the
+//! declarations and steps with the numbers of their lines.
+
+pub const INBOX: &str = "cml 1
+
+mailbox inbox
+# threads
+thread A
+mailbox m_2
+thread B
+A send inbox 7
+# rest
+B recv inbox
+
+B poll m_2
+";
+
+const INBOX_SHOWN: &str = "version 1
+inbox at Some(0): Mailbox
+A at Some(1): Thread(1)
+m_2 at Some(2): Mailbox
+B at Some(3): Thread(2)
+3 mailbox inbox: Mailbox
+5 thread A: Thread
+6 mailbox m_2: Mailbox
+7 thread B: Thread
+8 A send inbox 7: seat 1, Send(0, 7)
+10 B recv inbox: seat 2, Recv(0)
+12 B poll m_2: seat 2, Poll(2)
+";
+
+pub const PORTS_OF_STEPS: &str = "cml 1
+channel c
+mailbox m
+port c p
+thread A
+thread B
+A port c q
+A copy q r
+B copy p s
+B recv s
+A poll r
+B close p
+A close q
+B port c t
+";
+
+const PORTS_OF_STEPS_SHOWN: &str = "version 1
+c at Some(0): Channel
+m at Some(1): Mailbox
+p at Some(2): Port(Every)
+A at Some(3): Thread(1)
+B at Some(4): Thread(2)
+q at Some(5): Port(One(1))
+r at Some(6): Port(One(1))
+s at Some(7): Port(One(2))
+t at Some(8): Port(One(2))
+2 channel c: Channel
+3 mailbox m: Mailbox
+4 port c p: Port(0)
+5 thread A: Thread
+6 thread B: Thread
+7 A port c q: seat 1, Port(0)
+8 A copy q r: seat 1, Copy(5)
+9 B copy p s: seat 2, Copy(2)
+10 B recv s: seat 2, Recv(7)
+11 A poll r: seat 1, Poll(6)
+12 B close p: seat 2, Close(2)
+13 A close q: seat 1, Close(5)
+14 B port c t: seat 2, Port(0)
+";
+
+pub const CHANNELS_AND_PORTS: &str = "cml 1
+mailbox m
+channel c
+channel d
+port d p
+thread A
+port c q
+thread B
+A multicast d 5
+B recv p
+A poll q
+B recv m
+A close p
+A send m 6
+";
+
+const CHANNELS_AND_PORTS_SHOWN: &str = "version 1
+m at Some(0): Mailbox
+c at Some(1): Channel
+d at Some(2): Channel
+p at Some(3): Port(Every)
+A at Some(4): Thread(1)
+q at Some(5): Port(Every)
+B at Some(6): Thread(2)
+2 mailbox m: Mailbox
+3 channel c: Channel
+4 channel d: Channel
+5 port d p: Port(2)
+6 thread A: Thread
+7 port c q: Port(1)
+8 thread B: Thread
+9 A multicast d 5: seat 1, Multicast(2, 5)
+10 B recv p: seat 2, Recv(3)
+11 A poll q: seat 1, Poll(5)
+12 B recv m: seat 2, Recv(0)
+13 A close p: seat 1, Close(3)
+14 A send m 6: seat 1, Send(0, 6)
+";
+
+pub const VARIABLES: &str = "cml 1
+ivar i
+mvar v 7
+thread A
+mvar w
+A put v 8
+A getpoll i
+A takepoll v
+A get v
+A put i 6
+A take w
+A swap v 9
+";
+
+const VARIABLES_SHOWN: &str = "version 1
+i at Some(0): IVar
+v at Some(1): MVar
+A at Some(2): Thread(1)
+w at Some(3): MVar
+2 ivar i: IVar
+3 mvar v 7: MVarInit(7)
+4 thread A: Thread
+5 mvar w: MVar
+6 A put v 8: seat 1, Put(1, 8)
+7 A getpoll i: seat 1, GetPoll(0)
+8 A takepoll v: seat 1, TakePoll(1)
+9 A get v: seat 1, Get(1)
+10 A put i 6: seat 1, Put(0, 6)
+11 A take w: seat 1, Take(3)
+12 A swap v 9: seat 1, Swap(1, 9)
+";
+
+/// A case, the script, and what its readers say.
+pub const GOOD: &[(&str, &str, &str)] = &[
+    ("a header alone", "cml 1\n", "version 1\n"),
+    ("names, declarations and steps", INBOX, INBOX_SHOWN),
+    ("ports of steps", PORTS_OF_STEPS, PORTS_OF_STEPS_SHOWN),
+    (
+        "channels and ports",
+        CHANNELS_AND_PORTS,
+        CHANNELS_AND_PORTS_SHOWN,
+    ),
+    ("variables", VARIABLES, VARIABLES_SHOWN),
+];
