@@ -28,6 +28,3 @@ pub use perform::{Played, play};
 pub use replaying::replay;
 pub use stop::Stop;
 pub use verdict::Verdict;
-
-#[cfg(test)]
-mod tests;
