@@ -7,8 +7,6 @@ mod message_log;
 mod places;
 mod plain_log;
 
-
-
 pub use back::Back;
 pub use key::Key;
 pub use message_log::MessageLog;

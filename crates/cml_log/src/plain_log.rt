@@ -37,7 +37,13 @@ impl<T, const N: usize> Model for PlainLog<T, N> {
 }
 
 impl<T: Drop, const N: usize> MessageLog<T> for PlainLog<T, N> {
-    const CHUNK: u64 = if N == 0 { 1 } else if N > 1024 { 1024 } else { N as u64 };
+    const CHUNK: u64 = if N == 0 {
+        1
+    } else if N > 1024 {
+        1024
+    } else {
+        N as u64
+    };
 
     ghost CHUNK = { chunk_of N };
 
@@ -82,7 +88,12 @@ impl<T: Drop, const N: usize> MessageLog<T> for PlainLog<T, N> {
         let next = self.next();
         self.places.remove(k.0);
         let least = least_place(&self.places, next);
-        trim(&mut self.first, &mut self.items, least, Self::CHUNK as usize);
+        trim(
+            &mut self.first,
+            &mut self.items,
+            least,
+            Self::CHUNK as usize,
+        );
     }
 
     fn peek(&self, k: Key) -> Option<&T> {
@@ -94,7 +105,12 @@ impl<T: Drop, const N: usize> MessageLog<T> for PlainLog<T, N> {
         let next = self.next();
         step(&mut self.places, k.0);
         let least = least_place(&self.places, next);
-        trim(&mut self.first, &mut self.items, least, Self::CHUNK as usize);
+        trim(
+            &mut self.first,
+            &mut self.items,
+            least,
+            Self::CHUNK as usize,
+        );
     }
 
     fn first(&self) -> u64 {
