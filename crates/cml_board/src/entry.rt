@@ -2,6 +2,7 @@ ghost use Rattle.std.specs.Prelude.{◌≡◌, ◌↔◌, IsTrue};
 
 use crate::call::{Call, Name};
 use crate::message::Message;
+use std::mem;
 
 /// Who made a call: a seat, or a lane or a feed on its thread's behalf, by its number.
 #[derive(Clone, Copy, Debug, PartialEq, Eq, Hash)]
@@ -50,3 +51,6 @@ pub struct Entry<M> {
     pub call: Call<M>,
     pub reply: Reply<M>,
 }
+
+/// An entry of a number's board is 72 bytes.
+const _: () = prove!(mem::size_of::<Entry<u64>>() <= 72);

@@ -2,7 +2,7 @@
 use crate::facts::{tell_call, tell_object};
 use crate::outcome::{Numbers, tell};
 use crate::words::{call_of, number, object, reply_of};
-use cml_board::{Entry, Who, check};
+use cml_board::{Answer, Call, Entry, Outcome, Who, check};
 use std::alloc::{AllocError, Global};
 
 /// How many entries a board takes where its table doesn't say.
@@ -15,6 +15,8 @@ pub struct Table {
     who: Who,
     // The entries that the table made up.
     entries: Vec<Entry<u64>>,
+    // An answer that is held against another board.
+    kept: Option<Answer<u64>>,
 }
 
 impl Table {
@@ -28,6 +30,7 @@ impl Table {
             board: Numbers::new(alloc, limit.max(1).min(4_294_967_296))?,
             who: Who::Seat(0),
             entries: Vec::new(alloc),
+            kept: None,
         })
     }
 
@@ -52,6 +55,7 @@ impl Table {
         };
         match (*word, call_of(rest)) {
             ("takes", Some(call)) => tell_call(text, &call),
+            ("keep", Some(call)) => self.keep(text, call),
             ("entry", Some(call)) => match reply_of(told) {
                 Some(reply) => self.make_up(
                     text,
@@ -82,11 +86,41 @@ impl Table {
         text.push_str(told)
     }
 
+    /// Makes a call, and keeps its answer.
+    fn keep(&mut self, text: &mut String, call: Call<u64>) -> Result<(), AllocError> {
+        match self.board.apply(self.who, call) {
+            Outcome::Answered(answer) => {
+                self.kept = Some(answer);
+                text.push_str("kept")
+            }
+            _ => text.push_str("not answered"),
+        }
+    }
+
+    /// Tells whether the board confirms the answer that is kept.
+    fn confirm(&self, text: &mut String) -> Result<(), AllocError> {
+        match &self.kept {
+            Some(answer) if self.board.confirm(answer) => text.push_str("yes"),
+            Some(_) => text.push_str("no"),
+            None => text.push_str("nothing is kept"),
+        }
+    }
+
+    /// Tells the journal's entry at a position.
+    fn tell_entry(&self, text: &mut String, at: u64) -> Result<(), AllocError> {
+        match self.board.journal().get(at as usize) {
+            Some(entry) => write!(text, "{:?} {:?} {:?}", entry.who, entry.call, entry.reply),
+            None => text.push_str("no entry"),
+        }
+    }
+
     /// Looks at the board, or begins another.
     fn look(&mut self, text: &mut String, word: &str, rest: &[&str]) -> Result<(), AllocError> {
         match word {
             "board" => {
+                let kept = self.kept.take();
                 *self = Table::with_limit(self.alloc, number(rest, 0).unwrap_or(LIMIT))?;
+                self.kept = kept;
                 write!(text, "limit {}", self.board.limit())
             }
             "seat" => {
@@ -105,6 +139,8 @@ impl Table {
                 Some(name) => tell_object(text, &self.board, name),
                 None => text.push_str("no object is named"),
             },
+            "confirm" => self.confirm(text),
+            "noted" => self.tell_entry(text, number(rest, 0).unwrap_or(0)),
             "journal" => write!(text, "{}", self.board.journal().len()),
             "check" => tell_check(text, self.alloc, self.board.journal()),
             "entries" => tell_check(text, self.alloc, self.entries.as_slice()),

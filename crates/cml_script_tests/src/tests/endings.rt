@@ -1,5 +1,9 @@
 //! The status and the text of each ending, and the law.
-use cml_script::{Ending, Fault, What, schedules_are_one, status_of};
+use cml_board::{lawful_at_every_position, reserved_lasts};
+use cml_script::{
+    Ending, Fault, What, schedules_are_one, scripts_have_a_schedule, stalled_threads_wait,
+    status_of,
+};
 use std::process::Abort;
 use std::test::Fail;
 
@@ -42,4 +46,8 @@ fn has_a_status_and_a_text_for_each_ending(rt: HostRuntime) -> Result<(), Fail> 
 #[test]
 fn the_law_does_nothing(_rt: HostRuntime) {
     schedules_are_one();
+    scripts_have_a_schedule();
+    stalled_threads_wait();
+    lawful_at_every_position::<u64>();
+    reserved_lasts::<u64>();
 }
