@@ -9,8 +9,9 @@ use cml_grammar::Script;
 use std::alloc::{AllocError, Global};
 
 /// Whether a journal is lawful and a script's: the declared objects first, and then the steps of its threads, each
-/// thread's in order. Else where it first isn't. A journal that breaks off is judged as far as it goes. It takes time
-/// and memory in proportion to the script and the journal.
+/// thread's in order. Else where it first isn't. A journal that breaks off is judged as far as it goes. It takes memory
+/// in proportion to the script and the journal, and as much time as making the journal's calls again: in proportion
+/// too, but that a receive looks at each open port of its channel.
 pub fn audit(alloc: Global, script: &Script, entries: &[Entry<u64>]) -> Result<Verdict, AllocError>
     requires { length entries.now ≤ 2 ^ 32 }
     ensures { IfOk result (λ verdict. Judges script.now entries.now verdict) }

@@ -1,4 +1,4 @@
-//! The status and the text of each ending, and the law.
+//! The status and the text of each ending, and the laws of histories and schedules.
 use cml_board::{lawful_at_every_position, reserved_lasts};
 use cml_script::{
     Ending, Fault, What, schedules_are_one, scripts_have_a_schedule, stalled_threads_wait,
@@ -44,7 +44,7 @@ fn has_a_status_and_a_text_for_each_ending(rt: HostRuntime) -> Result<(), Fail> 
 }
 
 #[test]
-fn the_law_does_nothing(_rt: HostRuntime) {
+fn laws_do_nothing(_rt: HostRuntime) {
     schedules_are_one();
     scripts_have_a_schedule();
     stalled_threads_wait();
