@@ -1,0 +1,5 @@
+use Rattle.std.proofs.Common.{rules}
+use Rattle.cml_board.proofs.board.Board.kept_count.Goals as goal
+
+pub returns-in-Channel : goal.returns-in-Channel
+returns-in-Channel g c = search rules
