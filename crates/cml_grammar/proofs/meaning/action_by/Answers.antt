@@ -1,4 +1,4 @@
-use Rattle.std.proofs.Common.{ap, subst, ◌∙◌}
+use Rattle.std.proofs.Common.{ap, rules, subst, ◌∙◌}
 use Rattle.cml_grammar.specs.declared.forms.Verb.{Verb}
 use Rattle.cml_grammar.specs.declared.forms.Verb.TheVariants.{Send, Multicast, Recv, Poll, Copy, Close, Put, Get, GetPoll, Take, TakePoll, Swap}
 use Rattle.cml_grammar.specs.Forms.{step_places}
@@ -119,3 +119,6 @@ returns-in-Swap-clause-uses c =
     let names = texts_of c.args.names.now.entries in
     let suit = subst (λ (v : Verb). AllSuit names (step_places v) (bytes c.args.rest.now)) c.in-Swap.is c.requires in
     (mvar_found names c.in-Some.object.now.now _ (subst (λ (ws : Words). AllSuit names (step_places Swap) (bytes ws)) c.in-Some.ensures.cases.0 suit).0 c.given_position-at.ensures, c.message_in-in-Swap.ensures.fits)
+
+pub returns-in-Poll-clause-action : goal.returns-in-Poll-clause-action
+returns-in-Poll-clause-action c = search rules

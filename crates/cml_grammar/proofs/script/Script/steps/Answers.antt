@@ -1,4 +1,4 @@
-use Rattle.std.proofs.Common.{List, All, sym, subst}
+use Rattle.std.proofs.Common.{List, All, rules, sym, subst}
 use Rattle.cml_grammar.specs.declared.script.Step.{Step}
 use Rattle.cml_grammar.specs.Script.{Lines}
 use Rattle.cml_grammar.specs.Meaning.{names_of}
@@ -10,3 +10,9 @@ returns-clause-asked c =
     let i = c.self.inside in
     subst (λ (s : Lines). All (ReadsStep (names_of s)) c.deref.result.now) c.self.view_is
     (subst (λ (xs : List Step). All (ReadsStep (names_of (view_of i.version i.declarations.items i.steps.items))) xs) (sym c.deref.ensures.value) c.self.invariant.steps)
+
+pub returns-clause-lines : goal.returns-clause-lines
+returns-clause-lines c = search rules
+
+pub returns-clause-earlier : goal.returns-clause-earlier
+returns-clause-earlier c = search rules
