@@ -80,45 +80,74 @@ fn asked(rt: &HostRuntime) -> io::Result<Order> {
 }
 
 fn print_sums(rt: &HostRuntime) -> io::Result<()> {
-    for workload in WORKLOADS {
-        let mut run = Run::new(rt.alloc())?;
-        run.perform(workload, FEW)?;
-        println!(rt; "{} {}", workload.name(), run.sum)?;
+    for workload in WORKLOADS.iter() {
+        let run = performed(rt, *workload, FEW)?;
+        print_sum(rt, workload.name(), run.sum)?;
     }
-    let mut run = LogRun::new(rt.alloc())?;
-    run.perform(FEW)?;
-    println!(rt; "{} {}", LogRun::NAME, run.sum)?;
-    let run = paired(rt, FEW)?;
-    let entries = check_run::count_lawful(rt.alloc(), run.board.journal())?;
-    println!(rt; "{} {entries}", check_run::NAME)
+    print_log_sum(rt)?;
+    print_lawful(rt)
 }
 
-/// The run whose journal is checked.
-fn paired(rt: &HostRuntime, count: u64) -> io::Result<Run> {
+fn print_sum(rt: &HostRuntime, workload: &str, sum: u64) -> io::Result<()> {
+    println!(rt; "{workload} {sum}")
+}
+
+fn print_log_sum(rt: &HostRuntime) -> io::Result<()> {
+    let mut run = LogRun::new(rt.alloc())?;
+    run.perform(FEW)?;
+    print_sum(rt, LogRun::NAME, run.sum)
+}
+
+fn print_lawful(rt: &HostRuntime) -> io::Result<()> {
+    let run = performed(rt, Workload::Pairs, FEW)?;
+    let entries = check_run::count_lawful(rt.alloc(), run.board.journal())?;
+    print_sum(rt, check_run::NAME, entries as u64)
+}
+
+/// A board on which a workload was done so many times.
+fn performed(rt: &HostRuntime, workload: Workload, count: u64) -> io::Result<Run> {
     let mut run = Run::new(rt.alloc())?;
-    run.perform(Workload::Pairs, count)?;
+    run.perform(workload, count)?;
     Ok(run)
 }
 
 fn print_times(rt: &HostRuntime, count: u64) -> io::Result<()> {
-    for workload in WORKLOADS {
-        let mut run = Run::new(rt.alloc())?;
-        let start = Instant::now(rt)?;
-        run.perform(workload, count)?;
-        let time = start.elapsed(rt)?;
-        print_time(
-            rt,
-            workload.name(),
-            "seryugo_board",
-            time,
-            run.board.journal().len(),
-        )?;
+    for workload in WORKLOADS.iter() {
+        time_board(rt, *workload, count)?;
     }
+    time_log(rt, count)?;
+    time_check(rt, count)
+}
+
+fn time_board(rt: &HostRuntime, workload: Workload, count: u64) -> io::Result<()> {
+    let mut run = Run::new(rt.alloc())?;
+    let time = time_of(rt, &mut run, workload, count)?;
+    let calls = run.board.journal().len();
+    print_time(rt, workload.name(), "seryugo_board", time, calls)
+}
+
+fn time_of(
+    rt: &HostRuntime,
+    run: &mut Run,
+    workload: Workload,
+    count: u64,
+) -> io::Result<Duration> {
+    let start = Instant::now(rt)?;
+    run.perform(workload, count)?;
+    Ok(start.elapsed(rt)?)
+}
+
+fn time_log(rt: &HostRuntime, count: u64) -> io::Result<()> {
     let mut run = LogRun::new(rt.alloc())?;
     let start = Instant::now(rt)?;
     let calls = run.perform(count)?;
-    print_time(rt, LogRun::NAME, "seryugo_log", start.elapsed(rt)?, calls)?;
-    let run = paired(rt, count)?;
+    let time = start.elapsed(rt)?;
+    print_time(rt, LogRun::NAME, "seryugo_log", time, calls)
+}
+
+/// The time that a check of a journal takes, without that of making the journal.
+fn time_check(rt: &HostRuntime, count: u64) -> io::Result<()> {
+    let run = performed(rt, Workload::Pairs, count)?;
     let start = Instant::now(rt)?;
     let entries = check_run::count_lawful(rt.alloc(), run.board.journal())?;
     let time = start.elapsed(rt)?;
