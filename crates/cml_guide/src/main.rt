@@ -10,6 +10,7 @@ mod refusals;
 mod reserving;
 mod variables;
 
+use std::fmt::Debug;
 use std::io;
 
 fn main(rt: HostRuntime) -> io::Result<()> {
@@ -21,63 +22,70 @@ fn main(rt: HostRuntime) -> io::Result<()> {
     show_journals(&rt)
 }
 
+/// Prints what an example comes to.
+fn show<T: Debug>(rt: &HostRuntime, name: &str, outcome: &T) -> io::Result<()> {
+    println!(rt; "{name}: {outcome:?}")
+}
+
 fn show_mailboxes(rt: &HostRuntime) -> io::Result<()> {
     let alloc = rt.alloc();
-    println!(rt; "mailboxes::in_order: {:?}", mailboxes::in_order(alloc))?;
-    println!(rt;
-        "mailboxes::received_later: {:?}",
-        mailboxes::received_later(alloc)
+    show(rt, "mailboxes::in_order", &mailboxes::in_order(alloc))?;
+    show(
+        rt,
+        "mailboxes::received_later",
+        &mailboxes::received_later(alloc),
     )?;
-    println!(rt; "mailboxes::polled: {:?}", mailboxes::polled(alloc))
+    show(rt, "mailboxes::polled", &mailboxes::polled(alloc))
 }
 
 fn show_channels(rt: &HostRuntime) -> io::Result<()> {
     let alloc = rt.alloc();
-    println!(rt;
-        "channels::told_to_each_port: {:?}",
-        channels::told_to_each_port(alloc)
+    show(
+        rt,
+        "channels::told_to_each_port",
+        &channels::told_to_each_port(alloc),
     )?;
-    println!(rt; "channels::copied: {:?}", channels::copied(alloc))?;
-    println!(rt; "channels::closed: {:?}", channels::closed(alloc))
+    show(rt, "channels::copied", &channels::copied(alloc))?;
+    show(rt, "channels::closed", &channels::closed(alloc))
 }
 
 fn show_variables(rt: &HostRuntime) -> io::Result<()> {
     let alloc = rt.alloc();
-    println!(rt;
-        "variables::filled_once: {:?}",
-        variables::filled_once(alloc)
-    )?;
-    println!(rt; "variables::counted: {:?}", variables::counted(alloc))?;
-    println!(rt; "variables::swapped: {:?}", variables::swapped(alloc))?;
-    println!(rt; "variables::polled: {:?}", variables::polled(alloc))
+    show(rt, "variables::filled_once", &variables::filled_once(alloc))?;
+    show(rt, "variables::counted", &variables::counted(alloc))?;
+    show(rt, "variables::swapped", &variables::swapped(alloc))?;
+    show(rt, "variables::polled", &variables::polled(alloc))
 }
 
 fn show_refusals(rt: &HostRuntime) -> io::Result<()> {
     let alloc = rt.alloc();
-    println!(rt; "refusals::told_why: {:?}", refusals::told_why(alloc))?;
-    println!(rt; "refusals::kept: {:?}", refusals::kept(alloc))?;
-    println!(rt; "refusals::made_again: {:?}", refusals::made_again(alloc))?;
-    println!(rt;
-        "reserving::found_nothing: {:?}",
-        reserving::found_nothing(alloc)
+    show(rt, "refusals::told_why", &refusals::told_why(alloc))?;
+    show(rt, "refusals::kept", &refusals::kept(alloc))?;
+    show(rt, "refusals::made_again", &refusals::made_again(alloc))?;
+    show(
+        rt,
+        "reserving::found_nothing",
+        &reserving::found_nothing(alloc),
     )
 }
 
 fn show_readers(rt: &HostRuntime) -> io::Result<()> {
     let alloc = rt.alloc();
-    println!(rt;
-        "readers::journal_of_two_seats: {:?}",
-        readers::journal_of_two_seats(alloc)
+    show(
+        rt,
+        "readers::journal_of_two_seats",
+        &readers::journal_of_two_seats(alloc),
     )?;
-    println!(rt; "readers::looked_at: {:?}", readers::looked_at(alloc))
+    show(rt, "readers::looked_at", &readers::looked_at(alloc))
 }
 
 fn show_journals(rt: &HostRuntime) -> io::Result<()> {
     let alloc = rt.alloc();
-    println!(rt;
-        "journals::own_is_lawful: {:?}",
-        journals::own_is_lawful(alloc)
+    show(
+        rt,
+        "journals::own_is_lawful",
+        &journals::own_is_lawful(alloc),
     )?;
-    println!(rt; "journals::invented: {:?}", journals::invented(alloc))?;
-    println!(rt; "journals::confirmed: {:?}", journals::confirmed(alloc))
+    show(rt, "journals::invented", &journals::invented(alloc))?;
+    show(rt, "journals::confirmed", &journals::confirmed(alloc))
 }
