@@ -1,4 +1,5 @@
-use Rattle.std.proofs.Common.{refl}
+use Rattle.std.proofs.Common.{refl, arith}
+use Rattle.std.proofs.lemmas.Grind.{common_steps}
 use Rattle.cml_board.specs.declared.call.Kind.TheVariants as kind
 use Rattle.cml_board.specs.Objects.{is_source, is_receiver}
 use Rattle.cml_grammar.specs.Meaning.{names_of}
@@ -18,3 +19,6 @@ unwrap-waits-requires c =
     some_owed is_receiver _ kind.Mailbox _ _ c.owed_count.result c.owed_count.ensures
     (kind_there _ _ c.in-Some.object.0 kind.Mailbox c.board-board.ensures.history is) refl
     (open_there _ _ c.in-Some.object.0 c.board-board.ensures.history c.board-board.ensures.lawful is)
+
+pub returns-in_default : goal.returns-in_default
+returns-in_default c = grind (arith, common_steps)
