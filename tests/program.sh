@@ -80,8 +80,8 @@ odd_texts() {
     written 'bytes of 32 and 126' 'cml 1\n# ~\n' none
 }
 
-# So many threads, T1 and so on.
-threads() { awk -v count="$1" 'BEGIN { print "cml 1"; for (i = 1; i <= count; i++) print "thread T" i }'; }
+# So many threads, A1 and so on.
+threads() { awk -v count="$1" 'BEGIN { print "cml 1"; for (i = 1; i <= count; i++) print "thread A" i }'; }
 
 # A script of so many bytes, most of them a note.
 note() { awk -v bytes="$1" 'BEGIN { printf "cml 1\n#"; for (n = 8; n < bytes; n++) printf "#"; print "" }'; }
@@ -91,7 +91,7 @@ long_texts() {
     told '64 threads' none
     threads 65 > "$work/in"
     told '65 threads' 'line 66: too many threads'
-    { threads 64; echo 'thread T1'; } > "$work/in"
+    { threads 64; echo 'thread A1'; } > "$work/in"
     told 'a name that is taken, at the limit of threads' 'line 66: name taken'
     note 1048576 > "$work/in"
     [ "$(wc -c < "$work/in")" -eq 1048576 ] || fail 'the longest script has another length'
