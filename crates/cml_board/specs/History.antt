@@ -9,9 +9,16 @@ use Rattle.cml_board.specs.declared.entry.Reply.{Reply}
 use Rattle.cml_board.specs.declared.entry.Reply.TheVariants.{Done, Made, Got, Nothing, Closed}
 use Rattle.cml_board.specs.declared.entry.Reply.TheVariants as reply
 use Rattle.cml_board.specs.declared.entry.Entry.{Entry}
+use Rattle.cml_board.specs.declared.entry.Who.{Who}
+use Rattle.cml_board.specs.declared.entry.Who.TheVariants.{Seat}
 use Rattle.cml_board.specs.Origins.{Origin, mailbox, channel, port, ivar, mvar, kind_by, source_by, start_by, copy_of}
 use Rattle.cml_board.specs.Objects.{object_in, takes}
 use Rattle.cml_board.specs.Held.{held}
+
+-- one for a lane or a feed, and none for a seat
+abbrev pub ring_by : Who → ℕ
+ring_by (Seat number) = 0
+ring_by who = 1
 
 module _ {M : Type 0} where
   -- the history of a board on which nothing was done
@@ -21,6 +28,11 @@ module _ {M : Type 0} where
   -- how many entries there were since the board was made
   abbrev pub entries_in : List (Entry M) → ℕ
   entries_in history = length history
+
+  -- how many of them are of lanes and feeds
+  abbrev pub rings_in : List (Entry M) → ℕ
+  rings_in [] = 0
+  rings_in (entry ∷ before) = rings_in before + ring_by entry.who
 
   -- one entry more
   abbrev pub with_entry : List (Entry M) → Entry M → List (Entry M)

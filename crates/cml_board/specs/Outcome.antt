@@ -4,7 +4,7 @@ use Rattle.cml_board.specs.declared.call.Call.{Call}
 use Rattle.cml_board.specs.declared.entry.Who.{Who}
 use Rattle.cml_board.specs.declared.entry.Reply.{Reply}
 use Rattle.cml_board.specs.declared.outcome.Refusal.{Refusal}
-use Rattle.cml_board.specs.declared.outcome.Refusal.TheVariants.{NoSuch, WrongKind, JournalFull, NoMemory}
+use Rattle.cml_board.specs.declared.outcome.Refusal.TheVariants.{Gone, Busy, NoSuch, WrongKind, JournalFull, Stalled, NoMemory, Unseen}
 use Rattle.cml_board.specs.declared.outcome.Outcome.{Outcome}
 use Rattle.cml_board.specs.declared.outcome.Outcome.TheVariants.{Answered, WouldWait, Refused}
 use Rattle.cml_board.specs.Shown.{Shown}
@@ -16,13 +16,17 @@ module _ {M : Type 0} where
   HasRoom board = length board.history < board.limit
 
   -- when each refusal comes: they are tested in this order, and want of memory stands behind all of them, and never
-  -- before a call that needs none but what was reserved
+  -- before a call that needs none but what was reserved. Those of the layers above a board never gives
   abbrev pub Refuses : ℕ → Bool → Shown M → Call M → Refusal → Type 0
   Refuses chunk sure board call NoSuch = ¬ (IsMade board.history call)
   Refuses chunk sure board call WrongKind = IsMade board.history call × ¬ (IsTaken board.history call)
   Refuses chunk sure board call JournalFull = Fits board.history call × (length board.history ≡ board.limit)
   Refuses chunk sure board call NoMemory = Fits board.history call × HasRoom board × (answer board.history call ≢ None)
       × ¬ (IsSpared chunk sure board call)
+  Refuses chunk sure board call Gone = ⊥
+  Refuses chunk sure board call Busy = ⊥
+  Refuses chunk sure board call Stalled = ⊥
+  Refuses chunk sure board call Unseen = ⊥
 
   -- the board is as it was, and nothing of what stands reserved is lost
   pub record IsAsBefore (old new : Shown M) : Type 0 where

@@ -48,3 +48,12 @@ impl<M> Answer<M> {
         self.at
     }
 }
+
+impl<M: Drop> Answer<M> {
+    /// The reply alone, to be kept.
+    pub fn into_reply(self) -> Reply<M>
+        ensures { result ≡ self.reply }
+    {
+        self.reply
+    }
+}

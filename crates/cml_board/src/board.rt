@@ -1,6 +1,6 @@
 ghost use Rattle.std.specs.Prelude.{◌≡◌, ◌^◌, ◌<◌, ◌≤◌, ◌↔◌, ◌&&◌, false, [], length, reverse, Some, None, option_map, option_copied, IfOk, OnOk, OnErr, IsTrue, MatchOption};
 ghost use Rattle.cml_board.specs.Objects.{is_receiver};
-ghost use Rattle.cml_board.specs.History.{no_entries, Fits, answer, Lawful, origin_of, kind_of, is_open};
+ghost use Rattle.cml_board.specs.History.{no_entries, Lawful, origin_of, kind_of, is_open};
 ghost use Rattle.cml_board.specs.Counts.{is_a, sent_count, got_count, owed_count, channel_of, start_of, first_of, kept_count, port_is_open, held_by};
 ghost use Rattle.cml_board.specs.Holdings.{map_log, log_at, HasLog};
 ghost use Rattle.cml_board.specs.Standing.{ReadsAt, Stands};
@@ -14,9 +14,10 @@ mod messages;
 mod note;
 mod objects;
 mod variables;
+mod waiting;
 
 use crate::answer::Answer;
-use crate::call::{Call, Kind, Name};
+use crate::call::{Kind, Name};
 use crate::entry::Entry;
 use crate::message::Message;
 use crate::object::{self, Object, Reading};
@@ -224,27 +225,6 @@ impl<M: Message, L: MessageLog<M>> Board<M, L> {
             Object::Mailbox(_, _) | Object::Channel(_) | Object::Port(_) => None,
             Object::Variable(_, held) => Some(held.as_ref()),
         }
-    }
-
-    /// Whether the call's object is there and can take the call, and the call would wait now.
-    pub fn would_wait(&self, call: &Call<M>) -> bool
-        ensures { IsTrue result ↔ (Fits self.now.history call.now × (answer self.now.history call.now ≡ None)) }
-    {
-        match call {
-            Call::Recv(name) => self.owed_count(*name) == Some(0),
-            Call::Get(name) => self.is_empty(*name),
-            Call::Take(name) | Call::Swap(name, _) => {
-                self.kind(*name) == Some(Kind::MVar) && self.is_empty(*name)
-            }
-            _ => false,
-        }
-    }
-
-    /// Whether the object is a variable that holds nothing.
-    fn is_empty(&self, name: Name) -> bool
-        ensures { IsTrue result ↔ (held_by self.now.history name.0 ≡ Some None) }
-    {
-        matches!(self.held(name), Some(None))
     }
 
     fn object(&self, name: Name) -> Option<&Object<M, L>>

@@ -46,7 +46,7 @@ fn follow<M: Message, L: MessageLog<M>>(
         Outcome::WouldWait(_) => Ok(false),
         Outcome::Refused(Refusal::NoSuch, _) => Ok(false),
         Outcome::Refused(Refusal::WrongKind, _) => Ok(false),
-        Outcome::Refused(Refusal::JournalFull, _) => unreachable!(),
         Outcome::Refused(Refusal::NoMemory, _) => Err(AllocError),
+        Outcome::Refused(_, _) => unreachable!(),
     }
 }

@@ -1,8 +1,10 @@
 //! What the definitions come to, in other words.
-ghost use Rattle.std.specs.Prelude.{◌≡◌, ℕ, ◌+◌, ◌<◌, ◌≤◌, ◌||◌, Bool, true, false, not, List, reverse};
-ghost use Rattle.cml_board.specs.declared.call.Call.{Call};
+ghost use Rattle.std.specs.Prelude.{◌≡◌, ℕ, ◌+◌, ◌<◌, ◌≤◌, ◌||◌, ◌↔◌, Some, None, Bool, true, false, not, List, reverse};
 ghost use Rattle.cml_board.specs.declared.entry.Entry.{Entry};
-ghost use Rattle.cml_board.specs.History.{Lawful};
+ghost use Rattle.cml_board.specs.declared.call.Call.{Call};
+ghost use Rattle.cml_board.specs.declared.want.Want.{Want};
+ghost use Rattle.cml_board.specs.History.{Lawful, Fits, answer};
+ghost use Rattle.cml_board.specs.Waiting.{want_in, Waits};
 ghost use Rattle.cml_board.specs.declared.outcome.Refusal.TheVariants.{NoMemory};
 ghost use Rattle.cml_board.specs.Positions.{IsLawfulEverywhere};
 ghost use Rattle.cml_board.specs.Shown.{Shown};
@@ -31,4 +33,15 @@ pub fn reserved_lasts<M>()
         → fills_chunk chunk new.history call ≡ false
         → (sure || not (shares new.history call)) ≡ true
         → ¬ (Refuses chunk sure new call NoMemory) }
+{}
+
+/// A call fits and waits just where it wants something, and that is waited for. So which message a swap would store is
+/// all one, and what a waiting call waits for can be kept without the call.
+pub fn calls_wait_by_want<M>()
+    ensures wanting { (history : List (Entry M)) (call : Call M) (on : Want)
+        → want_in call ≡ Some on
+        → (Fits history call × (answer history call ≡ None)) ↔ Waits history on }
+    ensures others { (history : List (Entry M)) (call : Call M)
+        → want_in call ≡ None
+        → ¬ (answer history call ≡ None) }
 {}

@@ -10,12 +10,14 @@ mod laws;
 mod message;
 mod object;
 mod outcome;
+mod want;
 
 pub use answer::Answer;
 pub use board::{Board, BoardLog};
 pub use call::{Call, Kind, Name};
 pub use checking::check;
 pub use entry::{Entry, Reply, Who};
-pub use laws::{lawful_at_every_position, reserved_lasts};
+pub use laws::{calls_wait_by_want, lawful_at_every_position, reserved_lasts};
 pub use message::Message;
 pub use outcome::{Outcome, Refusal};
+pub use want::Want;

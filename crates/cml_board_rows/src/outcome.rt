@@ -88,5 +88,7 @@ fn refusal_word(refusal: Refusal) -> &'static str {
         Refusal::WrongKind => "wrong kind",
         Refusal::JournalFull => "journal full",
         Refusal::NoMemory => "no memory",
+        Refusal::Gone | Refusal::Busy => "not of a board",
+        Refusal::Stalled | Refusal::Unseen => "not of a board",
     }
 }

@@ -172,9 +172,7 @@ impl<'a> Stage<'a> {
             Outcome::Answered(_) => return Ok(true),
             Outcome::Refused(Refusal::JournalFull, _) => return Ok(false),
             Outcome::Refused(Refusal::NoMemory, _) => return Err(AllocError),
-            Outcome::Refused(Refusal::NoSuch, _) => unreachable!(),
-            Outcome::Refused(Refusal::WrongKind, _) => unreachable!(),
-            Outcome::WouldWait(_) => unreachable!(),
+            Outcome::Refused(_, _) | Outcome::WouldWait(_) => unreachable!(),
         }
     }
 
@@ -272,11 +270,8 @@ impl<'a> Stage<'a> {
                 bind(&mut self.bindings, given, answer.call(), answer.reply());
                 Ok(answer)
             }
-            Outcome::WouldWait(_) => unreachable!(),
-            Outcome::Refused(Refusal::NoSuch, _) => unreachable!(),
-            Outcome::Refused(Refusal::WrongKind, _) => unreachable!(),
-            Outcome::Refused(Refusal::JournalFull, _) => unreachable!(),
             Outcome::Refused(Refusal::NoMemory, _) => Err(AllocError),
+            Outcome::Refused(_, _) | Outcome::WouldWait(_) => unreachable!(),
         }
     }
 }
