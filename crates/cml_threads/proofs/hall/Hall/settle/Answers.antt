@@ -1,0 +1,20 @@
+use Rattle.std.proofs.Common.{◌≡◌, ap, length, arith}
+use Rattle.std.proofs.lemmas.List.{length-reverse}
+use Rattle.cml_threads.proofs.hall.Hall.settle.Goals as goal
+
+-- the rest has all parts again, so that its amount is the book's total
+pub new-requires-clause-own : goal.new-requires-clause-own
+new-requires-clause-own g c =
+    let all : c.gather-seats.new.rest.parts ≡ g.Led.Ledger.parts =
+    omega (arith, c.gather-seats.ensures.parts, c.self.invariant.shared, c.len.ensures, c.count.ensures, c.if-len-count.false) in
+    omega (
+      arith,
+      c.audit.ensures.whole all,
+      c.gather-seats.ensures.answers,
+      c.gather-seats.ensures.amount,
+      c.gather-seats.ensures.total,
+      c.self.invariant.entries,
+      c.self.invariant.rings,
+      ap length c.journal.ensures.entries,
+      length-reverse c.self.inside.board.history,
+    )

@@ -1,0 +1,10 @@
+use Rattle.cml_threads.proofs.settled.Settled.board.Goals as goal
+
+pub returns-clause-mailboxes : goal.returns-clause-mailboxes
+returns-clause-mailboxes g c = rw (← c.self.view_is) c.journal-journal.ensures.mailboxes
+
+pub returns-clause-ports : goal.returns-clause-ports
+returns-clause-ports g c = rw (← c.self.view_is) c.journal-journal.ensures.ports
+
+pub returns-clause-closed : goal.returns-clause-closed
+returns-clause-closed g c = rw (← c.self.view_is) c.journal-journal.ensures.closed

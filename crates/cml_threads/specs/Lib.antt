@@ -1,0 +1,6 @@
+pub mod Seating
+pub mod Stalling
+pub mod Hosting
+pub mod Asking
+pub mod Settling
+pub mod Telling

@@ -1,0 +1,60 @@
+-- What the caller of a switchboard is told.
+use Rattle.std.specs.Prelude.{◌≡◌, Bool, true, false, Result, Ok, Err, ⊤}
+use Rattle.cml_board.specs.declared.call.Call.{Call}
+use Rattle.cml_board.specs.declared.call.Call.TheVariants.{NewMailbox, NewChannel, NewPort, CopyPort, ClosePort, NewIVar, NewMVar, MVarInit, Send, Cast, Recv, Poll, Put, Get, GetPoll, Take, TakePoll, Swap}
+use Rattle.cml_board.specs.declared.entry.Reply.{Reply}
+use Rattle.cml_board.specs.declared.entry.Reply.TheVariants as reply
+use Rattle.cml_board.specs.declared.outcome.Refusal.{Refusal}
+use Rattle.cml_board.specs.declared.outcome.Refusal.TheVariants.{Busy, Unseen}
+use Rattle.cml_threads.specs.declared.asked.Asked.{Asked}
+use Rattle.cml_threads.specs.declared.asked.Asked.TheVariants as asked
+use Rattle.cml_threads.specs.Seating.{Sitting, raised}
+
+-- the refusals that a seat's call may be given
+abbrev pub MayRefuse : Refusal → Type 0
+MayRefuse Busy = ⊥
+MayRefuse Unseen = ⊥
+MayRefuse refusal = ⊤
+
+module _ {M : Type 0} where
+  -- the forms of reply that a call has
+  abbrev pub suits : Call M → Reply M → Bool
+  suits NewMailbox (reply.Made name) = true
+  suits NewChannel (reply.Made name) = true
+  suits (NewPort channel) (reply.Made name) = true
+  suits (CopyPort port) (reply.Made name) = true
+  suits (CopyPort port) reply.Closed = true
+  suits (ClosePort port) reply.Done = true
+  suits (ClosePort port) reply.Closed = true
+  suits NewIVar (reply.Made name) = true
+  suits NewMVar (reply.Made name) = true
+  suits (MVarInit message) (reply.Made name) = true
+  suits (Send mailbox message) reply.Done = true
+  suits (Cast channel message) reply.Done = true
+  suits (Recv object) (reply.Got message) = true
+  suits (Recv object) reply.Closed = true
+  suits (Poll object) (reply.Got message) = true
+  suits (Poll object) reply.Nothing = true
+  suits (Poll object) reply.Closed = true
+  suits (Put variable message) reply.Done = true
+  suits (Put variable message) reply.Put = true
+  suits (Get variable) (reply.Got message) = true
+  suits (GetPoll variable) (reply.Got message) = true
+  suits (GetPoll variable) reply.Nothing = true
+  suits (Take variable) (reply.Got message) = true
+  suits (TakePoll variable) (reply.Got message) = true
+  suits (TakePoll variable) reply.Nothing = true
+  suits (Swap variable message) (reply.Got message') = true
+  suits call reply = false
+
+  -- the call is answered, in a form that it has, and counted for its seat, or else handed back, and not counted
+  abbrev pub Tells : Sitting → Sitting → Call M → Asked M → Type 0
+  Tells before after call (asked.Answered answer) =
+      (answer.call ≡ call) × (suits call answer.reply ≡ true) × (after ≡ raised before)
+  Tells before after call (asked.Parked back) = (back ≡ call) × (after ≡ before)
+  Tells before after call (asked.Refused refusal back) = MayRefuse refusal × (back ≡ call) × (after ≡ before)
+
+  -- the same of the reply alone
+  abbrev pub Replies : Sitting → Sitting → Call M → Result (Reply M) (Refusal × Call M) → Type 0
+  Replies before after call (Ok reply) = (suits call reply ≡ true) × (after ≡ raised before)
+  Replies before after call (Err back) = MayRefuse back.0 × (back.1 ≡ call) × (after ≡ before)

@@ -1,0 +1,128 @@
+ghost use Rattle.std.specs.Prelude.{◌≡◌, ◌^◌, ◌≤◌, [], ◌∷◌, ◌++◌, length, IfOk, IfErr, OnOk};
+ghost use Rattle.cml_board.specs.declared.outcome.Refusal.TheVariants.{Gone, NoMemory};
+ghost use Rattle.cml_board.specs.History.{no_entries, entries_in, Lawful};
+ghost use Rattle.cml_board.specs.Shown.{KeepsMailboxes, KeepsPorts, KeepsClosed, KeepsVariables, KeepsLogs};
+ghost use Rattle.cml_threads.specs.Seating.{Sitting};
+ghost use Rattle.cml_threads.specs.Hosting.{MayAsk, with_state};
+
+mod asking;
+mod settling;
+
+use crate::seat::Seat;
+use crate::seats::Seats;
+use crate::state::State;
+use cml_board::{Board, Message, Refusal};
+use cml_log::MessageLog;
+use std::alloc::{AllocError, Global};
+use std::marker::Model;
+use std::sync::ledger::{Blank, Book, Ledger, Share};
+
+/// How many parts a hall's ledger is cut into: more than there can be seats. A `Blank` is made with as many.
+pub const PARTS: u64 = 1 << 63;
+
+/// What the lock of a switchboard holds: the board, what each seat does, and the book of a ledger in which each answer
+/// is counted. None of its calls waits.
+#[derive(Drop)]
+pub struct Hall<M, L: MessageLog<M>, Led: Ledger> {
+    board: Board<M, L>,
+    seats: Seats,
+    book: Book<Led>,
+    rest: Share<Led>,
+}
+
+impl<M, L: MessageLog<M>, Led: Ledger> Model for Hall<M, L, Led> {
+    ghost use Rattle.std.specs.Prelude.{length};
+    ghost use Rattle.cml_threads.specs.Hosting.{Hosted, IsCounted};
+
+    ghost Value = { Hosted M };
+
+    ghost view = { λ h. record { board = h.board; seats = h.seats; book = h.book.total } };
+
+    ghost invariant = { λ h. IsCounted h.board (length h.seats) h.book.total h.rest.amount h.rest.parts Led.parts };
+}
+
+impl<M: Message, L: MessageLog<M>, Led: Ledger> Hall<M, L, Led> {
+    /// A hall with no seats, on a board with no objects whose journal takes `limit` entries. The blank is
+    /// `Blank::new(PARTS)`, and names the hall's ledger.
+    pub fn new(alloc: Global, limit: u64, blank: Blank) -> Result<Hall<M, L, Led>, AllocError>
+        requires least { 1 ≤ limit }
+        requires most { limit ≤ 2 ^ 32 }
+        requires name { blank.name ≡ Led.name }
+        requires parts { blank.parts ≡ Led.parts }
+        requires enough { blank.parts ≡ 2 ^ 63 }
+        ensures history { IfOk result (λ hall. hall.board.history ≡ no_entries) }
+        ensures limit { IfOk result (λ hall. hall.board.limit ≡ limit) }
+        ensures seats { IfOk result (λ hall. hall.seats ≡ []) }
+    {
+        let board = Board::new(alloc, limit)?;
+        let (book, rest) = blank.open::<Led>();
+        Ok(Hall {
+            board,
+            seats: Seats::new(alloc),
+            book,
+            rest,
+        })
+    }
+
+    /// The board, as it is while nobody makes a call. What the journal is and what the objects hold are facts of a
+    /// hall's type: they hold of each hall, and so whenever the lock of a switchboard is free.
+    pub fn board(&self) -> &Board<M, L>
+        ensures board { result.now ≡ self.now.board }
+
+        // The book counts each entry.
+        ensures book { self.now.book ≡ entries_in self.now.board.history }
+
+        // The journal is a lawful history of one thread.
+        ensures lawful { Lawful self.now.board.history }
+
+        // What was received from a mailbox, followed by what really waits in it, is what was sent to it.
+        ensures mailboxes { KeepsMailboxes self.now.board }
+
+        // What was received from a port, followed by what is really kept for it, is what was multicast since its start;
+        // no chunk is given back that an open port's place is in, nor any behind it.
+        ensures ports { KeepsPorts self.now.board }
+        ensures closed { KeepsClosed self.now.board }
+
+        // What a variable really holds is what the journal tells.
+        ensures variables { KeepsVariables self.now.board }
+
+        // What each log really holds, from which place on, and which cursors are open in it.
+        ensures logs { KeepsLogs L.CHUNK self.now.board }
+    {
+        // The facts are those that the journal's reader tells.
+        let _journal = self.board.journal();
+        &self.board
+    }
+
+    /// A new seat, which is free and has the next number. Only want of memory refuses it.
+    pub fn new_seat(&mut self) -> Result<Seat<Led>, Refusal>
+        ensures seat { IfOk result (λ seat. seat ≡ record { number = length self.old.seats; share = 0 }) }
+        ensures seats { OnOk result (self.new.seats ≡ self.old.seats ++ State.Free ∷ []) }
+        ensures board { self.new.board ≡ self.old.board }
+        ensures book { self.new.book ≡ self.old.book }
+        ensures refused { IfErr result (λ refusal. (refusal ≡ NoMemory) × (self.new ≡ self.old)) }
+    {
+        let number = self.seats.count() as u64;
+        if self.seats.add().is_err() {
+            return Err(Refusal::NoMemory);
+        }
+        Ok(Seat::new(number, self.rest.split_off(1, 0)))
+    }
+
+    /// The seat leaves: it makes no more calls, and nobody needs to wait for it. It is refused, `Gone`, where the seat
+    /// waits or has left before.
+    pub fn leave(&mut self, seat: &Seat<Led>) -> Result<(), Refusal>
+        ensures left { OnOk result (MayAsk self.old seat.now.number
+            × (self.new.seats ≡ with_state self.old seat.now.number State.Left)) }
+        ensures board { self.new.board ≡ self.old.board }
+        ensures book { self.new.book ≡ self.old.book }
+        ensures refused { IfErr result (λ refusal. (refusal ≡ Gone) × ¬ (MayAsk self.old seat.now.number)
+            × (self.new ≡ self.old)) }
+    {
+        if self.seats.state(seat.number()) != Some(State::Free) {
+            return Err(Refusal::Gone);
+        }
+        self.seats.set(seat.number(), State::Left);
+        Ok(())
+    }
+}

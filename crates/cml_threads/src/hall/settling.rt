@@ -1,0 +1,57 @@
+//! The end of a hall.
+ghost use Rattle.std.specs.Prelude.{◌≡◌, ◌≢◌, ◌+◌, ◌<◌, ◌^◌, length, vec_len, IfOk, IfErr};
+ghost use Rattle.cml_board.specs.History.{entries_in, rings_in};
+ghost use Rattle.cml_threads.specs.Seating.{Sitting, answers_in};
+
+use super::Hall;
+use crate::seat::Left;
+use crate::settled::Settled;
+use cml_board::Message;
+use cml_log::MessageLog;
+use std::sync::ledger::{Book, Ledger, Share};
+
+impl<M: Message, L: MessageLog<M>, Led: Ledger> Hall<M, L, Led> {
+    /// The end: the board, with a proof that the answers that were counted for the seats, and the entries of lanes and
+    /// feeds, are all its entries. It needs as many lefts as seats were made, else all is handed back.
+    pub fn settle(
+        self,
+        lefts: Vec<Left<Led>>,
+    ) -> Result<Settled<M, L>, (Hall<M, L, Led>, Vec<Left<Led>>)>
+        ensures all { IfOk result (λ settled. vec_len lefts ≡ length self.seats) }
+        ensures board { IfOk result (λ settled. settled.board ≡ self.board) }
+        ensures seats { IfOk result (λ settled. settled.seats ≡ answers_in lefts.items) }
+        ensures rings { IfOk result (λ settled. settled.rings ≡ rings_in self.board.history) }
+        ensures total { IfOk result (λ settled. settled.seats + settled.rings ≡ entries_in self.board.history) }
+        ensures back { IfErr result (λ back. (vec_len lefts ≢ length self.seats) × (back.0 ≡ self) × (back.1 ≡ lefts)) }
+    {
+        if lefts.len() != self.seats.count() {
+            return Err((self, lefts));
+        }
+        let Hall {
+            board,
+            seats: _,
+            mut book,
+            mut rest,
+        } = self;
+        let seats = gather(lefts, &mut book, &mut rest);
+        book.audit(&mut rest);
+        let rings = board.journal().len() as u64 - seats;
+        Ok(Settled::new(board, seats, rings))
+    }
+}
+
+/// Takes the shares of all lefts to the rest, and gives how many answers were counted for them.
+fn gather<Led: Ledger>(lefts: Vec<Left<Led>>, book: &mut Book<Led>, rest: &mut Share<Led>) -> u64
+    requires { book.old.total < 2 ^ 64 }
+    ensures answers { result ≡ answers_in lefts.items }
+    ensures total { book.new.total ≡ book.old.total }
+    ensures amount { rest.new.amount ≡ rest.old.amount + answers_in lefts.items }
+    ensures parts { rest.new.parts ≡ rest.old.parts + vec_len lefts }
+{
+    let mut lefts = lefts;
+    let mut answers = 0;
+    while let Some(left) = lefts.pop() {
+        answers += left.join_to(book, rest);
+    }
+    answers
+}

@@ -1,0 +1,18 @@
+//! Threads that share one board: its lock, their seats, how they wait for each other, and a ledger of their answers.
+#![tactic(auto)]
+
+mod asked;
+mod hall;
+mod seat;
+mod seats;
+mod settled;
+mod state;
+mod switchboard;
+mod waiting;
+
+pub use asked::Asked;
+pub use hall::{Hall, PARTS};
+pub use seat::{Left, Seat};
+pub use settled::{Count, Settled};
+pub use state::State;
+pub use switchboard::Switchboard;

@@ -1,0 +1,80 @@
+ghost use Rattle.std.specs.Prelude.{◌≡◌, ◌+◌};
+ghost use Rattle.cml_board.specs.History.{entries_in, rings_in, Lawful};
+ghost use Rattle.cml_board.specs.Shown.{KeepsMailboxes, KeepsPorts, KeepsClosed, KeepsVariables, KeepsLogs};
+ghost use Rattle.cml_threads.specs.Settling.{Final};
+
+use cml_board::{Board, Message};
+use cml_log::MessageLog;
+use std::marker::Model;
+
+/// What is left of a switchboard or a hall that all seats have left: its board, for good, and the counts of its entries.
+#[derive(Drop)]
+pub struct Settled<M, L: MessageLog<M>> {
+    board: Board<M, L>,
+    seats: u64,
+    rings: u64,
+}
+
+/// How many answers were counted for seats, how many entries are of lanes and feeds, and how many entries there were
+/// since the board was made, which is their sum.
+#[derive(Clone, Copy, Debug, PartialEq, Eq)]
+pub struct Count {
+    pub seats: u64,
+    pub rings: u64,
+    pub total: u64,
+}
+
+impl<M, L: MessageLog<M>> Model for Settled<M, L> {
+    ghost use Rattle.cml_threads.specs.Settling.{Final, IsSettled};
+
+    ghost Value = { Final M };
+
+    ghost view = { λ s. record { board = s.board; seats = s.seats; rings = s.rings } };
+
+    ghost invariant = { λ s. IsSettled s.board s.seats s.rings };
+}
+
+impl<M: Message, L: MessageLog<M>> Settled<M, L> {
+    pub(crate) fn new(board: Board<M, L>, seats: u64, rings: u64) -> Settled<M, L>
+        requires total { seats + rings ≡ entries_in board.history }
+        requires own { rings ≡ rings_in board.history }
+        ensures board { result.board ≡ board }
+        ensures seats { result.seats ≡ seats }
+        ensures rings { result.rings ≡ rings_in board.history }
+        ensures total { result.seats + result.rings ≡ entries_in board.history }
+    {
+        Settled {
+            board,
+            seats,
+            rings,
+        }
+    }
+
+    /// The board, with all that always holds of one: an answer that a seat was given is confirmed here.
+    pub fn board(&self) -> &Board<M, L>
+        ensures board { result.now ≡ self.now.board }
+        ensures lawful { Lawful self.now.board.history }
+        ensures mailboxes { KeepsMailboxes self.now.board }
+        ensures ports { KeepsPorts self.now.board }
+        ensures closed { KeepsClosed self.now.board }
+        ensures variables { KeepsVariables self.now.board }
+        ensures logs { KeepsLogs L.CHUNK self.now.board }
+    {
+        // The facts are those that the journal's reader tells.
+        let _journal = self.board.journal();
+        &self.board
+    }
+
+    pub fn count(&self) -> Count
+        ensures seats { result.seats ≡ self.now.seats }
+        ensures rings { result.rings ≡ rings_in self.now.board.history }
+        ensures total { result.total ≡ entries_in self.now.board.history }
+        ensures sum { result.total ≡ result.seats + result.rings }
+    {
+        Count {
+            seats: self.seats,
+            rings: self.rings,
+            total: self.board.journal().len() as u64,
+        }
+    }
+}

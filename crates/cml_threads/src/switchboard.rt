@@ -1,0 +1,164 @@
+ghost use Rattle.std.specs.Prelude.{◌≡◌, ◌+◌, ◌^◌, ◌≤◌, true, IfOk, IfErr, OnOk};
+ghost use Rattle.cml_board.specs.declared.outcome.Refusal.TheVariants.{NoMemory};
+ghost use Rattle.cml_board.specs.History.{entries_in, rings_in};
+ghost use Rattle.cml_threads.specs.Seating.{Sitting, raised, answers_in};
+ghost use Rattle.cml_threads.specs.Telling.{suits, MayRefuse, Tells, Replies};
+
+mod channels;
+mod mailboxes;
+mod variables;
+
+use crate::asked::Asked;
+use crate::hall::Hall;
+use crate::seat::{Left, Seat};
+use crate::settled::Settled;
+use cml_board::{Answer, Call, Message, Refusal, Reply};
+use cml_log::MessageLog;
+use std::alloc::{AllocError, Global};
+use std::sync::ledger::{Blank, Ledger};
+use std::sync::{Condvar, Mutex, Wait};
+
+/// What threads share: a hall under one lock. Each thread makes its calls by a seat of its own. A call that would wait
+/// waits, and is made again each time that something has changed.
+///
+/// A contract here can tell of what the caller holds, the call, the answer and the seat, but not of the board: another
+/// thread may change it before the caller looks. What holds whenever the lock is free is what `Hall::board` tells, and
+/// what was answered is seen at the end, in what `settle` gives.
+#[derive(Drop)]
+pub struct Switchboard<M, L: MessageLog<M>, Led: Ledger> {
+    hall: Mutex<Hall<M, L, Led>>,
+    changed: Condvar,
+}
+
+impl<M: Message, L: MessageLog<M>, Led: Ledger> Switchboard<M, L, Led> {
+    /// A switchboard with no seats and no objects, whose journal takes `limit` entries. The blank is
+    /// `Blank::new(PARTS)`, and names the switchboard's ledger.
+    pub fn new(
+        alloc: Global,
+        limit: u64,
+        blank: Blank,
+    ) -> Result<Switchboard<M, L, Led>, AllocError>
+        requires least { 1 ≤ limit }
+        requires most { limit ≤ 2 ^ 32 }
+        requires name { blank.name ≡ Led.name }
+        requires parts { blank.parts ≡ Led.parts }
+        requires enough { blank.parts ≡ 2 ^ 63 }
+    {
+        Ok(Switchboard {
+            hall: Mutex::new(Hall::new(alloc, limit, blank)?),
+            changed: Condvar::new(),
+        })
+    }
+
+    /// A new seat. Only want of memory refuses it. Make all seats before the first thread begins to wait: while a seat
+    /// is free nobody is told that all are stalled.
+    pub fn seat<R: Wait>(&self, rt: &R) -> Result<Seat<Led>, Refusal>
+        ensures share { IfOk result (λ seat. seat.share ≡ 0) }
+        ensures refused { IfErr result (λ refusal. refusal ≡ NoMemory) }
+    {
+        self.hall.lock(rt).new_seat()
+    }
+
+    /// Makes a call, and waits until it is answered or refused: it may never return, if nobody ever sends what it waits
+    /// for. What is refused is handed back, and did nothing.
+    ///
+    /// `Stalled` means that the call would wait and that each other seat waits too or has left, so that nobody could
+    /// ever answer it. The seat is free then: make another call, which may let others go on, or leave. Those who wait
+    /// are told the same when next something changes, unless they can go on by then.
+    pub fn call<R: Wait>(
+        &self,
+        rt: &R,
+        seat: &mut Seat<Led>,
+        call: Call<M>,
+    ) -> Result<Answer<M>, (Refusal, Call<M>)>
+        ensures call { IfOk result (λ answer. answer.call ≡ call) }
+        ensures reply { IfOk result (λ answer. suits call answer.reply ≡ true) }
+        ensures counted { OnOk result (seat.new ≡ raised seat.old) }
+        ensures back { IfErr result (λ back. MayRefuse back.0 × (back.1 ≡ call) × (seat.new ≡ seat.old)) }
+    {
+        let mut hall = self.hall.lock(rt);
+        let mut asked = ask(&mut *hall, seat, call);
+        for _ in rt.forever() {
+            match asked {
+                Asked::Answered(answer) => {
+                    drop(hall);
+                    self.changed.notify_all();
+                    return Ok(answer);
+                }
+                Asked::Refused(refusal, call) => return Err((refusal, call)),
+                Asked::Parked(call) => {
+                    hall = self.changed.wait(rt, hall);
+                    asked = ask_again(&mut *hall, seat, call);
+                }
+            }
+        }
+        unreachable!()
+    }
+
+    /// The seat leaves, and all who wait look again whether they can go on: the last but one may be stalled now.
+    pub fn leave<R: Wait>(&self, rt: &R, seat: Seat<Led>) -> Left<Led>
+        ensures { result ≡ seat }
+    {
+        let _ = self.hall.lock(rt).leave(&seat);
+        self.changed.notify_all();
+        seat.into_left()
+    }
+
+    /// The end, for when all threads are joined: the board, with the counts of its entries. It needs the lefts of all
+    /// seats that were made, else all is handed back; so where a seat was dropped it never succeeds.
+    pub fn settle(
+        self,
+        lefts: Vec<Left<Led>>,
+    ) -> Result<Settled<M, L>, (Switchboard<M, L, Led>, Vec<Left<Led>>)>
+        ensures seats { IfOk result (λ settled. settled.seats ≡ answers_in lefts.items) }
+        ensures rings { IfOk result (λ settled. settled.rings ≡ rings_in settled.board.history) }
+        ensures total { IfOk result (λ settled. settled.seats + settled.rings ≡ entries_in settled.board.history) }
+        ensures back { IfErr result (λ back. back.1 ≡ lefts) }
+    {
+        let Switchboard { hall, changed } = self;
+        match hall.into_inner().settle(lefts) {
+            Ok(settled) => Ok(settled),
+            Err((hall, lefts)) => {
+                let hall = Mutex::new(hall);
+                Err((Switchboard { hall, changed }, lefts))
+            }
+        }
+    }
+
+    /// Makes a call, and gives what its answer replies.
+    fn reply<R: Wait>(
+        &self,
+        rt: &R,
+        seat: &mut Seat<Led>,
+        call: Call<M>,
+    ) -> Result<Reply<M>, (Refusal, Call<M>)>
+        ensures { Replies seat.old seat.new call result }
+    {
+        match self.call(rt, seat, call) {
+            Ok(answer) => Ok(answer.into_reply()),
+            Err(back) => Err(back),
+        }
+    }
+}
+
+/// `Hall::ask`, of which the caller of a switchboard can be told this much.
+fn ask<M: Message, L: MessageLog<M>, Led: Ledger>(
+    hall: &mut Hall<M, L, Led>,
+    seat: &mut Seat<Led>,
+    call: Call<M>,
+) -> Asked<M>
+    ensures { Tells seat.old seat.new call result }
+{
+    hall.ask(seat, call)
+}
+
+/// `Hall::ask_again`, in the same way.
+fn ask_again<M: Message, L: MessageLog<M>, Led: Ledger>(
+    hall: &mut Hall<M, L, Led>,
+    seat: &mut Seat<Led>,
+    call: Call<M>,
+) -> Asked<M>
+    ensures { Tells seat.old seat.new call result }
+{
+    hall.ask_again(seat, call)
+}
