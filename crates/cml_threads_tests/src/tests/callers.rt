@@ -1,5 +1,5 @@
 //! Two callers in threads of their own, each of which needs what the other sends: one thread can't pass it.
-use super::scene::Numbers;
+use super::scene::{Final, Numbers};
 use super::trouble::Trouble;
 use cml_board::{Answer, Call, Name};
 use cml_threads::{Left, Seat};
@@ -31,7 +31,7 @@ pub fn exchange<Led: Ledger + Send + Sync, R: Threads + Wait + Sync>(
     rt: &R,
     alloc: Global,
     board: Numbers<Led>,
-) -> Result<String, Trouble> {
+) -> Result<&'static str, Trouble> {
     let mut one = board.seat(rt)?;
     let two = board.seat(rt)?;
     board.mailbox(rt, &mut one)?;
@@ -47,13 +47,20 @@ pub fn exchange<Led: Ledger + Send + Sync, R: Threads + Wait + Sync>(
     let Ok(settled) = board.settle(lefts) else {
         return Err(Trouble::NotSettled);
     };
-    let told = settled.board();
-    let all = one.iter().chain(two.iter()).all(|answer| told.confirm(answer));
-    let count = one.len().saturating_add(two.len());
-    if !all {
-        return Ok(format!(in alloc; "{count} answers, not all confirmed")?);
+    if all_confirmed(&settled, &one) && all_confirmed(&settled, &two) {
+        return Ok("all confirmed");
     }
-    Ok(format!(in alloc; "{count} answers, all confirmed")?)
+    Ok("not all confirmed")
+}
+
+/// Whether there are two answers for each round, and each stands in the journal.
+fn all_confirmed(settled: &Final, answers: &[Answer<u64>]) -> bool {
+    for answer in answers {
+        if !settled.board().confirm(answer) {
+            return false;
+        }
+    }
+    answers.len() as u64 == ROUNDS * 2
 }
 
 fn caller<Led: Ledger, R: Wait>(

@@ -13,7 +13,8 @@ const MESSAGES: u64 = 2_500;
 
 const SENDERS: u64 = 4;
 
-const MOST_ENTRIES: usize = 65_536;
+/// The mailbox, and a send and a receive of each message.
+const ENTRIES: u64 = 1 + 2 * MESSAGES * SENDERS;
 
 const MAILBOX: Name = Name(0);
 
@@ -35,7 +36,7 @@ pub fn send_and_receive<Led: Ledger + Send + Sync, R: Threads + Wait + Sync>(
     rt: &R,
     alloc: Global,
     board: Numbers<Led>,
-) -> Result<String, Trouble> {
+) -> Result<&'static str, Trouble> {
     let mut first = board.seat(rt)?;
     board.mailbox(rt, &mut first)?;
     let mut jobs = vec![in alloc; (first, Part::Receiver)]?;
@@ -46,9 +47,11 @@ pub fn send_and_receive<Led: Ledger + Send + Sync, R: Threads + Wait + Sync>(
         jobs.push((board.seat(rt)?, Part::Receiver))?;
     }
     let shared = &board;
-    let ended = thread::map_vec(rt, jobs, &|job: (Seat<Led>, Part)| {
-        work(rt, alloc, shared, job.0, job.1)
-    })?;
+    let ended = thread::map_vec(
+        rt,
+        jobs,
+        &|job: (Seat<Led>, Part)| { work(rt, alloc, shared, job.0, job.1) },
+    )?;
     let mut lefts = Vec::new(alloc);
     let mut received = Vec::new(alloc);
     for end in ended {
@@ -107,20 +110,25 @@ fn receive_all<Led: Ledger, R: Wait>(
     Ok(received)
 }
 
-fn told(alloc: Global, received: Vec<u64>, settled: &Final) -> Result<String, Trouble> {
+fn told(alloc: Global, received: Vec<u64>, settled: &Final) -> Result<&'static str, Trouble> {
     let mut received = received;
     received.sort()?;
-    let each_once = received.iter().enumerate().all(|(at, message)| at as u64 == *message);
     let journal = settled.board().journal();
-    if journal.len() > MOST_ENTRIES {
-        return Err(Trouble::NotSettled);
+    if journal.len() as u64 != ENTRIES || !is_each_once(&received) {
+        return Ok("not each once");
     }
-    let lawful = check(alloc, journal)?.is_ok();
-    Ok(format!(in alloc;
-        "{} received, {}, in a {} journal of {} entries",
-        received.len(),
-        if each_once { "each once" } else { "not each once" },
-        if lawful { "lawful" } else { "unlawful" },
-        settled.count().total,
-    )?)
+    match check(alloc, journal)? {
+        Ok(()) => Ok("each once, and lawful"),
+        Err(_) => Ok("unlawful"),
+    }
+}
+
+/// Whether that is each number that was sent, in order.
+fn is_each_once(received: &[u64]) -> bool {
+    for (at, message) in received.iter().enumerate() {
+        if *message != at as u64 {
+            return false;
+        }
+    }
+    received.len() as u64 == MESSAGES * SENDERS
 }

@@ -1,10 +1,9 @@
 //! All named forms, from one seat, against that seat's entries.
-use super::hall::tell_reply;
 use super::scene::Numbers;
 use super::trouble::Trouble;
-use cml_board::{Name, Reply};
+use cml_board::{Call, Entry, Name, Reply, Who};
 use cml_threads::Seat;
-use std::alloc::{AllocError, Global};
+use std::alloc::Global;
 use std::sync::Wait;
 use std::sync::ledger::Ledger;
 
@@ -20,56 +19,69 @@ const ONCE: Name = Name(4);
 
 const MUTABLE: Name = Name(5);
 
-/// Each reply as its form gave it, each call and reply as the journal has it, and whether the replies are the same.
-pub const EXPECTED: &str = "\
-NewMailbox: made 0
-Send(Name(0), 5): done
-Recv(Name(0)): got 5
-Poll(Name(0)): none
-NewChannel: made 1
-NewPort(Name(1)): made 2
-Cast(Name(1), 6): done
-CopyPort(Name(2)): made 3
-ClosePort(Name(2)): done
-Recv(Name(3)): got 6
-NewIVar: made 4
-Put(Name(4), 7): done
-Get(Name(4)): got 7
-GetPoll(Name(4)): got 7
-NewMVar: made 5
-Put(Name(5), 8): done
-Get(Name(5)): got 8
-GetPoll(Name(5)): got 8
-Swap(Name(5), 9): got 8
-Take(Name(5)): got 9
-TakePoll(Name(5)): none
-MVarInit(10): made 6
-";
+const FULL: Name = Name(6);
+
+/// The call that each form makes, and its reply.
+const TABLE: &[(Call<u64>, Reply<u64>)] = &[
+    (Call::NewMailbox, Reply::Made(MAILBOX)),
+    (Call::Send(MAILBOX, 5), Reply::Done),
+    (Call::Recv(MAILBOX), Reply::Got(5)),
+    (Call::Poll(MAILBOX), Reply::Nothing),
+    (Call::NewChannel, Reply::Made(CHANNEL)),
+    (Call::NewPort(CHANNEL), Reply::Made(PORT)),
+    (Call::Cast(CHANNEL, 6), Reply::Done),
+    (Call::CopyPort(PORT), Reply::Made(COPY)),
+    (Call::ClosePort(PORT), Reply::Done),
+    (Call::Recv(COPY), Reply::Got(6)),
+    (Call::NewIVar, Reply::Made(ONCE)),
+    (Call::Put(ONCE, 7), Reply::Done),
+    (Call::Get(ONCE), Reply::Got(7)),
+    (Call::GetPoll(ONCE), Reply::Got(7)),
+    (Call::NewMVar, Reply::Made(MUTABLE)),
+    (Call::Put(MUTABLE, 8), Reply::Done),
+    (Call::Get(MUTABLE), Reply::Got(8)),
+    (Call::GetPoll(MUTABLE), Reply::Got(8)),
+    (Call::Swap(MUTABLE, 9), Reply::Got(8)),
+    (Call::Take(MUTABLE), Reply::Got(9)),
+    (Call::TakePoll(MUTABLE), Reply::Nothing),
+    (Call::MVarInit(10), Reply::Made(FULL)),
+];
 
 pub fn call_all<Led: Ledger, R: Wait>(
     rt: &R,
     alloc: Global,
     board: Numbers<Led>,
-) -> Result<String, Trouble> {
+) -> Result<&'static str, Trouble> {
     let mut seat = board.seat(rt)?;
     let mut replies = Vec::new(alloc);
     streams(rt, &board, &mut seat, &mut replies)?;
     variables(rt, &board, &mut seat, &mut replies)?;
-    let lefts = vec![in alloc; board.leave(rt, seat)]?;
+    let mut lefts = Vec::new(alloc);
+    lefts.push(board.leave(rt, seat))?;
     let Ok(settled) = board.settle(lefts) else {
         return Err(Trouble::NotSettled);
     };
-    let entries = settled.board().journal();
-    if entries.len() != replies.len() {
-        return Err(Trouble::NotSettled);
+    if are_in_journal(settled.board().journal(), &replies) {
+        return Ok("as in the journal");
     }
-    let mut text = String::new(alloc);
-    for (entry, reply) in entries.iter().zip(replies.iter()) {
-        write!(text, "{:?}: ", entry.call)?;
-        tell_reply(&mut text, reply)?;
-        text.push_str(if entry.reply.same(reply) { "\n" } else { ", not noted\n" })?;
+    Ok("otherwise")
+}
+
+/// Whether the replies and the journal are both those of the table, and the journal has nothing more.
+fn are_in_journal(journal: &[Entry<u64>], replies: &[Reply<u64>]) -> bool {
+    for (at, (call, expected)) in TABLE.iter().enumerate() {
+        let (Some(entry), Some(reply)) = (journal.get(at), replies.get(at)) else {
+            return false;
+        };
+        if !is_entry(entry, call, expected) || !reply.same(expected) {
+            return false;
+        }
     }
-    Ok(text)
+    journal.len() == TABLE.len() && replies.len() == TABLE.len()
+}
+
+fn is_entry(entry: &Entry<u64>, call: &Call<u64>, reply: &Reply<u64>) -> bool {
+    entry.who == Who::Seat(0) && entry.call.same(call) && entry.reply.same(reply)
 }
 
 type Replies = Vec<Reply<u64>>;

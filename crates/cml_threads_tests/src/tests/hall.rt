@@ -1,7 +1,7 @@
 //! A hall's calls, one after another, and what becomes of each.
 ghost use Rattle.std.specs.Prelude.{◌≡◌, ◌^◌, ◌≤◌};
 
-use cml_board::{BoardLog, Call, Name, Reply};
+use cml_board::{BoardLog, Call, Name, Refusal, Reply};
 use cml_threads::{Asked, Hall, PARTS, Seat};
 use std::alloc::{AllocError, Global};
 use std::marker::Brand;
@@ -9,94 +9,184 @@ use std::sync::ledger::{Blank, Ledger};
 
 type Numbers<Led> = Hall<u64, BoardLog<u64>, Led>;
 
-/// What a seat, by number, does.
-pub enum Step {
-    Ask(usize, Call<u64>),
-    Again(usize, Call<u64>),
-    Leave(usize),
+/// What a seat does.
+pub enum Does {
+    Asks(Call<u64>),
+    AsksAgain(Call<u64>),
+    Leaves,
 }
+
+/// What becomes of it.
+pub enum Told {
+    Replied(Reply<u64>),
+    Parked,
+    Refused(Refusal),
+    Left,
+}
+
+/// A seat by its number, what it does, and what is to become of that.
+pub type Step = (usize, Does, Told);
 
 const SEATS: usize = 3;
 
-const OBJECT: Name = Name(0);
+const FIRST: Name = Name(0);
 
-const PORT: Name = Name(1);
+const SECOND: Name = Name(1);
 
-/// The limit, what the seats do, and what becomes of each step.
-pub const ROWS: &[(u64, &[Step], &str)] = &[
+/// Tables of steps, each with the limit of its hall's journal.
+pub const ROWS: &[(u64, &[Step])] = &[
+    (100, LAST_ONE_STALLS),
+    (2, FULL),
+    (100, CLOSED_WHILE_WAITED_ON),
+    (100, GONE),
+];
+
+const LAST_ONE_STALLS: &[Step] = &[
+    (2, Does::Leaves, Told::Left),
     (
-        100,
-        &[
-            Step::Leave(2),
-            Step::Ask(0, Call::NewMailbox),
-            Step::Ask(0, Call::Recv(OBJECT)),
-            Step::Ask(1, Call::Recv(OBJECT)),
-            Step::Again(0, Call::Recv(OBJECT)),
-            Step::Leave(1),
-            Step::Again(0, Call::Recv(OBJECT)),
-        ],
-        "left, made 0, parked, Stalled, parked, left, Stalled",
+        0,
+        Does::Asks(Call::NewMailbox),
+        Told::Replied(Reply::Made(FIRST)),
     ),
+    (0, Does::Asks(Call::Recv(FIRST)), Told::Parked),
     (
-        2,
-        &[
-            Step::Ask(0, Call::NewMailbox),
-            Step::Ask(0, Call::Recv(OBJECT)),
-            Step::Ask(1, Call::NewMailbox),
-            Step::Again(0, Call::Recv(OBJECT)),
-            Step::Ask(0, Call::Recv(OBJECT)),
-            Step::Leave(0),
-        ],
-        "made 0, parked, made 1, JournalFull, JournalFull, left",
+        1,
+        Does::Asks(Call::Recv(FIRST)),
+        Told::Refused(Refusal::Stalled),
     ),
+    (0, Does::AsksAgain(Call::Recv(FIRST)), Told::Parked),
+    (1, Does::Leaves, Told::Left),
     (
-        100,
-        &[
-            Step::Ask(0, Call::NewChannel),
-            Step::Ask(0, Call::NewPort(OBJECT)),
-            Step::Ask(0, Call::Recv(PORT)),
-            Step::Ask(1, Call::ClosePort(PORT)),
-            Step::Again(0, Call::Recv(PORT)),
-        ],
-        "made 0, made 1, parked, done, closed",
-    ),
-    // Who may not make a call, and that another message of a swap is all one.
-    (
-        100,
-        &[
-            Step::Again(0, Call::Recv(OBJECT)),
-            Step::Ask(0, Call::Recv(OBJECT)),
-            Step::Ask(0, Call::NewMVar),
-            Step::Ask(0, Call::Send(OBJECT, 5)),
-            Step::Ask(0, Call::Swap(OBJECT, 5)),
-            Step::Ask(0, Call::NewMailbox),
-            Step::Leave(0),
-            Step::Again(0, Call::Take(OBJECT)),
-            Step::Again(1, Call::Swap(OBJECT, 5)),
-            Step::Again(0, Call::Swap(OBJECT, 7)),
-            Step::Ask(1, Call::Put(OBJECT, 6)),
-            Step::Again(0, Call::Swap(OBJECT, 7)),
-            Step::Again(0, Call::Swap(OBJECT, 7)),
-            Step::Ask(0, Call::TakePoll(OBJECT)),
-            Step::Leave(0),
-            Step::Leave(0),
-            Step::Ask(0, Call::NewMailbox),
-        ],
-        "Gone, NoSuch, made 0, WrongKind, parked, Gone, Gone, Gone, Gone, parked, done, got 6, Gone, got 7, left, Gone, Gone",
+        0,
+        Does::AsksAgain(Call::Recv(FIRST)),
+        Told::Refused(Refusal::Stalled),
     ),
 ];
 
-/// What becomes of each step, in a hall with a ledger of its own.
-pub fn told(alloc: Global, limit: u64, steps: &[Step]) -> Result<String, AllocError> {
-    told_in::<Brand>(alloc, limit.clamp(1, 100), steps, Blank::new(PARTS))
+const FULL: &[Step] = &[
+    (
+        0,
+        Does::Asks(Call::NewMailbox),
+        Told::Replied(Reply::Made(FIRST)),
+    ),
+    (0, Does::Asks(Call::Recv(FIRST)), Told::Parked),
+    (
+        1,
+        Does::Asks(Call::NewMailbox),
+        Told::Replied(Reply::Made(SECOND)),
+    ),
+    (
+        0,
+        Does::AsksAgain(Call::Recv(FIRST)),
+        Told::Refused(Refusal::JournalFull),
+    ),
+    (0, Does::Leaves, Told::Left),
+];
+
+const CLOSED_WHILE_WAITED_ON: &[Step] = &[
+    (
+        0,
+        Does::Asks(Call::NewChannel),
+        Told::Replied(Reply::Made(FIRST)),
+    ),
+    (
+        0,
+        Does::Asks(Call::NewPort(FIRST)),
+        Told::Replied(Reply::Made(SECOND)),
+    ),
+    (0, Does::Asks(Call::Recv(SECOND)), Told::Parked),
+    (
+        1,
+        Does::Asks(Call::ClosePort(SECOND)),
+        Told::Replied(Reply::Done),
+    ),
+    (
+        0,
+        Does::AsksAgain(Call::Recv(SECOND)),
+        Told::Replied(Reply::Closed),
+    ),
+];
+
+/// Who may not make a call; and that another message of a swap is all one.
+const GONE: &[Step] = &[
+    (
+        0,
+        Does::AsksAgain(Call::Recv(FIRST)),
+        Told::Refused(Refusal::Gone),
+    ),
+    (
+        0,
+        Does::Asks(Call::Recv(FIRST)),
+        Told::Refused(Refusal::NoSuch),
+    ),
+    (
+        0,
+        Does::Asks(Call::NewMVar),
+        Told::Replied(Reply::Made(FIRST)),
+    ),
+    (
+        0,
+        Does::Asks(Call::Recv(FIRST)),
+        Told::Refused(Refusal::WrongKind),
+    ),
+    (0, Does::Asks(Call::Swap(FIRST, 5)), Told::Parked),
+    (
+        0,
+        Does::Asks(Call::NewMailbox),
+        Told::Refused(Refusal::Gone),
+    ),
+    (0, Does::Leaves, Told::Refused(Refusal::Gone)),
+    (
+        0,
+        Does::AsksAgain(Call::Take(FIRST)),
+        Told::Refused(Refusal::Gone),
+    ),
+    (
+        1,
+        Does::AsksAgain(Call::Swap(FIRST, 5)),
+        Told::Refused(Refusal::Gone),
+    ),
+    (0, Does::AsksAgain(Call::Swap(FIRST, 7)), Told::Parked),
+    (
+        1,
+        Does::Asks(Call::Put(FIRST, 6)),
+        Told::Replied(Reply::Done),
+    ),
+    (
+        0,
+        Does::AsksAgain(Call::Swap(FIRST, 7)),
+        Told::Replied(Reply::Got(6)),
+    ),
+    (
+        0,
+        Does::AsksAgain(Call::Swap(FIRST, 7)),
+        Told::Refused(Refusal::Gone),
+    ),
+    (
+        0,
+        Does::Asks(Call::TakePoll(FIRST)),
+        Told::Replied(Reply::Got(7)),
+    ),
+    (0, Does::Leaves, Told::Left),
+    (0, Does::Leaves, Told::Refused(Refusal::Gone)),
+    (
+        0,
+        Does::Asks(Call::NewMailbox),
+        Told::Refused(Refusal::Gone),
+    ),
+];
+
+/// How many steps come as told before the first that doesn't, in a hall with a ledger of its own.
+pub fn count_as_told(alloc: Global, limit: u64, steps: &[Step]) -> Result<usize, AllocError> {
+    count_in::<Brand>(alloc, limit.clamp(1, 100), steps, Blank::new(PARTS))
 }
 
-fn told_in<Led: Ledger>(
+fn count_in<Led: Ledger>(
     alloc: Global,
     limit: u64,
     steps: &[Step],
     blank: Blank,
-) -> Result<String, AllocError>
+) -> Result<usize, AllocError>
     requires least { 1 ≤ limit }
     requires most { limit ≤ 2 ^ 32 }
     requires name { blank.name ≡ Led.name }
@@ -106,57 +196,54 @@ fn told_in<Led: Ledger>(
     let mut hall: Numbers<Led> = Hall::new(alloc, limit, blank)?;
     let mut seats = Vec::new(alloc);
     for _ in 0..SEATS {
-        seats.push(hall.new_seat().map_err(|_| AllocError)?)?;
+        let Ok(seat) = hall.new_seat() else {
+            return Err(AllocError);
+        };
+        seats.push(seat)?;
     }
-    let mut text = String::new(alloc);
-    for (at, step) in steps.iter().enumerate() {
-        if at > 0 {
-            text.push_str(", ")?;
-        }
-        tell_step(&mut text, alloc, &mut hall, &mut seats, step)?;
-    }
-    Ok(text)
+    count_steps(alloc, &mut hall, &mut seats, steps)
 }
 
-fn tell_step<Led: Ledger>(
-    text: &mut String,
+fn count_steps<Led: Ledger>(
     alloc: Global,
     hall: &mut Numbers<Led>,
     seats: &mut Vec<Seat<Led>>,
-    step: &Step,
-) -> Result<(), AllocError> {
-    match step {
-        Step::Ask(at, call) => match seats.get_mut(*at) {
-            Some(seat) => tell(text, &hall.ask(seat, call.share(alloc)?)),
-            None => text.push_str("no such seat"),
-        },
-        Step::Again(at, call) => match seats.get_mut(*at) {
-            Some(seat) => tell(text, &hall.ask_again(seat, call.share(alloc)?)),
-            None => text.push_str("no such seat"),
-        },
-        Step::Leave(at) => match seats.get(*at).map(|seat| hall.leave(seat)) {
-            Some(Ok(())) => text.push_str("left"),
-            Some(Err(refusal)) => write!(text, "{refusal:?}"),
-            None => text.push_str("no such seat"),
+    steps: &[Step],
+) -> Result<usize, AllocError> {
+    for (at, step) in steps.iter().enumerate() {
+        let Some(seat) = seats.get_mut(step.0) else {
+            return Ok(at);
+        };
+        if !is_as_told(alloc, hall, seat, &step.1, &step.2)? {
+            return Ok(at);
+        }
+    }
+    Ok(steps.len())
+}
+
+fn is_as_told<Led: Ledger>(
+    alloc: Global,
+    hall: &mut Numbers<Led>,
+    seat: &mut Seat<Led>,
+    does: &Does,
+    told: &Told,
+) -> Result<bool, AllocError> {
+    match does {
+        Does::Asks(call) => Ok(is_told(&hall.ask(seat, call.share(alloc)?), told)),
+        Does::AsksAgain(call) => Ok(is_told(&hall.ask_again(seat, call.share(alloc)?), told)),
+        Does::Leaves => match (hall.leave(seat), told) {
+            (Ok(()), Told::Left) => Ok(true),
+            (Err(refusal), Told::Refused(expected)) => Ok(refusal == *expected),
+            _ => Ok(false),
         },
     }
 }
 
-fn tell(text: &mut String, asked: &Asked<u64>) -> Result<(), AllocError> {
-    match asked {
-        Asked::Answered(answer) => tell_reply(text, answer.reply()),
-        Asked::Parked(_) => text.push_str("parked"),
-        Asked::Refused(refusal, _) => write!(text, "{refusal:?}"),
-    }
-}
-
-pub fn tell_reply(text: &mut String, reply: &Reply<u64>) -> Result<(), AllocError> {
-    match reply {
-        Reply::Done => text.push_str("done"),
-        Reply::Made(name) => write!(text, "made {}", name.0),
-        Reply::Got(message) => write!(text, "got {message}"),
-        Reply::Nothing => text.push_str("none"),
-        Reply::Put => text.push_str("put"),
-        Reply::Closed => text.push_str("closed"),
+fn is_told(asked: &Asked<u64>, told: &Told) -> bool {
+    match (asked, told) {
+        (Asked::Answered(answer), Told::Replied(reply)) => answer.reply().same(reply),
+        (Asked::Parked(_), Told::Parked) => true,
+        (Asked::Refused(refusal, _), Told::Refused(expected)) => *refusal == *expected,
+        _ => false,
     }
 }

@@ -5,7 +5,7 @@ use super::trouble::Trouble;
 use super::{callers, crowd, forms, settling, stalls};
 use cml_board::BoardLog;
 use cml_threads::{PARTS, Settled, Switchboard};
-use std::alloc::{AllocError, Global};
+use std::alloc::Global;
 use std::marker::Brand;
 use std::sync::Wait;
 use std::sync::ledger::{Blank, Ledger};
@@ -36,14 +36,10 @@ pub enum Scene {
 }
 
 /// What the scene comes to.
-pub fn performed<R: Threads + Wait + Sync>(
-    rt: &R,
-    alloc: Global,
-    scene: Scene,
-) -> Result<String, AllocError> {
+pub fn performed<R: Threads + Wait + Sync>(rt: &R, alloc: Global, scene: Scene) -> &'static str {
     match performed_in::<Brand, R>(rt, alloc, scene, Blank::new(PARTS)) {
-        Ok(text) => Ok(text),
-        Err(trouble) => format!(in alloc; "{trouble:?}"),
+        Ok(word) => word,
+        Err(trouble) => trouble.word(),
     }
 }
 
@@ -52,7 +48,7 @@ fn performed_in<Led: Ledger + Send + Sync, R: Threads + Wait + Sync>(
     alloc: Global,
     scene: Scene,
     blank: Blank,
-) -> Result<String, Trouble>
+) -> Result<&'static str, Trouble>
     requires name { blank.name ≡ Led.name }
     requires parts { blank.parts ≡ Led.parts }
     requires enough { blank.parts ≡ 2 ^ 63 }

@@ -23,17 +23,22 @@ pub fn stall<Led: Ledger + Send + Sync, R: Threads + Wait + Sync>(
     rt: &R,
     alloc: Global,
     board: Numbers<Led>,
-) -> Result<String, Trouble> {
+) -> Result<&'static str, Trouble> {
     let mut first = board.seat(rt)?;
     board.mailbox(rt, &mut first)?;
-    let mut seats = vec![in alloc; first]?;
+    let mut seats = Vec::new(alloc);
+    seats.push(first)?;
     for _ in 1..SEATS {
         seats.push(board.seat(rt)?)?;
     }
     let shared = &board;
     let ended = thread::map_vec(rt, seats, &|seat: Seat<Led>| receive(rt, shared, seat))?;
-    let stalled = ended.iter().filter(|end| end.stalled).count();
-    Ok(format!(in alloc; "{stalled} stalled")?)
+    for end in ended {
+        if !end.stalled {
+            return Ok("one is not told");
+        }
+    }
+    Ok("each is told")
 }
 
 fn receive<Led: Ledger, R: Wait>(rt: &R, board: &Numbers<Led>, seat: Seat<Led>) -> Ended<Led> {

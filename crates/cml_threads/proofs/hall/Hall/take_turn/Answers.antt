@@ -1,0 +1,5 @@
+use Rattle.std.proofs.Common.{rules}
+use Rattle.cml_threads.proofs.hall.Hall.take_turn.Goals as goal
+
+pub returns-in-Answered : goal.returns-in-Answered
+returns-in-Answered g c = search rules
