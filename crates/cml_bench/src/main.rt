@@ -4,11 +4,15 @@
 
 mod check_run;
 mod log_run;
+mod switchboard_run;
 
 use cml_board::{Board, BoardLog, Call, Name, Outcome, Reply, Who};
 use log_run::LogRun;
 use std::alloc::Global;
 use std::process::ExitCode;
+use std::rt::Clock;
+use std::sync::Wait;
+use std::thread::Threads;
 use std::time::{Duration, Instant};
 use std::{env, io};
 
@@ -57,8 +61,14 @@ struct Run {
 
 fn main(rt: HostRuntime) -> io::Result<ExitCode> {
     match asked(&rt)? {
-        Order::Sums => print_sums(&rt)?,
-        Order::Times(count) => print_times(&rt, count)?,
+        Order::Sums => {
+            print_sums(&rt)?;
+            print_switchboard_sums(&rt, rt.alloc())?;
+        }
+        Order::Times(count) => {
+            print_times(&rt, count)?;
+            time_switchboards(&rt, rt.alloc(), count)?;
+        }
         Order::Usage => {
             eprintln!(rt; "usage: cml_bench [N], N from 1 to {MOST}")?;
             return Ok(ExitCode::from(2));
@@ -86,6 +96,23 @@ fn print_sums(rt: &HostRuntime) -> io::Result<()> {
     }
     print_log_sum(rt)?;
     print_lawful(rt)
+}
+
+/// Each workload's sum, which doesn't depend on how its threads take turns, and how many calls they made.
+fn print_switchboard_sums<R: Print + Clock + Threads + Wait + Sync>(
+    rt: &R,
+    alloc: Global,
+) -> io::Result<()> {
+    for workload in switchboard_run::WORKLOADS.iter() {
+        let run = switchboard_run::performed(rt, alloc, *workload, FEW)?;
+        println!(rt;
+            "{}_switchboard {} {}",
+            workload.name(),
+            run.sum,
+            run.entries
+        )?;
+    }
+    Ok(())
 }
 
 fn print_sum(rt: &HostRuntime, workload: &str, sum: u64) -> io::Result<()> {
@@ -154,8 +181,26 @@ fn time_check(rt: &HostRuntime, count: u64) -> io::Result<()> {
     print_time(rt, check_run::NAME, "seryugo_board", time, entries)
 }
 
-fn print_time(
-    rt: &HostRuntime,
+fn time_switchboards<R: Print + Clock + Threads + Wait + Sync>(
+    rt: &R,
+    alloc: Global,
+    count: u64,
+) -> io::Result<()> {
+    for workload in switchboard_run::WORKLOADS.iter() {
+        let run = switchboard_run::performed(rt, alloc, *workload, count)?;
+        print_time(
+            rt,
+            workload.name(),
+            "seryugo_switchboard",
+            run.time,
+            run.entries as usize,
+        )?;
+    }
+    Ok(())
+}
+
+fn print_time<R: Print>(
+    rt: &R,
     workload: &str,
     subject: &str,
     time: Duration,
