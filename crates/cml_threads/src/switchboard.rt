@@ -26,8 +26,16 @@ use std::sync::{Condvar, Mutex, Wait};
 /// what was answered is seen at the end, in what `settle` gives.
 #[derive(Drop)]
 pub struct Switchboard<M, L: MessageLog<M>, Led: Ledger> {
-    hall: Mutex<Hall<M, L, Led>>,
+    locked: Mutex<Locked<M, L, Led>>,
     changed: Condvar,
+}
+
+/// What the lock holds.
+#[derive(Drop)]
+struct Locked<M, L: MessageLog<M>, Led: Ledger> {
+    hall: Hall<M, L, Led>,
+    /// Whether some thread has begun to wait since all were last woken. Else there is nobody to wake.
+    is_waited: bool,
 }
 
 impl<M: Message, L: MessageLog<M>, Led: Ledger> Switchboard<M, L, Led> {
@@ -45,7 +53,10 @@ impl<M: Message, L: MessageLog<M>, Led: Ledger> Switchboard<M, L, Led> {
         requires enough { blank.parts ≡ 2 ^ 63 }
     {
         Ok(Switchboard {
-            hall: Mutex::new(Hall::new(alloc, limit, blank)?),
+            locked: Mutex::new(Locked {
+                hall: Hall::new(alloc, limit, blank)?,
+                is_waited: false,
+            }),
             changed: Condvar::new(),
         })
     }
@@ -56,7 +67,7 @@ impl<M: Message, L: MessageLog<M>, Led: Ledger> Switchboard<M, L, Led> {
         ensures share { IfOk result (λ seat. seat.share ≡ 0) }
         ensures refused { IfErr result (λ refusal. refusal ≡ NoMemory) }
     {
-        self.hall.lock(rt).new_seat()
+        self.locked.lock(rt).hall.new_seat()
     }
 
     /// Makes a call, and waits until it is answered or refused: it may never return, if nobody ever sends what it waits
@@ -76,19 +87,24 @@ impl<M: Message, L: MessageLog<M>, Led: Ledger> Switchboard<M, L, Led> {
         ensures counted { OnOk result (seat.new ≡ raised seat.old) }
         ensures back { IfErr result (λ back. MayRefuse back.0 × (back.1 ≡ call) × (seat.new ≡ seat.old)) }
     {
-        let mut hall = self.hall.lock(rt);
-        let mut asked = ask(&mut *hall, seat, call);
+        let mut locked = self.locked.lock(rt);
+        let mut asked = ask(&mut locked.hall, seat, call);
         for _ in rt.forever() {
             match asked {
                 Asked::Answered(answer) => {
-                    drop(hall);
-                    self.changed.notify_all();
+                    let is_waited = locked.is_waited;
+                    locked.is_waited = false;
+                    drop(locked);
+                    if is_waited {
+                        self.changed.notify_all();
+                    }
                     return Ok(answer);
                 }
                 Asked::Refused(refusal, call) => return Err((refusal, call)),
                 Asked::Parked(call) => {
-                    hall = self.changed.wait(rt, hall);
-                    asked = ask_again(&mut *hall, seat, call);
+                    locked.is_waited = true;
+                    locked = self.changed.wait(rt, locked);
+                    asked = ask_again(&mut locked.hall, seat, call);
                 }
             }
         }
@@ -99,7 +115,7 @@ impl<M: Message, L: MessageLog<M>, Led: Ledger> Switchboard<M, L, Led> {
     pub fn leave<R: Wait>(&self, rt: &R, seat: Seat<Led>) -> Left<Led>
         ensures { result ≡ seat }
     {
-        let _ = self.hall.lock(rt).leave(&seat);
+        let _ = self.locked.lock(rt).hall.leave(&seat);
         self.changed.notify_all();
         seat.into_left()
     }
@@ -115,12 +131,13 @@ impl<M: Message, L: MessageLog<M>, Led: Ledger> Switchboard<M, L, Led> {
         ensures total { IfOk result (λ settled. settled.seats + settled.rings ≡ entries_in settled.board.history) }
         ensures back { IfErr result (λ back. back.1 ≡ lefts) }
     {
-        let Switchboard { hall, changed } = self;
-        match hall.into_inner().settle(lefts) {
+        let Switchboard { locked, changed } = self;
+        let Locked { hall, is_waited } = locked.into_inner();
+        match hall.settle(lefts) {
             Ok(settled) => Ok(settled),
             Err((hall, lefts)) => {
-                let hall = Mutex::new(hall);
-                Err((Switchboard { hall, changed }, lefts))
+                let locked = Mutex::new(Locked { hall, is_waited });
+                Err((Switchboard { locked, changed }, lefts))
             }
         }
     }
