@@ -1,11 +1,10 @@
-mod callers;
-mod crowd;
+mod crew;
 mod forms;
 mod hall;
 mod scene;
 mod settling;
-mod stalls;
 mod trouble;
+mod verdict;
 
 use scene::{Scene, performed};
 use std::process::Abort;
@@ -13,9 +12,9 @@ use std::test::Fail;
 
 const SCENES: &[(Scene, &str)] = &[
     (Scene::Callers, "all confirmed"),
-    (Scene::Forms, "as in the journal"),
     (Scene::Crowd, "each once, and lawful"),
     (Scene::Stall, "each is told"),
+    (Scene::Forms, "as in the journal"),
     (Scene::OneLeft, "handed back, and settled"),
     (Scene::Dropped, "handed back"),
 ];

@@ -1,7 +1,7 @@
 //! All named forms, from one seat, against that seat's entries.
-use super::scene::Numbers;
+use super::scene::{Numbers, alone, settled};
 use super::trouble::Trouble;
-use cml_board::{Call, Entry, Name, Reply, Who};
+use cml_board::{Call, Entry, Name, Refusal, Reply, Who};
 use cml_threads::Seat;
 use std::alloc::Global;
 use std::sync::Wait;
@@ -47,44 +47,60 @@ const TABLE: &[(Call<u64>, Reply<u64>)] = &[
     (Call::MVarInit(10), Reply::Made(FULL)),
 ];
 
+/// How many replies came, and whether each so far was the table's.
+#[derive(Clone, Copy)]
+struct Replies {
+    count: usize,
+    are_as_told: bool,
+}
+
+impl Replies {
+    fn note(&mut self, told: Result<Reply<u64>, (Refusal, Call<u64>)>) {
+        let is_as_told = match (&told, TABLE.get(self.count)) {
+            (Ok(reply), Some(row)) => reply.same(&row.1),
+            _ => false,
+        };
+        self.are_as_told = self.are_as_told && is_as_told;
+        self.count = self.count.saturating_add(1);
+    }
+}
+
 pub fn call_all<Led: Ledger, R: Wait>(
     rt: &R,
     alloc: Global,
     board: Numbers<Led>,
 ) -> Result<&'static str, Trouble> {
-    let mut seat = board.seat(rt)?;
-    let mut replies = Vec::new(alloc);
-    streams(rt, &board, &mut seat, &mut replies)?;
-    variables(rt, &board, &mut seat, &mut replies)?;
-    let mut lefts = Vec::new(alloc);
-    lefts.push(board.leave(rt, seat))?;
-    let Ok(settled) = board.settle(lefts) else {
-        return Err(Trouble::NotSettled);
+    let Ok(mut seat) = board.seat(rt) else {
+        return Err(Trouble::Refused);
     };
-    if are_in_journal(settled.board().journal(), &replies) {
+    let mut replies = Replies {
+        count: 0,
+        are_as_told: true,
+    };
+    streams(rt, &board, &mut seat, &mut replies);
+    variables(rt, &board, &mut seat, &mut replies);
+    let lefts = alone(alloc, board.leave(rt, seat));
+    let settled = settled(board, lefts)?;
+    if replies.are_as_told && is_table(settled.board().journal()) {
         return Ok("as in the journal");
     }
     Ok("otherwise")
 }
 
-/// Whether the replies and the journal are both those of the table, and the journal has nothing more.
-fn are_in_journal(journal: &[Entry<u64>], replies: &[Reply<u64>]) -> bool {
-    for (at, (call, expected)) in TABLE.iter().enumerate() {
-        let (Some(entry), Some(reply)) = (journal.get(at), replies.get(at)) else {
-            return false;
-        };
-        if !is_entry(entry, call, expected) || !reply.same(expected) {
-            return false;
+/// Whether the journal is the table.
+fn is_table(journal: &[Entry<u64>]) -> bool {
+    for (at, (call, reply)) in TABLE.iter().enumerate() {
+        match journal.get(at) {
+            Some(entry) if is_entry(entry, call, reply) => {}
+            _ => return false,
         }
     }
-    journal.len() == TABLE.len() && replies.len() == TABLE.len()
+    journal.len() == TABLE.len()
 }
 
 fn is_entry(entry: &Entry<u64>, call: &Call<u64>, reply: &Reply<u64>) -> bool {
     entry.who == Who::Seat(0) && entry.call.same(call) && entry.reply.same(reply)
 }
-
-type Replies = Vec<Reply<u64>>;
 
 /// The forms on mailboxes and channels.
 fn streams<Led: Ledger, R: Wait>(
@@ -92,18 +108,17 @@ fn streams<Led: Ledger, R: Wait>(
     board: &Numbers<Led>,
     seat: &mut Seat<Led>,
     replies: &mut Replies,
-) -> Result<(), Trouble> {
-    replies.push(board.mailbox(rt, seat)?)?;
-    replies.push(board.send(rt, seat, MAILBOX, 5)?)?;
-    replies.push(board.recv(rt, seat, MAILBOX)?)?;
-    replies.push(board.recv_poll(rt, seat, MAILBOX)?)?;
-    replies.push(board.m_channel(rt, seat)?)?;
-    replies.push(board.port(rt, seat, CHANNEL)?)?;
-    replies.push(board.multicast(rt, seat, CHANNEL, 6)?)?;
-    replies.push(board.copy(rt, seat, PORT)?)?;
-    replies.push(board.close(rt, seat, PORT)?)?;
-    replies.push(board.recv(rt, seat, COPY)?)?;
-    Ok(())
+) {
+    replies.note(board.mailbox(rt, seat));
+    replies.note(board.send(rt, seat, MAILBOX, 5));
+    replies.note(board.recv(rt, seat, MAILBOX));
+    replies.note(board.recv_poll(rt, seat, MAILBOX));
+    replies.note(board.m_channel(rt, seat));
+    replies.note(board.port(rt, seat, CHANNEL));
+    replies.note(board.multicast(rt, seat, CHANNEL, 6));
+    replies.note(board.copy(rt, seat, PORT));
+    replies.note(board.close(rt, seat, PORT));
+    replies.note(board.recv(rt, seat, COPY));
 }
 
 /// Those on variables.
@@ -112,18 +127,17 @@ fn variables<Led: Ledger, R: Wait>(
     board: &Numbers<Led>,
     seat: &mut Seat<Led>,
     replies: &mut Replies,
-) -> Result<(), Trouble> {
-    replies.push(board.i_var(rt, seat)?)?;
-    replies.push(board.i_put(rt, seat, ONCE, 7)?)?;
-    replies.push(board.i_get(rt, seat, ONCE)?)?;
-    replies.push(board.i_get_poll(rt, seat, ONCE)?)?;
-    replies.push(board.m_var(rt, seat)?)?;
-    replies.push(board.m_put(rt, seat, MUTABLE, 8)?)?;
-    replies.push(board.m_get(rt, seat, MUTABLE)?)?;
-    replies.push(board.m_get_poll(rt, seat, MUTABLE)?)?;
-    replies.push(board.m_swap(rt, seat, MUTABLE, 9)?)?;
-    replies.push(board.m_take(rt, seat, MUTABLE)?)?;
-    replies.push(board.m_take_poll(rt, seat, MUTABLE)?)?;
-    replies.push(board.m_var_init(rt, seat, 10)?)?;
-    Ok(())
+) {
+    replies.note(board.i_var(rt, seat));
+    replies.note(board.i_put(rt, seat, ONCE, 7));
+    replies.note(board.i_get(rt, seat, ONCE));
+    replies.note(board.i_get_poll(rt, seat, ONCE));
+    replies.note(board.m_var(rt, seat));
+    replies.note(board.m_put(rt, seat, MUTABLE, 8));
+    replies.note(board.m_get(rt, seat, MUTABLE));
+    replies.note(board.m_get_poll(rt, seat, MUTABLE));
+    replies.note(board.m_swap(rt, seat, MUTABLE, 9));
+    replies.note(board.m_take(rt, seat, MUTABLE));
+    replies.note(board.m_take_poll(rt, seat, MUTABLE));
+    replies.note(board.m_var_init(rt, seat, 10));
 }

@@ -1,11 +1,12 @@
 //! Scenes on a switchboard, and the one place that names a ledger for them.
 ghost use Rattle.std.specs.Prelude.{◌≡◌, ◌^◌};
 
+use super::crew::{Crew, at_work};
 use super::trouble::Trouble;
-use super::{callers, crowd, forms, settling, stalls};
+use super::{forms, settling, verdict};
 use cml_board::BoardLog;
-use cml_threads::{PARTS, Settled, Switchboard};
-use std::alloc::Global;
+use cml_threads::{Left, PARTS, Settled, Switchboard};
+use std::alloc::{AllocError, Global};
 use std::marker::Brand;
 use std::sync::Wait;
 use std::sync::ledger::{Blank, Ledger};
@@ -55,11 +56,46 @@ fn performed_in<Led: Ledger + Send + Sync, R: Threads + Wait + Sync>(
 {
     let board: Numbers<Led> = Switchboard::new(alloc, LIMIT, blank)?;
     match scene {
-        Scene::Callers => callers::exchange(rt, alloc, board),
+        Scene::Callers => judged(rt, alloc, board, Crew::Callers),
+        Scene::Crowd => judged(rt, alloc, board, Crew::Crowd),
+        Scene::Stall => judged(rt, alloc, board, Crew::Stalled),
         Scene::Forms => forms::call_all(rt, alloc, board),
-        Scene::Crowd => crowd::send_and_receive(rt, alloc, board),
-        Scene::Stall => stalls::stall(rt, alloc, board),
         Scene::OneLeft => settling::settle_late(rt, alloc, board),
         Scene::Dropped => settling::settle_without(rt, alloc, board),
     }
+}
+
+fn judged<Led: Ledger + Send + Sync, R: Threads + Wait + Sync>(
+    rt: &R,
+    alloc: Global,
+    board: Numbers<Led>,
+    crew: Crew,
+) -> Result<&'static str, Trouble> {
+    let (settled, all) = at_work(rt, alloc, board, crew)?;
+    match crew {
+        Crew::Callers => Ok(verdict::of_callers(&settled, &all)),
+        Crew::Crowd => verdict::of_crowd(alloc, &settled, &all),
+        Crew::Stalled => Ok(verdict::of_stalled(&all)),
+    }
+}
+
+/// Settles a switchboard with these lefts.
+pub fn settled<Led: Ledger>(
+    board: Numbers<Led>,
+    lefts: Result<Vec<Left<Led>>, AllocError>,
+) -> Result<Final, Trouble> {
+    let Ok(lefts) = lefts else {
+        return Err(Trouble::NoMemory);
+    };
+    match board.settle(lefts) {
+        Ok(settled) => Ok(settled),
+        Err(_) => Err(Trouble::NotSettled),
+    }
+}
+
+/// One left alone.
+pub fn alone<Led: Ledger>(alloc: Global, left: Left<Led>) -> Result<Vec<Left<Led>>, AllocError> {
+    let mut lefts = Vec::new(alloc);
+    lefts.push(left)?;
+    Ok(lefts)
 }

@@ -1,7 +1,8 @@
 //! When a switchboard is settled, and when everything is handed back.
-use super::scene::{Final, Numbers};
+use super::scene::{Final, Numbers, alone};
 use super::trouble::Trouble;
-use cml_board::{Name, Reply};
+use cml_board::{Call, Name, Refusal, Reply};
+use cml_threads::Seat;
 use std::alloc::Global;
 use std::sync::Wait;
 use std::sync::ledger::Ledger;
@@ -14,16 +15,14 @@ pub fn settle_late<Led: Ledger, R: Wait>(
     alloc: Global,
     board: Numbers<Led>,
 ) -> Result<&'static str, Trouble> {
-    let mut one = board.seat(rt)?;
-    let mut two = board.seat(rt)?;
-    board.mailbox(rt, &mut one)?;
-    board.send(rt, &mut one, MAILBOX, 5)?;
-    board.send(rt, &mut one, MAILBOX, 6)?;
-    is_reply(board.recv_poll(rt, &mut two, MAILBOX)?, Reply::Got(5))?;
-    is_reply(board.recv_poll(rt, &mut two, MAILBOX)?, Reply::Got(6))?;
-    is_reply(board.recv_poll(rt, &mut two, MAILBOX)?, Reply::Nothing)?;
-    let mut lefts = Vec::new(alloc);
-    lefts.push(board.leave(rt, one))?;
+    let (Ok(one), Ok(two)) = (board.seat(rt), board.seat(rt)) else {
+        return Err(Trouble::Refused);
+    };
+    let (mut one, mut two) = (one, two);
+    if !are_as_told(rt, &board, &mut one, &mut two) {
+        return Err(Trouble::OtherReply);
+    }
+    let lefts = alone(alloc, board.leave(rt, one))?;
     let two = board.leave(rt, two);
     let Err((board, mut lefts)) = board.settle(lefts) else {
         return Ok("settled with one left");
@@ -35,11 +34,25 @@ pub fn settle_late<Led: Ledger, R: Wait>(
     }
 }
 
-fn is_reply(reply: Reply<u64>, expected: Reply<u64>) -> Result<(), Trouble> {
-    if reply.same(&expected) {
-        return Ok(());
+fn are_as_told<Led: Ledger, R: Wait>(
+    rt: &R,
+    board: &Numbers<Led>,
+    one: &mut Seat<Led>,
+    two: &mut Seat<Led>,
+) -> bool {
+    is_reply(board.mailbox(rt, one), &Reply::Made(MAILBOX))
+        && is_reply(board.send(rt, one, MAILBOX, 5), &Reply::Done)
+        && is_reply(board.send(rt, one, MAILBOX, 6), &Reply::Done)
+        && is_reply(board.recv_poll(rt, two, MAILBOX), &Reply::Got(5))
+        && is_reply(board.recv_poll(rt, two, MAILBOX), &Reply::Got(6))
+        && is_reply(board.recv_poll(rt, two, MAILBOX), &Reply::Nothing)
+}
+
+fn is_reply(told: Result<Reply<u64>, (Refusal, Call<u64>)>, expected: &Reply<u64>) -> bool {
+    match &told {
+        Ok(reply) => reply.same(expected),
+        Err(_) => false,
     }
-    Err(Trouble::OtherReply)
 }
 
 fn told(settled: &Final) -> &'static str {
@@ -56,10 +69,10 @@ pub fn settle_without<Led: Ledger, R: Wait>(
     alloc: Global,
     board: Numbers<Led>,
 ) -> Result<&'static str, Trouble> {
-    let one = board.seat(rt)?;
-    drop(board.seat(rt)?);
-    let mut lefts = Vec::new(alloc);
-    lefts.push(board.leave(rt, one))?;
+    let (Ok(one), Ok(_)) = (board.seat(rt), board.seat(rt)) else {
+        return Err(Trouble::Refused);
+    };
+    let lefts = alone(alloc, board.leave(rt, one))?;
     let Err((_, lefts)) = board.settle(lefts) else {
         return Err(Trouble::NotSettled);
     };
