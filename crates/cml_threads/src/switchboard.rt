@@ -61,8 +61,8 @@ impl<M: Message, L: MessageLog<M>, Led: Ledger> Switchboard<M, L, Led> {
         })
     }
 
-    /// A new seat. Only want of memory refuses it. Make all seats before the first thread begins to wait: while a seat
-    /// is free nobody is told that all are stalled.
+    /// A new seat. Only want of memory refuses it. Make all seats before the first thread begins to wait, and keep none
+    /// while you wait for the threads themselves, as by a join: while a seat is free nobody is told that all are stalled.
     pub fn seat<R: Wait>(&self, rt: &R) -> Result<Seat<Led>, Refusal>
         ensures share { IfOk result (λ seat. seat.share ≡ 0) }
         ensures refused { IfErr result (λ refusal. refusal ≡ NoMemory) }
@@ -111,7 +111,8 @@ impl<M: Message, L: MessageLog<M>, Led: Ledger> Switchboard<M, L, Led> {
         unreachable!()
     }
 
-    /// The seat leaves, and all who wait look again whether they can go on: the last but one may be stalled now.
+    /// The seat leaves, and all who wait look again whether they can go on: they may be stalled now. A thread leaves
+    /// whatever became of its calls, since nobody is told of a stall while its seat is free.
     pub fn leave<R: Wait>(&self, rt: &R, seat: Seat<Led>) -> Left<Led>
         ensures { result ≡ seat }
     {
@@ -121,7 +122,8 @@ impl<M: Message, L: MessageLog<M>, Led: Ledger> Switchboard<M, L, Led> {
     }
 
     /// The end, for when all threads are joined: the board, with the counts of its entries. It needs the lefts of all
-    /// seats that were made, else all is handed back; so where a seat was dropped it never succeeds.
+    /// seats that were made, else all is handed back; so where a seat was dropped it never succeeds, and `into_hall` is
+    /// what is left.
     pub fn settle(
         self,
         lefts: Vec<Left<Led>>,
@@ -140,6 +142,14 @@ impl<M: Message, L: MessageLog<M>, Led: Ledger> Switchboard<M, L, Led> {
                 Err((Switchboard { locked, changed }, lefts))
             }
         }
+    }
+
+    /// What the lock held. Where a seat was lost, so that it can't be settled, the board is still to be read: its clauses
+    /// are those of `Hall::board`.
+    pub fn into_hall(self) -> Hall<M, L, Led> {
+        let Switchboard { locked, changed: _ } = self;
+        let Locked { hall, is_waited: _ } = locked.into_inner();
+        hall
     }
 
     /// Makes a call, and gives what its answer replies.

@@ -63,7 +63,7 @@ fn told(settled: &Final) -> &'static str {
     "otherwise counted"
 }
 
-/// A seat is dropped, and the other's left is not enough.
+/// A seat is dropped, and the other's left is not enough. The journal is to be read all the same.
 pub fn settle_without<Led: Ledger, R: Wait>(
     rt: &R,
     alloc: Global,
@@ -72,11 +72,16 @@ pub fn settle_without<Led: Ledger, R: Wait>(
     let (Ok(one), Ok(_)) = (board.seat(rt), board.seat(rt)) else {
         return Err(Trouble::Refused);
     };
+    let mut one = one;
+    if !is_reply(board.mailbox(rt, &mut one), &Reply::Made(MAILBOX)) {
+        return Err(Trouble::OtherReply);
+    }
     let lefts = alone(alloc, board.leave(rt, one))?;
-    let Err((_, lefts)) = board.settle(lefts) else {
+    let Err((board, lefts)) = board.settle(lefts) else {
         return Err(Trouble::NotSettled);
     };
-    if lefts.len() == 1 {
+    let hall = board.into_hall();
+    if lefts.len() == 1 && hall.board().journal().len() == 1 {
         return Ok("handed back");
     }
     Ok("not all handed back")
