@@ -19,7 +19,8 @@ use std::sync::ledger::{Blank, Ledger};
 use std::sync::{Condvar, Mutex, Wait};
 
 /// What threads share: a hall under one lock. Each thread makes its calls by a seat of its own. A call that would wait
-/// waits, and is made again each time that something has changed.
+/// waits, and is made again each time that something has changed. While the lock is held none of a caller's code runs
+/// but a message's own `share` and its end.
 ///
 /// A contract here can tell of what the caller holds, the call, the answer and the seat, but not of the board: another
 /// thread may change it before the caller looks. What holds whenever the lock is free is what `Hall::board` tells, and
