@@ -19,6 +19,8 @@ pub enum Trouble {
     Refused(Refusal),
     OtherReply,
     NoMemory,
+    /// Of threads: a seat is missing at the end.
+    Unsettled,
 }
 
 impl From<AllocError> for Trouble {

@@ -3,15 +3,24 @@
 
 mod calls;
 mod channels;
+mod ending;
 mod journals;
+mod locking;
 mod mailboxes;
+mod passing;
+mod pool;
 mod readers;
 mod refusals;
 mod reserving;
+mod stream;
+mod threads;
 mod variables;
 
 use std::fmt::Debug;
+use std::alloc::Global;
 use std::io;
+use std::sync::Wait;
+use std::thread::Threads;
 
 fn main(rt: HostRuntime) -> io::Result<()> {
     show_mailboxes(&rt)?;
@@ -19,11 +28,12 @@ fn main(rt: HostRuntime) -> io::Result<()> {
     show_variables(&rt)?;
     show_refusals(&rt)?;
     show_readers(&rt)?;
-    show_journals(&rt)
+    show_journals(&rt)?;
+    show_threads(&rt, rt.alloc())
 }
 
 /// Prints what an example comes to.
-fn show<T: Debug>(rt: &HostRuntime, name: &str, outcome: &T) -> io::Result<()> {
+fn show<R: Print, T: Debug>(rt: &R, name: &str, outcome: &T) -> io::Result<()> {
     println!(rt; "{name}: {outcome:?}")
 }
 
@@ -88,4 +98,17 @@ fn show_journals(rt: &HostRuntime) -> io::Result<()> {
     )?;
     show(rt, "journals::invented", &journals::invented(alloc))?;
     show(rt, "journals::confirmed", &journals::confirmed(alloc))
+}
+
+fn show_threads<R: Threads + Wait + Sync + Print>(rt: &R, alloc: Global) -> io::Result<()> {
+    show(rt, "passing::passed_on", &passing::passed_on(rt, alloc))?;
+    show(rt, "pool::squares", &pool::squares(rt, alloc))?;
+    show(rt, "stream::read_by_three", &stream::read_by_three(rt, alloc))?;
+    show(
+        rt,
+        "locking::counted_by_two",
+        &locking::counted_by_two(rt, alloc),
+    )?;
+    show(rt, "ending::stalled", &ending::stalled(rt, alloc))?;
+    show(rt, "ending::missed", &ending::missed(rt, alloc))
 }

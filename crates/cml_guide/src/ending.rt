@@ -1,0 +1,99 @@
+//! How threads end: a stall is told, an answer that was kept is confirmed, and a seat that was dropped is missed.
+ghost use Rattle.std.specs.Prelude.{◌≡◌, ◌+◌, ◌^◌, IfOk};
+
+use crate::calls::Trouble;
+use crate::threads::Shared;
+use cml_board::{Call, Name, Refusal, Reply};
+use cml_threads::{Count, Left, PARTS, Seat};
+use std::alloc::Global;
+use std::marker::Brand;
+use std::sync::Wait;
+use std::sync::ledger::{Blank, Ledger};
+use std::thread;
+use std::thread::Threads;
+
+/// How a program ended.
+#[derive(Clone, Copy, Debug, PartialEq, Eq)]
+pub struct Ended {
+    refusal: Option<Refusal>,
+    confirmed: bool,
+    count: Count,
+}
+
+/// One thread waits for a message that the other never sends.
+pub fn stalled<R: Threads + Wait + Sync>(rt: &R, alloc: Global) -> Result<Ended, Trouble>
+    ensures { IfOk result (λ ended. ended.count.total ≡ ended.count.seats + ended.count.rings) }
+{
+    wait_in_vain::<Brand, R>(rt, alloc, Blank::new(PARTS))
+}
+
+fn wait_in_vain<Led: Ledger + Send + Sync, R: Threads + Wait + Sync>(
+    rt: &R,
+    alloc: Global,
+    blank: Blank,
+) -> Result<Ended, Trouble>
+    requires name { blank.name ≡ Led.name }
+    requires parts { blank.parts ≡ Led.parts }
+    requires enough { blank.parts ≡ 2 ^ 63 }
+    ensures { IfOk result (λ ended. ended.count.total ≡ ended.count.seats + ended.count.rings) }
+{
+    let shared = Shared::<Led>::new(alloc, 100, blank)?;
+    let board = &shared;
+    let waiter = board.seat(rt)?;
+    let mut other = board.seat(rt)?;
+    let kept = board.call(rt, &mut other, Call::NewMailbox)?;
+    let Reply::Made(letters) = *kept.reply() else {
+        return Err(Trouble::OtherReply);
+    };
+    let ((refusal, waiter), other) = thread::join(
+        rt,
+        move || wait_for(rt, board, waiter, letters),
+        move || board.leave(rt, other),
+    );
+    match shared.settle(vec![in alloc; waiter, other]?) {
+        Ok(settled) => Ok(Ended {
+            refusal,
+            confirmed: settled.board().confirm(&kept),
+            count: settled.count(),
+        }),
+        Err(_) => Err(Trouble::Unsettled),
+    }
+}
+
+/// Waits for a message, and then leaves. Gives why there was none.
+fn wait_for<Led: Ledger, R: Wait>(
+    rt: &R,
+    board: &Shared<Led>,
+    mut waiter: Seat<Led>,
+    letters: Name,
+) -> (Option<Refusal>, Left<Led>) {
+    let refusal = match board.recv(rt, &mut waiter, letters) {
+        Ok(_) => None,
+        Err((refusal, _)) => Some(refusal),
+    };
+    (refusal, board.leave(rt, waiter))
+}
+
+/// A seat is dropped, and so the switchboard is not settled. Gives how many seats were handed back.
+pub fn missed<R: Wait>(rt: &R, alloc: Global) -> Result<usize, Trouble>
+    ensures { IfOk result (λ back. back ≡ 1) }
+{
+    miss::<Brand, R>(rt, alloc, Blank::new(PARTS))
+}
+
+fn miss<Led: Ledger, R: Wait>(rt: &R, alloc: Global, blank: Blank) -> Result<usize, Trouble>
+    requires name { blank.name ≡ Led.name }
+    requires parts { blank.parts ≡ Led.parts }
+    requires enough { blank.parts ≡ 2 ^ 63 }
+    ensures { IfOk result (λ back. back ≡ 1) }
+{
+    let shared = Shared::<Led>::new(alloc, 100, blank)?;
+    let stays = shared.seat(rt)?;
+    let dropped = shared.seat(rt)?;
+    drop(dropped);
+    let lefts = vec![in alloc; shared.leave(rt, stays)]?;
+    match shared.settle(lefts) {
+        Ok(_) => Err(Trouble::OtherReply),
+        Err((_shared, lefts)) => Ok(lefts.len()),
+    }
+}

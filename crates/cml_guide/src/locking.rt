@@ -1,0 +1,75 @@
+//! A lock: whoever takes the number out of an m-variable has it alone, until it puts one back.
+ghost use Rattle.std.specs.Prelude.{◌≡◌, ◌+◌, ◌*◌, ◌^◌, IfOk, OnOk};
+
+use crate::calls::Trouble;
+use crate::threads::{Shared, done, got, made, settle};
+use cml_board::Name;
+use cml_threads::{Count, PARTS, Seat};
+use std::alloc::Global;
+use std::marker::Brand;
+use std::sync::Wait;
+use std::sync::ledger::{Blank, Ledger};
+use std::thread;
+use std::thread::Threads;
+
+/// How often each thread raises the counter.
+const ROUNDS: u64 = 10;
+
+/// What two threads have raised a counter to, and how many entries there are at the end.
+pub fn counted_by_two<R: Threads + Wait + Sync>(
+    rt: &R,
+    alloc: Global,
+) -> Result<(u64, Count), Trouble>
+    ensures counted { IfOk result (λ found. found.1.seats ≡ 42) }
+    ensures total { IfOk result (λ found. found.1.total ≡ found.1.seats + found.1.rings) }
+{
+    count_up::<Brand, R>(rt, alloc, Blank::new(PARTS))
+}
+
+fn count_up<Led: Ledger + Send + Sync, R: Threads + Wait + Sync>(
+    rt: &R,
+    alloc: Global,
+    blank: Blank,
+) -> Result<(u64, Count), Trouble>
+    requires name { blank.name ≡ Led.name }
+    requires parts { blank.parts ≡ Led.parts }
+    requires enough { blank.parts ≡ 2 ^ 63 }
+    ensures counted { IfOk result (λ found. found.1.seats ≡ 42) }
+    ensures total { IfOk result (λ found. found.1.total ≡ found.1.seats + found.1.rings) }
+{
+    let shared = Shared::<Led>::new(alloc, 100, blank)?;
+    let board = &shared;
+    let mut here = board.seat(rt)?;
+    let mut there = board.seat(rt)?;
+    let counter = made(board.m_var_init(rt, &mut here, 0)?)?;
+    let ((mine, mut here), (other, there)) = thread::join(
+        rt,
+        move || (raise(rt, board, &mut here, counter), here),
+        move || {
+            let raised = raise(rt, board, &mut there, counter);
+            (raised, board.leave(rt, there))
+        },
+    );
+    let raised = board.m_get(rt, &mut here, counter);
+    let here = board.leave(rt, here);
+    let count = settle(shared, vec![in alloc; here, there]?)?;
+    mine?;
+    other?;
+    Ok((got(raised?)?, count))
+}
+
+/// Raises the counter by one, again and again.
+fn raise<Led: Ledger, R: Wait>(
+    rt: &R,
+    board: &Shared<Led>,
+    seat: &mut Seat<Led>,
+    counter: Name,
+) -> Result<(), Trouble>
+    ensures { OnOk result (seat.new.share ≡ seat.old.share + 2 * ROUNDS) }
+{
+    for _round in 0..ROUNDS {
+        let taken = got(board.m_take(rt, seat, counter)?)?;
+        done(board.m_put(rt, seat, counter, taken.wrapping_add(1))?)?;
+    }
+    Ok(())
+}

@@ -1,0 +1,155 @@
+//! Workers round one mailbox: each takes a job, and sends what it comes to into another.
+ghost use Rattle.std.specs.Prelude.{◌≡◌, ◌+◌, ◌^◌, IfOk};
+
+use crate::calls::Trouble;
+use crate::threads::{Shared, done, got, made, settle};
+use cml_board::Name;
+use cml_threads::{Count, Left, PARTS, Seat};
+use std::alloc::{AllocError, Global};
+use std::marker::Brand;
+use std::sync::Wait;
+use std::sync::ledger::{Blank, Ledger};
+use std::thread;
+use std::thread::{JoinHandle, Threads};
+
+/// How many workers there are.
+const WORKERS: u64 = 3;
+
+/// Each number up to this is a job: to square it.
+const JOBS: u64 = 10;
+
+/// What is sent in place of a job to tell a worker to stop.
+const STOP: u64 = 0;
+
+/// Where jobs are received from, and where results go.
+#[derive(Clone, Copy)]
+pub struct Desk {
+    jobs: Name,
+    results: Name,
+}
+
+/// The sum of all results, and how many entries there are at the end.
+pub fn squares<R: Threads + Wait + Sync>(rt: &R, alloc: Global) -> Result<(u64, Count), Trouble>
+    ensures { IfOk result (λ found. found.1.total ≡ found.1.seats + found.1.rings) }
+{
+    run_pool::<Brand, R>(rt, alloc, Blank::new(PARTS))
+}
+
+fn run_pool<Led: Ledger + Send + Sync, R: Threads + Wait + Sync>(
+    rt: &R,
+    alloc: Global,
+    blank: Blank,
+) -> Result<(u64, Count), Trouble>
+    requires name { blank.name ≡ Led.name }
+    requires parts { blank.parts ≡ Led.parts }
+    requires enough { blank.parts ≡ 2 ^ 63 }
+    ensures { IfOk result (λ found. found.1.total ≡ found.1.seats + found.1.rings) }
+{
+    let shared = Shared::<Led>::new(alloc, 100, blank)?;
+    let mut boss = shared.seat(rt)?;
+    let mut seats = Vec::new(alloc);
+    for _ in 0..WORKERS {
+        seats.push(shared.seat(rt)?)?;
+    }
+    let desk = Desk {
+        jobs: made(shared.mailbox(rt, &mut boss)?)?,
+        results: made(shared.mailbox(rt, &mut boss)?)?,
+    };
+    hand_out(rt, &shared, &mut boss, desk)?;
+    let mut lefts = work_all(rt, alloc, &shared, seats, desk)?;
+    let sum = collect(rt, &shared, &mut boss, desk);
+    lefts.push(shared.leave(rt, boss))?;
+    let count = settle(shared, lefts)?;
+    Ok((sum?, count))
+}
+
+/// Sends all jobs, and then for each worker that it is to stop.
+fn hand_out<Led: Ledger, R: Wait>(
+    rt: &R,
+    board: &Shared<Led>,
+    boss: &mut Seat<Led>,
+    desk: Desk,
+) -> Result<(), Trouble> {
+    for job in 1..=JOBS {
+        done(board.send(rt, boss, desk.jobs, job)?)?;
+    }
+    for _ in 0..WORKERS {
+        done(board.send(rt, boss, desk.jobs, STOP)?)?;
+    }
+    Ok(())
+}
+
+/// What one worker does: job after job, until it is told to stop.
+fn work<Led: Ledger, R: Wait>(
+    rt: &R,
+    board: &Shared<Led>,
+    worker: &mut Seat<Led>,
+    desk: Desk,
+) -> Result<(), Trouble> {
+    for _ in rt.forever() {
+        let job = got(board.recv(rt, worker, desk.jobs)?)?;
+        if job == STOP {
+            return Ok(());
+        }
+        done(board.send(rt, worker, desk.results, job.wrapping_mul(job))?)?;
+    }
+    unreachable!()
+}
+
+/// What a worker's thread runs. It leaves, whatever became of its work.
+fn work_and_leave<Led: Ledger, R: Wait>(
+    rt: &R,
+    board: &Shared<Led>,
+    mut worker: Seat<Led>,
+    desk: Desk,
+) -> Left<Led> {
+    let _ = work(rt, board, &mut worker, desk);
+    board.leave(rt, worker)
+}
+
+/// Starts a thread for each seat, and joins them all. Where no thread can be made, its work is done here.
+fn work_all<Led: Ledger + Send + Sync, R: Threads + Wait + Sync>(
+    rt: &R,
+    alloc: Global,
+    board: &Shared<Led>,
+    seats: Vec<Seat<Led>>,
+    desk: Desk,
+) -> Result<Vec<Left<Led>>, Trouble> {
+    thread::scope(thread::scope_env(), rt, move |scope| -> Result<Vec<Left<Led>>, Trouble> {
+        let mut running = Vec::new(alloc);
+        let mut lefts = Vec::new(alloc);
+        for seat in seats {
+            match scope.spawn(move || work_and_leave(rt, board, seat, desk)) {
+                Ok(handle) => running.push(handle)?,
+                Err(refused) => lefts.push((refused.value)())?,
+            }
+        }
+        join_all(rt, running, lefts)
+    })
+}
+
+fn join_all<Led: Ledger, R: Threads>(
+    rt: &R,
+    running: Vec<JoinHandle<Left<Led>>>,
+    lefts: Vec<Left<Led>>,
+) -> Result<Vec<Left<Led>>, Trouble> {
+    let mut lefts = lefts;
+    for handle in running {
+        lefts.push(handle.join(rt))?;
+    }
+    Ok(lefts)
+}
+
+/// The sum of the results of all jobs.
+fn collect<Led: Ledger, R: Wait>(
+    rt: &R,
+    board: &Shared<Led>,
+    boss: &mut Seat<Led>,
+    desk: Desk,
+) -> Result<u64, Trouble> {
+    let mut sum: u64 = 0;
+    for _ in 0..JOBS {
+        sum = sum.wrapping_add(got(board.recv(rt, boss, desk.results)?)?);
+    }
+    Ok(sum)
+}

@@ -1,0 +1,71 @@
+//! What threads that share a board have in common: their switchboard, what a reply gives them, and the end.
+ghost use Rattle.std.specs.Prelude.{◌≡◌, ◌+◌, IfOk};
+ghost use Rattle.cml_threads.specs.Seating.{answers_in};
+
+use crate::calls::Trouble;
+use cml_board::{BoardLog, Call, Name, Refusal, Reply};
+use cml_threads::{Count, Left, Switchboard};
+use std::alloc::AllocFailed;
+use std::sync::ledger::Ledger;
+
+/// A switchboard whose messages are numbers.
+pub type Shared<Led> = Switchboard<u64, BoardLog<u64>, Led>;
+
+impl From<Refusal> for Trouble {
+    fn from(refusal: Refusal) -> Trouble {
+        Trouble::Refused(refusal)
+    }
+}
+
+impl From<(Refusal, Call<u64>)> for Trouble {
+    fn from(back: (Refusal, Call<u64>)) -> Trouble {
+        Trouble::Refused(back.0)
+    }
+}
+
+impl<T: Drop> From<AllocFailed<T>> for Trouble {
+    fn from(_failed: AllocFailed<T>) -> Trouble {
+        Trouble::NoMemory
+    }
+}
+
+/// The name of the object that was made.
+pub fn made(reply: Reply<u64>) -> Result<Name, Trouble>
+    ensures { IfOk result (λ name. reply ≡ Reply.Made name) }
+{
+    match reply {
+        Reply::Made(name) => Ok(name),
+        _ => Err(Trouble::OtherReply),
+    }
+}
+
+/// The message that was got.
+pub fn got(reply: Reply<u64>) -> Result<u64, Trouble>
+    ensures { IfOk result (λ message. reply ≡ Reply.Got message) }
+{
+    match reply {
+        Reply::Got(message) => Ok(message),
+        _ => Err(Trouble::OtherReply),
+    }
+}
+
+/// Nothing, of a call that is only to be done.
+pub fn done(reply: Reply<u64>) -> Result<(), Trouble>
+    ensures { IfOk result (λ _. reply ≡ Reply.Done) }
+{
+    match reply {
+        Reply::Done => Ok(()),
+        _ => Err(Trouble::OtherReply),
+    }
+}
+
+/// The end: how many entries there are, of which each is an answer that was counted.
+pub fn settle<Led: Ledger>(shared: Shared<Led>, lefts: Vec<Left<Led>>) -> Result<Count, Trouble>
+    ensures seats { IfOk result (λ count. count.seats ≡ answers_in lefts.items) }
+    ensures total { IfOk result (λ count. count.total ≡ count.seats + count.rings) }
+{
+    match shared.settle(lefts) {
+        Ok(settled) => Ok(settled.count()),
+        Err(_) => Err(Trouble::Unsettled),
+    }
+}
