@@ -2,7 +2,7 @@
 ghost use Rattle.std.specs.Prelude.{◌≡◌, ◌+◌, ◌^◌, IfOk};
 
 use crate::calls::Trouble;
-use crate::threads::Shared;
+use crate::threads::{Shared, settle};
 use cml_board::{Call, Name, Refusal, Reply};
 use cml_threads::{Count, Left, PARTS, Seat};
 use std::alloc::Global;
@@ -12,17 +12,17 @@ use std::sync::ledger::{Blank, Ledger};
 use std::thread;
 use std::thread::Threads;
 
-/// How a program ended.
+/// How the waiting thread was refused, and what is left at the end.
 #[derive(Clone, Copy, Debug, PartialEq, Eq)]
-pub struct Ended {
+pub struct Stall {
     refusal: Option<Refusal>,
     confirmed: bool,
     count: Count,
 }
 
 /// One thread waits for a message that the other never sends.
-pub fn stalled<R: Threads + Wait + Sync>(rt: &R, alloc: Global) -> Result<Ended, Trouble>
-    ensures { IfOk result (λ ended. ended.count.total ≡ ended.count.seats + ended.count.rings) }
+pub fn stalled<R: Threads + Wait + Sync>(rt: &R, alloc: Global) -> Result<Stall, Trouble>
+    ensures { IfOk result (λ stall. stall.count.total ≡ stall.count.seats + stall.count.rings) }
 {
     wait_in_vain::<Brand, R>(rt, alloc, Blank::new(PARTS))
 }
@@ -31,11 +31,11 @@ fn wait_in_vain<Led: Ledger + Send + Sync, R: Threads + Wait + Sync>(
     rt: &R,
     alloc: Global,
     blank: Blank,
-) -> Result<Ended, Trouble>
+) -> Result<Stall, Trouble>
     requires name { blank.name ≡ Led.name }
     requires parts { blank.parts ≡ Led.parts }
     requires enough { blank.parts ≡ 2 ^ 63 }
-    ensures { IfOk result (λ ended. ended.count.total ≡ ended.count.seats + ended.count.rings) }
+    ensures { IfOk result (λ stall. stall.count.total ≡ stall.count.seats + stall.count.rings) }
 {
     let shared = Shared::<Led>::new(alloc, 100, blank)?;
     let board = &shared;
@@ -50,14 +50,12 @@ fn wait_in_vain<Led: Ledger + Send + Sync, R: Threads + Wait + Sync>(
         move || wait_for(rt, board, waiter, letters),
         move || board.leave(rt, other),
     );
-    match shared.settle(vec![in alloc; waiter, other]?) {
-        Ok(settled) => Ok(Ended {
-            refusal,
-            confirmed: settled.board().confirm(&kept),
-            count: settled.count(),
-        }),
-        Err(_) => Err(Trouble::Unsettled),
-    }
+    let ended = settle(shared, vec![in alloc; waiter, other]?)?;
+    Ok(Stall {
+        refusal,
+        confirmed: ended.board().confirm(&kept),
+        count: ended.count(),
+    })
 }
 
 /// Waits for a message, and then leaves. Gives why there was none.

@@ -4,7 +4,7 @@ ghost use Rattle.std.specs.Prelude.{◌≡◌, ◌+◌, ◌*◌, ◌^◌, IfOk, 
 use crate::calls::Trouble;
 use crate::threads::{Shared, done, got, made, settle};
 use cml_board::Name;
-use cml_threads::{Count, PARTS, Seat};
+use cml_threads::{Count, Left, PARTS, Seat};
 use std::alloc::Global;
 use std::marker::Brand;
 use std::sync::Wait;
@@ -20,7 +20,7 @@ pub fn counted_by_two<R: Threads + Wait + Sync>(
     rt: &R,
     alloc: Global,
 ) -> Result<(u64, Count), Trouble>
-    ensures counted { IfOk result (λ found. found.1.seats ≡ 42) }
+    ensures counted { IfOk result (λ found. found.1.seats ≡ 4 * ROUNDS + 1) }
     ensures total { IfOk result (λ found. found.1.total ≡ found.1.seats + found.1.rings) }
 {
     count_up::<Brand, R>(rt, alloc, Blank::new(PARTS))
@@ -34,32 +34,43 @@ fn count_up<Led: Ledger + Send + Sync, R: Threads + Wait + Sync>(
     requires name { blank.name ≡ Led.name }
     requires parts { blank.parts ≡ Led.parts }
     requires enough { blank.parts ≡ 2 ^ 63 }
-    ensures counted { IfOk result (λ found. found.1.seats ≡ 42) }
+    ensures counted { IfOk result (λ found. found.1.seats ≡ 4 * ROUNDS + 1) }
     ensures total { IfOk result (λ found. found.1.total ≡ found.1.seats + found.1.rings) }
 {
     let shared = Shared::<Led>::new(alloc, 100, blank)?;
     let board = &shared;
-    let mut here = board.seat(rt)?;
-    let mut there = board.seat(rt)?;
-    let counter = made(board.m_var_init(rt, &mut here, 0)?)?;
-    let ((mine, mut here), (other, there)) = thread::join(
+    let mut one = board.seat(rt)?;
+    let two = board.seat(rt)?;
+    let counter = made(board.m_var_init(rt, &mut one, 0)?)?;
+    let ((first, one), (second, two)) = thread::join(
         rt,
-        move || (raise(rt, board, &mut here, counter), here),
-        move || {
-            let raised = raise(rt, board, &mut there, counter);
-            (raised, board.leave(rt, there))
-        },
+        move || raise(rt, board, one, counter),
+        move || raise(rt, board, two, counter),
     );
-    let raised = board.m_get(rt, &mut here, counter);
-    let here = board.leave(rt, here);
-    let count = settle(shared, vec![in alloc; here, there]?)?;
-    mine?;
-    other?;
-    Ok((got(raised?)?, count))
+    let ended = settle(shared, vec![in alloc; one, two]?)?;
+    first?;
+    second?;
+    match ended.board().held(counter) {
+        Some(Some(raised)) => Ok((*raised, ended.count())),
+        _ => Err(Trouble::OtherReply),
+    }
 }
 
-/// Raises the counter by one, again and again.
+/// Raises the counter, and leaves.
 fn raise<Led: Ledger, R: Wait>(
+    rt: &R,
+    board: &Shared<Led>,
+    mut seat: Seat<Led>,
+    counter: Name,
+) -> (Result<(), Trouble>, Left<Led>)
+    ensures { OnOk result.0 (result.1.share ≡ seat.share + 2 * ROUNDS) }
+{
+    let raised = raise_each(rt, board, &mut seat, counter);
+    (raised, board.leave(rt, seat))
+}
+
+/// Raises the counter by one in each round.
+fn raise_each<Led: Ledger, R: Wait>(
     rt: &R,
     board: &Shared<Led>,
     seat: &mut Seat<Led>,

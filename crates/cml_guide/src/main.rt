@@ -16,8 +16,8 @@ mod stream;
 mod threads;
 mod variables;
 
-use std::fmt::Debug;
 use std::alloc::Global;
+use std::fmt::Debug;
 use std::io;
 use std::sync::Wait;
 use std::thread::Threads;
@@ -103,7 +103,11 @@ fn show_journals(rt: &HostRuntime) -> io::Result<()> {
 fn show_threads<R: Threads + Wait + Sync + Print>(rt: &R, alloc: Global) -> io::Result<()> {
     show(rt, "passing::passed_on", &passing::passed_on(rt, alloc))?;
     show(rt, "pool::squares", &pool::squares(rt, alloc))?;
-    show(rt, "stream::read_by_three", &stream::read_by_three(rt, alloc))?;
+    show(
+        rt,
+        "stream::read_by_three",
+        &stream::read_by_three(rt, alloc),
+    )?;
     show(
         rt,
         "locking::counted_by_two",

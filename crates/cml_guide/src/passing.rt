@@ -46,7 +46,7 @@ fn pass_on<Led: Ledger + Send + Sync, R: Threads + Wait + Sync>(
             (reply, board.leave(rt, sender))
         },
     );
-    let count = settle(shared, vec![in alloc; receiver, sender]?)?;
+    let ended = settle(shared, vec![in alloc; receiver, sender]?)?;
     done(sent?)?;
-    Ok((got(received?)?, count))
+    Ok((got(received?)?, ended.count()))
 }

@@ -59,8 +59,7 @@ fn run_pool<Led: Ledger + Send + Sync, R: Threads + Wait + Sync>(
     let mut lefts = work_all(rt, alloc, &shared, seats, desk)?;
     let sum = collect(rt, &shared, &mut boss, desk);
     lefts.push(shared.leave(rt, boss))?;
-    let count = settle(shared, lefts)?;
-    Ok((sum?, count))
+    Ok((sum?, settle(shared, lefts)?.count()))
 }
 
 /// Sends all jobs, and then for each worker that it is to stop.
@@ -115,7 +114,7 @@ fn work_all<Led: Ledger + Send + Sync, R: Threads + Wait + Sync>(
     seats: Vec<Seat<Led>>,
     desk: Desk,
 ) -> Result<Vec<Left<Led>>, Trouble> {
-    thread::scope(thread::scope_env(), rt, move |scope| -> Result<Vec<Left<Led>>, Trouble> {
+    thread::scope(thread::scope_env(), rt, move |scope| {
         let mut running = Vec::new(alloc);
         let mut lefts = Vec::new(alloc);
         for seat in seats {

@@ -55,9 +55,9 @@ fn stream<Led: Ledger + Send + Sync, R: Threads + Wait + Sync>(
         },
     );
     let lefts = vec![in alloc; ann.left, ben.left, cid.left, teller]?;
-    let count = settle(shared, lefts)?;
+    let ended = settle(shared, lefts)?;
     told?;
-    Ok(([ann.digits?, ben.digits?, cid.digits?], count))
+    Ok(([ann.digits?, ben.digits?, cid.digits?], ended.count()))
 }
 
 /// What a reader's thread comes to.

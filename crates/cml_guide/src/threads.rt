@@ -1,15 +1,18 @@
 //! What threads that share a board have in common: their switchboard, what a reply gives them, and the end.
-ghost use Rattle.std.specs.Prelude.{◌≡◌, ◌+◌, IfOk};
+ghost use Rattle.std.specs.Prelude.{◌≡◌, IfOk};
 ghost use Rattle.cml_threads.specs.Seating.{answers_in};
 
 use crate::calls::Trouble;
 use cml_board::{BoardLog, Call, Name, Refusal, Reply};
-use cml_threads::{Count, Left, Switchboard};
+use cml_threads::{Left, Settled, Switchboard};
 use std::alloc::AllocFailed;
 use std::sync::ledger::Ledger;
 
 /// A switchboard whose messages are numbers.
 pub type Shared<Led> = Switchboard<u64, BoardLog<u64>, Led>;
+
+/// What is left of one at the end.
+pub type Ended = Settled<u64, BoardLog<u64>>;
 
 impl From<Refusal> for Trouble {
     fn from(refusal: Refusal) -> Trouble {
@@ -59,13 +62,12 @@ pub fn done(reply: Reply<u64>) -> Result<(), Trouble>
     }
 }
 
-/// The end: how many entries there are, of which each is an answer that was counted.
-pub fn settle<Led: Ledger>(shared: Shared<Led>, lefts: Vec<Left<Led>>) -> Result<Count, Trouble>
-    ensures seats { IfOk result (λ count. count.seats ≡ answers_in lefts.items) }
-    ensures total { IfOk result (λ count. count.total ≡ count.seats + count.rings) }
+/// What is left of a switchboard that all seats have left.
+pub fn settle<Led: Ledger>(shared: Shared<Led>, lefts: Vec<Left<Led>>) -> Result<Ended, Trouble>
+    ensures { IfOk result (λ settled. settled.seats ≡ answers_in lefts.items) }
 {
     match shared.settle(lefts) {
-        Ok(settled) => Ok(settled.count()),
+        Ok(settled) => Ok(settled),
         Err(_) => Err(Trouble::Unsettled),
     }
 }

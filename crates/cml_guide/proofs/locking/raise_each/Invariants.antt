@@ -1,5 +1,5 @@
 use Rattle.std.proofs.Common.{◌≡◌, ◌+◌, ◌*◌}
-use Rattle.cml_guide.proofs.locking.raise.Given as goal
+use Rattle.cml_guide.proofs.locking.raise_each.Given as goal
 
 -- each round has two answers
 abbrev pub invariant-loop-round : goal.invariant-loop-round
