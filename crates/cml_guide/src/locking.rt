@@ -40,8 +40,8 @@ fn count_up<Led: Ledger + Send + Sync, R: Threads + Wait + Sync>(
     let shared = Shared::<Led>::new(alloc, 100, blank)?;
     let board = &shared;
     let mut one = board.seat(rt)?;
-    let two = board.seat(rt)?;
     let counter = made(board.m_var_init(rt, &mut one, 0)?)?;
+    let two = board.seat(rt)?;
     let ((first, one), (second, two)) = thread::join(
         rt,
         move || raise(rt, board, one, counter),

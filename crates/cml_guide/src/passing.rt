@@ -33,8 +33,8 @@ fn pass_on<Led: Ledger + Send + Sync, R: Threads + Wait + Sync>(
     let shared = Shared::<Led>::new(alloc, 100, blank)?;
     let board = &shared;
     let mut sender = board.seat(rt)?;
-    let mut receiver = board.seat(rt)?;
     let letters = made(board.mailbox(rt, &mut sender)?)?;
+    let mut receiver = board.seat(rt)?;
     let ((received, receiver), (sent, sender)) = thread::join(
         rt,
         move || {
@@ -46,7 +46,7 @@ fn pass_on<Led: Ledger + Send + Sync, R: Threads + Wait + Sync>(
             (reply, board.leave(rt, sender))
         },
     );
-    let ended = settle(shared, vec![in alloc; receiver, sender]?)?;
+    let count = settle(shared, vec![in alloc; receiver, sender]?)?.count();
     done(sent?)?;
-    Ok((got(received?)?, ended.count()))
+    Ok((got(received?)?, count))
 }

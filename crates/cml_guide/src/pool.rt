@@ -47,19 +47,36 @@ fn run_pool<Led: Ledger + Send + Sync, R: Threads + Wait + Sync>(
 {
     let shared = Shared::<Led>::new(alloc, 100, blank)?;
     let mut boss = shared.seat(rt)?;
-    let mut seats = Vec::new(alloc);
-    for _ in 0..WORKERS {
-        seats.push(shared.seat(rt)?)?;
-    }
-    let desk = Desk {
-        jobs: made(shared.mailbox(rt, &mut boss)?)?,
-        results: made(shared.mailbox(rt, &mut boss)?)?,
-    };
+    let desk = open_desk(rt, &shared, &mut boss)?;
     hand_out(rt, &shared, &mut boss, desk)?;
+    let seats = make_seats(rt, alloc, &shared)?;
     let mut lefts = work_all(rt, alloc, &shared, seats, desk)?;
     let sum = collect(rt, &shared, &mut boss, desk);
     lefts.push(shared.leave(rt, boss))?;
-    Ok((sum?, settle(shared, lefts)?.count()))
+    let count = settle(shared, lefts)?.count();
+    Ok((sum?, count))
+}
+
+fn make_seats<Led: Ledger, R: Wait>(
+    rt: &R,
+    alloc: Global,
+    board: &Shared<Led>,
+) -> Result<Vec<Seat<Led>>, Trouble> {
+    let mut seats = Vec::new(alloc);
+    for _ in 0..WORKERS {
+        seats.push(board.seat(rt)?)?;
+    }
+    Ok(seats)
+}
+
+fn open_desk<Led: Ledger, R: Wait>(
+    rt: &R,
+    board: &Shared<Led>,
+    boss: &mut Seat<Led>,
+) -> Result<Desk, Trouble> {
+    let jobs = made(board.mailbox(rt, boss)?)?;
+    let results = made(board.mailbox(rt, boss)?)?;
+    Ok(Desk { jobs, results })
 }
 
 /// Sends all jobs, and then for each worker that it is to stop.

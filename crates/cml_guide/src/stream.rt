@@ -38,11 +38,8 @@ fn stream<Led: Ledger + Send + Sync, R: Threads + Wait + Sync>(
     let shared = Shared::<Led>::new(alloc, 100, blank)?;
     let board = &shared;
     let mut teller = board.seat(rt)?;
+    let [news, first, second, third] = open_channel(rt, board, &mut teller)?;
     let (ann, ben, cid) = (board.seat(rt)?, board.seat(rt)?, board.seat(rt)?);
-    let news = made(board.m_channel(rt, &mut teller)?)?;
-    let first = made(board.port(rt, &mut teller, news)?)?;
-    let second = made(board.port(rt, &mut teller, news)?)?;
-    let third = made(board.port(rt, &mut teller, news)?)?;
     let ((ann, ben), (cid, (told, teller))) = thread::join(
         rt,
         move || {
@@ -55,9 +52,22 @@ fn stream<Led: Ledger + Send + Sync, R: Threads + Wait + Sync>(
         },
     );
     let lefts = vec![in alloc; ann.left, ben.left, cid.left, teller]?;
-    let ended = settle(shared, lefts)?;
+    let count = settle(shared, lefts)?.count();
     told?;
-    Ok(([ann.digits?, ben.digits?, cid.digits?], ended.count()))
+    Ok(([ann.digits?, ben.digits?, cid.digits?], count))
+}
+
+/// A channel with three ports.
+fn open_channel<Led: Ledger, R: Wait>(
+    rt: &R,
+    board: &Shared<Led>,
+    teller: &mut Seat<Led>,
+) -> Result<[Name; 4], Trouble> {
+    let news = made(board.m_channel(rt, teller)?)?;
+    let first = made(board.port(rt, teller, news)?)?;
+    let second = made(board.port(rt, teller, news)?)?;
+    let third = made(board.port(rt, teller, news)?)?;
+    Ok([news, first, second, third])
 }
 
 /// What a reader's thread comes to.
