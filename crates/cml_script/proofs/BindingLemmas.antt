@@ -1,12 +1,14 @@
 -- What the steps of a history gave the names: each step that was performed and gives a name gave it a port.
-use Rattle.std.proofs.Common.{◌≡◌, ◌≢◌, ℕ, ◌+◌, ◌<◌, Bool, true, false, cond, eqb, ltb, [], ◌∷◌, ◌++◌, length, slice_get, Option, Some, None, MatchBool, IsTrue, IsSome, IfSome, refl, sym, ap, subst, ◌∙◌, arith, inl, inr}
+use Rattle.std.proofs.Common.{◌≡◌, ◌≢◌, ℕ, ◌+◌, ◌<◌, Bool, true, false, cond, eqb, ltb, [], ◌∷◌, ◌++◌, length, slice_get, Option, Some, None, MatchBool, IsTrue, IsSome, IfSome, ◌⊎◌, refl, sym, ap, subst, ◌∙◌, arith, inl, inr}
+use Rattle.std.specs.Prelude.{⊤}
 use Rattle.std.specs.Option.{option_map, option_map_or, option_and_then}
 use Rattle.std.proofs.lemmas.Option.{same_Some, none-some}
 use Rattle.std.proofs.lemmas.Bool.{cases_lt, cases_eq, eq-eqb, ne_eqb, false≢true}
 use Rattle.cml_board.specs.declared.call.Call.{Call}
 use Rattle.cml_board.specs.declared.call.Call.TheVariants as call
 use Rattle.cml_board.specs.declared.call.Kind.TheVariants as kind
-use Rattle.cml_board.specs.declared.entry.Who.TheVariants.{Seat}
+use Rattle.cml_board.specs.declared.entry.Who.{Who}
+use Rattle.cml_board.specs.declared.entry.Who.TheVariants.{Seat, Lane, Feed}
 use Rattle.cml_board.specs.declared.entry.Reply.{Reply}
 use Rattle.cml_board.specs.declared.entry.Reply.TheVariants as reply
 use Rattle.cml_board.specs.declared.entry.Entry.{Entry}
@@ -21,10 +23,11 @@ use Rattle.cml_grammar.specs.Meaning.{names_of, action_of}
 use Rattle.cml_grammar.specs.Giving.{is_giving, names_before}
 use Rattle.cml_grammar.specs.Reading.{gives_name}
 use Rattle.cml_script.specs.Counting.{one_if}
-use Rattle.cml_script.specs.Schedule.{History, IsReady, IsStep, IsDeclaration, Follows, is_seated, is_seat, earlier, performed, declared_count, object_of, call_of, next_position, given_by, gives_next, bound_by, binding_of, port_bound}
+use Rattle.cml_script.specs.Audit.{IsOfScript, IsNextOfThread}
+use Rattle.cml_script.specs.Schedule.{History, IsDeclaration, is_seated, is_seat, earlier, performed, declared_count, object_of, call_of, step_call, next_position, given_by, gives_next, bound_by, binding_of, port_bound}
 use Rattle.cml_script.specs.Plan.{HasSeats, AsksForPorts}
 use Rattle.cml_script.proofs.ListLemmas.{slice_get_pushed}
-use Rattle.cml_script.proofs.GivingLemmas.{giver, given_at, given_once, next_is, next_at, none_first, gives_as, gives_that}
+use Rattle.cml_script.proofs.GivingLemmas.{giver, given_at, given_once, next_at, none_first, gives_as, gives_that}
 
 -- a call that asks for a port
 abbrev asks_port : Call ℕ → Bool
@@ -52,14 +55,14 @@ call_asks object (action.Take at) c e = mapped (λ o. call.Take (record { 0 = o 
 call_asks object (action.TakePoll at) c e = mapped (λ o. call.TakePoll (record { 0 = o })) (object at) c false (λ n. refl) e
 call_asks object (action.Swap at message) c e = mapped (λ o. call.Swap (record { 0 = o }) message) (object at) c false (λ n. refl) e
 
-step_asks : (script : Lines) (before : History) (i seat : ℕ) (c : Call ℕ) → AsksForPorts script → (ready : IsReady script before i seat c) → is_giving ready.line ≡ true → asks_port c ≡ true
-step_asks script before i seat c asks ready gives =
-    by_action (action_of (names_of script) ready.line.words) refl
-    (sym (ap (option_and_then (λ (l : SourceLine). option_and_then (call_of (object_of script before)) (action_of (names_of script) l.words))) ready.found) ∙ ready.calls)
+step_asks : (script : Lines) (before : History) (i : ℕ) (c : Call ℕ) (line : SourceLine) → AsksForPorts script → slice_get script.steps i ≡ Some line → step_call script before i ≡ Some c → is_giving line ≡ true → asks_port c ≡ true
+step_asks script before i c line asks found calls gives =
+    by_action (action_of (names_of script) line.words) refl
+    (sym (ap (option_and_then (λ (l : SourceLine). option_and_then (call_of (object_of script before)) (action_of (names_of script) l.words))) found) ∙ calls)
   where
-    by_action : (a : Option Action) → action_of (names_of script) ready.line.words ≡ a → option_and_then (call_of (object_of script before)) a ≡ Some c → asks_port c ≡ true
+    by_action : (a : Option Action) → action_of (names_of script) line.words ≡ a → option_and_then (call_of (object_of script before)) a ≡ Some c → asks_port c ≡ true
     by_action None e calls = absurd (none-some c calls)
-    by_action (Some a) e calls = call_asks (object_of script before) a c calls ∙ asks i ready.line a ready.found e ∙ gives
+    by_action (Some a) e calls = call_asks (object_of script before) a c calls ∙ asks i line a found e ∙ gives
 
 -- What a call that asks for a port gives.
 
@@ -128,54 +131,79 @@ binds before (call.Take name) r asks fits answers = absurd (false≢true asks)
 binds before (call.TakePoll name) r asks fits answers = absurd (false≢true asks)
 binds before (call.Swap name message) r asks fits answers = absurd (false≢true asks)
 
+-- a call that asks for a port is given one
+abbrev pub GivesPort : Entry ℕ → Type 0
+GivesPort entry = asks_port entry.call ≡ true → IsSome (port_bound (bound_by entry.call entry.reply))
+
+-- each entry is the first seat's, or the next step of its thread
+abbrev pub AreSteps : Lines → History → Type 0
+AreSteps script [] = ⊤
+AreSteps script (entry ∷ before) = ((entry.who ≡ Seat 0) ⊎ (IsNextOfThread script before entry × GivesPort entry)) × AreSteps script before
+
+pub lawful_gives : (before : History) (entry : Entry ℕ) → Fits before entry.call → answer before entry.call ≡ Some entry.reply → GivesPort entry
+lawful_gives before entry fits answers = λ asks. subst IsSome (sym (binds before entry.call entry.reply asks fits answers).bound) refl
+
+pub script_steps : (script : Lines) (history : History) → IsOfScript script history → Lawful history → AreSteps script history
+script_steps script [] own lawful = tt
+script_steps script (entry ∷ before) own lawful = (by_bool (ltb (length before) (declared_count script)) own.0, script_steps script before own.1 lawful.2)
+  where
+    by_bool : (t : Bool) → MatchBool t (IsDeclaration script before entry) (IsNextOfThread script before entry) → (entry.who ≡ Seat 0) ⊎ (IsNextOfThread script before entry × GivesPort entry)
+    by_bool true declares = inl declares.by
+    by_bool false next = inr (next, lawful_gives before entry lawful.0 lawful.1)
+
+-- the next step is of some thread
+next_seat : (script : Lines) (before : History) (who : Who) (i : ℕ) → next_position script before who ≡ Some i → (s : ℕ) × (who ≡ Seat s)
+next_seat script before (Seat s) i e = (s, refl)
+next_seat script before (Lane l) i e = absurd (none-some i e)
+next_seat script before (Feed f) i e = absurd (none-some i e)
+
 module _ (script : Lines) (asks : AsksForPorts script) (seats : HasSeats script) where
-  -- a step that gives a name binds a port
-  step_binds : (before : History) (entry : Entry ℕ) (at : ℕ) → IsStep script before entry → Fits before entry.call → answer before entry.call ≡ Some entry.reply → giver script before entry.who ≡ Some at → Binds before entry.call entry.reply
-  step_binds before entry at step fits answers gives =
-      let next : next_position script before entry.who ≡ Some step.step = ap (next_position script before) step.by ∙ next_is script before step.seat step.step entry.call step.ready in
-      let given : given_by script step.step ≡ Some at = ap (option_and_then (given_by script)) (sym next) ∙ gives in
-      by_line (is_giving step.ready.line) refl (sym (given_at script step.step step.ready.line step.ready.found) ∙ given)
+  -- a step that gives a name asks for a port
+  next_asks : (before : History) (entry : Entry ℕ) (at : ℕ) → IsNextOfThread script before entry → giver script before entry.who ≡ Some at → asks_port entry.call ≡ true
+  next_asks before entry at n gives = by_line (slice_get script.steps n.step) refl
     where
-      by_line : (t : Bool) → is_giving step.ready.line ≡ t → cond t (Some (names_before script.declarations script.steps step.step)) None ≡ Some at → Binds before entry.call entry.reply
-      by_line true e some = binds before entry.call entry.reply (step_asks script before step.step step.seat entry.call asks step.ready e) fits answers
-      by_line false e none = absurd (none-some at none)
+      given : given_by script n.step ≡ Some at
+      given = sym (ap (option_and_then (given_by script)) n.next) ∙ gives
 
-  declares_nothing : (before : History) (entry : Entry ℕ) → IsDeclaration script before entry → giver script before entry.who ≡ None
-  declares_nothing before entry declares =
-      ap (option_and_then (given_by script)) (ap (next_position script before) declares.by ∙ none_first script before seats)
+      by_gives : (line : SourceLine) (t : Bool) → slice_get script.steps n.step ≡ Some line → is_giving line ≡ t → asks_port entry.call ≡ true
+      by_gives line true found e = step_asks script before n.step entry.call line asks found n.calls e
+      by_gives line false found e =
+          absurd (none-some at (sym (given_at script n.step line found ∙ ap (λ t. cond t (Some (names_before script.declarations script.steps n.step)) None) e) ∙ given))
 
-  -- the entry made an object, or is a step
-  by_test : (before : History) (entry : Entry ℕ) (R : Type 0) → MatchBool (ltb (length before) (declared_count script)) (IsDeclaration script before entry) (IsStep script before entry) → (IsDeclaration script before entry → R) → (IsStep script before entry → R) → R
-  by_test before entry R next first second = by_bool (ltb (length before) (declared_count script)) next
-    where
-      by_bool : (t : Bool) → MatchBool t (IsDeclaration script before entry) (IsStep script before entry) → R
-      by_bool true declares = first declares
-      by_bool false step = second step
+      by_line : (l : Option SourceLine) → slice_get script.steps n.step ≡ l → asks_port entry.call ≡ true
+      by_line None e =
+          absurd (none-some at (sym (ap (λ (l : Option SourceLine). cond (option_map_or is_giving l false) (Some (names_before script.declarations script.steps n.step)) None) e) ∙ given))
+      by_line (Some line) e = by_gives line (is_giving line) e refl
+
+  first_gives_nothing : (before : History) (entry : Entry ℕ) → entry.who ≡ Seat 0 → giver script before entry.who ≡ None
+  first_gives_nothing before entry by =
+      ap (option_and_then (given_by script)) (ap (next_position script before) by ∙ none_first script before seats)
 
   -- one entry more
   pub bound_more : (before : History) (entry : Entry ℕ) (at : ℕ) (g : Option ℕ) → giver script before entry.who ≡ g → binding_of script (entry ∷ before) at ≡ cond (option_map_or (λ n. eqb n at) g false) (bound_by entry.call entry.reply) (binding_of script before at)
   bound_more before entry at g e = ap (λ t. cond t (bound_by entry.call entry.reply) (binding_of script before at)) (gives_as script before entry.who at g e)
 
   -- a name that a step gave stands for a port
-  pub bound_port : (history : History) (at n : ℕ) → Follows script history → Lawful history → port_bound (binding_of script history at) ≡ Some n → kind_of history n ≡ Some kind.Port
-  bound_port [] at n follows lawful bound = absurd (none-some n bound)
-  bound_port (entry ∷ before) at n follows lawful bound = by_gives (gives_next script before entry.who at) refl bound (bound_port before at n follows.1 lawful.2)
+  pub bound_port : (history : History) (at n : ℕ) → IsOfScript script history → Lawful history → port_bound (binding_of script history at) ≡ Some n → kind_of history n ≡ Some kind.Port
+  bound_port [] at n own lawful bound = absurd (none-some n bound)
+  bound_port (entry ∷ before) at n own lawful bound = by_gives (gives_next script before entry.who at) refl bound (bound_port before at n own.1 lawful.2)
     where
       now : giver script before entry.who ≡ Some at → port_bound (bound_by entry.call entry.reply) ≡ Some n → kind_of (entry ∷ before) n ≡ Some kind.Port
-      now gives is = by_test before entry (kind_of (entry ∷ before) n ≡ Some kind.Port) follows.0
-          (λ declares. absurd (none-some at (sym (declares_nothing before entry declares) ∙ gives)))
-          (λ step.
-          let b = step_binds before entry at step lawful.0 lawful.1 gives in
-          ap (kind_of (entry ∷ before)) (same_Some _ _ (sym is ∙ b.bound)) ∙ b.kind entry refl refl)
+      now gives is = elim (script_steps script (entry ∷ before) own lawful).0 [
+        | inl first ↦ absurd (none-some at (sym (first_gives_nothing before entry first) ∙ gives))
+        | inr next ↦
+            let b = binds before entry.call entry.reply (next_asks before entry at next.0 gives) lawful.0 lawful.1 in
+            ap (kind_of (entry ∷ before)) (same_Some _ _ (sym is ∙ b.bound)) ∙ b.kind entry refl refl
+      ]
 
       by_gives : (t : Bool) → gives_next script before entry.who at ≡ t → port_bound (cond t (bound_by entry.call entry.reply) (binding_of script before at)) ≡ Some n → (port_bound (binding_of script before at) ≡ Some n → kind_of before n ≡ Some kind.Port) → kind_of (entry ∷ before) n ≡ Some kind.Port
       by_gives true e is earlier_one = now (gives_that script before entry.who at e) is
       by_gives false e is earlier_one = kind_kept entry before n kind.Port (earlier_one is)
 
-  gave_more : (before : History) (entry : Entry ℕ) (i seat : ℕ) (line : SourceLine) → Follows script (entry ∷ before) → Lawful (entry ∷ before) → slice_get script.steps i ≡ Some line → is_seated script seat line ≡ true → is_giving line ≡ true
+  gave_more : (before : History) (entry : Entry ℕ) (i seat : ℕ) (line : SourceLine) → (entry.who ≡ Seat 0) ⊎ (IsNextOfThread script before entry × GivesPort entry) → slice_get script.steps i ≡ Some line → is_seated script seat line ≡ true → is_giving line ≡ true
       → (earlier script seat i < performed before seat → IsSome (port_bound (binding_of script before (names_before script.declarations script.steps i)))) → earlier script seat i < performed (entry ∷ before) seat
       → IsSome (port_bound (binding_of script (entry ∷ before) (names_before script.declarations script.steps i)))
-  gave_more before entry i seat line follows lawful found seated gives ih done = by_test before entry (IsSome (port_bound (binding_of script (entry ∷ before) at))) follows.0 declared stepped
+  gave_more before entry i seat line either found seated gives ih done = elim either [ inl first ↦ declared first | inr next ↦ stepped next.0 next.1 ]
     where
       at : ℕ
       at = names_before script.declarations script.steps i
@@ -189,54 +217,52 @@ module _ (script : Lines) (asks : AsksForPorts script) (seats : HasSeats script)
       counted : (by : ℕ) → entry.who ≡ Seat by → performed (entry ∷ before) seat ≡ one_if (eqb by seat) + performed before seat
       counted by e = ap (λ w. one_if (is_seat seat w) + performed before seat) e
 
-      declared : IsDeclaration script before entry → IsSome (port_bound (binding_of script (entry ∷ before) at))
-      declared declares =
+      declared : entry.who ≡ Seat 0 → IsSome (port_bound (binding_of script (entry ∷ before) at))
+      declared first =
           let low = (seats i line seat found seated).0 in
           let other : eqb 0 seat ≡ false = ne_eqb 0 seat (λ z. omega (arith, low, z)) in
-          same None (declares_nothing before entry declares) refl
-          (ih (omega (arith, done, counted 0 declares.by, ap one_if other)))
+          same None (first_gives_nothing before entry first) refl
+          (ih (omega (arith, done, counted 0 first, ap one_if other)))
 
-      stepped : IsStep script before entry → IsSome (port_bound (binding_of script (entry ∷ before) at))
-      stepped step = elim (cases_eq step.step i) [
+      stepped : IsNextOfThread script before entry → GivesPort entry → IsSome (port_bound (binding_of script (entry ∷ before) at))
+      stepped next gives_port = elim (cases_eq next.step i) [
         | inl here ↦
-            let gives_now : giver script before entry.who ≡ Some at = ap (option_and_then (given_by script)) (next step) ∙ ap (given_by script) here ∙ given in
-            let b = step_binds before entry at step lawful.0 lawful.1 gives_now in
+            let gives_now : giver script before entry.who ≡ Some at = ap (option_and_then (given_by script)) next.next ∙ ap (given_by script) here ∙ given in
             subst (λ x. IsSome (port_bound x)) (sym (bound_more before entry at (Some at) gives_now ∙ ap (λ t. cond t (bound_by entry.call entry.reply) (binding_of script before at)) (eq-eqb at at refl)))
-            (subst IsSome (sym b.bound) refl)
-        | inr other ↦ same (given_by script step.step) (ap (option_and_then (given_by script)) (next step)) (not_that step other) (ih (fewer step other))
+            (gives_port (next_asks before entry at next gives_now))
+        | inr other ↦ same (given_by script next.step) (ap (option_and_then (given_by script)) next.next) (not_that other) (ih (fewer other))
       ]
         where
-          next : (step : IsStep script before entry) → next_position script before entry.who ≡ Some step.step
-          next step = ap (next_position script before) step.by ∙ next_is script before step.seat step.step entry.call step.ready
-
-          not_that : (step : IsStep script before entry) → step.step ≢ i → option_map_or (λ n. eqb n at) (given_by script step.step) false ≡ false
-          not_that step other = by_given (given_by script step.step) refl
+          not_that : next.step ≢ i → option_map_or (λ n. eqb n at) (given_by script next.step) false ≡ false
+          not_that other = by_given (given_by script next.step) refl
             where
-              by_given : (g : Option ℕ) → given_by script step.step ≡ g → option_map_or (λ n. eqb n at) g false ≡ false
+              by_given : (g : Option ℕ) → given_by script next.step ≡ g → option_map_or (λ n. eqb n at) g false ≡ false
               by_given None e = refl
-              by_given (Some n) e = ne_eqb n at (λ z. other (given_once script step.step i at (e ∙ ap Some z) given))
+              by_given (Some n) e = ne_eqb n at (λ z. other (given_once script next.step i at (e ∙ ap Some z) given))
 
-          fewer : (step : IsStep script before entry) → step.step ≢ i → earlier script seat i < performed before seat
-          fewer step other = elim (cases_eq step.seat seat) [
-            | inl mine ↦ elim (cases_eq (earlier script seat i) (performed before seat)) [
-              | inl equal ↦
-                  let there : next_position script before (Seat seat) ≡ Some i = next_at script before seat i line found seated equal in
-                  absurd (other (same_Some _ _ (sym (next step) ∙ ap (next_position script before) step.by ∙ ap (λ s. next_position script before (Seat s)) mine ∙ there)))
-              | inr differs ↦
-                  let test : eqb step.seat seat ≡ true = eq-eqb step.seat seat mine in
-                  elim (cases_lt (earlier script seat i) (performed before seat)) [
-                    | inl lt ↦ lt
-                    | inr ge ↦ absurd (differs (omega (arith, ge, done, counted step.seat step.by, ap one_if test)))
-                  ]
-            ]
-            | inr theirs ↦
-                let test : eqb step.seat seat ≡ false = ne_eqb step.seat seat theirs in
-                omega (arith, done, counted step.seat step.by, ap one_if test)
-          ]
+          fewer : next.step ≢ i → earlier script seat i < performed before seat
+          fewer other =
+              let by = next_seat script before entry.who next.step next.next in
+              elim (cases_eq by.0 seat) [
+                | inl mine ↦ elim (cases_eq (earlier script seat i) (performed before seat)) [
+                  | inl equal ↦
+                      let there : next_position script before (Seat seat) ≡ Some i = next_at script before seat i line found seated equal in
+                      absurd (other (same_Some _ _ (sym next.next ∙ ap (next_position script before) by.1 ∙ ap (λ s. next_position script before (Seat s)) mine ∙ there)))
+                  | inr differs ↦
+                      let test : eqb by.0 seat ≡ true = eq-eqb by.0 seat mine in
+                      elim (cases_lt (earlier script seat i) (performed before seat)) [
+                        | inl lt ↦ lt
+                        | inr ge ↦ absurd (differs (omega (arith, ge, done, counted by.0 by.1, ap one_if test)))
+                      ]
+                ]
+                | inr theirs ↦
+                    let test : eqb by.0 seat ≡ false = ne_eqb by.0 seat theirs in
+                    omega (arith, done, counted by.0 by.1, ap one_if test)
+              ]
 
   -- each step that was performed and gives a name gave it a port
-  pub gave : (history : History) (i seat : ℕ) (line : SourceLine) → Follows script history → Lawful history → slice_get script.steps i ≡ Some line → is_seated script seat line ≡ true → is_giving line ≡ true → earlier script seat i < performed history seat
+  pub gave : (history : History) (i seat : ℕ) (line : SourceLine) → AreSteps script history → slice_get script.steps i ≡ Some line → is_seated script seat line ≡ true → is_giving line ≡ true → earlier script seat i < performed history seat
       → IsSome (port_bound (binding_of script history (names_before script.declarations script.steps i)))
-  gave [] i seat line follows lawful found seated gives done = absurd (omega (arith, done))
-  gave (entry ∷ before) i seat line follows lawful found seated gives done =
-      gave_more before entry i seat line follows lawful found seated gives (gave before i seat line follows.1 lawful.2 found seated gives) done
+  gave [] i seat line steps found seated gives done = absurd (omega (arith, done))
+  gave (entry ∷ before) i seat line steps found seated gives done =
+      gave_more before entry i seat line steps.0 found seated gives (gave before i seat line steps.1 found seated gives) done

@@ -1,5 +1,5 @@
 -- Which names the steps give, and which step is a thread's next.
-use Rattle.std.proofs.Common.{◌≡◌, ℕ, ◌+◌, ◌<◌, ◌≤◌, Bool, true, false, cond, eqb, List, [], ◌∷◌, take, slice_get, Option, Some, None, count_by, refl, sym, ap, ◌∙◌, arith, inl, inr, zero-add}
+use Rattle.std.proofs.Common.{◌≡◌, ℕ, ◌+◌, ◌<◌, ◌≤◌, Bool, true, false, cond, eqb, ltb, List, [], ◌∷◌, length, take, slice_get, Option, Some, None, MatchBool, count_by, refl, sym, ap, ◌∙◌, arith, inl, inr, zero-add}
 use Rattle.std.specs.Option.{option_map_or, option_and_then}
 use Rattle.std.proofs.lemmas.Option.{same_Some, none-some}
 use Rattle.std.proofs.lemmas.List.Sums.{sum_by-cons}
@@ -10,7 +10,8 @@ use Rattle.cml_board.specs.declared.entry.Who.TheVariants.{Seat}
 use Rattle.cml_grammar.specs.Script.{SourceLine, Lines}
 use Rattle.cml_grammar.specs.Giving.{is_giving, names_before}
 use Rattle.cml_script.specs.Counting.{one_if, how_many}
-use Rattle.cml_script.specs.Schedule.{History, IsReady, is_seated, earlier, performed, positions_from, next_position, given_by, gives_next}
+use Rattle.cml_script.specs.Audit.{IsOfScript, IsNextOfThread}
+use Rattle.cml_script.specs.Schedule.{History, IsReady, IsStep, IsDeclaration, Follows, declared_count, is_seated, earlier, performed, positions_from, next_position, given_by, gives_next}
 use Rattle.cml_script.specs.Plan.{HasSeats}
 use Rattle.cml_script.proofs.ListLemmas.{counted_mono, taken_count, count_taken}
 use Rattle.cml_script.proofs.QueueLemmas.{position_is, position_of_step}
@@ -98,3 +99,16 @@ module _ (script : Lines) where
         by_giver : (g : Option ℕ) → giver script history who ≡ g → g ≡ Some at
         by_giver None e = absurd (true≢false (sym gives ∙ gives_as who at None e))
         by_giver (Some n) e = ap Some (eqb-true n at (sym (gives_as who at (Some n) e) ∙ gives))
+
+-- a step that is the least that is ready is its thread's next, and so what follows the schedule is the script's
+pub follows_own : (script : Lines) (history : History) → Follows script history → IsOfScript script history
+follows_own script [] follows = tt
+follows_own script (entry ∷ before) follows = (by_bool (ltb (length before) (declared_count script)) follows.0, follows_own script before follows.1)
+  where
+    by_bool : (t : Bool) → MatchBool t (IsDeclaration script before entry) (IsStep script before entry) → MatchBool t (IsDeclaration script before entry) (IsNextOfThread script before entry)
+    by_bool true declares = declares
+    by_bool false step = record {
+      step = step.step;
+      next = ap (next_position script before) step.by ∙ next_is script before step.seat step.step entry.call step.ready;
+      calls = step.ready.calls;
+    }

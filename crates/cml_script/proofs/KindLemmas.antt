@@ -21,7 +21,8 @@ use Rattle.cml_grammar.specs.Reading.{source_of, ReadsDeclaration, IsMadeWell}
 use Rattle.cml_script.specs.Plan.{NamesObjects, kind_made, kind_declared}
 use Rattle.cml_script.specs.Stage.{Play, IsNextObject, IsNext}
 use Rattle.cml_script.specs.Counting.{one_if, how_many}
-use Rattle.cml_script.specs.Schedule.{History, Follows, IsDeclaration, IsStep, declared_count, objects_of, call_in, making_call, makes_object, is_object, declared_object}
+use Rattle.cml_script.specs.Audit.{IsOfScript, IsNextOfThread}
+use Rattle.cml_script.specs.Schedule.{History, IsDeclaration, declared_count, objects_of, call_in, making_call, makes_object, is_object, declared_object}
 use Rattle.cml_script.proofs.ListLemmas.{slice_get-append_left, slice_get_pushed, filter_at, counted_mono}
 
 -- what is made behind a list of objects, by a call that makes one
@@ -106,29 +107,29 @@ kept_next script before entry declared many m = record {
 }
 
 -- as many are made as are declared, at least
-many_made : (script : Lines) (history : History) → Follows script history → Lawful history → length history ≤ length (made history) ⊎ declared_count script ≤ length (made history)
-many_made script [] follows lawful = inl (omega arith)
-many_made script (entry ∷ before) follows lawful = elim (many_made script before follows.1 lawful.2) [
+many_made : (script : Lines) (history : History) → IsOfScript script history → Lawful history → length history ≤ length (made history) ⊎ declared_count script ≤ length (made history)
+many_made script [] own lawful = inl (omega arith)
+many_made script (entry ∷ before) own lawful = elim (many_made script before own.1 lawful.2) [
   | inr many ↦ inr (omega (arith, many, length-append (made before) (if_made entry.reply (begun_by (made before) before entry.call))))
   | inl few ↦ elim (cases_lt (length before) (declared_count script)) [
     | inr ge ↦ inr (omega (arith, few, ge, length-append (made before) (if_made entry.reply (begun_by (made before) before entry.call))))
     | inl lt ↦
         let test : ltb (length before) (declared_count script) ≡ true = lt-ltb (length before) (declared_count script) lt in
-        let declares = subst (λ t. MatchBool t (IsDeclaration script before entry) (IsStep script before entry)) test follows.0 in
+        let declares = subst (λ t. MatchBool t (IsDeclaration script before entry) (IsNextOfThread script before entry)) test own.0 in
         let one = declared_one script before entry (slice_get (objects_of script) (length before)) declares.makes lawful.1 in
         inl (omega (arith, few, length-append (made before) (if_made entry.reply (begun_by (made before) before entry.call)), ap length one.made))
   ]
 ]
 
-pub makes_declared : (script : Lines) (history : History) → Follows script history → Lawful history → MakesDeclared script history
-makes_declared script [] follows lawful = record { short = λ _. refl; each = λ k lt. absurd (omega (arith, lt)) }
-makes_declared script (entry ∷ before) follows lawful =
-    let earlier = makes_declared script before follows.1 lawful.2 in
+pub makes_declared : (script : Lines) (history : History) → IsOfScript script history → Lawful history → MakesDeclared script history
+makes_declared script [] own lawful = record { short = λ _. refl; each = λ k lt. absurd (omega (arith, lt)) }
+makes_declared script (entry ∷ before) own lawful =
+    let earlier = makes_declared script before own.1 lawful.2 in
     elim (cases_lt (length before) (declared_count script)) [
       | inl lt ↦
           let test : ltb (length before) (declared_count script) ≡ true = lt-ltb (length before) (declared_count script) lt in
-          declared_next script before entry lt (subst (λ t. MatchBool t (IsDeclaration script before entry) (IsStep script before entry)) test follows.0) lawful.1 earlier
-      | inr ge ↦ kept_next script before entry ge (elim (many_made script before follows.1 lawful.2) [ inl few ↦ omega (arith, few) | inr many ↦ many ]) earlier
+          declared_next script before entry lt (subst (λ t. MatchBool t (IsDeclaration script before entry) (IsNextOfThread script before entry)) test own.0) lawful.1 earlier
+      | inr ge ↦ kept_next script before entry ge (elim (many_made script before own.1 lawful.2) [ inl few ↦ omega (arith, few) | inr many ↦ many ]) earlier
     ]
 
 -- fewer objects are declared before an object's declaration than in all
@@ -174,12 +175,12 @@ pub declared_made : (script : Lines) (history : History) (at : ℕ) (line : Sour
 declared_made script history at line k declared found kinded =
     omega (arith, counted_below (is_object script) script.declarations at line found (kind_object script line k kinded))
 
-pub object_kind_is : (script : Lines) (history : History) (at : ℕ) (line : SourceLine) (k : Kind) → Follows script history → Lawful history → how_many (is_object script) (take at script.declarations) < length history
+pub object_kind_is : (script : Lines) (history : History) (at : ℕ) (line : SourceLine) (k : Kind) → IsOfScript script history → Lawful history → how_many (is_object script) (take at script.declarations) < length history
     → slice_get script.declarations at ≡ Some line → kind_declared script line ≡ Some k → kind_of history (how_many (is_object script) (take at script.declarations)) ≡ Some k
-object_kind_is script history at line k follows lawful made found kinded =
+object_kind_is script history at line k own lawful made found kinded =
     let object = kind_object script line k kinded in
     let low = counted_below (is_object script) script.declarations at line found object in
-    (makes_declared script history follows lawful).each _ made low
+    (makes_declared script history own lawful).each _ made low
     ∙ ap (option_and_then (kind_declared script)) (filter_at (is_object script) script.declarations at line found object) ∙ kinded
 
 -- what a declaration makes is the next object, where those before it are made

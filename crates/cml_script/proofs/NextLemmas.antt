@@ -29,6 +29,7 @@ use Rattle.cml_script.proofs.LineLemmas.{all_at, stands, names_objects, has_seat
 use Rattle.cml_script.proofs.KindLemmas.{next_object}
 use Rattle.cml_script.proofs.ReadyLemmas.{none_queued, queued_within, waits_there, ready_there, least_at_first, least_more, least_of_all}
 use Rattle.cml_script.proofs.FitLemmas.{fits_kind, channel_at, step_calls, call_is, fits_use}
+use Rattle.cml_script.proofs.GivingLemmas.{follows_own}
 use Rattle.cml_script.proofs.StandLemmas.{declared_kind}
 use Rattle.cml_script.proofs.UseLemmas.{used_is_bound}
 use Rattle.cml_script.proofs.ScheduleLemmas.{at_most}
@@ -161,6 +162,6 @@ module _ (script : Lines) (read : CanBeRead script) (history : History) (lawful 
           record {
             asked = call.NewPort name;
             next = next;
-            fits = fits_kind history name kind.Channel (call.NewPort name) (declared_kind all_stands channel o kind.Channel within object (channel_at (names_of script) channel is_channel)) refl refl;
+            fits = fits_kind history name kind.Channel (call.NewPort name) (declared_kind script history all_stands.known.named channel o kind.Channel (follows_own script history all_stands.follows) all_stands.lawful within object (channel_at (names_of script) channel is_channel)) refl refl;
             answers = refl;
           }

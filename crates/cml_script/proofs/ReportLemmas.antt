@@ -1,5 +1,5 @@
 -- How the report's first part goes on with one more entry.
-use Rattle.std.proofs.Common.{◌≡◌, ℕ, zero, suc, ◌+◌, ◌≤◌, true, false, ltb, List, [], ◌∷◌, ◌++◌, length, drop, slice_get, Some, refl, sym, ap, ◌∙◌, arith, add-one}
+use Rattle.std.proofs.Common.{◌≡◌, ℕ, zero, suc, ◌+◌, ◌≤◌, Bool, true, false, ltb, List, [], ◌∷◌, ◌++◌, length, drop, slice_get, Some, MatchBool, inl, inr, refl, sym, ap, ◌∙◌, arith, add-one}
 use Rattle.std.specs.Prelude.{map, string_bytes, codes}
 use Rattle.std.specs.Option.{option_map_or, option_and_then}
 use Rattle.std.proofs.lemmas.Option.{same_Some, none-some}
@@ -11,11 +11,12 @@ use Rattle.cml_grammar.specs.declared.script.Step.{Step}
 use Rattle.cml_grammar.specs.Names.{Given}
 use Rattle.cml_grammar.specs.Script.{Lines}
 use Rattle.cml_grammar.specs.Reading.{source_of}
-use Rattle.cml_script.specs.Schedule.{History, declared_count}
-use Rattle.cml_script.specs.Stage.{IsStepAt}
+use Rattle.cml_board.specs.declared.entry.Who.{Who}
+use Rattle.cml_script.specs.Schedule.{History, declared_count, next_position, IsDeclaration}
+use Rattle.cml_script.specs.Audit.{IsOwn, IsNextOfThread}
+use Rattle.cml_script.specs.Trail.{HasNoLine, IsNextLine}
 use Rattle.cml_script.specs.Report.{entry_lines, next_step, line_text, reply_word, line_end, object_lines_from, object_line}
 use Rattle.cml_script.proofs.ListLemmas.{mapped_at}
-use Rattle.cml_script.proofs.GivingLemmas.{next_is}
 
 dropped : (xs : List Given) (k : ℕ) (x : Given) → slice_get xs k ≡ Some x → drop k xs ≡ x ∷ drop (k + 1) xs
 dropped [] k x found = absurd (none-some x found)
@@ -30,15 +31,29 @@ module _ (script : Lines) where
       let test : ltb (length before) (declared_count script) ≡ true = lt-ltb _ _ (omega (arith, le)) in
       rw test (declared_lines before (omega (arith, le)))
 
-  pub step_line : (before : History) (entry : Entry ℕ) (items : List Step) (i : ℕ) (s : Step) → declared_count script ≤ length before → IsStepAt script before entry i → map (λ x. source_of x.line) items ≡ script.steps → slice_get items i ≡ Some s → entry_lines script (entry ∷ before) ≡ entry_lines script before ++ (string_bytes s.line.text ++ codes ": " ++ reply_word entry.reply ++ line_end)
-  step_line before entry items i s declared at lines found =
-      let test : ltb (length before) (declared_count script) ≡ false = le-ltb _ _ declared in
-      let ready = at.least.ready in
-      let next : next_step script before entry.who ≡ Some ready.line =
-      ap (next_step script before) at.who ∙ ap (option_and_then (slice_get script.steps)) (next_is script before at.least.seat i at.least.asked ready) ∙ ready.found in
-      let same : ready.line ≡ source_of s.line = same_Some _ _ (sym ready.found ∙ mapped_at (λ x. source_of x.line) items script.steps i s lines found) in
-      let text : line_text ready.line ≡ string_bytes s.line.text = ap line_text same ∙ join_with_byte-slice_split 32 (string_bytes s.line.text) in
-      rw test (ap (λ o. entry_lines script before ++ (option_map_or line_text o [] ++ codes ": " ++ reply_word entry.reply ++ line_end)) next ∙ ap (λ t. entry_lines script before ++ (t ++ codes ": " ++ reply_word entry.reply ++ line_end)) text)
+  -- the text of the caller's next step
+  pub text_at : (history : History) (who : Who) (items : List Step) (i : ℕ) (s : Step) → next_position script history who ≡ Some i → map (λ x. source_of x.line) items ≡ script.steps → slice_get items i ≡ Some s → option_map_or line_text (next_step script history who) [] ≡ string_bytes s.line.text
+  text_at history who items i s next lines found =
+      ap (λ o. option_map_or line_text (option_and_then (slice_get script.steps) o) []) next
+      ∙ ap (λ o. option_map_or line_text o []) (mapped_at (λ x. source_of x.line) items script.steps i s lines found)
+      ∙ join_with_byte-slice_split 32 (string_bytes s.line.text)
+
+  -- one more entry that performs a step
+  pub line_more : (before : History) (entry : Entry ℕ) (text : List ℕ) → IsNextLine script before entry.who text → entry_lines script (entry ∷ before) ≡ entry_lines script before ++ (text ++ codes ": " ++ reply_word entry.reply ++ line_end)
+  line_more before entry text line =
+      let test : ltb (length before) (declared_count script) ≡ false = le-ltb _ _ line.declared in
+      rw test (ap (λ t. entry_lines script before ++ (t ++ codes ": " ++ reply_word entry.reply ++ line_end)) line.is)
+
+  -- one more entry that makes a declared object
+  pub no_line : (before : History) (entry : Entry ℕ) → IsOwn script before entry → HasNoLine script before entry.who → entry_lines script (entry ∷ before) ≡ entry_lines script before
+  no_line before entry own (inl early) =
+      let test : ltb (length before) (declared_count script) ≡ true = lt-ltb _ _ early in
+      rw test refl
+  no_line before entry own (inr none) = by_bool (ltb (length before) (declared_count script)) refl own
+    where
+      by_bool : (t : Bool) → ltb (length before) (declared_count script) ≡ t → MatchBool t (IsDeclaration script before entry) (IsNextOfThread script before entry) → entry_lines script (entry ∷ before) ≡ entry_lines script before
+      by_bool true test declares = rw test refl
+      by_bool false test next = absurd (none-some next.step (sym none ∙ next.next))
 
   -- one more object
   pub object_lines_more : (history : History) (at : ℕ) (names : List Given) (given : Given) (written : List ℕ) → slice_get names at ≡ Some given → (written ++ object_line script history at given) ++ object_lines_from script history (at + 1) (drop (at + 1) names) ≡ written ++ object_lines_from script history at (drop at names)

@@ -15,7 +15,7 @@ use Rattle.cml_board.specs.History.{Lawful, answer}
 use Rattle.cml_grammar.specs.Script.{SourceLine, Lines}
 use Rattle.cml_grammar.specs.Meaning.{names_of, seat_of_step}
 use Rattle.cml_script.specs.declared.stop.Stop.{Stop}
-use Rattle.cml_script.specs.declared.stop.Stop.TheVariants.{Done, Stalled, Full}
+use Rattle.cml_script.specs.declared.stop.Stop.TheVariants.{Done, Stalled, Full, Held}
 use Rattle.cml_script.specs.Counting.{one_if}
 use Rattle.cml_script.specs.Schedule.{History, IsStep, IsDeclaration, Follows, Ends, is_seated, is_seat, earlier, performed, declared_count, next_position, step_call, left}
 use Rattle.cml_script.specs.Laws.{SchedulesAreOne}
@@ -156,6 +156,7 @@ module _ (script : Lines) where
   -- where a history ends no entry comes next
   ended : (limit : ℕ) (history : History) (stop : Stop) (entry : Entry ℕ) → Ends script limit history stop → Follows script (entry ∷ history) → length history < limit → ⊥
   ended limit history Full entry (full, rest) follows room = absurd (omega (arith, full, room))
+  ended limit history Held entry ends follows room = absurd ends
   ended limit history Stalled entry (room, declared, rest, none) follows within =
       let s = steps history entry follows declared in none s.step s.seat entry.call s.ready
   ended limit history Done entry (declared, none) follows room =
@@ -205,6 +206,10 @@ module _ (script : Lines) where
       ]
 
   one_stop : (limit : ℕ) (history : History) (first second : Stop) → Ends script limit history first → Ends script limit history second → first ≡ second
+  one_stop limit history Held second a b = absurd a
+  one_stop limit history Full Held a b = absurd b
+  one_stop limit history Stalled Held a b = absurd b
+  one_stop limit history Done Held a b = absurd b
   one_stop limit history Full Full a b = refl
   one_stop limit history Stalled Stalled a b = refl
   one_stop limit history Done Done a b = refl

@@ -24,7 +24,9 @@ use Rattle.cml_grammar.specs.declared.names.Named.TheVariants as called
 use Rattle.cml_grammar.specs.declared.names.Users.TheVariants as users
 use Rattle.cml_grammar.specs.Giving.{is_giving, names_before, NamesAreGiven}
 use Rattle.cml_script.specs.Schedule.{History, IsReady, IsStep, IsDeclaration, Follows, is_seated, is_seat, is_by, is_object, performed, next_position, step_call, declared_count, declared_object, object_of, made_of, given_by, bound_by, binding_of, port_bound, port_made}
-use Rattle.cml_script.specs.Plan.{IsKnown, HasSeats, AsksForPorts, IsObject, IsObjectAt}
+use Rattle.cml_script.specs.Audit.{IsOfScript}
+use Rattle.cml_board.specs.History.{Lawful}
+use Rattle.cml_script.specs.Plan.{IsKnown, NamesObjects, HasSeats, AsksForPorts, IsObject, IsObjectAt}
 use Rattle.cml_script.specs.Bindings.{AreBindings, with_binding}
 use Rattle.cml_script.specs.Stage.{Play, Stands, IsNextObject, AreCounts, with_entry, IsStepAt, IsLeast}
 use Rattle.cml_script.proofs.ListLemmas.{how_many-le, mapped_at, set_at, set_off}
@@ -77,22 +79,23 @@ below object made n e = elim (cases_lt object made) [
   | inr ge ↦ absurd (none-some n (sym (ap (λ t. cond t (Some object) None) (le-ltb object made ge)) ∙ e))
 ]
 
-module _ {play : Play} {counts : List ℕ} {bindings : List Binding} (stands : Stands play counts bindings) where
+module _ (script : Lines) (history : History) (named : NamesObjects script) where
   -- the object that a declared name stands for is of its kind
-  pub declared_kind : (at n : ℕ) (k : Kind) → at < length play.script.declarations → declared_object play.script play.history at ≡ Some n → IsObjectAt (names_of play.script) at k → kind_of play.history n ≡ Some k
-  declared_kind at n k within e is =
-      let here = below (how_many (is_object play.script) (take at play.script.declarations)) (length play.history) n e in
-      let d = stands.known.named at k within is in
-      ap (kind_of play.history) (sym here.1) ∙ object_kind_is play.script play.history at d.0 k stands.follows stands.lawful here.0 d.1 d.2
+  pub declared_kind : (at n : ℕ) (k : Kind) → IsOfScript script history → Lawful history → at < length script.declarations → declared_object script history at ≡ Some n → IsObjectAt (names_of script) at k → kind_of history n ≡ Some k
+  declared_kind at n k own lawful within e is =
+      let here = below (how_many (is_object script) (take at script.declarations)) (length history) n e in
+      let d = named at k within is in
+      ap (kind_of history) (sym here.1) ∙ object_kind_is script history at d.0 k own lawful here.0 d.1 d.2
 
   -- once all are made, each declared name stands for its object
-  pub declared_stands : (at : ℕ) → declared_count play.script ≤ length play.history → at < length play.script.declarations → IsObject (names_of play.script) at → (n : ℕ) × (declared_object play.script play.history at ≡ Some n)
+  pub declared_stands : (at : ℕ) → declared_count script ≤ length history → at < length script.declarations → IsObject (names_of script) at → (n : ℕ) × (declared_object script history at ≡ Some n)
   declared_stands at declared within object =
-      let d = stands.known.named at object.0 within object.1 in (
-        how_many (is_object play.script) (take at play.script.declarations),
-        object_made play.script play.history at (declared_made play.script play.history at d.0 object.0 declared d.1 d.2),
+      let d = named at object.0 within object.1 in (
+        how_many (is_object script) (take at script.declarations),
+        object_made script history at (declared_made script history at d.0 object.0 declared d.1 d.2),
       )
 
+module _ {play : Play} {counts : List ℕ} {bindings : List Binding} (stands : Stands play counts bindings) where
   pub binding_is : (at : ℕ) (b : Binding) → at < length (names_of play.script) → b ≡ get_or bindings at b → b ≡ binding_of play.script play.history at
   binding_is at b = binding_at play.script play.history bindings at b stands.bound
 

@@ -26,7 +26,7 @@ use Rattle.cml_script.specs.Plan.{HasSeats}
 use Rattle.cml_script.specs.Bindings.{AreBindings, with_binding}
 use Rattle.cml_script.specs.Stage.{AreCounts, call_on}
 use Rattle.cml_script.specs.Makes.{AreMakes, IsMadeOfDeclared}
-use Rattle.cml_script.specs.Trail.{Progress, history_of, with_next, IsFollowed, IsNoThread, CountsOneMore, next_given, declared_call, next_call, own_call}
+use Rattle.cml_script.specs.Trail.{HasNoLine, IsNextLine, Progress, history_of, with_next, IsFollowed, IsNoThread, CountsOneMore, next_given, declared_call, next_call, own_call}
 use Rattle.cml_script.proofs.ListLemmas.{mapped_at}
 use Rattle.cml_script.proofs.KindLemmas.{length_filter}
 use Rattle.cml_script.proofs.QueueLemmas.{position_is}
@@ -180,3 +180,10 @@ called_at p q who items i used s r e next lines reads found uses is =
 -- what is the script's behind the entries that were followed
 pub own_at : (p : Progress) (script : Lines) (journal : List (Entry ℕ)) (k : ℕ) (entry : Entry ℕ) → p.script ≡ script → p.journal ≡ journal → p.followed ≡ k → IsOwn script (before journal k) entry → IsOwn p.script (history_of p) entry
 own_at p script journal k entry s j f own = rw (s, j, f) own
+
+-- the same of the line of what comes next, or that there is none
+pub line_at : (p : Progress) (script : Lines) (journal : List (Entry ℕ)) (k : ℕ) (who : Who) (text : List ℕ) → p.script ≡ script → p.journal ≡ journal → p.followed ≡ k → IsNextLine p.script (history_of p) who text → IsNextLine script (before journal k) who text
+line_at p script journal k who text s j f line = rw (sym s, sym j, sym f) line
+
+pub no_line_at : (p : Progress) (script : Lines) (journal : List (Entry ℕ)) (k : ℕ) (who : Who) → p.script ≡ script → p.journal ≡ journal → p.followed ≡ k → HasNoLine p.script (history_of p) who → HasNoLine script (before journal k) who
+no_line_at p script journal k who s j f none = rw (sym s, sym j, sym f) none

@@ -14,6 +14,7 @@ abbrev pub ending_of_stop : Stop → Ending
 ending_of_stop stop.Done = ending.Done
 ending_of_stop stop.Stalled = ending.Stalled
 ending_of_stop stop.Full = ending.Full
+ending_of_stop stop.Held = ending.Held
 
 abbrev pub ending_of_unread : Unread → Ending
 ending_of_unread unread.Failed = ending.ReadFault

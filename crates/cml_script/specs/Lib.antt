@@ -15,6 +15,7 @@ pub mod Makes
 pub mod Stage
 pub mod Audit
 pub mod Trail
+pub mod Scene
 pub mod Endings
 pub mod Replay
 pub mod CommandLine

@@ -17,7 +17,7 @@ use Rattle.cml_grammar.specs.Names.{Given}
 use Rattle.cml_grammar.specs.Script.{SourceLine, Lines}
 use Rattle.cml_grammar.specs.Meaning.{names_of}
 use Rattle.cml_script.specs.declared.stop.Stop.{Stop}
-use Rattle.cml_script.specs.declared.stop.Stop.TheVariants.{Done, Stalled, Full}
+use Rattle.cml_script.specs.declared.stop.Stop.TheVariants.{Done, Stalled, Full, Held}
 use Rattle.cml_script.specs.Schedule.{History, declared_count, next_position, made_of, left}
 
 -- a line's end
@@ -120,6 +120,8 @@ end_line script history Stalled =
     codes "end: stalled " ++ decimal (performed_count script history) ++ codes " left " ++ decimal (left script history) ++ line_end
 end_line script history Full =
     codes "end: full " ++ decimal (performed_count script history) ++ codes " left " ++ decimal (left script history) ++ line_end
+end_line script history Held =
+    codes "end: held " ++ decimal (performed_count script history) ++ codes " left " ++ decimal (left script history) ++ line_end
 
 abbrev pub report : Lines → History → Stop → List ℕ
 report script history stop =

@@ -20,7 +20,7 @@ use Rattle.cml_grammar.specs.Giving.{is_giving, names_before}
 use Rattle.cml_script.specs.declared.binding.Binding.{Binding}
 use Rattle.cml_script.specs.declared.binding.Binding.TheVariants as binding
 use Rattle.cml_script.specs.declared.stop.Stop.{Stop}
-use Rattle.cml_script.specs.declared.stop.Stop.TheVariants.{Done, Stalled, Full}
+use Rattle.cml_script.specs.declared.stop.Stop.TheVariants.{Done, Stalled, Full, Held}
 
 -- a script's history is the whole journal of a board since it was made: behind its oldest entry stands nothing
 abbrev pub History : Type 0
@@ -211,6 +211,7 @@ Ends script limit history Full =
 Ends script limit history Stalled =
     (entries_in history < limit) × (declared_count script ≤ entries_in history) × (0 < left script history) × NoneReady script history
 Ends script limit history Done = (declared_count script ≤ entries_in history) × (left script history ≡ 0)
+Ends script limit history Held = ⊥
 
 -- the history is that of the script under this limit, and ends so
 pub record Schedule (script : Lines) (limit : ℕ) (history : History) (stop : Stop) : Type 0 where

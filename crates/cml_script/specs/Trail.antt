@@ -1,6 +1,6 @@
 -- A journal that is followed entry by entry beside a script, and what is kept of it.
-use Rattle.std.specs.Prelude.{ℕ, ◌≡◌, ◌≢◌, ◌+◌, ◌^◌, ◌<◌, ◌≤◌, List, ◌∷◌, All, length, map, filter, slice_get, nat_lt, Option, Some, None, if◌then◌else◌, ⊤}
-use Rattle.std.specs.Option.{option_and_then}
+use Rattle.std.specs.Prelude.{ℕ, ◌≡◌, ◌≢◌, ◌+◌, ◌^◌, ◌<◌, ◌≤◌, ◌⊎◌, List, [], ◌∷◌, All, length, map, filter, slice_get, nat_lt, Option, Some, None, if◌then◌else◌, ⊤}
+use Rattle.std.specs.Option.{option_map_or, option_and_then}
 use Rattle.cml_board.specs.declared.call.Call.{Call}
 use Rattle.cml_board.specs.declared.entry.Who.{Who}
 use Rattle.cml_board.specs.declared.entry.Who.TheVariants.{Seat}
@@ -16,6 +16,7 @@ use Rattle.cml_script.specs.Schedule.{History, objects_of, declared_count, is_ob
 use Rattle.cml_script.specs.Plan.{IsKnown}
 use Rattle.cml_script.specs.Bindings.{AreBindings}
 use Rattle.cml_script.specs.Makes.{AreMakes}
+use Rattle.cml_script.specs.Report.{next_step, line_text}
 use Rattle.cml_script.specs.Stage.{AreCounts}
 
 -- the script, a journal, and how many of its entries were followed
@@ -66,6 +67,15 @@ own_call script history who =
     if nat_lt (entries_in history) (declared_count script)
     then (if is_seat 0 who then declared_call script history else None)
     else next_call script history who
+
+-- the caller's next entry makes a declared object, or the caller has no step left
+abbrev pub HasNoLine : Lines → History → Who → Type 0
+HasNoLine script history who = (entries_in history < declared_count script) ⊎ (next_position script history who ≡ None)
+
+-- this is the line of the step that the caller's next entry performs
+pub record IsNextLine (script : Lines) (history : History) (who : Who) (text : List ℕ) : Type 0 where
+  pub declared : declared_count script ≤ entries_in history
+  pub is : option_map_or line_text (next_step script history who) [] ≡ text
 
 -- what a trail keeps is so of the entries that were followed
 pub record IsFollowed (progress : Progress) (list : List Makes) (counts : List ℕ) (bindings : List Binding) : Type 0 where

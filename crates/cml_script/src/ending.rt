@@ -69,6 +69,7 @@ impl From<Stop> for Ending {
             Stop::Done => Ending::Done,
             Stop::Stalled => Ending::Stalled,
             Stop::Full => Ending::Full,
+            Stop::Held => Ending::Held,
         }
     }
 }

@@ -13,6 +13,7 @@ mod plan;
 mod read;
 mod replaying;
 mod report;
+mod scene;
 mod stage;
 mod stop;
 mod trail;

@@ -1,18 +1,65 @@
 //! The report's lines.
-ghost use Rattle.std.specs.Prelude.{◌≡◌, ◌<◌, ◌++◌, List, length, slice_get, Some, OnOk, string_bytes, codes};
+ghost use Rattle.std.specs.Prelude.{◌≡◌, ◌<◌, ◌++◌, List, [], length, reverse, slice_get, Some, IfOk, OnOk, string_bytes, codes};
 ghost use Rattle.cml_grammar.specs.declared.names.Named.TheVariants as called;
 ghost use Rattle.cml_grammar.specs.Meaning.{names_of};
 ghost use Rattle.cml_grammar.specs.Reading.{IsPortAt, IsVariableAt};
-ghost use Rattle.cml_script.specs.Report.{reply_word, line_end, port_line, variable_line, named_line, object_lines_from, end_line};
+ghost use Rattle.cml_script.specs.Audit.{IsOfScript};
+ghost use Rattle.cml_script.specs.Trail.{history_of};
+ghost use Rattle.cml_script.specs.Report.{report, entry_lines, reply_word, line_end, port_line, variable_line, named_line, object_lines_from, end_line};
 
-use crate::stage::Stage;
+use crate::scene::Scene;
 use crate::stop::Stop;
-use cml_board::Reply;
-use cml_grammar::Named;
-use std::alloc::AllocError;
+use crate::trail::Trail;
+use cml_board::{Board, BoardLog, Entry, Reply};
+use cml_grammar::{Named, Script};
+use std::alloc::{AllocError, Global};
+
+/// What a report says of a script, its board and how it ended: a line for each step that was performed, in the journal's
+/// order, a line for each object, and the end.
+pub fn report(
+    alloc: Global,
+    script: &Script,
+    board: &Board<u64, BoardLog<u64>>,
+    stop: Stop,
+) -> Result<String, AllocError>
+    requires { IsOfScript script.now board.now.history }
+    ensures { IfOk result (λ text. string_bytes text ≡ report script.now board.now.history stop) }
+{
+    let journal = board.journal();
+    let mut report = String::new(alloc);
+    let mut trail = Trail::new(alloc, script, journal)?;
+    write_entries(&mut report, &mut trail, journal)?;
+    let scene = Scene::new(trail, board);
+    write_objects(&mut report, &scene)?;
+    write_end(&mut report, &scene, stop)?;
+    Ok(report)
+}
+
+/// Follows a script's journal, and adds a line for each entry that performs a step.
+fn write_entries(
+    report: &mut String,
+    trail: &mut Trail<'_>,
+    journal: &[Entry<u64>],
+) -> Result<(), AllocError>
+    requires empty { string_bytes report.old ≡ [] }
+    requires begins { trail.old.followed ≡ 0 }
+    requires journal { trail.old.journal ≡ journal.now }
+    requires own { IsOfScript trail.old.script (reverse journal.now) }
+    ensures report { OnOk result (string_bytes report.new ≡ entry_lines trail.old.script (reverse journal.now)) }
+    ensures script { OnOk result (trail.new.script ≡ trail.old.script) }
+    ensures followed { OnOk result (history_of trail.new ≡ reverse journal.now) }
+{
+    for entry in journal {
+        if let Some(line) = trail.line(entry.who) {
+            write_entry(report, line, &entry.reply)?;
+        }
+        trail.follow();
+    }
+    Ok(())
+}
 
 /// Adds the line of a step and its reply.
-pub fn write_entry(report: &mut String, line: &str, reply: &Reply<u64>) -> Result<(), AllocError>
+fn write_entry(report: &mut String, line: &str, reply: &Reply<u64>) -> Result<(), AllocError>
     ensures { OnOk result (string_bytes report.new ≡ string_bytes report.old ++ (line.now ++ codes ": " ++ reply_word reply.now ++ line_end)) }
 {
     report.push_str(line)?;
@@ -35,53 +82,53 @@ fn write_reply(report: &mut String, reply: &Reply<u64>) -> Result<(), AllocError
 }
 
 /// Adds a line for each object, in text order.
-pub fn write_objects(report: &mut String, stage: &Stage<'_>) -> Result<(), AllocError>
+fn write_objects(report: &mut String, scene: &Scene<'_>) -> Result<(), AllocError>
     ensures { OnOk result (string_bytes report.new
-        ≡ string_bytes report.old ++ object_lines_from stage.now.script stage.now.history 0 (names_of stage.now.script)) }
+        ≡ string_bytes report.old ++ object_lines_from scene.now.script scene.now.history 0 (names_of scene.now.script)) }
 {
-    let names = stage.script().names();
+    let names = scene.script().names();
     for at in 0..names.len() {
         let (name, named) = names.get_index(at).unwrap();
-        write_object(report, stage, at, name.as_str(), *named)?;
+        write_object(report, scene, at, name.as_str(), *named)?;
     }
     Ok(())
 }
 
 fn write_object(
     report: &mut String,
-    stage: &Stage<'_>,
+    scene: &Scene<'_>,
     at: usize,
     name: &str,
     named: Named,
 ) -> Result<(), AllocError>
-    requires { slice_get (names_of stage.now.script) at ≡ Some (name.now, named) }
+    requires { slice_get (names_of scene.now.script) at ≡ Some (name.now, named) }
     ensures { OnOk result (string_bytes report.new
-        ≡ string_bytes report.old ++ named_line stage.now.script stage.now.history at name.now named) }
+        ≡ string_bytes report.old ++ named_line scene.now.script scene.now.history at name.now named) }
 {
     match named {
         Named::Thread(_) => Ok(()),
-        Named::Mailbox => write_mailbox(report, stage, at, name),
-        Named::Channel => write_channel(report, stage, at, name),
-        Named::Port(_) => write_port(report, stage, at, name),
-        Named::IVar => write_variable(report, stage, at, "ivar", name),
-        Named::MVar => write_variable(report, stage, at, "mvar", name),
+        Named::Mailbox => write_mailbox(report, scene, at, name),
+        Named::Channel => write_channel(report, scene, at, name),
+        Named::Port(_) => write_port(report, scene, at, name),
+        Named::IVar => write_variable(report, scene, at, "ivar", name),
+        Named::MVar => write_variable(report, scene, at, "mvar", name),
     }
 }
 
 fn write_mailbox(
     report: &mut String,
-    stage: &Stage<'_>,
+    scene: &Scene<'_>,
     at: usize,
     name: &str,
 ) -> Result<(), AllocError>
-    requires { slice_get (names_of stage.now.script) at ≡ Some (name.now, called.Mailbox) }
+    requires { slice_get (names_of scene.now.script) at ≡ Some (name.now, called.Mailbox) }
     ensures { OnOk result (string_bytes report.new
-        ≡ string_bytes report.old ++ named_line stage.now.script stage.now.history at name.now called.Mailbox) }
+        ≡ string_bytes report.old ++ named_line scene.now.script scene.now.history at name.now called.Mailbox) }
 {
-    let Some(object) = stage.object(at) else {
+    let Some(object) = scene.object(at) else {
         return writeln!(report, "mailbox {name}: not made");
     };
-    let board = stage.board();
+    let board = scene.board();
     let sent = board.sent_count(object).unwrap();
     let got = board.got_count(object).unwrap();
     let waits = board.owed_count(object).unwrap();
@@ -93,18 +140,18 @@ fn write_mailbox(
 
 fn write_channel(
     report: &mut String,
-    stage: &Stage<'_>,
+    scene: &Scene<'_>,
     at: usize,
     name: &str,
 ) -> Result<(), AllocError>
-    requires { slice_get (names_of stage.now.script) at ≡ Some (name.now, called.Channel) }
+    requires { slice_get (names_of scene.now.script) at ≡ Some (name.now, called.Channel) }
     ensures { OnOk result (string_bytes report.new
-        ≡ string_bytes report.old ++ named_line stage.now.script stage.now.history at name.now called.Channel) }
+        ≡ string_bytes report.old ++ named_line scene.now.script scene.now.history at name.now called.Channel) }
 {
-    let Some(object) = stage.object(at) else {
+    let Some(object) = scene.object(at) else {
         return writeln!(report, "channel {name}: not made");
     };
-    let board = stage.board();
+    let board = scene.board();
     let sent = board.sent_count(object).unwrap();
     let kept = board.kept_count(object).unwrap();
     let first = board.first_of(object).unwrap();
@@ -116,18 +163,18 @@ fn write_channel(
 
 fn write_port(
     report: &mut String,
-    stage: &Stage<'_>,
+    scene: &Scene<'_>,
     at: usize,
     name: &str,
 ) -> Result<(), AllocError>
-    requires { IsPortAt (names_of stage.now.script) at }
+    requires { IsPortAt (names_of scene.now.script) at }
     ensures { OnOk result (string_bytes report.new
-        ≡ string_bytes report.old ++ port_line stage.now.script stage.now.history at name.now) }
+        ≡ string_bytes report.old ++ port_line scene.now.script scene.now.history at name.now) }
 {
-    let Some(object) = stage.object(at) else {
+    let Some(object) = scene.object(at) else {
         return writeln!(report, "port {name}: not made");
     };
-    let board = stage.board();
+    let board = scene.board();
     let start = board.start_of(object).unwrap();
     let got = board.got_count(object).unwrap();
     match board.owed_count(object) {
@@ -138,33 +185,34 @@ fn write_port(
 
 fn write_variable(
     report: &mut String,
-    stage: &Stage<'_>,
+    scene: &Scene<'_>,
     at: usize,
     word: &str,
     name: &str,
 ) -> Result<(), AllocError>
-    requires { IsVariableAt (names_of stage.now.script) at }
+    requires { IsVariableAt (names_of scene.now.script) at }
     ensures { OnOk result (string_bytes report.new
-        ≡ string_bytes report.old ++ variable_line stage.now.script stage.now.history at word.now name.now) }
+        ≡ string_bytes report.old ++ variable_line scene.now.script scene.now.history at word.now name.now) }
 {
-    let Some(object) = stage.object(at) else {
+    let Some(object) = scene.object(at) else {
         return writeln!(report, "{word} {name}: not made");
     };
-    match stage.board().held(object).unwrap() {
+    match scene.board().held(object).unwrap() {
         Some(message) => writeln!(report, "{word} {name}: full {message}"),
         None => writeln!(report, "{word} {name}: empty"),
     }
 }
 
 /// Adds the last line.
-pub fn write_end(report: &mut String, stage: &Stage<'_>, stop: Stop) -> Result<(), AllocError>
-    ensures { OnOk result (string_bytes report.new ≡ string_bytes report.old ++ end_line stage.now.script stage.now.history stop) }
+fn write_end(report: &mut String, scene: &Scene<'_>, stop: Stop) -> Result<(), AllocError>
+    ensures { OnOk result (string_bytes report.new ≡ string_bytes report.old ++ end_line scene.now.script scene.now.history stop) }
 {
-    let performed = stage.performed();
-    let left = stage.left();
+    let performed = scene.performed();
+    let left = scene.left();
     match stop {
         Stop::Done => writeln!(report, "end: done {performed}"),
         Stop::Stalled => writeln!(report, "end: stalled {performed} left {left}"),
         Stop::Full => writeln!(report, "end: full {performed} left {left}"),
+        Stop::Held => writeln!(report, "end: held {performed} left {left}"),
     }
 }

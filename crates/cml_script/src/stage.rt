@@ -15,7 +15,7 @@ ghost use Rattle.cml_script.specs.Stage.{with_entry, IsNextObject, IsNext, IsNex
 use crate::binding::{Binding, bind};
 use crate::calls::{call_on, used_by};
 use crate::plan::{Plan, THREADS, count_objects};
-use cml_board::{Answer, Board, BoardLog, Call, Entry, Name, Outcome, Refusal, Who};
+use cml_board::{Answer, Board, BoardLog, Call, Name, Outcome, Refusal, Who};
 use cml_grammar::{Action, Makes, Script};
 use std::alloc::{AllocError, Global};
 use std::marker::Model;
@@ -64,6 +64,8 @@ impl<'a> Stage<'a> {
         ensures history { result.now.history ≡ self.now.history }
         ensures limit { result.now.limit ≡ self.now.limit }
         ensures lawful { Lawful self.now.history }
+        ensures follows { Follows self.now.script self.now.history }
+        ensures room { entries_in self.now.history ≤ self.now.limit }
     {
         &self.board
     }
@@ -74,51 +76,12 @@ impl<'a> Stage<'a> {
         self.plan.script()
     }
 
-    /// What was performed so far, oldest first.
-    pub fn journal(&self) -> &[Entry<u64>]
-        ensures entries { length result.now ≡ entries_in self.now.history }
-        ensures lawful { Lawful self.now.history }
-        ensures follows { Follows self.now.script self.now.history }
-        ensures room { entries_in self.now.history ≤ self.now.limit }
-    {
-        self.board.journal()
-    }
-
-    /// How many steps were performed.
-    pub fn performed(&self) -> usize
-        ensures { result ≡ performed_count self.now.script self.now.history }
-    {
-        self.journal()
-            .len()
-            .saturating_sub(count_objects(self.script()))
-    }
-
-    /// How many steps are left.
-    pub fn left(&self) -> usize
-        ensures { result ≡ left self.now.script self.now.history }
-    {
-        self.script().steps().len().saturating_sub(self.performed())
-    }
-
     /// Whether the journal has as many entries as its limit.
     pub fn is_full(&self) -> bool
         ensures full { IsTrue result ↔ (entries_in self.now.history ≡ self.now.limit) }
         ensures within { entries_in self.now.history ≤ self.now.limit }
     {
         self.board.journal().len() as u64 == self.board.limit()
-    }
-
-    /// The object that was made for a name.
-    pub fn object(&self, at: usize) -> Option<Name>
-        requires { IsObject (names_of self.now.script) at }
-        ensures object { MatchOption result (made_of self.now.script self.now.history at ≡ None) (λ name. made_of self.now.script self.now.history at ≡ Some name.0) }
-        ensures kind { IfSome result (λ name. (k : Kind) → IsObjectAt (names_of self.now.script) at k → kind_of self.now.history name.0 ≡ Some k) }
-    {
-        if at >= self.plan.script().declarations().len() {
-            return self.bindings[at].made();
-        }
-        let made = self.board.journal().len() as u64;
-        self.plan.declared_object(at, made)
     }
 
     /// Makes the declared objects in text order, and answers false where the journal was full before all were made.

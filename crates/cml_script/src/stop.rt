@@ -7,4 +7,6 @@ pub enum Stop {
     Stalled,
     /// The journal met its limit.
     Full,
+    /// A gate held a thread.
+    Held,
 }

@@ -1,11 +1,12 @@
 //! How far the threads of a script are in a journal.
-ghost use Rattle.std.specs.Prelude.{◌≡◌, ◌↔◌, ℕ, ◌<◌, ◌≤◌, length, IfOk, IsTrue, MatchOption};
+ghost use Rattle.std.specs.Prelude.{◌≡◌, ◌↔◌, ℕ, ◌<◌, ◌≤◌, Some, None, length, IfOk, IsTrue, MatchOption};
 ghost use Rattle.std.specs.Option.{option_map};
 ghost use Rattle.cml_grammar.specs.Meaning.{names_of};
-ghost use Rattle.cml_script.specs.Schedule.{is_seat, declared_object, object_of, making_call, next_position};
+ghost use Rattle.cml_script.specs.Schedule.{is_seat, declared_object, object_of, made_of, making_call, next_position};
+ghost use Rattle.cml_script.specs.Plan.{IsKnown, IsObject};
 ghost use Rattle.cml_script.specs.Audit.{IsOwn};
 ghost use Rattle.cml_script.specs.Makes.{IsMadeOfDeclared};
-ghost use Rattle.cml_script.specs.Trail.{history_of, with_next, IsThread, IsNoThread, AreSmallCounts, CountsOneMore, next_given, next_call, own_call};
+ghost use Rattle.cml_script.specs.Trail.{history_of, with_next, HasNoLine, IsNextLine, IsThread, IsNoThread, AreSmallCounts, CountsOneMore, next_given, next_call, own_call};
 
 use crate::binding::{Binding, bind};
 use crate::calls::{call_on, used_by};
@@ -60,6 +61,35 @@ impl<'a> Trail<'a> {
             counts,
             bindings,
         })
+    }
+
+    pub fn script(&self) -> &'a Script
+        ensures { result.now ≡ self.now.script }
+    {
+        self.plan.script()
+    }
+
+    /// The line of the step that the caller's next entry performs, once all declared objects are made.
+    pub fn line(&self, who: Who) -> Option<&'a str>
+        ensures { MatchOption result (HasNoLine self.now.script (history_of self.now) who) (λ line. IsNextLine self.now.script (history_of self.now) who line.now) }
+    {
+        if self.followed < self.makes.len() {
+            return None;
+        }
+        let step = self.next_step(who)?;
+        Some(self.plan.script().steps()[step].line.text.as_str())
+    }
+
+    /// The object that was made for a name.
+    pub fn made(&self, at: usize) -> Option<Name>
+        requires { IsObject (names_of self.now.script) at }
+        ensures object { MatchOption result (made_of self.now.script (history_of self.now) at ≡ None) (λ name. made_of self.now.script (history_of self.now) at ≡ Some name.0) }
+        ensures known { IsKnown self.now.script }
+    {
+        if at >= self.plan.script().declarations().len() {
+            return self.bindings[at].made();
+        }
+        self.declared_object(at)
     }
 
     /// Whether the script has this entry next.

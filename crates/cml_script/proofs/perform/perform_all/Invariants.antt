@@ -1,6 +1,5 @@
-use Rattle.std.proofs.Common.{◌≡◌, ◌+◌, length, string_bytes}
+use Rattle.std.proofs.Common.{◌≡◌, ◌+◌, length}
 use Rattle.cml_script.specs.Schedule.{declared_count}
-use Rattle.cml_script.specs.Report.{entry_lines}
 use Rattle.cml_script.proofs.perform.perform_all.Given as goal
 
 abbrev pub invariant-loop : goal.invariant-loop
@@ -8,5 +7,4 @@ invariant-loop l = record {
   script : l.stage.script ≡ l.fn.stage.script;
   limit : l.stage.limit ≡ l.fn.stage.limit;
   performed : length l.stage.history ≡ declared_count l.stage.script + l.counter;
-  text : string_bytes l.report ≡ entry_lines l.stage.script l.stage.history;
 }

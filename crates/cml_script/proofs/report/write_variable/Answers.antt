@@ -7,7 +7,7 @@ use Rattle.cml_script.proofs.report.write_variable.Goals as goal
 
 pub unwrap-requires : goal.unwrap-requires
 unwrap-requires c =
-    variable_held (names_of c.args.stage.now.script) c.args.at _ _ c.in-Some.object.0 _ option_copied c.held.result c.board.ensures.history c.requires c.in-Some.ensures.kind c.held.ensures
+    variable_held (names_of c.args.scene.now.script) c.args.at _ _ c.in-Some.object.0 _ option_copied c.held.result c.board.ensures.history c.requires c.in-Some.ensures.kind c.held.ensures
 
 pub returns-in-Some-unwrap : goal.returns-in-Some-unwrap
 returns-in-Some-unwrap c = grind (arith, common_steps)
