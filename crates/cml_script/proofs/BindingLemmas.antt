@@ -30,7 +30,7 @@ use Rattle.cml_script.proofs.ListLemmas.{slice_get_pushed}
 use Rattle.cml_script.proofs.GivingLemmas.{giver, given_at, given_once, next_at, none_first, gives_as, gives_that}
 
 -- a call that asks for a port
-abbrev asks_port : Call ℕ → Bool
+abbrev pub asks_port : Call ℕ → Bool
 asks_port (call.NewPort name) = true
 asks_port (call.CopyPort name) = true
 asks_port _ = false

@@ -22,3 +22,5 @@ pub mod TrailLemmas
 pub mod NextLemmas
 pub mod WaitingLemmas
 pub mod GoingOnLemmas
+pub mod WorkLemmas
+pub mod DeclareLemmas

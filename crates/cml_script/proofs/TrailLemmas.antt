@@ -141,15 +141,19 @@ on_name : (a : Action) (o : Option ℕ) → option_map (λ o. call_on a (record 
 on_name a None = refl
 on_name a (Some n) = refl
 
-pub next_calls : (script : Lines) (history : History) (who : Who) (items : List Step) (i used : ℕ) (s : Step) (r : Option Name) → next_position script history who ≡ Some i → map (λ x. source_of x.line) items ≡ script.steps → All (ReadsStep (names_of script)) items → slice_get items i ≡ Some s
-    → used ≡ used_by s.action → r ≡ named (object_of script history used) → next_call script history who ≡ option_map (call_on s.action) r
-next_calls script history who items i used s r next lines reads found uses is =
-    ap (option_and_then (step_call script history)) next
-    ∙ ap (option_and_then (λ line. option_and_then (call_of (object_of script history)) (action_of (names_of script) line.words))) (mapped_at (λ x. source_of x.line) items script.steps i s lines found)
+pub step_calls : (script : Lines) (history : History) (items : List Step) (i used : ℕ) (s : Step) (r : Option Name) → map (λ x. source_of x.line) items ≡ script.steps → All (ReadsStep (names_of script)) items → slice_get items i ≡ Some s
+    → used ≡ used_by s.action → r ≡ named (object_of script history used) → step_call script history i ≡ option_map (call_on s.action) r
+step_calls script history items i used s r lines reads found uses is =
+    ap (option_and_then (λ line. option_and_then (call_of (object_of script history)) (action_of (names_of script) line.words))) (mapped_at (λ x. source_of x.line) items script.steps i s lines found)
     ∙ ap (option_and_then (call_of (object_of script history))) (all_at (ReadsStep (names_of script)) items i s reads found).action
     ∙ call_is (object_of script history) s.action
     ∙ on_name s.action (object_of script history (used_by s.action))
     ∙ ap (option_map (call_on s.action)) (sym (is ∙ ap (λ n. named (object_of script history n)) uses))
+
+pub next_calls : (script : Lines) (history : History) (who : Who) (items : List Step) (i used : ℕ) (s : Step) (r : Option Name) → next_position script history who ≡ Some i → map (λ x. source_of x.line) items ≡ script.steps → All (ReadsStep (names_of script)) items → slice_get items i ≡ Some s
+    → used ≡ used_by s.action → r ≡ named (object_of script history used) → next_call script history who ≡ option_map (call_on s.action) r
+next_calls script history who items i used s r next lines reads found uses is =
+    ap (option_and_then (step_call script history)) next ∙ step_calls script history items i used s r lines reads found uses is
 
 -- The call that the script has next.
 

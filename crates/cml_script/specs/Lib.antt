@@ -16,6 +16,7 @@ pub mod Stage
 pub mod Audit
 pub mod Trail
 pub mod Scene
+pub mod Working
 pub mod Endings
 pub mod Replay
 pub mod CommandLine

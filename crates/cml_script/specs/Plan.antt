@@ -81,6 +81,7 @@ pub record AreGivings (script : Lines) (givings : List (Option ℕ)) : Type 0 wh
 
 -- what a plan keeps is so of its script
 pub record IsPlanned (script : Lines) (names : ℕ) (numbers : List ℕ) (queues : List (List ℕ)) (givings : List (Option ℕ)) : Type 0 where
+  pub known : IsKnown script
   pub total : names ≡ length (names_of script)
   pub numbered : AreNumbers script numbers
   pub queued : AreQueues script script.steps queues

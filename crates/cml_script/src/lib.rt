@@ -13,6 +13,7 @@ mod plan;
 mod read;
 mod replaying;
 mod report;
+mod running;
 mod scene;
 mod stage;
 mod stop;

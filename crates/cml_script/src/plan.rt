@@ -1,5 +1,5 @@
 //! What is known of a script before any of it is performed.
-ghost use Rattle.std.specs.Prelude.{◌≡◌, ◌+◌, ◌<◌, [], length, take, slice_get, All, IfOk};
+ghost use Rattle.std.specs.Prelude.{◌≡◌, ◌+◌, ◌<◌, ◌^◌, [], length, take, slice_get, All, IfOk};
 ghost use Rattle.std.specs.Option.{option_map};
 ghost use Rattle.cml_board.specs.History.{no_entries, entries_in};
 ghost use Rattle.cml_script.specs.Counting.{how_many};
@@ -64,6 +64,17 @@ impl<'a> Plan<'a> {
         ensures { result.now ≡ self.now }
     {
         self.script
+    }
+
+    /// How many objects are declared.
+    pub fn declared(&self) -> usize
+        ensures count { result ≡ declared_count self.now }
+        ensures few { result < 2 ^ 57 }
+
+        // What is so of each script.
+        ensures known { IsKnown self.now }
+    {
+        count_objects(self.script)
     }
 
     /// The position of the thread's nth step.
@@ -138,7 +149,8 @@ fn number_objects(alloc: Global, script: &Script) -> Result<Vec<u64>, AllocError
 
 /// How many objects are declared.
 pub fn count_objects(script: &Script) -> usize
-    ensures { result ≡ declared_count script.now }
+    ensures count { result ≡ declared_count script.now }
+    ensures few { result < 2 ^ 57 }
 {
     let mut objects = 0;
     for declaration in script.declarations() {

@@ -14,7 +14,7 @@ ghost use Rattle.cml_script.specs.Stage.{with_entry, IsNextObject, IsNext, IsNex
 
 use crate::binding::{Binding, bind};
 use crate::calls::{call_on, used_by};
-use crate::plan::{Plan, THREADS, count_objects};
+use crate::plan::{Plan, THREADS};
 use cml_board::{Answer, Board, BoardLog, Call, Name, Outcome, Refusal, Who};
 use cml_grammar::{Action, Makes, Script};
 use std::alloc::{AllocError, Global};

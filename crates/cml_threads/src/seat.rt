@@ -95,6 +95,20 @@ impl<Led: Ledger> Seat<Led> {
 }
 
 impl<Led: Ledger> Left<Led> {
+    /// The number that its seat had.
+    pub fn seat(&self) -> u64
+        ensures { result ≡ self.now.number }
+    {
+        self.number
+    }
+
+    /// How many calls of its seat were answered: its share of what `settle` counts.
+    pub fn answers(&self) -> u64
+        ensures { result ≡ self.now.share }
+    {
+        self.answers
+    }
+
     /// Adds its share to the rest, and gives how many answers were counted for it.
     pub(crate) fn join_to(self, book: &mut Book<Led>, rest: &mut Share<Led>) -> u64
         ensures answers { result ≡ self.share }
