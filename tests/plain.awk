@@ -20,22 +20,29 @@ BEGIN {
 }
 
 {
-    forget()
+    forget_script()
     fault = read_script()
     if (fault != "") {
         print "script: " fault
         print "status 2"
     } else {
-        print_report(perform($1))
+        forget_board()
+        ending = perform($1)
+        print_report(ending)
+        print "status " (ending ~ /^done/ ? 0 : ending ~ /^stalled/ ? 1 : 6)
     }
 }
 
-function forget() {
-    split("", kind); split("", owner); split("", object); split("", seat)
-    split("", given); split("", step_line); split("", step_thread); split("", step_words)
-    split("", form); split("", message); split("", sent); split("", got)
+function forget_script() {
+    split("", kind); split("", owner); split("", given); split("", form); split("", first_held)
+    split("", step_line); split("", step_thread); split("", step_words)
+    names = threads = step_count = 0
+}
+
+function forget_board() {
+    split("", object); split("", message); split("", sent); split("", got)
     split("", channel_of); split("", start); split("", closed); split("", held); split("", full)
-    names = threads = step_count = objects = entries = lines_out = 0
+    entries = lines_out = 0
 }
 
 # Reading: the first fault of the least line, or nothing.
@@ -122,7 +129,7 @@ function declare(word, count) {
         give(word[2], word[1], "")
     }
     if (word[1] == "thread") threads++
-    if (word[1] == "mvar" && count == 3) message[word[2]] = word[3]
+    if (word[1] == "mvar" && count == 3) first_held[word[2]] = word[3]
 }
 
 function note_step(line, word, count,    rest, i) {
@@ -136,33 +143,46 @@ function note_step(line, word, count,    rest, i) {
 
 # Performing: the declarations, and then always the first step that is its thread's next and needn't wait.
 
-function perform(limit,    declared, i, k, name, done, left, reply) {
+function perform(limit,    done, k) {
+    if (!make_declared(limit)) return "full 0 left " step_count
+    split("", done)
+    while (lines_out < step_count && entries < limit && (k = first_ready(done)) > 0) {
+        take(k)
+        done[k] = 1
+    }
+    return ending_here(limit)
+}
+
+# Whether the journal had room for all declared objects.
+function make_declared(limit,    declared, i, name) {
     declared = names
     for (i = 1; i <= step_count; i++) if (step_words[i] ~ /^(port|copy) /) declared--
     for (i = 1; i <= declared; i++) {
         name = given[i]
         if (kind[name] == "thread") continue
-        if (entries == limit) return "full 0 left " step_count
+        if (entries == limit) return 0
         make(name)
     }
-    split("", done)
-    left = step_count
-    while (left > 0) {
-        if (entries == limit) return "full " lines_out " left " left
-        k = first_ready(done)
-        if (k == 0) return "stalled " lines_out " left " left
-        reply = answer(k)
-        entries++; left--; done[k] = 1
-        line_out[++lines_out] = step_line[k] ": " reply
-    }
-    return "done " lines_out
+    return 1
+}
+
+function take(k) {
+    entries++
+    line_out[++lines_out] = step_line[k] ": " answer(k)
+}
+
+# How it ends where all objects were made, and no step that is left can be performed.
+function ending_here(limit,    left) {
+    left = step_count - lines_out
+    if (left == 0) return "done " lines_out
+    return (entries == limit ? "full " : "stalled ") lines_out " left " left
 }
 
 function make(name) {
     entries++
     object[name] = name
     if (kind[name] == "port") begin_port(name, form["channel", name], sent[form["channel", name]] + 0)
-    if (name in message) { full[name] = 1; held[name] = message[name] }
+    if (name in first_held) { full[name] = 1; held[name] = first_held[name] }
 }
 
 function begin_port(name, channel, at) {
@@ -235,7 +255,6 @@ function print_report(ending,    i) {
     for (i = 1; i <= lines_out; i++) print line_out[i]
     for (i = 1; i <= names; i++) if (kind[given[i]] != "thread") print kind[given[i]] " " given[i] ": " told(given[i])
     print "end: " ending
-    print "status " (ending ~ /^done/ ? 0 : ending ~ /^stalled/ ? 1 : 6)
 }
 
 function told(name,    first) {
