@@ -1,7 +1,8 @@
 #!/bin/sh
 # The built program from outside: `sh tests/program.sh PROGRAM`. Each example, the cases of tests/faults and
-# tests/reports (tests/tables.sh says how they are written), each exit status, and many texts for which the plain
-# program of tests/plain.awk says what is to come. Its last line is `N passed, M failed`.
+# tests/reports (tests/tables.sh says how they are written), each exit status, many texts for which the plain program of
+# tests/plain.awk says what is to come, and threads that take their steps in any order (tests/runs.sh). Its last line is
+# `N passed, M failed`.
 LC_ALL=C
 export LC_ALL
 program=$(cd "$(dirname "$1")" && pwd)/$(basename "$1")
@@ -18,9 +19,9 @@ fail() {
     echo "failed: $*"
 }
 
-# What the program does with standard input: its output, its errors, and its status.
+# What the program does with standard input: its output, its errors, and its status. A run that never ends is given up.
 run() {
-    "$program" "$@" > "$work/out" 2> "$work/err"
+    timeout 60 "$program" "$@" > "$work/out" 2> "$work/err"
     status=$?
 }
 
@@ -45,10 +46,11 @@ holds() {
 script() { printf '%s\n' "$1" | sed 's| / |\n|g'; }
 
 . tests/tables.sh
+. tests/runs.sh
 
 examples() {
     for example in examples/*.cml; do
-        reported "$example" "$example" "${example%.cml}.report"
+        reported "$example" "$example" "${example%.cml}.report" replay
     done
 }
 
@@ -105,70 +107,75 @@ long_texts() {
     told 'a byte too many, and all of them bad' 'too long'
 }
 
+# endings COMMAND: in none of these could another order make a difference.
 endings() {
     echo 'cml 1' > "$work/in"
-    run replay < "$work/in"
-    expect 'a script without steps' 0 'end: done 0' none
+    run "$1" < "$work/in"
+    expect "a script without steps, by $1" 0 'end: done 0' none
     script 'cml 1 / mailbox m / thread B / B recv m' > "$work/in"
-    run replay < "$work/in"
-    expect 'a step that waits' 1 "$(printf 'mailbox m: sent 0 got 0 waits 0\nend: stalled 0 left 1')" none
-    run replay --limit 1 < "$work/in"
-    expect 'a full journal' 6 "$(printf 'mailbox m: sent 0 got 0 waits 0\nend: full 0 left 1')" none
+    run "$1" < "$work/in"
+    expect "a step that waits, by $1" 1 "$(printf 'mailbox m: sent 0 got 0 waits 0\nend: stalled 0 left 1')" none
+    run "$1" --limit 1 < "$work/in"
+    expect "a full journal, by $1" 6 "$(printf 'mailbox m: sent 0 got 0 waits 0\nend: full 0 left 1')" none
     script 'cml 1 / mailbox m / mailbox k / thread A / A send m 1' > "$work/in"
-    run replay --limit=1 < "$work/in"
-    expect 'a declaration that the limit leaves out' 6 \
+    run "$1" --limit=1 < "$work/in"
+    expect "a declaration that the limit leaves out, by $1" 6 \
         "$(printf 'mailbox m: sent 0 got 0 waits 0\nmailbox k: not made\nend: full 0 left 1')" none
 }
 
 usages() {
-    for words in '' 'run' 'replay hello.cml' 'replay --limit' 'replay --limit 0' 'replay --limit 4294967297' \
-        'replay --limit x' 'replay --limit 4 --limit 4' '--limit 4 replay' 'replay --seed 4' 'help me'; do
+    for words in '' 'play' 'replay hello.cml' 'replay --limit' 'replay --limit 0' 'replay --limit 4294967297' \
+        'replay --limit x' 'replay --limit 4 --limit 4' '--limit 4 replay' 'replay --seed 4' 'help me' \
+        'run hello.cml' 'run --limit' 'run --limit 0' 'run --limit 4294967297' 'run --limit x' \
+        'run --limit 4 --limit 4' '--limit 4 run' 'run --seed 4' 'run replay' 'replay run'; do
         # shellcheck disable=SC2086
         run $words < /dev/null
         expect "the words '$words'" 3 none some
     done
-    for words in '--help' '-h' 'help' 'replay --help' 'help replay'; do
+    for words in '--help' '-h' 'help' 'replay --help' 'help replay' 'run --help' 'help run'; do
         # shellcheck disable=SC2086
         run $words < /dev/null
         expect "the words '$words'" 0 some none
     done
 }
 
-# Reads and writes that fail, and memory that is wanting.
+# troubles COMMAND: reads and writes that fail, and memory that is wanting.
 troubles() {
-    "$program" replay <&- > "$work/out" 2> "$work/err"
+    "$program" "$1" <&- > "$work/out" 2> "$work/err"
     status=$?
-    expect 'a closed input' 4 none 'cml: read failed'
-    run replay < "$work"
-    expect 'a folder as input' 4 none 'cml: read failed'
+    expect "a closed input, by $1" 4 none 'cml: read failed'
+    run "$1" < "$work"
+    expect "a folder as input, by $1" 4 none 'cml: read failed'
     if [ -c /dev/full ]; then
-        "$program" replay < examples/lock.cml > /dev/full 2> "$work/err"
+        "$program" "$1" < examples/lock.cml > /dev/full 2> "$work/err"
         status=$?
         : > "$work/out"
-        expect 'a full device' 4 none 'cml: write failed'
+        expect "a full device, by $1" 4 none 'cml: write failed'
     fi
-    "$program" replay < examples/lock.cml >&- 2> "$work/err"
+    "$program" "$1" < examples/lock.cml >&- 2> "$work/err"
     status=$?
     : > "$work/out"
-    expect 'a closed output' 4 none 'cml: write failed'
-    { sleep 1; "$program" replay < examples/lock.cml 2> "$work/err"; echo $? > "$work/status"; } | true
+    expect "a closed output, by $1" 4 none 'cml: write failed'
+    { sleep 1; "$program" "$1" < examples/lock.cml 2> "$work/err"; echo $? > "$work/status"; } | true
     status=$(cat "$work/status")
-    expect 'a closed pipe' 4 none 'cml: write failed'
+    expect "a closed pipe, by $1" 4 none 'cml: write failed'
     awk 'BEGIN { print "cml 1\nmailbox m\nthread A"; for (i = 0; i < 80000; i++) print "A send m 5" }' > "$work/in"
-    (ulimit -v 6000 && "$program" replay < "$work/in" > "$work/out" 2> "$work/err")
+    (ulimit -v 6000 && "$program" "$1" < "$work/in" > "$work/out" 2> "$work/err")
     status=$?
-    expect 'little memory' 5 none 'cml: no memory'
+    expect "little memory, by $1" 5 none 'cml: no memory'
 }
+
+# Texts as printf writes them, each behind its limit.
+octal() { awk '{ printf "%s ", $1; for (i = 2; i <= NF; i++) printf "\\%03o", $i; print "" }'; }
 
 # agree CASE: for each text of $work/texts, the program and the plain program do the same.
 agree() {
     awk -f tests/plain.awk "$work/texts" > "$work/want"
-    awk '{ printf "%s ", $1; for (i = 2; i <= NF; i++) printf "\\%03o", $i; print "" }' "$work/texts" |
-        while read -r limit text; do
-            # shellcheck disable=SC2059
-            printf "$text" | "$program" replay --limit "$limit" 2>&1
-            echo "status $?"
-        done > "$work/got"
+    octal < "$work/texts" | while read -r limit text; do
+        # shellcheck disable=SC2059
+        printf "$text" | "$program" replay --limit "$limit" 2>&1
+        echo "status $?"
+    done > "$work/got"
     texts=$(wc -l < "$work/texts")
     if [ "$texts" -gt 0 ] && cmp "$work/want" "$work/got"; then
         pass
@@ -186,15 +193,18 @@ fault_tables
 odd_texts
 long_texts
 report_tables
-endings
 usages
-troubles
+for command in replay run; do
+    endings "$command"
+    troubles "$command"
+done
 for example in examples/late_reader.cml examples/swap.cml; do
     od -An -v -tu1 "$example" | awk -f tests/one_byte_changes.awk > "$work/texts"
     agree "one byte of $example changed"
 done
 awk -v scripts=2000 -f tests/some_scripts.awk > "$work/texts"
 agree 'scripts of all lines'
+runs
 
 echo "$passed passed, $failed failed"
 [ "$failed" -eq 0 ]

@@ -1,6 +1,7 @@
-# The tables of tests/faults and tests/reports, on each case of which tests/program.sh runs the built program. To add a
-# case, write it into the table of its theme, or begin a table: nothing else is to be touched. Take what is expected
-# from docs/FORMATS.md and not from the program.
+# The tables of tests/faults and tests/reports, on each case of which tests/program.sh runs the built program, and those
+# of tests/orders, which tests/runs.sh has for what it compares with. To add a case, write it into the table of its
+# theme, or begin a table: nothing else is to be touched. Take what is expected from docs/FORMATS.md and not from the
+# program.
 #
 # A table of faults has a line for each case: its name, the script with its lines parted by ` / `, and its fault without
 # `script: `, or `none` where it has none.
@@ -57,30 +58,45 @@ told() {
     fi
 }
 
-report_tables() {
-    for table in tests/reports/*.txt; do
+# report_tables: each report is what `replay` writes, and `run` too where no thread could go before another.
+report_tables() { each_block report_block tests/reports/*.txt; }
+
+# report_block CASE LIMIT SCRIPT REPORT
+report_block() {
+    reported "$1" "$3" "$4" replay --limit "$2"
+    if [ "$(grep -c '^thread ' "$3")" -le 1 ]; then
+        reported "$1, by run" "$3" "$4" run --limit "$2"
+    else
+        ran "$1" "$2" "$3"
+    fi
+}
+
+# each_block ACT TABLE..: calls the function with each block's name, its limit, and the files of its script and report.
+each_block() {
+    act=$1
+    shift
+    for table; do
         number=0
-        cases=$(part_reports "$table")
-        [ "$cases" -gt 0 ] || fail "$table: no case"
-        while [ "$number" -lt "$cases" ]; do
+        blocks=$(part_blocks "$table")
+        [ "$blocks" -gt 0 ] || fail "$table: no case"
+        while [ "$number" -lt "$blocks" ]; do
             number=$((number + 1))
-            # shellcheck disable=SC2046
-            reported "$table, $(cat "$work/$number.name")" "$work/$number.script" "$work/$number.report" \
-                $(cat "$work/$number.words")
+            "$act" "$table, $(cat "$work/$number.name")" "$(cat "$work/$number.limit")" \
+                "$work/$number.script" "$work/$number.report"
         done
     done
 }
 
-# part_reports TABLE: writes each block's parts to files of $work, and prints how many blocks there are.
-part_reports() {
+# part_blocks TABLE: writes each block's parts to files of $work, and prints how many blocks there are.
+part_blocks() {
     awk -v folder="$work" '
         function begin(part) { close(file); file = folder "/" blocks "." part; printf "" > file }
-        /^== limit / { begin("words"); print "--limit " $3 > file; begin("script"); next }
+        function hold(part, text) { begin(part); print text > file }
+        /^== limit / { hold("limit", $3); begin("script"); next }
         /^== / {
             blocks++
-            begin("words"); begin("report")
-            begin("name"); print substr($0, 4) > file
-            begin("script"); next
+            begin("report"); hold("limit", 65536); hold("name", substr($0, 4)); begin("script")
+            next
         }
         /^==$/ { begin("report"); next }
         blocks { print > file }
@@ -88,24 +104,29 @@ part_reports() {
     ' "$1"
 }
 
-# reported CASE SCRIPT REPORT WORDS..: with these words behind `replay` the program writes just this report of the
-# script, and ends with the status that the report's last line means.
+# reported CASE SCRIPT REPORT WORDS..: with these words the program writes just this report of the script, and ends with
+# the status that the report means.
 reported() {
     name=$1
     text=$2
     report=$3
     shift 3
-    case $(tail -n 1 "$report") in
-        'end: done '*) want=0 ;;
-        'end: stalled '*) want=1 ;;
-        'end: full '*) want=6 ;;
-        *) want='one that its last line tells' ;;
-    esac
-    run replay "$@" < "$text"
-    if [ "$status" = "$want" ] && cmp -s "$report" "$work/out" && [ ! -s "$work/err" ]; then
+    run "$@" < "$text"
+    if [ "$status" = "$(meant_by "$report")" ] && cmp -s "$report" "$work/out" && [ ! -s "$work/err" ]; then
         pass
     else
-        fail "$name: status $status, wanted $want, errors $(head -c 300 "$work/err")"
+        fail "$name: status $status, errors $(head -c 300 "$work/err")"
         diff "$report" "$work/out"
     fi
+}
+
+# meant_by REPORT: the exit status that its last line means.
+meant_by() {
+    case $(tail -n 1 "$1") in
+        'end: done '*) echo 0 ;;
+        'end: stalled '*) echo 1 ;;
+        'end: full '*) echo 6 ;;
+        'script: '*) echo 2 ;;
+        *) echo 'none that its last line tells' ;;
+    esac
 }

@@ -1,0 +1,188 @@
+# The cases of `cml run`, for tests/program.sh. Its threads come in another order each time, so no report is known
+# beforehand: tests/interleaved.awk makes the report that the threads' order gives, and the two are to be the same.
+
+# The examples whose end depends on the order: in some orders all steps are performed, in others it stalls.
+either_end='chat_room late_reader philosophers'
+
+# in_some_order LIMIT SCRIPT REPORT..: whether each of these reports is one that some order of the threads gives.
+in_some_order() {
+    awk -f tests/plain.awk -f tests/interleaved.awk "$@" > "$work/want"
+    shift 2
+    cat "$@" > "$work/got"
+    [ -s "$work/want" ] && cmp -s "$work/want" "$work/got"
+}
+
+# ran CASE LIMIT SCRIPT [STATUS]: by `run` it ends with the status that its last line means, which is this one.
+ran() {
+    run run --limit "$2" < "$3"
+    if in_some_order "$2" "$3" "$work/out" && [ "$status" = "$(meant_by "$work/out")" ] && [ ! -s "$work/err" ] &&
+        [ "$status" = "${4:-$status}" ]; then
+        pass
+    else
+        fail "$1, by run: status $status, wanted ${4:-any}, errors $(head -c 300 "$work/err")"
+        diff "$work/want" "$work/got" | head -20
+    fi
+}
+
+# order_tables: what is taken for a report, and what is not.
+order_tables() {
+    each_block possible tests/orders/possible.txt
+    each_block impossible tests/orders/impossible.txt
+}
+
+possible() {
+    if in_some_order "$2" "$3" "$4"; then
+        pass
+    else
+        fail "$1: not taken for what an order gives"
+        diff "$work/want" "$work/got"
+    fi
+}
+
+impossible() {
+    if in_some_order "$2" "$3" "$4"; then
+        fail "$1: taken for what an order gives"
+    else
+        pass
+    fi
+}
+
+run_examples() {
+    for example in examples/*.cml; do
+        case " $either_end " in
+            *" $(basename "$example" .cml) "*) ran "$example" 65536 "$example" ;;
+            *) ran "$example" 65536 "$example" "$(meant_by "${example%.cml}.report")" ;;
+        esac
+    done
+}
+
+# The example with the most threads.
+busiest() { grep -c '^thread ' examples/*.cml | sort -t : -k 2 -n | tail -n 1 | sed 's|:.*||'; }
+
+# many_runs EXAMPLE: 200 runs of it, looked at together.
+many_runs() {
+    mkdir "$work/many"
+    number=0
+    while [ "$number" -lt 200 ]; do
+        number=$((number + 1))
+        run run < "$1"
+        mv "$work/out" "$work/many/$number"
+        [ "$status" = "$(meant_by "$work/many/$number")" ] || fail "$1, run $number: status $status"
+    done
+    if in_some_order 65536 "$1" "$work"/many/*; then
+        pass
+        echo "$1: 200 runs, $(cksum "$work"/many/* | cut -d ' ' -f 1 | sort -u | wc -l) different reports," \
+            "$(grep -c '^end: stalled' "$work/got") stalled"
+    else
+        fail "$1: a run has a report that no order gives"
+        diff "$work/want" "$work/got" | head -20
+    fi
+    rm -r "$work/many"
+}
+
+# crowd VERB VERB: 64 threads of 1,000 steps on one mailbox, in turn with the one word and the other.
+crowd() {
+    awk -v first="$1" -v second="$2" '
+        function step(thread, verb, number) { print thread " " verb " m" (verb == "send" ? " " number : "") }
+        BEGIN {
+            print "cml 1\nmailbox m"
+            for (i = 1; i <= 64; i++) print "thread A" i
+            for (k = 0; k < 500; k++) for (i = 1; i <= 64; i++) {
+                step("A" i, first, 64 * k + i)
+                step("A" i, second, k)
+            }
+        }
+    ' > "$work/in"
+}
+
+# ends_as CASE TEXT: the last two lines of the last run.
+ends_as() {
+    if [ "$(tail -n 2 "$work/out")" = "$2" ]; then
+        pass
+    else
+        fail "$1: it ends with $(tail -n 2 "$work/out")"
+    fi
+}
+
+crowds() {
+    name='64 threads of 1,000 steps'
+    crowd send recv
+    ran "$name" 64001 "$work/in" 0
+    ends_as "$name" "$(printf 'mailbox m: sent 32000 got 32000 waits 0\nend: done 64000')"
+    name='64 threads that meet the limit at once'
+    crowd send send
+    ran "$name" 1000 "$work/in" 6
+    ends_as "$name" "$(printf 'mailbox m: sent 999 got 0 waits 999\nend: full 999 left 63001')"
+    name='64 threads that wait at the end'
+    { threads 64 | sed '1s|$|\nmailbox m|'; few_for_many; } > "$work/in"
+    ran "$name" 65536 "$work/in" 1
+    ends_as "$name" "$(printf 'mailbox m: sent 100 got 100 waits 0\nend: stalled 200 left 89')"
+    threads 64 > "$work/in"
+    ran '64 threads without a step' 65536 "$work/in" 0
+}
+
+# Steps of 64 threads, of which one sends 100 messages, and the others want three each.
+few_for_many() {
+    awk 'BEGIN {
+        for (k = 0; k < 3; k++) for (i = 2; i <= 64; i++) print "A" i " recv m"
+        for (k = 0; k < 100; k++) print "A1 send m " k
+    }'
+}
+
+run_faults() {
+    : > "$work/in"
+    run run < "$work/in"
+    expect 'nothing, by run' 2 none 'script: line 1: bad header'
+    script 'cml 1 / mailbox m / thread A / A send m 5 / A jump m' > "$work/in"
+    run run < "$work/in"
+    expect 'a fault behind a good step, by run' 2 none 'script: line 5: unknown step'
+    note 1048577 > "$work/in"
+    run run < "$work/in"
+    expect 'a byte too many, by run' 2 none 'script: too long'
+}
+
+# With any little memory all steps are performed, or none is told of, also where some threads can be started and some can't.
+little_memory() {
+    crowd send recv
+    for kilobytes in 16000 32000 64000 128000 256000 512000; do
+        (ulimit -v "$kilobytes" && run run < "$work/in"; echo "$status" > "$work/status")
+        status=$(cat "$work/status")
+        if [ "$status" = 0 ] && in_some_order 65536 "$work/in" "$work/out"; then
+            pass
+        else
+            expect "$kilobytes kilobytes for 64 threads" 5 none 'cml: no memory'
+        fi
+    done
+}
+
+# Some of the texts in $work/texts, each under its limit.
+some_runs() {
+    : > "$work/bad"
+    head -n 400 "$work/texts" | octal | while read -r limit text; do
+        # shellcheck disable=SC2059
+        printf "$text" > "$work/in"
+        run run --limit "$limit" < "$work/in"
+        cat "$work/out" "$work/err" > "$work/told"
+        if ! in_some_order "$limit" "$work/in" "$work/told" || [ "$status" != "$(meant_by "$work/told")" ]; then
+            { echo "limit $limit, status $status"; cat "$work/in"; diff "$work/want" "$work/got"; } >> "$work/bad"
+        fi
+    done
+    if [ ! -s "$work/bad" ]; then
+        pass
+    else
+        fail 'scripts of all lines, by run: one has a report that no order gives'
+        head -60 "$work/bad"
+    fi
+}
+
+runs() {
+    order_tables
+    run_examples
+    many_runs "$(busiest)"
+    many_runs examples/philosophers.cml
+    many_runs examples/philosophers_without_stall.cml
+    crowds
+    run_faults
+    little_memory
+    some_runs
+}
