@@ -80,14 +80,14 @@ many_runs() {
     rm -r "$work/many"
 }
 
-# crowd VERB VERB: 64 threads of 1,000 steps on one mailbox, in turn with the one word and the other.
+# crowd ROUNDS VERB VERB: 64 threads on one mailbox, each in turn with the one word and the other.
 crowd() {
-    awk -v first="$1" -v second="$2" '
+    awk -v rounds="$1" -v first="$2" -v second="$3" '
         function step(thread, verb, number) { print thread " " verb " m" (verb == "send" ? " " number : "") }
         BEGIN {
             print "cml 1\nmailbox m"
             for (i = 1; i <= 64; i++) print "thread A" i
-            for (k = 0; k < 500; k++) for (i = 1; i <= 64; i++) {
+            for (k = 0; k < rounds; k++) for (i = 1; i <= 64; i++) {
                 step("A" i, first, 64 * k + i)
                 step("A" i, second, k)
             }
@@ -106,11 +106,11 @@ ends_as() {
 
 crowds() {
     name='64 threads of 1,000 steps'
-    crowd send recv
+    crowd 500 send recv
     ran "$name" 64001 "$work/in" 0
     ends_as "$name" "$(printf 'mailbox m: sent 32000 got 32000 waits 0\nend: done 64000')"
     name='64 threads that meet the limit at once'
-    crowd send send
+    crowd 500 send send
     ran "$name" 1000 "$work/in" 6
     ends_as "$name" "$(printf 'mailbox m: sent 999 got 0 waits 999\nend: full 999 left 63001')"
     name='64 threads that wait at the end'
@@ -129,6 +129,14 @@ few_for_many() {
     }'
 }
 
+# Where each order gives the same report.
+run_orders() {
+    script 'cml 1 / channel c / port c p / thread A / thread B / A recv p / B close p' > "$work/in"
+    run run < "$work/in"
+    expect 'a port that is closed while a thread waits for it, or before' 0 \
+        "$(printf 'B close p: done\nA recv p: closed\nchannel c: sent 0 kept 0 first 0\nport p: start 0 got 0 closed\nend: done 2')" none
+}
+
 run_faults() {
     : > "$work/in"
     run run < "$work/in"
@@ -141,9 +149,9 @@ run_faults() {
     expect 'a byte too many, by run' 2 none 'script: too long'
 }
 
-# With any little memory all steps are performed, or none is told of, also where some threads can be started and some can't.
+# However little memory there is, all steps are performed or none is told of; so also where some threads can't be started.
 little_memory() {
-    crowd send recv
+    crowd 10 send recv
     for kilobytes in 16000 32000 64000 128000 256000 512000; do
         (ulimit -v "$kilobytes" && run run < "$work/in"; echo "$status" > "$work/status")
         status=$(cat "$work/status")
@@ -182,6 +190,7 @@ runs() {
     many_runs examples/philosophers.cml
     many_runs examples/philosophers_without_stall.cml
     crowds
+    run_orders
     run_faults
     little_memory
     some_runs
