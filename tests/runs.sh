@@ -63,18 +63,19 @@ busiest() { grep -c '^thread ' examples/*.cml | sort -t : -k 2 -n | tail -n 1 | 
 many_runs() {
     mkdir "$work/many"
     number=0
+    others=0
     while [ "$number" -lt 200 ]; do
         number=$((number + 1))
         run run < "$1"
         mv "$work/out" "$work/many/$number"
-        [ "$status" = "$(meant_by "$work/many/$number")" ] || fail "$1, run $number: status $status"
+        [ "$status" = "$(meant_by "$work/many/$number")" ] || others=$((others + 1))
     done
-    if in_some_order 65536 "$1" "$work"/many/*; then
+    if in_some_order 65536 "$1" "$work"/many/* && [ "$others" -eq 0 ]; then
         pass
         echo "$1: 200 runs, $(cksum "$work"/many/* | cut -d ' ' -f 1 | sort -u | wc -l) different reports," \
             "$(grep -c '^end: stalled' "$work/got") stalled"
     else
-        fail "$1: a run has a report that no order gives"
+        fail "$1: a report that no order gives, or another status than it means ($others times)"
         diff "$work/want" "$work/got" | head -20
     fi
     rm -r "$work/many"
@@ -133,8 +134,9 @@ few_for_many() {
 run_orders() {
     script 'cml 1 / channel c / port c p / thread A / thread B / A recv p / B close p' > "$work/in"
     run run < "$work/in"
-    expect 'a port that is closed while a thread waits for it, or before' 0 \
-        "$(printf 'B close p: done\nA recv p: closed\nchannel c: sent 0 kept 0 first 0\nport p: start 0 got 0 closed\nend: done 2')" none
+    script 'B close p: done / A recv p: closed / channel c: sent 0 kept 0 first 0 / port p: start 0 got 0 closed / end: done 2' \
+        > "$work/want"
+    expect 'a port that is closed while a thread waits for it, or before' 0 "$(cat "$work/want")" none
 }
 
 run_faults() {
