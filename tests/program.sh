@@ -19,7 +19,8 @@ fail() {
     echo "failed: $*"
 }
 
-# What the program does with standard input: its output, its errors, and its status. A run that never ends is given up.
+# What the program does with standard input: its output, its errors, and its status. One that doesn't end is given up
+# after a minute, with status 124.
 run() {
     timeout 60 "$program" "$@" > "$work/out" 2> "$work/err"
     status=$?
@@ -112,6 +113,8 @@ endings() {
     echo 'cml 1' > "$work/in"
     run "$1" < "$work/in"
     expect "a script without steps, by $1" 0 'end: done 0' none
+    run "$1" -- < "$work/in"
+    expect "words that -- ends, by $1" 0 'end: done 0' none
     script 'cml 1 / mailbox m / thread B / B recv m' > "$work/in"
     run "$1" < "$work/in"
     expect "a step that waits, by $1" 1 "$(printf 'mailbox m: sent 0 got 0 waits 0\nend: stalled 0 left 1')" none

@@ -68,6 +68,7 @@ many_runs() {
         number=$((number + 1))
         run run < "$1"
         mv "$work/out" "$work/many/$number"
+        [ "$status" -ne 124 ] || break
         [ "$status" = "$(meant_by "$work/many/$number")" ] || others=$((others + 1))
     done
     if in_some_order 65536 "$1" "$work"/many/* && [ "$others" -eq 0 ]; then
@@ -176,6 +177,7 @@ some_runs() {
         if ! in_some_order "$limit" "$work/in" "$work/told" || [ "$status" != "$(meant_by "$work/told")" ]; then
             { echo "limit $limit, status $status"; cat "$work/in"; diff "$work/want" "$work/got"; } >> "$work/bad"
         fi
+        [ "$status" -ne 124 ] || break
     done
     if [ ! -s "$work/bad" ]; then
         pass
