@@ -19,5 +19,6 @@ pub mod Scene
 pub mod Working
 pub mod Endings
 pub mod Replay
+pub mod Running
 pub mod CommandLine
 pub mod Laws

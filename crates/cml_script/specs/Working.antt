@@ -70,3 +70,18 @@ pub record Declares (script : Lines) (calls : Calls) (ended : Result (Unit {0}) 
   pub own : IsOfScript script (entries_by 0 calls)
   pub within : length calls ≤ declared_count script
   pub all : OnOk ended (length calls ≡ declared_count script)
+
+-- how threads ended that ended differently: the first of no memory, full, held, stalled, done
+abbrev pub first_stop : Stop → Stop → Stop
+first_stop Full other = Full
+first_stop one Full = Full
+first_stop Held other = Held
+first_stop one Held = Held
+first_stop Stalled other = Stalled
+first_stop one Stalled = Stalled
+first_stop Done Done = Done
+
+abbrev pub first_of : Result Stop AllocError → Result Stop AllocError → Result Stop AllocError
+first_of (Err error) other = Err error
+first_of (Ok one) (Err error) = Err error
+first_of (Ok one) (Ok other) = Ok (first_stop one other)

@@ -1,4 +1,4 @@
-//! Scripts of threads, replayed on one board, and their reports.
+//! Scripts of threads, replayed on one board or run on a switchboard, and their reports.
 #![tactic(auto)]
 
 mod asked;
@@ -19,6 +19,7 @@ mod stage;
 mod stop;
 mod trail;
 mod verdict;
+mod writing;
 
 pub use asked::Order;
 pub use auditing::audit;
@@ -27,6 +28,10 @@ pub use command_line::{order, status_of_error};
 pub use ending::{Ending, status_of};
 pub use laws::{schedules_are_one, scripts_have_a_schedule, stalled_threads_wait};
 pub use perform::{Played, play};
+pub use plan::Plan;
 pub use replaying::replay;
+pub use running::{
+    Caller, Ended, Gate, OpenGate, Seated, conclude, declare, perform_in_threads, run, work,
+};
 pub use stop::Stop;
 pub use verdict::Verdict;

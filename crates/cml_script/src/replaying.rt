@@ -1,14 +1,14 @@
 //! A script, from the reader's bytes to the report's.
-ghost use Rattle.std.specs.Prelude.{◌≡◌, ◌≤◌, ◌^◌, IfOk, IfErr, OnOk, string_bytes};
-ghost use Rattle.std.specs.Io.KnownBytes.{Appends};
-ghost use Rattle.cml_script.specs.Replay.{Replays, IsPlayedOf, EndsUnplayed, WritesReport};
+ghost use Rattle.std.specs.Prelude.{◌≤◌, ◌^◌, IfOk, IfErr, string_bytes};
+ghost use Rattle.cml_script.specs.Replay.{Replays, IsPlayedOf, EndsUnplayed};
 
 use crate::ending::Ending;
 use crate::perform::{Played, play};
 use crate::read::{Unread, read_all};
+use crate::writing::write_report;
 use cml_grammar::read_script;
 use std::alloc::{AllocError, Global};
-use std::io::{self, Read, Write};
+use std::io::{Read, Write};
 
 /// Replays a script on one thread: it reads the whole script, performs it, always the first step in
 /// text order that is its thread's next and wouldn't wait, and then writes the report.
@@ -39,20 +39,4 @@ fn play_text<R: Read>(alloc: Global, reader: &mut R, limit: u64) -> Result<Playe
     let script = read_script(alloc, &text)?;
     let played = play(alloc, &script, limit)?;
     Ok(played)
-}
-
-fn write_report<W: Write>(writer: &mut W, played: &Played) -> Ending
-    ensures { WritesReport (W.contents writer.old) (W.contents writer.new) played.now.stop (string_bytes played.now.report) result }
-{
-    match write_whole(writer, played.report.as_bytes()) {
-        Ok(()) => Ending::from(played.stop),
-        Err(_) => Ending::WriteFault,
-    }
-}
-
-fn write_whole<W: Write>(writer: &mut W, bytes: &[u8]) -> io::Result<()>
-    ensures { OnOk result (Appends (W.contents writer.old) (W.contents writer.new) bytes.now) }
-{
-    writer.write_all(bytes)?;
-    writer.flush()
 }

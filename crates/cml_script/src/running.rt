@@ -1,9 +1,122 @@
+//! A script whose threads are real threads, from the reader's bytes to the report's.
+ghost use Rattle.std.specs.Prelude.{◌≡◌, ◌≤◌, ◌^◌, IfOk, IfErr, string_bytes};
+ghost use Rattle.cml_script.specs.Running.{IsReportOf, IsRunOf, IsRefused, IsUnsettled, EndsUntold, Runs};
+
 mod caller;
+mod crew;
 mod declaring;
 mod gate;
 mod worker;
 
 pub use caller::{Caller, Seated};
+pub use crew::{Ended, perform_in_threads};
 pub use declaring::declare;
 pub use gate::{Gate, OpenGate};
 pub use worker::work;
+
+use crate::auditing::audit;
+use crate::ending::Ending;
+use crate::perform::Played;
+use crate::read::{Unread, read_all};
+use crate::report::report;
+use crate::stop::Stop;
+use crate::verdict::Verdict;
+use crate::writing::write_report;
+use cml_board::{Board, BoardLog};
+use cml_grammar::{Script, read_script};
+use cml_threads::{PARTS, Settled, Switchboard};
+use std::alloc::{AllocError, Global};
+use std::io::{Read, Write};
+use std::marker::Brand;
+use std::sync::Wait;
+use std::sync::ledger::{Blank, Ledger};
+use std::thread::Threads;
+
+/// Runs a script: it reads the whole script, performs each of its threads on a thread of the operating system's, all on one
+/// switchboard, audits the journal, and then writes the report. The threads' order is theirs, and so differs from run to run.
+pub fn run<I: Read, W: Write, R: Threads + Wait + Sync, G: Gate + Sync>(
+    rt: &R,
+    alloc: Global,
+    reader: &mut I,
+    writer: &mut W,
+    limit: u64,
+    gate: &G,
+) -> Ending
+    requires least { 1 ≤ limit }
+    requires most { limit ≤ 2 ^ 32 }
+    ensures { Runs (I.remaining reader.old) (I.remaining reader.new) (W.contents writer.old) (W.contents writer.new) result }
+{
+    match run_text(rt, alloc, reader, limit, gate) {
+        Ok(played) => write_report(writer, &played),
+        Err(ending) => ending,
+    }
+}
+
+/// Reads a script, runs it, and reports it.
+fn run_text<I: Read, R: Threads + Wait + Sync, G: Gate + Sync>(
+    rt: &R,
+    alloc: Global,
+    reader: &mut I,
+    limit: u64,
+    gate: &G,
+) -> Result<Played, Ending>
+    requires least { 1 ≤ limit }
+    requires most { limit ≤ 2 ^ 32 }
+    ensures told { IfOk result (λ played. IsRunOf (I.remaining reader.old) (I.remaining reader.new) played.stop (string_bytes played.report)) }
+    ensures untold { IfErr result (λ ending. EndsUntold (I.remaining reader.old) (I.remaining reader.new) ending) }
+{
+    let text = read_all(alloc, reader)?;
+    let script = read_script(alloc, &text)?;
+    let blank = Blank::new(PARTS);
+    let (settled, stop) = settle_script::<Brand, R, G>(rt, alloc, &script, limit, gate, blank)?;
+    conclude(alloc, &script, settled.board(), stop)
+}
+
+/// Performs a script on a switchboard of its own, and settles that.
+fn settle_script<Led: Ledger + Send + Sync, R: Threads + Wait + Sync, G: Gate + Sync>(
+    rt: &R,
+    alloc: Global,
+    script: &Script,
+    limit: u64,
+    gate: &G,
+    blank: Blank,
+) -> Result<(Settled<u64, BoardLog<u64>>, Stop), Ending>
+    requires least { 1 ≤ limit }
+    requires most { limit ≤ 2 ^ 32 }
+    requires name { blank.name ≡ Led.name }
+    requires parts { blank.parts ≡ Led.parts }
+    requires enough { blank.parts ≡ 2 ^ 63 }
+    ensures { IfErr result (λ ending. IsUnsettled ending) }
+{
+    let switchboard = Switchboard::<u64, BoardLog<u64>, Led>::new(alloc, limit, blank)?;
+    let ended = perform_in_threads(rt, alloc, script, &switchboard, gate)?;
+    match switchboard.settle(ended.lefts) {
+        Ok(settled) => Ok((settled, ended.stop)),
+        Err((switchboard, _)) => Err(Ending::NotLawful(entries_of(switchboard))),
+    }
+}
+
+/// How many entries there are where not all answers are accounted for: what is not lawful comes behind them.
+fn entries_of<Led: Ledger>(switchboard: Switchboard<u64, BoardLog<u64>, Led>) -> usize {
+    switchboard.into_hall().board().journal().len()
+}
+
+/// The report of a script's journal, once it is audited.
+pub fn conclude(
+    alloc: Global,
+    script: &Script,
+    board: &Board<u64, BoardLog<u64>>,
+    stop: Stop,
+) -> Result<Played, Ending>
+    ensures stop { IfOk result (λ played. played.stop ≡ stop) }
+    ensures report { IfOk result (λ played. IsReportOf script.now stop (string_bytes played.report)) }
+    ensures refused { IfErr result (λ ending. IsRefused script.now board.now.history ending) }
+{
+    match audit(alloc, script, board.journal())? {
+        Verdict::Lawful => {
+            let report = report(alloc, script, board, stop)?;
+            Ok(Played { report, stop })
+        }
+        Verdict::Unlawful(k) | Verdict::Foreign(k) => Err(Ending::NotLawful(k)),
+    }
+}

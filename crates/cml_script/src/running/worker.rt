@@ -66,7 +66,7 @@ fn call_of(plan: &Plan<'_>, step: usize, made: usize, bindings: &[Binding]) -> C
 }
 
 /// What a refusal stops a thread with.
-fn stop_of(refusal: Refusal) -> Result<Stop, AllocError>
+pub fn stop_of(refusal: Refusal) -> Result<Stop, AllocError>
     ensures { result ≡ stop_of refusal }
 {
     match refusal {
