@@ -1,8 +1,9 @@
 -- Which words the program understands.
 use Rattle.std.proofs.Common.{◌≡◌, ◌⊎◌, ◌∙◌, ◌++◌, ap, ap₂, subst, sym, refl, inl, inr, arith, ℕ, Bool, true, false, List, [], ◌∷◌, Option, Some, None, length, codes}
 use Rattle.std.specs.Prelude.{slice_get, ◌==◌, is_some, ◌≤◌, ◌^◌}
+use Rattle.std.specs.List.{slice_index_or}
 use Rattle.std.specs.Str.{bytes_eq, chars}
-use Rattle.clap.specs.Walk.{Names, Row, Text, Walk, bundle_met, finished, idle, long_or_other, nothing_held, settled, short_or_plain, subcommand_met, walk, walk_from, walked}
+use Rattle.clap.specs.Walk.{Held, Names, Row, Text, Walk, bundle_met, finished, idle, long_or_other, nothing_held, settled, short_or_plain, subcommand_met, walk, walk_from, walked}
 use Rattle.clap.specs.Words.{subcommand_of}
 use Rattle.clap.specs.Simple.{Shape, built, entered, names_of}
 use Rattle.clap.specs.Kinds.{HasKind, IsAmong, Kinds, or_else}
@@ -15,11 +16,13 @@ use Rattle.clap.specs.Values.{kind_of}
 use Rattle.clap.proofs.FaultLemmas.{stopped_fault}
 use Rattle.clap.proofs.OnLiterals.{clap_on_literals}
 use Rattle.clap.proofs.WalkLemmas.{walk_stopped}
-use Rattle.cml_script.specs.CommandLine.{AsksHelp, AsksReplay, HasLimit, asked_of, error_status, faults_of, usage}
+use Rattle.cml_script.specs.CommandLine.{Asks, AsksFor, AsksHelp, HasLimit, HasOrder, asked_of, error_status, faults_of, limit_in, usage}
+use Rattle.cml_script.specs.declared.asked.Order.{Order}
+use Rattle.cml_script.specs.declared.asked.Order.TheVariants.{Replay, Run}
 use Rattle.cml_script.proofs.RefusalLemmas.{or_else-nil, or_else-refuses, refused_is_some, refuses, same_text}
 use Rattle.cml_script.proofs.LimitLemmas.{below}
 use Rattle.cml_script.proofs.LimitWalks.{understood_below}
-use Rattle.cml_script.proofs.LimitTaken.{limit_found_below, no_fault_below}
+use Rattle.cml_script.proofs.LimitTaken.{found_below, limit_found_below, no_fault_below}
 
 -- the program's own level of words
 abbrev top : Shape
@@ -85,17 +88,77 @@ walk_is_refused : (word : Text) (rest : List Text) → refuses (turn_fault top n
 unfolding walk_fault
 walk_is_refused word rest h = or_else-refuses _ _ h
 
+-- ---- the two subcommands
+
+data Which : Type 0 where
+  replaying : Which
+  running : Which
+
+abbrev name_of : Which → Text
+name_of replaying = codes "replay"
+name_of running = codes "run"
+
+abbrev order_of : Which → ℕ → Order
+order_of replaying limit = Replay limit
+order_of running limit = Run limit
+
+abbrev AsksBy : Which → List Text → ℕ → Type 0
+AsksBy which words limit = Asks (name_of which) words limit
+
+by_order : (words : List Text) (order : Order) → AsksFor words order → (which : Which) × (limit : ℕ) × (order ≡ order_of which limit) × AsksBy which words limit
+by_order words (Replay limit) asks = (replaying, limit, refl, asks)
+by_order words (Run limit) asks = (running, limit, refl, asks)
+
+as_order : (which : Which) (words : List Text) (limit : ℕ) → AsksBy which words limit → AsksFor words (order_of which limit)
+as_order replaying words limit asks = asks
+as_order running words limit asks = asks
+
 -- the words that follow the subcommand's name are left to it
-abbrev stopped_at : List Text → Walk
-stopped_at rest = record start { stopped = Some (codes "replay", rest) }
+abbrev stopped_at : Which → List Text → Walk
+stopped_at which rest = record start { stopped = Some (name_of which, rest) }
 
-replay_stops : (rest : List Text) → stopped_at rest ≡ walk top.rules names nothing_held (codes "replay" ∷ rest)
+stops : (which : Which) (rest : List Text) → stopped_at which rest ≡ walk top.rules names nothing_held (name_of which ∷ rest)
 unfolding walked
-replay_stops rest = walk_stopped top.rules names start (codes "replay") [] rest
+stops replaying rest = walk_stopped top.rules names start (codes "replay") [] rest
+stops running rest = walk_stopped top.rules names start (codes "run") [] rest
 
-replay_is_no_fault : (rest : List Text) → walk_fault top names start (codes "replay" ∷ rest) ≡ []
+name_is_no_fault : (which : Which) (rest : List Text) → walk_fault top names start (name_of which ∷ rest) ≡ []
 unfolding walk_fault walked
-replay_is_no_fault rest = stopped_fault top names start (codes "replay", []) rest
+name_is_no_fault replaying rest = stopped_fault top names start (codes "replay", []) rest
+name_is_no_fault running rest = stopped_fault top names start (codes "run", []) rest
+
+-- ---- below them the words mean the same
+
+-- the level of words of `run`
+abbrev below_run : Shape
+below_run = slice_index_or (built usage).subs 1 (built usage).top
+
+same_walk : (w : Walk) (words : List Text) → walk_fault below_run [] w words ≡ walk_fault below [] w words
+unfolding walk_fault
+same_walk w [] = refl
+same_walk w (word ∷ rest) = ap (or_else (turn_fault below [] w word)) (same_walk (walked below.rules [] w word) rest)
+
+-- what a level makes of the words
+abbrev fault_below : List Text → Kinds
+fault_below rest = level_fault below [] nothing_held rest false []
+
+-- what it makes of them after the walk
+abbrev fault_after_walk : Held → Kinds → Kinds
+fault_after_walk held words = or_else words (or_else (settle_fault below.rules false held)
+    (or_else (defaults_fault (settled below.rules held).rows below.rules) (check_fault below (finished below.rules held) false)))
+
+same_level : (rest : List Text) → level_fault below_run [] nothing_held rest false [] ≡ fault_below rest
+same_level rest = ap (fault_after_walk (walk below.rules [] nothing_held rest).held) (same_walk start rest)
+
+entered_is : (which : Which) (rest : List Text) → entered_fault (built usage) (Some (name_of which, rest)) ≡ fault_below rest
+entered_is replaying rest = refl
+entered_is running rest = same_level rest
+
+found_is : (which : Which) (rest : List Text) → entered (built usage) (Some (name_of which, rest)) ≡ Some (found_below (name_of which) rest)
+found_is replaying rest = refl
+found_is running rest = refl
+
+-- ---- all the words
 
 -- what the program's level and its subcommand's make of all the words
 abbrev fault_at : List Text → Kinds
@@ -106,10 +169,14 @@ abbrev fault_after : Walk → Kinds → Kinds
 fault_after w words = or_else words (or_else (entered_fault (built usage) w.stopped) (or_else (settle_fault top.rules top.args_override_self w.held)
     (or_else (defaults_fault (settled top.rules w.held).rows top.rules) (check_fault top (finished top.rules w.held) (is_some (entered (built usage) w.stopped))))))
 
-fault_at_replay : (rest : List Text) → level_fault below [] nothing_held rest false [] ≡ [] → fault_at (codes "replay" ∷ rest) ≡ []
+after_stop : (which : Which) (rest : List Text) → fault_after (stopped_at which rest) [] ≡ or_else (entered_fault (built usage) (Some (name_of which, rest))) []
 unfolding clap_on_literals
-fault_at_replay rest none =
-    ap₂ fault_after (sym (replay_stops rest)) (replay_is_no_fault rest) ∙ ap (λ k. or_else k []) none
+after_stop replaying rest = refl
+after_stop running rest = refl
+
+fault_at_name : (which : Which) (rest : List Text) → fault_below rest ≡ [] → fault_at (name_of which ∷ rest) ≡ []
+fault_at_name which rest none =
+    ap₂ fault_after (sym (stops which rest)) (name_is_no_fault which rest) ∙ after_stop which rest ∙ ap (λ k. or_else k []) (entered_is which rest ∙ none)
 
 nothing_is_refused : refuses (fault_at []) ≡ true
 unfolding clap_on_literals
@@ -123,19 +190,19 @@ help_is_refused : refuses (turn_fault top names start (codes "help")) ≡ true
 unfolding clap_on_literals
 help_is_refused = refl
 
-below_replay : (rest : List Text) → fault_at (codes "replay" ∷ rest) ≡ [] → level_fault below [] nothing_held rest false [] ≡ []
-below_replay rest none =
-    let stop = (walk top.rules names nothing_held (codes "replay" ∷ rest)).stopped in
+below_name : (which : Which) (rest : List Text) → fault_at (name_of which ∷ rest) ≡ [] → fault_below rest ≡ []
+below_name which rest none =
+    let stop = (walk top.rules names nothing_held (name_of which ∷ rest)).stopped in
     let left : entered_fault (built usage) stop ≡ [] = (or_else-nil _ _ (or_else-nil _ _ none).1).0 in
-    subst (λ (w : Walk). entered_fault (built usage) w.stopped ≡ []) (sym (replay_stops rest)) left
+    sym (entered_is which rest) ∙ ap (λ (w : Walk). entered_fault (built usage) w.stopped) (stops which rest) ∙ left
 
--- the first word is the subcommand's name
-abbrev NamesReplay : List Text → Type 0
-NamesReplay asked = (rest : List Text) × (asked ≡ codes "replay" ∷ rest)
+-- the first word is a subcommand's name
+abbrev NamesOne : List Text → Type 0
+NamesOne asked = (which : Which) × (rest : List Text) × (asked ≡ name_of which ∷ rest)
 
-names_replay : (asked : List Text) → fault_at asked ≡ [] → NamesReplay asked
-names_replay [] none = absurd (refused_is_some _ none nothing_is_refused)
-names_replay (word ∷ rest) none = is_replay (bytes_eq (codes "replay") word) refl
+names_one : (asked : List Text) → fault_at asked ≡ [] → NamesOne asked
+names_one [] none = absurd (refused_is_some _ none nothing_is_refused)
+names_one (word ∷ rest) none = is_replay (bytes_eq (codes "replay") word) refl
   where
     first : walk_fault top names start (word ∷ rest) ≡ []
     first = (or_else-nil _ _ none).0
@@ -143,66 +210,95 @@ names_replay (word ∷ rest) none = is_replay (bytes_eq (codes "replay") word) r
     refused : refuses (turn_fault top names start word) ≡ true → ⊥
     refused h = refused_is_some _ first (walk_is_refused word rest h)
 
-    is_dashes : (t : Bool) → bytes_eq (codes "replay") word ≡ false → bytes_eq (codes "help") word ≡ false → bytes_eq word (codes "--") ≡ t → (more : List Text) → rest ≡ more → ⊥
-    is_dashes false r h t more same = refused (turn_is_refused word (rw (r, h) refl) t)
-    is_dashes true r h t [] same =
+    is_dashes : (t : Bool) → bytes_eq (codes "replay") word ≡ false → bytes_eq (codes "run") word ≡ false → bytes_eq (codes "help") word ≡ false → bytes_eq word (codes "--") ≡ t → (more : List Text) → rest ≡ more → ⊥
+    is_dashes false r u h t more same = refused (turn_is_refused word (rw (r, u, h) refl) t)
+    is_dashes true r u h t [] same =
         let d : word ≡ codes "--" = same_text word (codes "--") t in
         let bad : fault_at (codes "--" ∷ []) ≡ [] = subst (λ w. fault_at w ≡ []) (ap₂ (λ w ws. w ∷ ws) d same) none in
         refused_is_some _ bad dashes_are_refused
-    is_dashes true r h t (next ∷ more) same =
+    is_dashes true r u h t (next ∷ more) same =
         let d : word ≡ codes "--" = same_text word (codes "--") t in
         let bad : walk_fault top names start (codes "--" ∷ next ∷ more) ≡ [] = subst (λ w. walk_fault top names start w ≡ []) (ap₂ (λ w ws. w ∷ ws) d same) first in
         refused_is_some _ bad (after_dashes next more)
 
-    is_help : (t : Bool) → bytes_eq (codes "replay") word ≡ false → bytes_eq (codes "help") word ≡ t → ⊥
-    is_help false r t = is_dashes (bytes_eq word (codes "--")) r t refl rest refl
-    is_help true r t =
+    is_help : (t : Bool) → bytes_eq (codes "replay") word ≡ false → bytes_eq (codes "run") word ≡ false → bytes_eq (codes "help") word ≡ t → ⊥
+    is_help false r u t = is_dashes (bytes_eq word (codes "--")) r u t refl rest refl
+    is_help true r u t =
         let d : codes "help" ≡ word = same_text (codes "help") word t in
         refused (subst (λ w. refuses (turn_fault top names start w) ≡ true) d help_is_refused)
 
-    is_replay : (t : Bool) → bytes_eq (codes "replay") word ≡ t → NamesReplay (word ∷ rest)
-    is_replay true t = (rest, ap (λ w. w ∷ rest) (sym (same_text (codes "replay") word t)))
-    is_replay false t = absurd (is_help (bytes_eq (codes "help") word) t refl)
+    is_run : (t : Bool) → bytes_eq (codes "replay") word ≡ false → bytes_eq (codes "run") word ≡ t → NamesOne (word ∷ rest)
+    is_run true r t = (running, rest, ap (λ w. w ∷ rest) (sym (same_text (codes "run") word t)))
+    is_run false r t = absurd (is_help (bytes_eq (codes "help") word) r t refl)
 
--- words are without fault only where they ask to replay
-pub understood : (words : List Text) → faults_of words ≡ [] → (limit : ℕ) × AsksReplay words limit
+    is_replay : (t : Bool) → bytes_eq (codes "replay") word ≡ t → NamesOne (word ∷ rest)
+    is_replay true t = (replaying, rest, ap (λ w. w ∷ rest) (sym (same_text (codes "replay") word t)))
+    is_replay false t = is_run (bytes_eq (codes "run") word) t refl
+
+-- words are without fault only where they ask for an order
+understood : (words : List Text) → faults_of words ≡ [] → (which : Which) × (limit : ℕ) × AsksBy which words limit
 understood words none =
-    let replay = names_replay (asked_of words) none in
-    let asks = understood_below replay.0 (below_replay replay.0 (subst (λ w. fault_at w ≡ []) replay.1 none)) in (
+    let one = names_one (asked_of words) none in
+    let asks = understood_below one.1 (below_name one.0 one.1 (subst (λ w. fault_at w ≡ []) one.2 none)) in (
+      one.0,
       asks.0,
       record {
         options = asks.1.options;
         end = asks.1.end;
         gives = asks.1.gives;
         ends = asks.1.ends;
-        are = replay.1 ∙ ap (λ rest. codes "replay" ∷ rest) asks.1.are;
+        are = one.2 ∙ ap (λ rest. name_of one.0 ∷ rest) asks.1.are;
       },
     )
 
-pub replay_has_no_fault : (words : List Text) (limit : ℕ) → AsksReplay words limit → faults_of words ≡ []
-replay_has_no_fault words limit asks =
-    subst (λ w. fault_at w ≡ []) (sym asks.are) (fault_at_replay (asks.options ++ asks.end) (no_fault_below asks.options asks.end limit asks.gives asks.ends))
+subcommand_has_no_fault : (which : Which) (words : List Text) (limit : ℕ) → AsksBy which words limit → faults_of words ≡ []
+subcommand_has_no_fault which words limit asks =
+    subst (λ w. fault_at w ≡ []) (sym asks.are) (fault_at_name which (asks.options ++ asks.end) (no_fault_below asks.options asks.end limit asks.gives asks.ends))
 
--- a parse of these words finds their limit
-pub limit_is_found : (words : List Text) (limit : ℕ) → AsksReplay words limit → HasLimit (subcommand_of usage words) limit
-limit_is_found words limit asks =
+pub order_has_no_fault : (words : List Text) (order : Order) → AsksFor words order → faults_of words ≡ []
+order_has_no_fault words order asks =
+    let by = by_order words order asks in
+    subcommand_has_no_fault by.0 words by.1 by.3
+
+-- ---- a parse of the words finds their order
+
+has_order : (which : Which) (words : List Text) (limit : ℕ) → HasLimit (Some (found_below (name_of which) words)) limit
+    → HasOrder (Some (found_below (name_of which) words)) (order_of which limit)
+has_order replaying words limit has = (refl, has)
+has_order running words limit has = (refl, has)
+
+subcommand_is_found : (which : Which) (words : List Text) (limit : ℕ) → AsksBy which words limit → HasOrder (subcommand_of usage words) (order_of which limit)
+subcommand_is_found which words limit asks =
     let rest = asks.options ++ asks.end in
-    let stop = ap (λ (w : Walk). entered (built usage) w.stopped) (replay_stops rest) in
-    let is : entered (built usage) (Some (codes "replay", rest)) ≡ subcommand_of usage words =
-    stop ∙ ap (λ asked. entered (built usage) (walk top.rules names nothing_held asked).stopped) (sym asks.are) in
-    subst (λ found. HasLimit found limit) is (limit_found_below asks.options asks.end limit asks.gives asks.ends)
+    let is : Some (found_below (name_of which) rest) ≡ subcommand_of usage words =
+    sym (found_is which rest) ∙ ap (λ (w : Walk). entered (built usage) w.stopped) (stops which rest)
+    ∙ ap (λ asked. entered (built usage) (walk top.rules names nothing_held asked).stopped) (sym asks.are) in
+    subst (λ found. HasOrder found (order_of which limit)) is
+    (has_order which rest limit (limit_found_below (name_of which) asks.options asks.end limit asks.gives asks.ends))
+
+pub order_is_found : (words : List Text) (found : Option (Text × List Row)) (order : Order) → found ≡ subcommand_of usage words → AsksFor words order → HasOrder found order
+order_is_found words found order same asks =
+    let by = by_order words order asks in
+    subst (λ f. HasOrder f order) (sym same) (subst (HasOrder (subcommand_of usage words)) (sym by.2) (subcommand_is_found by.0 words by.1 by.3))
 
 pub asked_and_found : (words : List Text) (found : Option (Text × List Row)) → faults_of words ≡ [] → found ≡ subcommand_of usage words
-    → (limit : ℕ) × AsksReplay words limit × HasLimit found limit
+    → (order : Order) × AsksFor words order × HasOrder found order
 asked_and_found words found none same =
     let asks = understood words none in
-    (asks.0, asks.1, subst (λ f. HasLimit f asks.0) (sym same) (limit_is_found words asks.0 asks.1))
+    let for = as_order asks.0 words asks.1 asks.2 in
+    (order_of asks.0 asks.1, for, order_is_found words found (order_of asks.0 asks.1) same for)
 
-pub limit_is_within : (words : List Text) (limit : ℕ) → AsksReplay words limit → (1 ≤ limit) × (limit ≤ 2 ^ 32)
-limit_is_within words limit asks = elim asks.gives [
+limit_is_within : (name : Text) (words : List Text) (limit : ℕ) → Asks name words limit → (1 ≤ limit) × (limit ≤ 2 ^ 32)
+limit_is_within name words limit asks = elim asks.gives [
   | inl none ↦ let is = none.1 in (omega arith, omega arith)
   | inr some ↦ (some.3, some.4)
 ]
+
+pub order_is_within : (words : List Text) (order : Order) → AsksFor words order → (1 ≤ limit_in order) × (limit_in order ≤ 2 ^ 32)
+order_is_within words (Replay limit) asks = limit_is_within (codes "replay") words limit asks
+order_is_within words (Run limit) asks = limit_is_within (codes "run") words limit asks
+
+-- ---- help
 
 long_help : fault_at (codes "--help" ∷ []) ≡ kind.DisplayHelp ∷ []
 unfolding clap_on_literals
@@ -220,23 +316,33 @@ short_replay_help : fault_at (codes "replay" ∷ codes "-h" ∷ []) ≡ kind.Dis
 unfolding clap_on_literals
 short_replay_help = refl
 
-pub help_is_shown : (words : List Text) → AsksHelp words → faults_of words ≡ kind.DisplayHelp ∷ []
-help_is_shown words (inl h) = rw h long_help
-help_is_shown words (inr (inl h)) = rw h short_help
-help_is_shown words (inr (inr (inl h))) = rw h long_replay_help
-help_is_shown words (inr (inr (inr h))) = rw h short_replay_help
+long_run_help : fault_at (codes "run" ∷ codes "--help" ∷ []) ≡ kind.DisplayHelp ∷ []
+unfolding clap_on_literals
+long_run_help = refl
 
-pub replay_wants_memory : (words : List Text) (limit : ℕ) (e : Error) → HasKind (faults_of words) e → AsksReplay words limit → kind_of e ≡ kind.OutOfMemory
-replay_wants_memory words limit e (inl memory) asks = memory
-replay_wants_memory words limit e (inr among) asks = absurd (subst (IsAmong (kind_of e)) (replay_has_no_fault words limit asks) among)
+short_run_help : fault_at (codes "run" ∷ codes "-h" ∷ []) ≡ kind.DisplayHelp ∷ []
+unfolding clap_on_literals
+short_run_help = refl
+
+pub help_is_shown : (words : List Text) → AsksHelp words → faults_of words ≡ kind.DisplayHelp ∷ []
+help_is_shown words (help, inl long, inl h) = rw (h, long) long_help
+help_is_shown words (help, inr short, inl h) = rw (h, short) short_help
+help_is_shown words (help, inl long, inr (inl h)) = rw (h, long) long_replay_help
+help_is_shown words (help, inr short, inr (inl h)) = rw (h, short) short_replay_help
+help_is_shown words (help, inl long, inr (inr h)) = rw (h, long) long_run_help
+help_is_shown words (help, inr short, inr (inr h)) = rw (h, short) short_run_help
+
+pub order_wants_memory : (words : List Text) (order : Order) (e : Error) → HasKind (faults_of words) e → AsksFor words order → kind_of e ≡ kind.OutOfMemory
+order_wants_memory words order e (inl memory) asks = memory
+order_wants_memory words order e (inr among) asks = absurd (subst (IsAmong (kind_of e)) (order_has_no_fault words order asks) among)
 
 pub help_or_memory : (words : List Text) (e : Error) → HasKind (faults_of words) e → AsksHelp words
     → (kind_of e ≡ kind.DisplayHelp) ⊎ (kind_of e ≡ kind.OutOfMemory)
 help_or_memory words e (inl memory) asks = inr memory
 help_or_memory words e (inr among) asks = elim (subst (IsAmong (kind_of e)) (help_is_shown words asks) among) [ inl h ↦ inl h | inr h ↦ absurd h ]
 
-pub help_is_no_replay : (words : List Text) → faults_of words ≡ [] → AsksHelp words → ⊥
-help_is_no_replay words none asks =
+pub help_is_no_order : (words : List Text) → faults_of words ≡ [] → AsksHelp words → ⊥
+help_is_no_order words none asks =
     let bad : (kind.DisplayHelp ∷ []) ≡ [] = sym (help_is_shown words asks) ∙ none in
     cc
 

@@ -1,4 +1,4 @@
--- Which words the level of `replay` understands.
+-- Which words the level of a subcommand understands: the same below `replay` and below `run`.
 use Rattle.std.proofs.Common.{◌≡◌, ◌∙◌, ap, ap₂, subst, refl, ℕ, Bool, true, false, List, [], ◌∷◌, Option, Some, None, codes}
 use Rattle.std.specs.Prelude.{fold, slice_get, slice_index_or, ◌==◌}
 use Rattle.std.specs.Str.{bytes_eq, chars}
@@ -12,7 +12,7 @@ use Rattle.clap.specs.declared.parser.matches.ValueSource.TheVariants.{CommandLi
 use Rattle.cml_script.specs.CommandLine.{usage}
 use Rattle.cml_script.proofs.RefusalLemmas.{or_else-nil, or_else-refuses, or_else-refuses_next, refused_is_some, refuses, same_text}
 
--- the subcommand's level of words
+-- the level of words of `replay`, and but for its name that of `run`
 abbrev pub below : Shape
 below = slice_index_or (built usage).subs 0 (built usage).top
 

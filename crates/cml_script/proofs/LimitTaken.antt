@@ -1,13 +1,12 @@
--- The level of `replay` takes each limit, and finds it.
+-- The level of a subcommand takes each limit, and finds it.
 use Rattle.std.proofs.Common.{◌≡◌, ◌⊎◌, ◌++◌, ap, refl, inl, inr, arith, ℕ, false, List, [], ◌∷◌, Some, None, codes}
 use Rattle.std.specs.Str.{bytes_eq}
-use Rattle.clap.specs.Walk.{Text, nothing_held, one_of, rows_after}
+use Rattle.clap.specs.Walk.{Row, Text, nothing_held, one_of, rows_after}
 use Rattle.clap.specs.Kinds.{or_else, value_kinds}
 use Rattle.clap.specs.Lexer.{long_of, short_of}
 use Rattle.clap.specs.Faults.{level_fault}
-use Rattle.clap.specs.Simple.{built, entered}
 use Rattle.clap.proofs.OnLiterals.{clap_on_literals}
-use Rattle.cml_script.specs.CommandLine.{GivesLimit, HasLimit, usage}
+use Rattle.cml_script.specs.CommandLine.{GivesLimit, HasLimit}
 use Rattle.cml_script.proofs.LimitTexts.{limit_parser, number_is_no_flag, number_passes}
 use Rattle.cml_script.proofs.LimitLemmas.{below}
 
@@ -67,13 +66,17 @@ unfolding clap_on_literals
 one_word_finds text end (inl e) = rw e refl
 one_word_finds text end (inr e) = rw e refl
 
-pub limit_found_below : (options end : List Text) (limit : ℕ) → GivesLimit options limit → IsEnd end
-    → HasLimit (entered (built usage) (Some (codes "replay", options ++ end))) limit
-limit_found_below options end limit (inl none) ends =
+-- what a subcommand of this name finds in these words
+abbrev pub found_below : Text → List Text → Text × List Row
+found_below name words = (name, rows_after below.rules [] words)
+
+pub limit_found_below : (name : Text) (options end : List Text) (limit : ℕ) → GivesLimit options limit → IsEnd end
+    → HasLimit (Some (found_below name (options ++ end))) limit
+limit_found_below name options end limit (inl none) ends =
     let is = none.1 in
     let found : Finds options end (codes "65536") = rw none.0 (alone_finds end ends) in
     (codes "65536", ((omega arith, (omega arith, (omega arith, (omega arith, (omega arith, (omega arith, tt)))))), is), omega arith, found)
-limit_found_below options end limit (inr some) ends =
+limit_found_below name options end limit (inr some) ends =
     let text = some.0 in
     let flag = number_is_no_flag text limit some.2 in
     let found : Finds options end text = elim some.1 [

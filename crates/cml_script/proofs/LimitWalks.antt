@@ -1,4 +1,4 @@
--- Where the level of `replay` understands the words: at no option, or at one limit.
+-- Where the level of a subcommand understands the words: at no option, or at one limit.
 use Rattle.std.proofs.Common.{◌≡◌, ◌⊎◌, ◌∙◌, ◌++◌, ap, subst, sym, refl, inl, inr, ℕ, Bool, true, false, List, [], ◌∷◌, Option, Some, None, codes}
 use Rattle.std.specs.Prelude.{fold, slice_get, ◌==◌}
 use Rattle.std.specs.Str.{bytes_eq, chars}
