@@ -1,4 +1,4 @@
-use Rattle.std.proofs.Common.{rules, map, subst, sym, ◌≡◌, ◌⊎◌, ◌≤◌, ◌^◌, ℕ, None, Some, Option}
+use Rattle.std.proofs.Common.{rules, map, subst, sym, ◌≡◌, ◌⊎◌, ◌≤◌, ◌^◌, None, Some, Option}
 use Rattle.clap.specs.Words.{HasKind, kind_of, subcommand_rows_of}
 use Rattle.clap.specs.declared.error.kind.ErrorKind.TheVariants as kind
 use Rattle.cml_script.specs.CommandLine.{AsksFor, faults_of, limit_in}

@@ -74,8 +74,8 @@ returns-in-replay c =
     let some : c.get_one.result ≡ Some c.in_ok-limit.limit = c.in_ok-limit.was in
     let name : Enters (subcommand_rows_of matches) c.in_ok-name.name.now = name_entered matches c.in_ok-name.name.now c.in_ok-name.ensures.name in
     replay_is_read (subcommand_rows_of matches) c.in_ok-limit.limit (name ∙ ap (λ (text : Text). Some text) c.in-replay.is) (λ limit has. only_one some
-        (limit_is_read _ (λ bs r. ParsesUnsigned 64 10 bs r × ExplainsUnsignedError 10 bs r × HasUnsignedDigitsIfOk bs r) matches c.in_ok-name.found.now c.get_one.result
-        (λ text x g. g.0) c.in_ok-name.ensures.rows c.get_one.ensures.value limit has))
+    (limit_is_read _ (λ bs r. ParsesUnsigned 64 10 bs r × ExplainsUnsignedError 10 bs r × HasUnsignedDigitsIfOk bs r) matches c.in_ok-name.found.now c.get_one.result
+    (λ text x g. g.0) c.in_ok-name.ensures.rows c.get_one.ensures.value limit has))
 
 pub returns-in-run : goal.returns-in-run
 returns-in-run c =
@@ -83,5 +83,5 @@ returns-in-run c =
     let some : c.get_one.result ≡ Some c.in_ok-limit.limit = c.in_ok-limit.was in
     let name : Enters (subcommand_rows_of matches) c.in_ok-name.name.now = name_entered matches c.in_ok-name.name.now c.in_ok-name.ensures.name in
     run_is_read (subcommand_rows_of matches) c.in_ok-limit.limit (name ∙ ap (λ (text : Text). Some text) c.in-run.is) (λ limit has. only_one some
-        (limit_is_read _ (λ bs r. ParsesUnsigned 64 10 bs r × ExplainsUnsignedError 10 bs r × HasUnsignedDigitsIfOk bs r) matches c.in_ok-name.found.now c.get_one.result
-        (λ text x g. g.0) c.in_ok-name.ensures.rows c.get_one.ensures.value limit has))
+    (limit_is_read _ (λ bs r. ParsesUnsigned 64 10 bs r × ExplainsUnsignedError 10 bs r × HasUnsignedDigitsIfOk bs r) matches c.in_ok-name.found.now c.get_one.result
+    (λ text x g. g.0) c.in_ok-name.ensures.rows c.get_one.ensures.value limit has))
