@@ -1,15 +1,17 @@
-//! `cml`: replays the script on standard input, and writes its report to standard output.
+//! `cml`: replays or runs the script on standard input, and writes its report to standard output.
 #![tactic(auto)]
 
 use clap::Error;
-use cml_script::{Ending, Order, order, replay, status_of, status_of_error};
+use cml_script::{Ending, OpenGate, Order, order, replay, run, status_of, status_of_error};
 use std::env;
 use std::io::ErrorKind;
 use std::process::ExitCode;
+use std::sync::Wait;
+use std::thread::Threads;
 
 fn main(rt: HostRuntime) -> ExitCode {
     let status = match words(&rt) {
-        Ok(words) => obey(&rt, words.as_slice()),
+        Ok(words) => obey(&rt, &rt, words.as_slice()),
         Err(status) => status,
     };
     ExitCode::from(status)
@@ -29,11 +31,22 @@ fn words(rt: &HostRuntime) -> Result<Vec<String>, u8> {
     }
 }
 
-/// Does what the words ask for, and gives the exit status.
-fn obey(rt: &HostRuntime, words: &[String]) -> u8 {
+/// Does what the words ask for, with threads from `system`, and gives the exit status.
+fn obey<R: Threads + Wait + Sync>(rt: &HostRuntime, system: &R, words: &[String]) -> u8 {
     match order(rt.alloc(), words) {
         Ok(Order::Replay(limit)) => {
             let ending = replay(rt.alloc(), &mut rt.stdin(), &mut rt.stdout(), limit);
+            tell(rt, ending)
+        }
+        Ok(Order::Run(limit)) => {
+            let ending = run(
+                system,
+                rt.alloc(),
+                &mut rt.stdin(),
+                &mut rt.stdout(),
+                limit,
+                &OpenGate,
+            );
             tell(rt, ending)
         }
         Err(error) => show(rt, &error),
