@@ -92,11 +92,11 @@ abbrev pub HasLimit : Option (Text × List Row) → ℕ → Type 0
 HasLimit entered limit = (text : Text) × ReadsAs text limit × (limit ≤ 2 ^ 32)
     × (option_and_then (λ found. one_of (codes "limit") found.1) entered ≡ Some text)
 
--- it entered the subcommand of this name
+-- the parse entered the subcommand of this name
 abbrev pub Enters : Option (Text × List Row) → Text → Type 0
 Enters entered name = option_map (λ found. found.0) entered ≡ Some name
 
--- it found this order
+-- the parse found this order
 abbrev pub HasOrder : Option (Text × List Row) → Order → Type 0
 HasOrder entered (order.Replay limit) = Enters entered (codes "replay") × HasLimit entered limit
 HasOrder entered (order.Run limit) = Enters entered (codes "run") × HasLimit entered limit
