@@ -112,6 +112,8 @@ pub fn conclude(
     ensures report { IfOk result (λ played. IsReportOf script.now stop (string_bytes played.report)) }
     ensures refused { IfErr result (λ ending. IsRefused script.now board.now.history ending) }
 {
+    // That no journal has more entries than an audit takes is what the limit's reader tells.
+    let _limit = board.limit();
     match audit(alloc, script, board.journal())? {
         Verdict::Lawful => {
             let report = report(alloc, script, board, stop)?;

@@ -49,7 +49,7 @@ impl<'a, Led: Ledger, R: Wait> Seated<'a, Led, R> {
 
     /// Leaves the seat, so that nobody waits for it.
     pub fn leave(self) -> Left<Led>
-        ensures { result ≡ self.seat }
+        ensures { result ≡ self.entry.seat }
     {
         self.switchboard.leave(self.rt, self.seat)
     }

@@ -1,5 +1,5 @@
 //! The threads of a script.
-ghost use Rattle.std.specs.Prelude.{◌≡◌, ◌≤◌, length, vec_len, vec_capacity, IfOk};
+ghost use Rattle.std.specs.Prelude.{◌≡◌, ◌<◌, ◌≤◌, length, vec_len, vec_capacity, IfOk};
 ghost use Rattle.cml_script.specs.Working.{first_of};
 
 use super::caller::Seated;

@@ -1,3 +1,5 @@
+ghost use Rattle.std.specs.Prelude.{◌≡◌, true};
+
 /// What is asked at each step of a script's threads whether to go on, so that a test can say which comes first. Threads are
 /// counted from 0 in the order in which they are declared, and so are each thread's steps.
 pub trait Gate {
