@@ -35,9 +35,19 @@ const LIMITS: &[(&str, &str, u64)] = &[
     ("a plus and a zero first", "cml replay --limit +04", 4),
 ];
 
+/// Words that run, and with which limit.
+const RUN_LIMITS: &[(&str, &str, u64)] = &[
+    ("without a limit", "cml run", 65_536),
+    ("the end of options", "cml run --", 65_536),
+    ("two words", "cml run --limit 4", 4),
+    ("one word, and the end of options", "cml run --limit=4 --", 4),
+    ("the most", "cml run --limit 4294967296", 4_294_967_296),
+];
+
 /// Words with what is no limit.
 const NO_LIMITS: &[(&str, &str)] = &[
     ("below the least", "cml replay --limit 0"),
+    ("below the least, to run", "cml run --limit 0"),
     ("past the most", "cml replay --limit 4294967297"),
     (
         "past the most, in one word",
@@ -69,7 +79,9 @@ const OTHERS: &[(&str, &str)] = &[
     ("the name alone", "cml"),
     ("options end, and nothing follows", "cml --"),
     ("the subcommand after the end of options", "cml -- replay"),
-    ("another subcommand", "cml run"),
+    ("another subcommand", "cml walk"),
+    ("both subcommands", "cml run replay"),
+    ("what runs after the end of options", "cml -- run"),
     ("the subcommand with a capital", "cml Replay"),
     ("the beginning of the subcommand", "cml repla"),
     ("an empty word", "cml "),
@@ -94,12 +106,16 @@ const HELP: &[(&str, &str)] = &[
     ("the subcommand's", "cml replay --help"),
     ("the subcommand's, in short", "cml replay -h"),
     ("the subcommand's, as a subcommand", "cml help replay"),
+    ("the other subcommand's", "cml run --help"),
+    ("the other subcommand's, in short", "cml run -h"),
+    ("the other subcommand's, as a subcommand", "cml help run"),
 ];
 
-/// What becomes of words: the limit to replay with, or the exit status and where the message is shown.
+/// What becomes of words: the limit to replay or to run with, or the exit status and where the message is shown.
 fn told(alloc: Global, words: &[&str]) -> Result<String, AllocError> {
     match order(alloc, words) {
         Ok(Order::Replay(limit)) => format!(in alloc; "replays with {limit}"),
+        Ok(Order::Run(limit)) => format!(in alloc; "runs with {limit}"),
         Err(error) => {
             let status = status_of_error(&error);
             let stream = if error.use_stderr() {
@@ -143,6 +159,15 @@ const USAGE: &str = "status 3 on standard error";
 fn replays_with_the_limit_that_is_given_or_stands_for_none(rt: HostRuntime) -> Result<(), Fail> {
     for (case, words, limit) in LIMITS.iter() {
         let expected = format!(in rt.alloc(); "replays with {limit}")?;
+        expect(&rt, case, words, expected.as_str())?;
+    }
+    Ok(())
+}
+
+#[test]
+fn runs_with_the_limit_that_is_given_or_stands_for_none(rt: HostRuntime) -> Result<(), Fail> {
+    for (case, words, limit) in RUN_LIMITS.iter() {
+        let expected = format!(in rt.alloc(); "runs with {limit}")?;
         expect(&rt, case, words, expected.as_str())?;
     }
     Ok(())
@@ -208,6 +233,7 @@ const HELP_SAYS: &[&str] = &[
     "4  ",
     "5  no memory",
     "6  the journal is full",
+    "7  the journal is not lawful",
 ];
 
 #[test]
