@@ -259,12 +259,11 @@ is_performed p old items i d asked view lines reads few ready declared calls =
           (subst (λ (r : Play). step_call r.script r.history i ≡ Some asked) (sym view) calls);
     }
 
-pub performs : (p old new : Play) (i : ℕ) (s : Step) (asked : Call ℕ) (reply : Reply ℕ) → p ≡ old → new ≡ with_entry p (record { who = Seat s.seat; call = asked; reply = reply }) → IsPerformed p i s asked → (entry : Entry ℕ) × (new ≡ with_entry old entry) × IsStepAt old.script old.history entry i × (entry.reply ≡ reply)
+pub performs : (p old new : Play) (i : ℕ) (s : Step) (asked : Call ℕ) (reply : Reply ℕ) → p ≡ old → new ≡ with_entry p (record { who = Seat s.seat; call = asked; reply = reply }) → IsPerformed p i s asked → (entry : Entry ℕ) × (new ≡ with_entry old entry) × IsStepAt old.script old.history entry i
 performs p old new i s asked reply view e performed = (
   record { who = Seat s.seat; call = asked; reply = reply },
   e ∙ ap (λ (r : Play). with_entry r (record { who = Seat s.seat; call = asked; reply = reply })) view,
   subst (λ (r : Play). IsStepAt r.script r.history (record { who = Seat s.seat; call = asked; reply = reply }) i) view (performed.step reply),
-  refl,
 )
 
 -- a name that a step gives is one of the script's

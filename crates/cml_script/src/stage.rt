@@ -1,5 +1,5 @@
 //! A script under way on a board.
-ghost use Rattle.std.specs.Prelude.{◌≡◌, ◌≢◌, ◌↔◌, ℕ, ◌+◌, ◌-◌, ◌<◌, ◌≤◌, ◌^◌, List, [], ◌∷◌, length, slice_get, Some, None, IfOk, OnErr, MatchOption, MatchBool, IsTrue, IfSome, IsSome};
+ghost use Rattle.std.specs.Prelude.{◌≡◌, ◌≢◌, ◌↔◌, ℕ, ◌+◌, ◌-◌, ◌<◌, ◌≤◌, ◌^◌, List, [], ◌∷◌, length, slice_get, Some, None, IfOk, OnOk, OnErr, MatchOption, MatchBool, IsTrue, IfSome, IsSome};
 ghost use Rattle.cml_board.specs.History.{no_entries, entries_in, Fits, Lawful, kind_of};
 ghost use Rattle.cml_board.specs.declared.call.Kind.{Kind};
 ghost use Rattle.cml_board.specs.declared.entry.Reply.{Reply};
@@ -15,7 +15,7 @@ ghost use Rattle.cml_script.specs.Stage.{with_entry, IsNextObject, IsNext, IsNex
 use crate::binding::{Binding, bind};
 use crate::calls::{call_on, used_by};
 use crate::plan::{Plan, THREADS};
-use cml_board::{Answer, Board, BoardLog, Call, Name, Outcome, Refusal, Who};
+use cml_board::{Board, BoardLog, Call, Name, Outcome, Refusal, Who};
 use cml_grammar::{Action, Makes, Script};
 use std::alloc::{AllocError, Global};
 use std::marker::Model;
@@ -216,12 +216,12 @@ impl<'a> Stage<'a> {
     }
 
     /// Performs the least step that is ready.
-    pub fn perform(&mut self, i: usize) -> Result<Answer<u64>, AllocError>
+    pub fn perform(&mut self, i: usize) -> Result<(), AllocError>
         requires ready { IsLeast self.old.script self.old.history i }
         requires declared { declared_count self.old.script ≤ entries_in self.old.history }
         requires room { entries_in self.old.history < self.old.limit }
-        ensures performed { IfOk result (λ answer. (entry : Entry ℕ) × (self.new ≡ with_entry self.old entry)
-            × IsStepAt self.old.script self.old.history entry i × (entry.reply ≡ answer.reply)) }
+        ensures performed { OnOk result ((entry : Entry ℕ) × (self.new ≡ with_entry self.old entry)
+            × IsStepAt self.old.script self.old.history entry i) }
         ensures err { OnErr result (self.new ≡ self.old) }
     {
         let call = self.call(i);
@@ -231,7 +231,7 @@ impl<'a> Stage<'a> {
                 let given = self.plan.given(i);
                 self.counts[seat as usize - 1] += 1;
                 bind(&mut self.bindings, given, answer.call(), answer.reply());
-                Ok(answer)
+                Ok(())
             }
             Outcome::Refused(Refusal::NoMemory, _) => Err(AllocError),
             Outcome::Refused(_, _) | Outcome::WouldWait(_) => unreachable!(),
