@@ -23,8 +23,7 @@ struct Run {
     report: &'static str,
 }
 
-const TWO_SEND: &str =
-    "cml 1\nmailbox m\nthread A\nthread B\nA send m 5\nB send m 6\n";
+const TWO_SEND: &str = "cml 1\nmailbox m\nthread A\nthread B\nA send m 5\nB send m 6\n";
 
 const RUNS: &[Run] = &[
     Run {

@@ -1,5 +1,5 @@
 -- How the declared objects are made one after the other.
-use Rattle.std.proofs.Common.{◌≡◌, ℕ, ◌+◌, ◌<◌, ◌≤◌, ◌^◌, Bool, true, false, cond, ltb, List, [], ◌∷◌, length, take, slice_get, Option, Some, None, Ok, Err, Result, MatchBool, IfSome, IsSome, refl, sym, ap, subst, ◌∙◌, arith}
+use Rattle.std.proofs.Common.{◌≡◌, ℕ, ◌+◌, ◌≤◌, true, false, [], ◌∷◌, length, take, slice_get, Option, Some, None, Ok, Err, Result, MatchBool, IfSome, IsSome, refl, sym, ap, subst, ◌∙◌, arith}
 use Rattle.std.specs.Prelude.{OnOk, IsErr}
 use Rattle.std.specs.Option.{option_map}
 use Rattle.std.proofs.lemmas.Option.{same_Some, none-some}
@@ -14,11 +14,11 @@ use Rattle.cml_board.specs.declared.outcome.Refusal.{Refusal}
 use Rattle.cml_grammar.specs.declared.forms.Makes.{Makes}
 use Rattle.cml_grammar.specs.declared.forms.Makes.TheVariants as makes
 use Rattle.cml_grammar.specs.declared.script.Declaration.{Declaration}
-use Rattle.cml_grammar.specs.Script.{SourceLine, Lines}
+use Rattle.cml_grammar.specs.Script.{Lines}
 use Rattle.cml_grammar.specs.Meaning.{names_of}
 use Rattle.cml_grammar.specs.Reading.{source_of, ReadsDeclaration, IsMadeWell}
 use Rattle.cml_script.specs.Counting.{one_if, how_many}
-use Rattle.cml_script.specs.Schedule.{History, declared_count, declared_object, is_object, makes_object, IsDeclaration}
+use Rattle.cml_script.specs.Schedule.{History, declared_count, is_object, makes_object, IsDeclaration}
 use Rattle.cml_script.specs.Audit.{IsOfScript, IsNextOfThread}
 use Rattle.cml_script.specs.Plan.{IsKnown}
 use Rattle.cml_script.specs.Stage.{Play, IsNext, IsNextObject}

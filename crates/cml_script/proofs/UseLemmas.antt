@@ -10,8 +10,6 @@ use Rattle.cml_board.specs.declared.call.Kind.{Kind}
 use Rattle.cml_board.specs.declared.call.Kind.TheVariants as kind
 use Rattle.cml_board.specs.declared.entry.Who.TheVariants.{Seat}
 use Rattle.cml_board.specs.History.{kind_of, Lawful}
-use Rattle.cml_grammar.specs.declared.names.Named.TheVariants as called
-use Rattle.cml_grammar.specs.declared.names.Users.TheVariants as users
 use Rattle.cml_grammar.specs.declared.forms.Action.{Action}
 use Rattle.cml_grammar.specs.declared.forms.Action.TheVariants as action
 use Rattle.cml_grammar.specs.declared.script.Declaration.{Declaration}
@@ -24,7 +22,7 @@ use Rattle.cml_grammar.specs.Reading.{source_of, ReadsStep, UsesWell, UsesEarlie
 use Rattle.cml_script.specs.declared.binding.Binding.{Binding}
 use Rattle.cml_script.specs.declared.binding.Binding.TheVariants as binding
 use Rattle.cml_script.specs.Audit.{IsOfScript}
-use Rattle.cml_script.specs.Schedule.{History, is_seated, earlier, performed, next_position, declared_count, declared_object, object_of, made_of, binding_of, port_bound, port_made}
+use Rattle.cml_script.specs.Schedule.{History, is_seated, earlier, performed, next_position, declared_count, object_of, made_of, binding_of, port_bound, port_made}
 use Rattle.cml_script.specs.Plan.{IsKnown, IsObject, IsObjectAt, kind_named}
 use Rattle.cml_script.specs.Bindings.{AreBindings}
 use Rattle.cml_script.specs.Stage.{Play, Stands, IsNextStep, IsBound}

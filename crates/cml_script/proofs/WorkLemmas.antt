@@ -1,11 +1,11 @@
 -- What a thread's calls are, whatever made the declared objects.
-use Rattle.std.proofs.Common.{◌≡◌, ℕ, zero, suc, ◌+◌, ◌<◌, ◌≤◌, Bool, true, false, cond, eqb, List, [], ◌∷◌, ◌++◌, length, map, slice_get, replicate, Option, Some, None, Ok, Err, Result, IfSome, IsSome, inl, inr, refl, sym, ap, subst, ◌∙◌, arith}
+use Rattle.std.proofs.Common.{◌≡◌, ℕ, zero, suc, ◌+◌, ◌<◌, ◌≤◌, true, false, eqb, List, [], ◌∷◌, ◌++◌, length, map, slice_get, replicate, Option, Some, None, Result, IfSome, IsSome, inl, inr, refl, sym, ap, subst, ◌∙◌, arith}
 use Rattle.std.specs.Prelude.{All, ⊤}
-use Rattle.std.specs.Option.{option_map, option_map_or, option_and_then}
+use Rattle.std.specs.Option.{option_map, option_and_then}
 use Rattle.std.specs.declared.alloc.AllocError.{AllocError}
-use Rattle.std.proofs.lemmas.Option.{same_Some, none-some, slice_get_within, slice_get_past}
-use Rattle.std.proofs.lemmas.List.{length-map, length-replicate}
-use Rattle.std.proofs.lemmas.Bool.{false≢true, eq-eqb, ne_eqb, cases_lt}
+use Rattle.std.proofs.lemmas.Option.{slice_get_within, slice_get_past}
+use Rattle.std.proofs.lemmas.List.{length-replicate}
+use Rattle.std.proofs.lemmas.Bool.{false≢true, eq-eqb, ne_eqb}
 use Rattle.cml_board.specs.declared.call.Call.{Call}
 use Rattle.cml_board.specs.declared.call.Call.TheVariants as call
 use Rattle.cml_board.specs.declared.entry.Who.TheVariants.{Seat}
@@ -16,23 +16,21 @@ use Rattle.cml_board.specs.declared.outcome.Refusal.{Refusal}
 use Rattle.cml_board.specs.declared.outcome.Refusal.TheVariants as refusal
 use Rattle.cml_threads.specs.Telling.{suits}
 use Rattle.cml_grammar.specs.declared.script.Step.{Step}
-use Rattle.cml_grammar.specs.Script.{SourceLine, Lines}
+use Rattle.cml_grammar.specs.Script.{Lines}
 use Rattle.cml_grammar.specs.Meaning.{names_of}
 use Rattle.cml_grammar.specs.Reading.{source_of, ReadsStep, UsesEarlier, used_by}
 use Rattle.cml_script.specs.declared.stop.Stop.{Stop}
 use Rattle.cml_script.specs.declared.binding.Binding.{Binding}
 use Rattle.cml_script.specs.declared.binding.Binding.TheVariants as binding
 use Rattle.cml_script.specs.Counting.{one_if}
-use Rattle.cml_script.specs.Schedule.{History, declared_count, performed, is_seat, is_seated, positions_from, next_position, given_by, step_call, object_of, bound_by, binding_of, port_bound}
-use Rattle.cml_script.specs.Audit.{IsNextOfThread}
+use Rattle.cml_script.specs.Schedule.{History, declared_count, performed, is_seat, is_seated, positions_from, next_position, given_by, step_call, bound_by, binding_of, port_bound}
 use Rattle.cml_script.specs.Plan.{IsKnown, HasSeats, AsksForPorts}
 use Rattle.cml_script.specs.Bindings.{AreBindings, with_binding}
-use Rattle.cml_script.specs.Stage.{call_on}
 use Rattle.cml_script.specs.Working.{Calls, entries_by, AreBySeat, IsOpening, AreNextSteps, IsStop, Works, HasMadeNone, stop_of}
 use Rattle.cml_script.proofs.ListLemmas.{how_many-le}
 use Rattle.cml_script.proofs.QueueLemmas.{positions_count, position_is}
 use Rattle.cml_script.proofs.GivingLemmas.{giver, none_first}
-use Rattle.cml_script.proofs.BindingLemmas.{AreSteps, GivesPort, asks_port, bound_more}
+use Rattle.cml_script.proofs.BindingLemmas.{AreSteps, asks_port, bound_more}
 use Rattle.cml_script.proofs.StandLemmas.{bindings_more}
 use Rattle.cml_script.proofs.UseLemmas.{used_stands_for}
 use Rattle.cml_script.proofs.TrailLemmas.{named, step_calls}

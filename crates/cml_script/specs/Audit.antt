@@ -1,5 +1,5 @@
 -- Whether a journal is one of a script, whatever order its threads went in.
-use Rattle.std.specs.Prelude.{ℕ, ◌≡◌, List, [], ◌∷◌, length, reverse, slice_get, nat_lt, Some, MatchBool, ⊤}
+use Rattle.std.specs.Prelude.{ℕ, ◌≡◌, List, [], ◌∷◌, reverse, slice_get, nat_lt, Some, MatchBool, ⊤}
 use Rattle.cml_board.specs.declared.entry.Entry.{Entry}
 use Rattle.cml_board.specs.History.{entries_in, Lawful}
 use Rattle.cml_board.specs.Positions.{before}

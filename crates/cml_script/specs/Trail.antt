@@ -1,5 +1,5 @@
 -- A journal that is followed entry by entry beside a script, and what is kept of it.
-use Rattle.std.specs.Prelude.{ℕ, ◌≡◌, ◌≢◌, ◌+◌, ◌^◌, ◌<◌, ◌≤◌, ◌⊎◌, List, [], ◌∷◌, All, length, map, filter, slice_get, nat_lt, Option, Some, None, if◌then◌else◌, ⊤}
+use Rattle.std.specs.Prelude.{ℕ, ◌≡◌, ◌≢◌, ◌+◌, ◌^◌, ◌<◌, ◌≤◌, ◌⊎◌, List, [], ◌∷◌, length, slice_get, nat_lt, Option, None, if◌then◌else◌}
 use Rattle.std.specs.Option.{option_map_or, option_and_then}
 use Rattle.cml_board.specs.declared.call.Call.{Call}
 use Rattle.cml_board.specs.declared.entry.Who.{Who}
@@ -8,11 +8,9 @@ use Rattle.cml_board.specs.declared.entry.Entry.{Entry}
 use Rattle.cml_board.specs.History.{entries_in}
 use Rattle.cml_board.specs.Positions.{before}
 use Rattle.cml_grammar.specs.declared.forms.Makes.{Makes}
-use Rattle.cml_grammar.specs.declared.forms.Makes.TheVariants as makes
-use Rattle.cml_grammar.specs.Script.{SourceLine, Lines}
-use Rattle.cml_grammar.specs.Meaning.{names_of, makes_of}
+use Rattle.cml_grammar.specs.Script.{Lines}
 use Rattle.cml_script.specs.declared.binding.Binding.{Binding}
-use Rattle.cml_script.specs.Schedule.{History, objects_of, declared_count, is_object, is_seat, call_in, step_call, next_position, given_by}
+use Rattle.cml_script.specs.Schedule.{History, objects_of, declared_count, is_seat, call_in, step_call, next_position, given_by}
 use Rattle.cml_script.specs.Plan.{IsKnown}
 use Rattle.cml_script.specs.Bindings.{AreBindings}
 use Rattle.cml_script.specs.Makes.{AreMakes}

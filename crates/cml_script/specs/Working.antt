@@ -58,7 +58,7 @@ HasMadeNone made = IfSome made (λ calls. calls ≡ [])
 -- what a refusal stops a thread with: what isn't want of room or of memory leaves it waiting for good
 abbrev pub stop_of : Refusal → Result Stop AllocError
 stop_of JournalFull = Ok Full
-stop_of NoMemory = Err (record { })
+stop_of NoMemory = Err (record {})
 stop_of refusal = Ok Stalled
 
 -- the call that makes this, where each declared object has the number of its declaration among them

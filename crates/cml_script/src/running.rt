@@ -8,12 +8,6 @@ mod declaring;
 mod gate;
 mod worker;
 
-pub use caller::{Caller, Seated};
-pub use crew::{Ended, perform_in_threads};
-pub use declaring::declare;
-pub use gate::{Gate, OpenGate};
-pub use worker::work;
-
 use crate::auditing::audit;
 use crate::ending::Ending;
 use crate::perform::Played;
@@ -22,15 +16,20 @@ use crate::report::report;
 use crate::stop::Stop;
 use crate::verdict::Verdict;
 use crate::writing::write_report;
+pub use caller::{Caller, Seated};
 use cml_board::{Board, BoardLog};
 use cml_grammar::{Script, read_script};
 use cml_threads::{PARTS, Settled, Switchboard};
+pub use crew::{Ended, perform_in_threads};
+pub use declaring::declare;
+pub use gate::{Gate, OpenGate};
 use std::alloc::{AllocError, Global};
 use std::io::{Read, Write};
 use std::marker::Brand;
 use std::sync::Wait;
 use std::sync::ledger::{Blank, Ledger};
 use std::thread::Threads;
+pub use worker::work;
 
 /// Runs a script: it reads the whole script, performs each of its threads on a thread of the operating system's, all on one
 /// switchboard, audits the journal, and then writes the report. The threads' order is theirs, and so differs from run to run.

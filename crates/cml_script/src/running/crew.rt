@@ -36,11 +36,7 @@ struct Worked<Led: Ledger> {
 /// Performs a script on a switchboard that has no objects and no seats: one operating-system thread for each of the
 /// script's, and a seat for each. All are joined. Where threads end differently the first of no memory, full, held, stalled,
 /// done counts. A thread that can't be started counts as want of memory, and nobody waits for it.
-pub fn perform_in_threads<
-    Led: Ledger + Send + Sync,
-    R: Threads + Wait + Sync,
-    G: Gate + Sync,
->(
+pub fn perform_in_threads<Led: Ledger + Send + Sync, R: Threads + Wait + Sync, G: Gate + Sync>(
     rt: &R,
     alloc: Global,
     script: &Script,
@@ -124,28 +120,41 @@ fn start<Led: Ledger + Send + Sync, R: Threads + Wait + Sync, G: Gate + Sync>(
     let running = Vec::with_capacity(alloc, count)?;
     let ended = Vec::with_capacity(alloc, count)?;
     let flags = started.as_slice();
-    Ok(thread::scope(thread::scope_env(), rt, move |scope| -> Vec<Worked<Led>>
-        requires all { (vec_len seats ≤ 64) × (vec_len seats ≡ length flags.now) }
-        requires none { (vec_len running ≡ 0) × (vec_len ended ≡ 0) }
-        requires room { (vec_len seats ≤ vec_capacity running) × (vec_len seats ≤ vec_capacity ended) }
-    {
-        let (mut seats, mut running, mut ended) = (seats, running, ended);
-        while let Some(seat) = seats.pop() {
-            let thread = seats.len();
-            let is_started = &flags[thread];
-            match scope.spawn(move || work_seated(rt, alloc, plan, switchboard, gate, thread, seat, is_started)) {
-                Ok(handle) => running.push_reserved(handle),
-                Err(refused) => {
-                    is_started.store(false, Ordering::SeqCst);
-                    ended.push_reserved((refused.value)());
+    Ok(thread::scope(
+        thread::scope_env(),
+        rt,
+        move |scope| -> Vec<Worked<Led>>
+            requires all { (vec_len seats ≤ 64) × (vec_len seats ≡ length flags.now) }
+            requires none { (vec_len running ≡ 0) × (vec_len ended ≡ 0) }
+            requires room { (vec_len seats ≤ vec_capacity running) × (vec_len seats ≤ vec_capacity ended) }
+        {
+            let (mut seats, mut running, mut ended) = (seats, running, ended);
+            while let Some(seat) = seats.pop() {
+                let thread = seats.len();
+                let is_started = &flags[thread];
+                match scope.spawn(move || work_seated(
+                    rt,
+                    alloc,
+                    plan,
+                    switchboard,
+                    gate,
+                    thread,
+                    seat,
+                    is_started,
+                )) {
+                    Ok(handle) => running.push_reserved(handle),
+                    Err(refused) => {
+                        is_started.store(false, Ordering::SeqCst);
+                        ended.push_reserved((refused.value)());
+                    }
                 }
             }
-        }
-        while let Some(handle) = running.pop() {
-            ended.push_reserved(handle.join(rt));
-        }
-        ended
-    }))
+            while let Some(handle) = running.pop() {
+                ended.push_reserved(handle.join(rt));
+            }
+            ended
+        },
+    ))
 }
 
 /// What a thread runs. It leaves its seat whatever stopped it. One that was not started makes no step.
@@ -209,7 +218,10 @@ fn gather<Led: Ledger>(
 }
 
 /// How two threads ended that ended differently.
-fn first_of(one: Result<Stop, AllocError>, other: Result<Stop, AllocError>) -> Result<Stop, AllocError>
+fn first_of(
+    one: Result<Stop, AllocError>,
+    other: Result<Stop, AllocError>,
+) -> Result<Stop, AllocError>
     ensures { result ≡ first_of one other }
 {
     match (one?, other?) {

@@ -1,6 +1,5 @@
-use Rattle.std.proofs.Common.{◌≡◌, ◌≤◌, ◌∙◌, length, ap, sym, subst, string_bytes}
-use Rattle.cml_board.specs.History.{Lawful}
-use Rattle.cml_script.specs.Schedule.{History, Follows, Schedule}
+use Rattle.std.proofs.Common.{◌∙◌, ap, sym, subst, string_bytes}
+use Rattle.cml_script.specs.Schedule.{History, Schedule}
 use Rattle.cml_script.specs.Stage.{Play}
 use Rattle.cml_script.specs.Report.{report}
 use Rattle.cml_script.specs.Play.{IsPlayed}

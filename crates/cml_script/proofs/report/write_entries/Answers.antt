@@ -1,4 +1,4 @@
-use Rattle.std.proofs.Common.{rules, ◌≡◌, ◌++◌, ◌+◌, ℕ, reverse, get_or, slice_get, Some, ap, ap₂, sym, subst, ◌∙◌, arith, refl, string_bytes}
+use Rattle.std.proofs.Common.{◌++◌, ◌+◌, ℕ, get_or, ap, sym, subst, ◌∙◌, string_bytes}
 use Rattle.std.proofs.lemmas.Option.{slice_get-get_or}
 use Rattle.cml_board.specs.declared.call.Call.TheVariants as call
 use Rattle.cml_board.specs.declared.entry.Who.TheVariants.{Seat}
@@ -8,7 +8,7 @@ use Rattle.cml_board.specs.Positions.{before}
 use Rattle.cml_script.specs.Schedule.{History}
 use Rattle.cml_script.specs.Audit.{IsOfScript}
 use Rattle.cml_script.specs.Report.{entry_lines, reply_word, line_end}
-use Rattle.cml_script.specs.Trail.{Progress, HasNoLine, IsNextLine}
+use Rattle.cml_script.specs.Trail.{Progress}
 use Rattle.cml_script.proofs.JournalLemmas.{before_more, own_before}
 use Rattle.cml_script.proofs.ReportLemmas.{line_more, no_line}
 use Rattle.cml_script.proofs.TrailLemmas.{line_at, no_line_at}

@@ -1,7 +1,6 @@
-use Rattle.std.proofs.Common.{◌≡◌, ◌+◌, ◌∙◌, None, Some, Option, IfSome, ap, sym, subst}
-use Rattle.std.proofs.lemmas.Option.{slice_get_within}
+use Rattle.std.proofs.Common.{◌+◌, ◌∙◌, Option, IfSome, ap, sym, subst}
 use Rattle.cml_grammar.specs.Meaning.{names_of}
-use Rattle.cml_grammar.specs.Reading.{source_of, ReadsDeclaration}
+use Rattle.cml_grammar.specs.Reading.{ReadsDeclaration}
 use Rattle.cml_script.specs.Working.{Calls, Declares}
 use Rattle.cml_script.proofs.ListLemmas.{read_at, mapped_at}
 use Rattle.cml_script.proofs.LineLemmas.{all_at}
