@@ -13,10 +13,9 @@ use Rattle.cml_script.specs.Report.{report}
 use Rattle.cml_script.specs.Replay.{IsFaulty}
 use Rattle.cml_board.specs.Checking.{IsFirstUnlawful}
 
--- this is the report of some lawful history of the script: the declared objects, and then steps of its threads, each
--- thread's in order
-pub record IsReportOf (script : Lines) (stop : Stop) (text : List ℕ) : Type 0 where
-  pub history : History
+-- the history is a lawful one of the script: the declared objects, and then steps of its threads, each thread's in order;
+-- and this is its report
+pub record IsReportOf (script : Lines) (history : History) (stop : Stop) (text : List ℕ) : Type 0 where
   pub lawful : Lawful history
   pub own : IsOfScript script history
   pub reported : text ≡ report script history stop
@@ -28,7 +27,8 @@ pub record IsRunOf (old new : Option (List ℕ)) (stop : Stop) (text : List ℕ)
   pub whole : IsAtEnd new
   pub script : Lines
   pub says : IsScript bytes script
-  pub told : IsReportOf script stop text
+  pub history : History
+  pub told : IsReportOf script history stop text
 
 -- the same, and the report was written
 abbrev pub IsRun : Option (List ℕ) → Option (List ℕ) → Option (List ℕ) → Option (List ℕ) → Stop → Type 0

@@ -108,7 +108,7 @@ pub fn conclude(
     stop: Stop,
 ) -> Result<Played, Ending>
     ensures stop { IfOk result (λ played. played.stop ≡ stop) }
-    ensures report { IfOk result (λ played. IsReportOf script.now stop (string_bytes played.report)) }
+    ensures report { IfOk result (λ played. IsReportOf script.now board.now.history stop (string_bytes played.report)) }
     ensures refused { IfErr result (λ ending. IsRefused script.now board.now.history ending) }
 {
     // That no journal has more entries than an audit takes is what the limit's reader tells.

@@ -1,5 +1,5 @@
 //! The threads of a script.
-ghost use Rattle.std.specs.Prelude.{◌≡◌, ◌<◌, ◌≤◌, length, vec_len, vec_capacity, IfOk};
+ghost use Rattle.std.specs.Prelude.{◌≡◌, ◌+◌, ◌<◌, ◌≤◌, length, vec_len, vec_capacity, IfOk};
 ghost use Rattle.cml_script.specs.Working.{first_of};
 
 use super::caller::Seated;
@@ -112,13 +112,9 @@ fn start<Led: Ledger + Send + Sync, R: Threads + Wait + Sync, G: Gate + Sync>(
 ) -> Result<Vec<Worked<Led>>, AllocError>
     requires { vec_len seats ≤ 64 }
 {
-    let count = seats.len();
-    let mut started = Vec::with_capacity(alloc, count)?;
-    for _ in 0..count {
-        started.push_reserved(AtomicBool::new(true));
-    }
-    let running = Vec::with_capacity(alloc, count)?;
-    let ended = Vec::with_capacity(alloc, count)?;
+    let started = flags(alloc, seats.len())?;
+    let running = Vec::with_capacity(alloc, seats.len())?;
+    let ended = Vec::with_capacity(alloc, seats.len())?;
     let flags = started.as_slice();
     Ok(thread::scope(
         thread::scope_env(),
@@ -131,30 +127,46 @@ fn start<Led: Ledger + Send + Sync, R: Threads + Wait + Sync, G: Gate + Sync>(
             let (mut seats, mut running, mut ended) = (seats, running, ended);
             while let Some(seat) = seats.pop() {
                 let thread = seats.len();
-                let is_started = &flags[thread];
-                match scope.spawn(move || work_seated(
-                    rt,
-                    alloc,
-                    plan,
-                    switchboard,
-                    gate,
-                    thread,
-                    seat,
-                    is_started,
-                )) {
+                let flag = &flags[thread];
+                match scope.spawn(move || {
+                    work_seated(rt, alloc, plan, switchboard, gate, thread, seat, flag)
+                }) {
                     Ok(handle) => running.push_reserved(handle),
                     Err(refused) => {
-                        is_started.store(false, Ordering::SeqCst);
+                        flag.store(false, Ordering::SeqCst);
                         ended.push_reserved((refused.value)());
                     }
                 }
             }
-            while let Some(handle) = running.pop() {
-                ended.push_reserved(handle.join(rt));
-            }
-            ended
+            join_all(rt, running, ended)
         },
     ))
+}
+
+/// So many flags, each of which says that a thread was started.
+fn flags(alloc: Global, count: usize) -> Result<Vec<AtomicBool>, AllocError>
+    ensures { IfOk result (λ flags. vec_len flags ≡ count) }
+{
+    let mut flags = Vec::with_capacity(alloc, count)?;
+    for _ in 0..count {
+        flags.push_reserved(AtomicBool::new(true));
+    }
+    Ok(flags)
+}
+
+/// Joins all that run, beside those that ended.
+fn join_all<Led: Ledger, R: Threads>(
+    rt: &R,
+    running: Vec<JoinHandle<Worked<Led>>>,
+    ended: Vec<Worked<Led>>,
+) -> Vec<Worked<Led>>
+    requires { vec_len ended + vec_len running ≤ vec_capacity ended }
+{
+    let (mut running, mut ended) = (running, ended);
+    while let Some(handle) = running.pop() {
+        ended.push_reserved(handle.join(rt));
+    }
+    ended
 }
 
 /// What a thread runs. It leaves its seat whatever stopped it. One that was not started makes no step.
@@ -166,12 +178,12 @@ fn work_seated<Led: Ledger, R: Wait, G: Gate>(
     gate: &G,
     thread: usize,
     seat: Seat<Led>,
-    is_started: &AtomicBool,
+    flag: &AtomicBool,
 ) -> Worked<Led>
     requires { thread < 64 }
 {
     let mut caller = Seated::new(rt, switchboard, seat);
-    let stop = if is_started.load(Ordering::SeqCst) {
+    let stop = if flag.load(Ordering::SeqCst) {
         work(alloc, plan, thread, gate, &mut caller)
     } else {
         Err(AllocError)

@@ -13,12 +13,3 @@ invariant-loop-seat g l = record {
 
 abbrev pub decreases-loop-seat : goal.decreases-loop-seat
 decreases-loop-seat g l = vec_len l.seats
-
-abbrev pub invariant-loop-handle : goal.invariant-loop-handle
-invariant-loop-handle g l = record {
-  all : vec_len l.ended + vec_len l.running ≡ vec_len l.initial.ended + vec_len l.initial.running;
-  room : vec_len l.initial.ended + vec_len l.initial.running ≤ vec_capacity l.ended;
-}
-
-abbrev pub decreases-loop-handle : goal.decreases-loop-handle
-decreases-loop-handle g l = vec_len l.running
