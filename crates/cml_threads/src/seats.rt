@@ -76,6 +76,10 @@ impl Seats {
         requires { number < length self.old }
         ensures { self.new ≡ slice_set self.old number state }
     {
+        // Nothing is written that stands already: each thread reads these.
+        if self.states[number as usize] == state {
+            return;
+        }
         let before = self.states[number as usize].free_count();
         self.states[number as usize] = state;
         self.free = self.free - before + state.free_count();

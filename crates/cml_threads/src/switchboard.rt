@@ -14,6 +14,7 @@ use crate::seat::{Left, Seat};
 use crate::settled::Settled;
 use cml_board::{Answer, Call, Message, Refusal, Reply};
 use cml_log::MessageLog;
+use crossbeam_utils::CachePadded;
 use std::alloc::{AllocError, Global};
 use std::sync::ledger::{Blank, Ledger};
 use std::sync::{Condvar, Mutex, Wait};
@@ -27,7 +28,8 @@ use std::sync::{Condvar, Mutex, Wait};
 /// what was answered is seen at the end, in what `settle` gives.
 #[derive(Drop)]
 pub struct Switchboard<M, L: MessageLog<M>, Led: Ledger> {
-    locked: Mutex<Locked<M, L, Led>>,
+    // Apart from the lock's own word, which those who wait for the lock look at while its holder writes.
+    locked: Mutex<CachePadded<Locked<M, L, Led>>>,
     changed: Condvar,
 }
 
@@ -54,10 +56,10 @@ impl<M: Message, L: MessageLog<M>, Led: Ledger> Switchboard<M, L, Led> {
         requires enough { blank.parts ≡ 2 ^ 63 }
     {
         Ok(Switchboard {
-            locked: Mutex::new(Locked {
+            locked: Mutex::new(CachePadded::new(Locked {
                 hall: Hall::new(alloc, limit, blank)?,
                 is_waited: false,
-            }),
+            })),
             changed: Condvar::new(),
         })
     }
@@ -94,7 +96,9 @@ impl<M: Message, L: MessageLog<M>, Led: Ledger> Switchboard<M, L, Led> {
             match asked {
                 Asked::Answered(answer) => {
                     let is_waited = locked.is_waited;
-                    locked.is_waited = false;
+                    if is_waited {
+                        locked.is_waited = false;
+                    }
                     drop(locked);
                     if is_waited {
                         self.changed.notify_all();
@@ -135,11 +139,11 @@ impl<M: Message, L: MessageLog<M>, Led: Ledger> Switchboard<M, L, Led> {
         ensures back { IfErr result (λ back. back.1 ≡ lefts) }
     {
         let Switchboard { locked, changed } = self;
-        let Locked { hall, is_waited } = locked.into_inner();
+        let Locked { hall, is_waited } = locked.into_inner().into_inner();
         match hall.settle(lefts) {
             Ok(settled) => Ok(settled),
             Err((hall, lefts)) => {
-                let locked = Mutex::new(Locked { hall, is_waited });
+                let locked = Mutex::new(CachePadded::new(Locked { hall, is_waited }));
                 Err((Switchboard { locked, changed }, lefts))
             }
         }
@@ -149,7 +153,7 @@ impl<M: Message, L: MessageLog<M>, Led: Ledger> Switchboard<M, L, Led> {
     /// are those of `Hall::board`.
     pub fn into_hall(self) -> Hall<M, L, Led> {
         let Switchboard { locked, changed: _ } = self;
-        let Locked { hall, is_waited: _ } = locked.into_inner();
+        let Locked { hall, is_waited: _ } = locked.into_inner().into_inner();
         hall
     }
 
