@@ -40,7 +40,11 @@ const RUN_LIMITS: &[(&str, &str, u64)] = &[
     ("without a limit", "cml run", 65_536),
     ("the end of options", "cml run --", 65_536),
     ("two words", "cml run --limit 4", 4),
-    ("one word, and the end of options", "cml run --limit=4 --", 4),
+    (
+        "one word, and the end of options",
+        "cml run --limit=4 --",
+        4,
+    ),
     ("the most", "cml run --limit 4294967296", 4_294_967_296),
 ];
 
