@@ -3,7 +3,7 @@ ghost use Rattle.std.specs.Prelude.{◌≡◌, ◌+◌, ◌^◌, IfOk};
 
 use crate::calls::Trouble;
 use crate::threads::{Shared, settle};
-use cml_board::{Call, Name, Refusal, Reply};
+use cml_board::{Answer, Call, Name, Refusal, Reply};
 use cml_threads::{Count, Left, PARTS, Seat};
 use std::alloc::Global;
 use std::marker::Brand;
@@ -38,7 +38,21 @@ fn wait_in_vain<Led: Ledger + Send + Sync, R: Threads + Wait + Sync>(
     ensures { IfOk result (λ stall. stall.count.total ≡ stall.count.seats + stall.count.rings) }
 {
     let shared = Shared::<Led>::new(alloc, 100, blank)?;
-    let board = &shared;
+    let (kept, refusal, lefts) = wait_for_nobody(rt, alloc, &shared)?;
+    let ended = settle(shared, lefts)?;
+    Ok(Stall {
+        refusal,
+        confirmed: ended.board().confirm(&kept),
+        count: ended.count(),
+    })
+}
+
+/// One thread waits, and the other leaves. Gives an answer that was kept, why the first was refused, and both seats.
+fn wait_for_nobody<Led: Ledger + Send + Sync, R: Threads + Wait + Sync>(
+    rt: &R,
+    alloc: Global,
+    board: &Shared<Led>,
+) -> Result<(Answer<u64>, Option<Refusal>, Vec<Left<Led>>), Trouble> {
     let waiter = board.seat(rt)?;
     let mut other = board.seat(rt)?;
     let kept = board.call(rt, &mut other, Call::NewMailbox)?;
@@ -50,12 +64,7 @@ fn wait_in_vain<Led: Ledger + Send + Sync, R: Threads + Wait + Sync>(
         move || wait_for(rt, board, waiter, letters),
         move || board.leave(rt, other),
     );
-    let ended = settle(shared, vec![in alloc; waiter, other]?)?;
-    Ok(Stall {
-        refusal,
-        confirmed: ended.board().confirm(&kept),
-        count: ended.count(),
-    })
+    Ok((kept, refusal, vec![in alloc; waiter, other]?))
 }
 
 /// Waits for a message, and then leaves. Gives why there was none.

@@ -1,5 +1,6 @@
 //! A lock: whoever takes the number out of an m-variable has it alone, until it puts one back.
 ghost use Rattle.std.specs.Prelude.{◌≡◌, ◌+◌, ◌*◌, ◌^◌, IfOk, OnOk};
+ghost use Rattle.cml_threads.specs.Seating.{answers_in};
 
 use crate::calls::Trouble;
 use crate::threads::{Shared, done, got, made, settle};
@@ -38,22 +39,33 @@ fn count_up<Led: Ledger + Send + Sync, R: Threads + Wait + Sync>(
     ensures total { IfOk result (λ found. found.1.total ≡ found.1.seats + found.1.rings) }
 {
     let shared = Shared::<Led>::new(alloc, 100, blank)?;
-    let board = &shared;
+    let (counter, lefts) = raise_by_two(rt, alloc, &shared)?;
+    let ended = settle(shared, lefts)?;
+    match ended.board().held(counter) {
+        Some(Some(raised)) => Ok((*raised, ended.count())),
+        _ => Err(Trouble::OtherReply),
+    }
+}
+
+/// Two threads raise a counter. Gives its name, and the seats of both.
+fn raise_by_two<Led: Ledger + Send + Sync, R: Threads + Wait + Sync>(
+    rt: &R,
+    alloc: Global,
+    board: &Shared<Led>,
+) -> Result<(Name, Vec<Left<Led>>), Trouble>
+    ensures { IfOk result (λ found. answers_in found.1.items ≡ 4 * ROUNDS + 1) }
+{
     let mut one = board.seat(rt)?;
-    let counter = made(board.m_var_init(rt, &mut one, 0)?)?;
+    let counter = made(board.m_var_init(rt, &mut one, 0))?;
     let two = board.seat(rt)?;
     let ((first, one), (second, two)) = thread::join(
         rt,
         move || raise(rt, board, one, counter),
         move || raise(rt, board, two, counter),
     );
-    let ended = settle(shared, vec![in alloc; one, two]?)?;
     first?;
     second?;
-    match ended.board().held(counter) {
-        Some(Some(raised)) => Ok((*raised, ended.count())),
-        _ => Err(Trouble::OtherReply),
-    }
+    Ok((counter, vec![in alloc; one, two]?))
 }
 
 /// Raises the counter, and leaves.
@@ -79,8 +91,8 @@ fn raise_each<Led: Ledger, R: Wait>(
     ensures { OnOk result (seat.new.share ≡ seat.old.share + 2 * ROUNDS) }
 {
     for _round in 0..ROUNDS {
-        let taken = got(board.m_take(rt, seat, counter)?)?;
-        done(board.m_put(rt, seat, counter, taken.wrapping_add(1))?)?;
+        let taken = got(board.m_take(rt, seat, counter))?;
+        done(board.m_put(rt, seat, counter, taken.wrapping_add(1)))?;
     }
     Ok(())
 }

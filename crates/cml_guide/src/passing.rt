@@ -1,9 +1,10 @@
 //! Two threads: one sends a message, and the other waits for it.
 ghost use Rattle.std.specs.Prelude.{◌≡◌, ◌+◌, ◌^◌, IfOk};
+ghost use Rattle.cml_threads.specs.Seating.{answers_in};
 
 use crate::calls::Trouble;
 use crate::threads::{Shared, done, got, made, settle};
-use cml_threads::{Count, PARTS};
+use cml_threads::{Count, Left, PARTS};
 use std::alloc::Global;
 use std::marker::Brand;
 use std::sync::Wait;
@@ -31,22 +32,32 @@ fn pass_on<Led: Ledger + Send + Sync, R: Threads + Wait + Sync>(
     ensures total { IfOk result (λ found. found.1.total ≡ found.1.seats + found.1.rings) }
 {
     let shared = Shared::<Led>::new(alloc, 100, blank)?;
-    let board = &shared;
+    let (message, lefts) = send_and_receive(rt, alloc, &shared)?;
+    Ok((message, settle(shared, lefts)?.count()))
+}
+
+/// What was received, and the seats of both threads.
+fn send_and_receive<Led: Ledger + Send + Sync, R: Threads + Wait + Sync>(
+    rt: &R,
+    alloc: Global,
+    board: &Shared<Led>,
+) -> Result<(u64, Vec<Left<Led>>), Trouble>
+    ensures { IfOk result (λ found. answers_in found.1.items ≡ 3) }
+{
     let mut sender = board.seat(rt)?;
-    let letters = made(board.mailbox(rt, &mut sender)?)?;
+    let letters = made(board.mailbox(rt, &mut sender))?;
     let mut receiver = board.seat(rt)?;
     let ((received, receiver), (sent, sender)) = thread::join(
         rt,
         move || {
-            let reply = board.recv(rt, &mut receiver, letters);
-            (reply, board.leave(rt, receiver))
+            let received = got(board.recv(rt, &mut receiver, letters));
+            (received, board.leave(rt, receiver))
         },
         move || {
-            let reply = board.send(rt, &mut sender, letters, 5);
-            (reply, board.leave(rt, sender))
+            let sent = done(board.send(rt, &mut sender, letters, 5));
+            (sent, board.leave(rt, sender))
         },
     );
-    let count = settle(shared, vec![in alloc; receiver, sender]?)?.count();
-    done(sent?)?;
-    Ok((got(received?)?, count))
+    sent?;
+    Ok((received?, vec![in alloc; receiver, sender]?))
 }

@@ -46,15 +46,24 @@ fn run_pool<Led: Ledger + Send + Sync, R: Threads + Wait + Sync>(
     ensures { IfOk result (λ found. found.1.total ≡ found.1.seats + found.1.rings) }
 {
     let shared = Shared::<Led>::new(alloc, 100, blank)?;
-    let mut boss = shared.seat(rt)?;
-    let desk = open_desk(rt, &shared, &mut boss)?;
-    hand_out(rt, &shared, &mut boss, desk)?;
-    let seats = make_seats(rt, alloc, &shared)?;
-    let mut lefts = work_all(rt, alloc, &shared, seats, desk)?;
-    let sum = collect(rt, &shared, &mut boss, desk);
-    lefts.push(shared.leave(rt, boss))?;
-    let count = settle(shared, lefts)?.count();
-    Ok((sum?, count))
+    let (sum, lefts) = square_all(rt, alloc, &shared)?;
+    Ok((sum, settle(shared, lefts)?.count()))
+}
+
+/// What the boss does: hands out the jobs, lets the workers do them, and collects the results.
+fn square_all<Led: Ledger + Send + Sync, R: Threads + Wait + Sync>(
+    rt: &R,
+    alloc: Global,
+    board: &Shared<Led>,
+) -> Result<(u64, Vec<Left<Led>>), Trouble> {
+    let mut boss = board.seat(rt)?;
+    let desk = open_desk(rt, board, &mut boss)?;
+    hand_out(rt, board, &mut boss, desk)?;
+    let seats = make_seats(rt, alloc, board)?;
+    let mut lefts = work_all(rt, alloc, board, seats, desk)?;
+    let sum = collect(rt, board, &mut boss, desk)?;
+    lefts.push(board.leave(rt, boss))?;
+    Ok((sum, lefts))
 }
 
 fn make_seats<Led: Ledger, R: Wait>(
@@ -74,8 +83,8 @@ fn open_desk<Led: Ledger, R: Wait>(
     board: &Shared<Led>,
     boss: &mut Seat<Led>,
 ) -> Result<Desk, Trouble> {
-    let jobs = made(board.mailbox(rt, boss)?)?;
-    let results = made(board.mailbox(rt, boss)?)?;
+    let jobs = made(board.mailbox(rt, boss))?;
+    let results = made(board.mailbox(rt, boss))?;
     Ok(Desk { jobs, results })
 }
 
@@ -87,10 +96,10 @@ fn hand_out<Led: Ledger, R: Wait>(
     desk: Desk,
 ) -> Result<(), Trouble> {
     for job in 1..=JOBS {
-        done(board.send(rt, boss, desk.jobs, job)?)?;
+        done(board.send(rt, boss, desk.jobs, job))?;
     }
     for _ in 0..WORKERS {
-        done(board.send(rt, boss, desk.jobs, STOP)?)?;
+        done(board.send(rt, boss, desk.jobs, STOP))?;
     }
     Ok(())
 }
@@ -103,11 +112,11 @@ fn work<Led: Ledger, R: Wait>(
     desk: Desk,
 ) -> Result<(), Trouble> {
     for _ in rt.forever() {
-        let job = got(board.recv(rt, worker, desk.jobs)?)?;
+        let job = got(board.recv(rt, worker, desk.jobs))?;
         if job == STOP {
             return Ok(());
         }
-        done(board.send(rt, worker, desk.results, job.wrapping_mul(job))?)?;
+        done(board.send(rt, worker, desk.results, job.wrapping_mul(job)))?;
     }
     unreachable!()
 }
@@ -165,7 +174,7 @@ fn collect<Led: Ledger, R: Wait>(
 ) -> Result<u64, Trouble> {
     let mut sum: u64 = 0;
     for _ in 0..JOBS {
-        sum = sum.wrapping_add(got(board.recv(rt, boss, desk.results)?)?);
+        sum = sum.wrapping_add(got(board.recv(rt, boss, desk.results))?);
     }
     Ok(sum)
 }

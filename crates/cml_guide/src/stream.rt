@@ -36,10 +36,19 @@ fn stream<Led: Ledger + Send + Sync, R: Threads + Wait + Sync>(
     ensures { IfOk result (λ found. found.1.total ≡ found.1.seats + found.1.rings) }
 {
     let shared = Shared::<Led>::new(alloc, 100, blank)?;
-    let board = &shared;
+    let (digits, lefts) = tell_to_three(rt, alloc, &shared)?;
+    Ok((digits, settle(shared, lefts)?.count()))
+}
+
+/// What each of the three has read, and the seats of all.
+fn tell_to_three<Led: Ledger + Send + Sync, R: Threads + Wait + Sync>(
+    rt: &R,
+    alloc: Global,
+    board: &Shared<Led>,
+) -> Result<([u64; 3], Vec<Left<Led>>), Trouble> {
     let mut teller = board.seat(rt)?;
     let [news, first, second, third] = open_channel(rt, board, &mut teller)?;
-    let (ann, ben, cid) = (board.seat(rt)?, board.seat(rt)?, board.seat(rt)?);
+    let (ann, ben, cid) = make_seats(rt, board)?;
     let ((ann, ben), (cid, (told, teller))) = thread::join(
         rt,
         move || {
@@ -51,10 +60,27 @@ fn stream<Led: Ledger + Send + Sync, R: Threads + Wait + Sync>(
             thread::join(rt, cid_reads, move || tell(rt, board, teller, news))
         },
     );
+    let digits = all_read(told, [ann.digits, ben.digits, cid.digits]);
     let lefts = vec![in alloc; ann.left, ben.left, cid.left, teller]?;
-    let count = settle(shared, lefts)?.count();
+    Ok((digits?, lefts))
+}
+
+/// A seat for each of the three.
+fn make_seats<Led: Ledger, R: Wait>(
+    rt: &R,
+    board: &Shared<Led>,
+) -> Result<(Seat<Led>, Seat<Led>, Seat<Led>), Trouble> {
+    Ok((board.seat(rt)?, board.seat(rt)?, board.seat(rt)?))
+}
+
+/// What was read, if all was told and each has read it.
+fn all_read(
+    told: Result<(), Trouble>,
+    read: [Result<u64, Trouble>; 3],
+) -> Result<[u64; 3], Trouble> {
     told?;
-    Ok(([ann.digits?, ben.digits?, cid.digits?], count))
+    let [first, second, third] = read;
+    Ok([first?, second?, third?])
 }
 
 /// A channel with three ports.
@@ -63,10 +89,10 @@ fn open_channel<Led: Ledger, R: Wait>(
     board: &Shared<Led>,
     teller: &mut Seat<Led>,
 ) -> Result<[Name; 4], Trouble> {
-    let news = made(board.m_channel(rt, teller)?)?;
-    let first = made(board.port(rt, teller, news)?)?;
-    let second = made(board.port(rt, teller, news)?)?;
-    let third = made(board.port(rt, teller, news)?)?;
+    let news = made(board.m_channel(rt, teller))?;
+    let first = made(board.port(rt, teller, news))?;
+    let second = made(board.port(rt, teller, news))?;
+    let third = made(board.port(rt, teller, news))?;
     Ok([news, first, second, third])
 }
 
@@ -100,7 +126,7 @@ fn receive_all<Led: Ledger, R: Wait>(
 ) -> Result<u64, Trouble> {
     let mut digits: u64 = 0;
     for _ in 0..DIGITS {
-        let digit = got(board.recv(rt, reader, port)?)?;
+        let digit = got(board.recv(rt, reader, port))?;
         digits = digits.wrapping_mul(10).wrapping_add(digit);
     }
     Ok(digits)
@@ -124,7 +150,7 @@ fn multicast_all<Led: Ledger, R: Wait>(
     news: Name,
 ) -> Result<(), Trouble> {
     for digit in 1..=DIGITS {
-        done(board.multicast(rt, teller, news, digit)?)?;
+        done(board.multicast(rt, teller, news, digit))?;
     }
     Ok(())
 }

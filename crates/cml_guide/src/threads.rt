@@ -1,5 +1,5 @@
 //! What threads that share a board have in common: their switchboard, what a reply gives them, and the end.
-ghost use Rattle.std.specs.Prelude.{◌≡◌, IfOk};
+ghost use Rattle.std.specs.Prelude.{◌≡◌, IfOk, Ok};
 ghost use Rattle.cml_threads.specs.Seating.{answers_in};
 
 use crate::calls::Trouble;
@@ -10,6 +10,9 @@ use std::sync::ledger::Ledger;
 
 /// A switchboard whose messages are numbers.
 pub type Shared<Led> = Switchboard<u64, BoardLog<u64>, Led>;
+
+/// What a call on one gives: the reply, or the refusal and the call that came back.
+pub type Replied = Result<Reply<u64>, (Refusal, Call<u64>)>;
 
 /// What is left of one at the end.
 pub type Ended = Settled<u64, BoardLog<u64>>;
@@ -33,30 +36,30 @@ impl<T: Drop> From<AllocFailed<T>> for Trouble {
 }
 
 /// The name of the object that was made.
-pub fn made(reply: Reply<u64>) -> Result<Name, Trouble>
-    ensures { IfOk result (λ name. reply ≡ Reply.Made name) }
+pub fn made(replied: Replied) -> Result<Name, Trouble>
+    ensures { IfOk result (λ name. replied ≡ Ok (Reply.Made name)) }
 {
-    match reply {
+    match replied? {
         Reply::Made(name) => Ok(name),
         _ => Err(Trouble::OtherReply),
     }
 }
 
 /// The message that was got.
-pub fn got(reply: Reply<u64>) -> Result<u64, Trouble>
-    ensures { IfOk result (λ message. reply ≡ Reply.Got message) }
+pub fn got(replied: Replied) -> Result<u64, Trouble>
+    ensures { IfOk result (λ message. replied ≡ Ok (Reply.Got message)) }
 {
-    match reply {
+    match replied? {
         Reply::Got(message) => Ok(message),
         _ => Err(Trouble::OtherReply),
     }
 }
 
 /// Nothing, of a call that is only to be done.
-pub fn done(reply: Reply<u64>) -> Result<(), Trouble>
-    ensures { IfOk result (λ _. reply ≡ Reply.Done) }
+pub fn done(replied: Replied) -> Result<(), Trouble>
+    ensures { IfOk result (λ _. replied ≡ Ok Reply.Done) }
 {
-    match reply {
+    match replied? {
         Reply::Done => Ok(()),
         _ => Err(Trouble::OtherReply),
     }
