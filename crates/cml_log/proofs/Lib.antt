@@ -2,3 +2,12 @@ pub mod LeastLemmas
 pub mod LogLemmas
 pub mod HoldsLemmas
 mod PlainLogLemmas
+mod Steps
+mod BlockMemory
+mod BlockValues
+mod BlockSend
+mod Sharing
+mod BlockLemmas
+mod LinkedLemmas
+mod ChainLemmas
+mod PassedLemmas

@@ -2,10 +2,13 @@
 #![tactic(auto)]
 
 mod back;
+mod chain;
 mod key;
 mod message_log;
 mod places;
 mod plain_log;
+mod raw;
+mod row;
 
 pub use back::Back;
 pub use key::Key;

@@ -1,0 +1,48 @@
+-- The blocks of a log: each under its number, with where it lies and its content, or nothing where it was taken.
+use Rattle.std.specs.Prelude.{◌≡◌, ℕ, List, [], ◌∷◌, Option, Some, None, slice_index_or, ⊤}
+use base.Fml.{Lft, Fml, ftrue, fsep}
+use denote.RattleType.{RattleType}
+use denote.RawPtr.{Ptr}
+use denote.Sharing.{nothing, beside}
+use denote.Struct.Lending.{lent_at}
+use Rattle.std_alloc.specs.Box.Ownership.{box_owns}
+use Rattle.libc.specs.Heap.{chunk}
+
+module _ {C : Type 0} where
+  -- the block of this number, if it is kept
+  abbrev pub block_at : List (Option (Ptr × C)) → ℕ → Option (Ptr × C)
+  block_at kept number = slice_index_or kept number None
+
+  -- the block of this number is kept, and lies there
+  abbrev pub IsKept : List (Option (Ptr × C)) → ℕ → Ptr → Type 0
+  IsKept kept number at = (content : C) × (block_at kept number ≡ Some (at, content))
+
+  -- each block was taken
+  abbrev pub IsBare : List (Option (Ptr × C)) → Type 0
+  IsBare [] = ⊤
+  IsBare (None ∷ rest) = IsBare rest
+  IsBare (Some block ∷ rest) = ⊥
+
+module _ (R : RattleType) where
+  -- what the right to a block owns
+  abbrev pub right_owns : Ptr → R.Denot → Fml
+  right_owns at content = box_owns chunk R at content
+
+  -- what a number owns: the right to its block, if that is kept
+  abbrev pub block_owns : Option (Ptr × R.Denot) → Fml
+  block_owns None = ftrue
+  block_owns (Some block) = right_owns block.0 block.1
+
+  -- what the blocks own
+  abbrev pub blocks_own : List (Option (Ptr × R.Denot)) → Fml
+  blocks_own [] = ftrue
+  blocks_own (block ∷ rest) = fsep (block_owns block) (blocks_own rest)
+
+  abbrev pub block_lent : Option (Ptr × R.Denot) → Lft → Fml
+  block_lent None = nothing
+  block_lent (Some block) = lent_at R block.0 block.1
+
+  -- what is lent by a `&` to the blocks: the content of each that is kept
+  abbrev pub blocks_lent : List (Option (Ptr × R.Denot)) → Lft → Fml
+  blocks_lent [] = nothing
+  blocks_lent (block ∷ rest) = beside (block_lent block) (blocks_lent rest)

@@ -1,0 +1,234 @@
+ghost use Rattle.std.specs.Prelude.{◌≡◌, ℕ, ◌+◌, ◌-◌, ◌*◌, ◌/◌, ◌%◌, ◌^◌, ◌<◌, ◌≤◌, [], ◌∷◌, ◌++◌, Some, length, drop, false, option_copied, slice_get, ltb, IfOk, OnOk, OnErr, IfErr};
+
+use crate::Back;
+use crate::raw::{Address, Blocks, Chunk, Count};
+use std::alloc::{AllocError, Global};
+use std::marker::Model;
+
+/// The kept chunks of a log, each linked to the next, from the head to the tail, which takes the next item.
+pub(crate) struct Chain<T: Drop, const N: usize> {
+    alloc: Global,
+    blocks: Blocks<Chunk<T, N>>,
+    head: Address,
+    tail: Address,
+    next: u64,
+    made: Count,
+    given: Count,
+    followed: Count,
+}
+
+impl<T: Drop, const N: usize> Model for Chain<T, N> {
+    ghost use Rattle.std.specs.Prelude.{map};
+    ghost use Rattle.cml_log.specs.Chunks.{items_of, cell_of};
+    ghost use Rattle.cml_log.specs.Chain.{Chunks, chunks_code};
+    ghost use Rattle.cml_log.specs.Linked.{IsChain};
+
+    ghost Value = { Chunks T };
+
+    ghost coded = { chunks_code T.code };
+
+    ghost view = { λ c. record {
+      given = c.given.count;
+      items = items_of c.blocks.kept;
+      cells = map cell_of c.blocks.kept;
+      made = c.made.count;
+      followed = c.followed.count;
+    } };
+
+    ghost invariant = { λ c.
+        IsChain c.blocks.kept c.head c.tail c.next c.made.count c.given.count };
+}
+
+impl<T: Drop, const N: usize> Chain<T, N> {
+    ghost use Rattle.cml_log.specs.Chain.{cell_at, count_at, LiesAt, end_of, is_idle, passed, with_count, Pushed, Passed, Begins};
+
+    /// A chain of one empty chunk. There is none of chunks without a place, or with more than 1,024.
+    pub(crate) fn new(alloc: Global) -> Result<Chain<T, N>, AllocError>
+        ensures { IfOk result (λ made. Begins made) }
+    {
+        if N == 0 || N > 1024 {
+            return Err(AllocError);
+        }
+        let mut made = Count::zero();
+        let right = Chunk::make(alloc, &mut made)?;
+        let mut blocks = Blocks::new();
+        let head = blocks.put(0, right);
+        Ok(Chain {
+            alloc,
+            blocks,
+            head,
+            tail: head,
+            next: 0,
+            made,
+            given: Count::zero(),
+            followed: Count::zero(),
+        })
+    }
+
+    /// Writes an item at the next place; where it fills its chunk the next one is made first.
+    pub(crate) fn push(&mut self, item: T) -> Result<(), Back<T>>
+        requires { end_of N self.old < 18446744073709551614 }
+        ensures ok { OnOk result (Pushed N self.old self.new item) }
+        ensures err { OnErr result (self.new ≡ self.old) }
+        ensures back { IfErr result (λ refused. refused.0 ≡ item) }
+        ensures refused { OnErr result (end_of N self.old % N ≡ N - 1) }
+    {
+        let slot = (self.next % N as u64) as usize;
+        if slot + 1 < N {
+            self.blocks.write(self.tail, slot, item);
+            self.next += 1;
+            return Ok(());
+        }
+        let Ok(right) = Chunk::make(self.alloc, &mut self.made) else {
+            return Err(Back(item));
+        };
+        self.blocks.write(self.tail, slot, item);
+        let next = self.blocks.put(self.tail.number + 1, right);
+        self.blocks.set_link(self.tail, next);
+        self.tail = next;
+        self.next += 1;
+        Ok(())
+    }
+
+    /// Lends the item at a slot of the chunk that lies there.
+    pub(crate) fn item(&self, at: Address, slot: usize) -> Option<&T>
+        requires lies { LiesAt self.now.cells at.number at.at }
+        requires within { slot < N }
+        ensures { option_copied result
+            ≡ slice_get (drop (N * (at.number - self.now.given)) self.now.items) slot }
+    {
+        self.blocks.item(at, slot)
+    }
+
+    /// Where the chunk of the next place lies.
+    pub(crate) fn end(&self) -> Address
+        ensures number { result.number ≡ end_of N self.now / N }
+        ensures lies { LiesAt self.now.cells result.number result.at }
+    {
+        self.tail
+    }
+
+    /// Where the chunk after this one lies.
+    pub(crate) fn follow(&mut self, at: Address) -> Address
+        requires lies { LiesAt self.old.cells at.number at.at }
+        requires before { at.number < end_of N self.old / N }
+        ensures number { result.number ≡ at.number + 1 }
+        ensures lies { LiesAt self.old.cells result.number result.at }
+        ensures followed { self.new ≡ record self.old { followed = self.old.followed + 1 } }
+    {
+        self.blocks.follow(at, &mut self.followed).unwrap_or(at)
+    }
+
+    /// Counts one cursor more in a chunk.
+    pub(crate) fn enter(&mut self, at: Address)
+        requires lies { LiesAt self.old.cells at.number at.at }
+        requires room { count_at self.old.cells at.number + 1 < 2 ^ 64 }
+        ensures { self.new ≡ with_count self.old at.number at.at (count_at self.old.cells at.number + 1) }
+    {
+        let cursors = self.blocks.cursors(at);
+        self.blocks.set_cursors(at, cursors + 1);
+    }
+
+    /// Counts one cursor less in a chunk.
+    pub(crate) fn leave(&mut self, at: Address)
+        requires lies { LiesAt self.old.cells at.number at.at }
+        requires entered { 0 < count_at self.old.cells at.number }
+        ensures { self.new ≡ with_count self.old at.number at.at (count_at self.old.cells at.number - 1) }
+    {
+        let cursors = self.blocks.cursors(at);
+        self.blocks.set_cursors(at, cursors - 1);
+    }
+
+    pub(crate) fn is_idle(&self) -> bool
+        ensures { result ≡ is_idle N self.now }
+    {
+        self.head.number < self.tail.number && self.blocks.cursors(self.head) == 0
+    }
+
+    /// Gives the head back, after which the next chunk lies there.
+    pub(crate) fn pass_head_to(&mut self, next: Address)
+        requires before { self.old.given < end_of N self.old / N }
+        requires number { next.number ≡ self.old.given + 1 }
+        requires lies { LiesAt self.old.cells next.number next.at }
+        ensures { self.new ≡ passed N self.old }
+    {
+        self.blocks
+            .take(self.head)
+            .give_back(self.alloc, &mut self.given);
+        self.head = next;
+    }
+
+    fn pass_head(&mut self)
+        requires { self.old.given < end_of N self.old / N }
+        ensures { self.new ≡ record (passed N self.old) { followed = self.old.followed + 1 } }
+    {
+        let next = self.follow(self.head);
+        self.pass_head_to(next);
+    }
+
+    /// Gives back the chunks from the head on that no cursor is in, up to the tail.
+    pub(crate) fn pass_idle(&mut self)
+        ensures idle { is_idle N self.new ≡ false }
+        ensures passed { Passed N self.old self.new }
+    {
+        while self.is_idle() {
+            self.pass_head();
+        }
+    }
+
+    /// The place of the first kept item.
+    pub(crate) fn first(&self) -> u64
+        ensures { result ≡ N * self.now.given }
+    {
+        N as u64 * self.head.number
+    }
+
+    /// The place that the next item gets.
+    pub(crate) fn next(&self) -> u64
+        ensures { result ≡ end_of N self.now }
+    {
+        self.next
+    }
+
+    /// The chunks made less those given back are those from the head to the tail.
+    pub(crate) fn counted(&self)
+        ensures counts { self.now.made ≡ self.now.given + (end_of N self.now / N - self.now.given + 1) }
+        ensures sized { (0 < N) × (N ≤ 1024) × (end_of N self.now ≤ 18446744073709551614) }
+    {
+        let _ = &self.head;
+    }
+
+    // Gives back the last chunk.
+    fn close(self)
+        requires { ltb self.given (end_of N self / N) ≡ false }
+    {
+        let Chain {
+            alloc,
+            mut blocks,
+            head,
+            tail: _,
+            next: _,
+            made: _,
+            mut given,
+            followed: _,
+        } = self;
+        blocks.take(head).give_back(alloc, &mut given);
+        blocks.done();
+    }
+
+    fn has_next(&self) -> bool
+        ensures { result ≡ ltb self.now.given (end_of N self.now / N) }
+    {
+        self.head.number < self.tail.number
+    }
+}
+
+impl<T: Drop, const N: usize> Drop for Chain<T, N> {
+    fn drop(self) {
+        let mut chain = self;
+        while chain.has_next() {
+            chain.pass_head();
+        }
+        chain.close();
+    }
+}
