@@ -1,13 +1,13 @@
 -- Lemmas on the blocks of a chain.
-use Rattle.std.proofs.Common.{◌≡◌, ◌≢◌, ℕ, zero, suc, ◌+◌, ◌-◌, ◌*◌, ◌<◌, ◌≤◌, List, [], ◌∷◌, ◌++◌, length, get_or, set, map, drop, Option, Some, None, refl, sym, ap, subst, ◌∙◌, inl, inr, arith}
+use Rattle.std.proofs.Common.{◌≡◌, ◌≢◌, ℕ, zero, suc, ◌+◌, ◌<◌, List, [], ◌∷◌, ◌++◌, length, set, map, drop, Option, Some, None, refl, sym, ap, ◌∙◌, inl, inr, arith}
 use Rattle.std.proofs.Math.ListN.{get_or-map}
 use Rattle.std.proofs.Math.Seq.{drop-append_seam}
 use Rattle.std.proofs.lemmas.Bool.{cases_eq, cases_lt}
-use Rattle.std.proofs.lemmas.List.{get_or-set_same, get_or-set_other, get_or_past, length-set, map-set, append-nil, append_assoc}
+use Rattle.std.proofs.lemmas.List.{get_or-set_same, get_or-set_other, get_or_past, append-nil, append_assoc}
 use denote.RawPtr.{Ptr}
 use Rattle.cml_log.specs.declared.raw.chunk.Chunk.{Chunk}
 use Rattle.cml_log.specs.Blocks.{block_at, IsKept, IsBare}
-use Rattle.cml_log.specs.Chunks.{row_of, link_of, cell_of, row_at, link_at, items_of}
+use Rattle.cml_log.specs.Chunks.{row_of, cell_of, items_of}
 use Rattle.cml_log.specs.Chain.{cell_at, LiesAt}
 
 -- the pointer of a cell

@@ -1,11 +1,11 @@
 -- Lemmas on a chain of chunks, and on what the log sees of it.
-use Rattle.std.proofs.Common.{◌≡◌, ◌≢◌, ℕ, zero, suc, ◌+◌, ◌-◌, ◌*◌, ◌/◌, ◌%◌, ◌<◌, ◌≤◌, List, [], ◌∷◌, ◌++◌, length, get_or, set, map, take, drop, Option, Some, None, refl, sym, ap, subst, ◌∙◌, inl, inr, arith}
+use Rattle.std.proofs.Common.{◌≡◌, ℕ, zero, suc, ◌+◌, ◌-◌, ◌*◌, ◌/◌, ◌%◌, ◌<◌, ◌≤◌, List, [], ◌∷◌, ◌++◌, length, set, map, take, drop, Option, Some, None, refl, sym, ap, subst, ◌∙◌, inl, inr, arith}
 use Rattle.std.specs.List.{slice_get}
 use Rattle.std.proofs.Math.Nat.{mul-add, mul-one, mul-zero, mul-div-le, mod-lt}
 use Rattle.std.proofs.Math.Seq.{map-set_same, get_or-append_seam}
 use Rattle.std.proofs.lemmas.Bool.{cases_eq, cases_lt}
 use Rattle.std.proofs.lemmas.Nat.{div-mul-add, div-add-mod'}
-use Rattle.std.proofs.lemmas.List.{get_or_past, get_or_append_left, length-set, length-map, length-append, length-drop, take_all, map-set, map-append}
+use Rattle.std.proofs.lemmas.List.{get_or_past, get_or_append_left, length-set, length-append, length-drop, take_all, map-set, map-append}
 use denote.RawPtr.{Ptr}
 use Rattle.cml_log.specs.declared.raw.Address.{Address}
 use Rattle.cml_log.specs.declared.raw.chunk.Chunk.{Chunk}

@@ -11,3 +11,7 @@ mod BlockLemmas
 mod LinkedLemmas
 mod ChainLemmas
 mod PassedLemmas
+mod StandingLemmas
+mod HeldLemmas
+mod MovedLemmas
+mod ChunkLogLemmas

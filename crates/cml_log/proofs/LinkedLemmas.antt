@@ -1,5 +1,5 @@
 -- Lemmas on linked chunks, and each change that a call makes to them.
-use Rattle.std.proofs.Common.{◌≡◌, ◌≢◌, ◌⊎◌, ℕ, ◌+◌, ◌-◌, ◌*◌, ◌/◌, ◌<◌, ◌≤◌, List, [], ◌∷◌, ◌++◌, length, get_or, set, take, drop, Option, Some, None, refl, sym, ap, subst, ◌∙◌, inl, inr, arith}
+use Rattle.std.proofs.Common.{◌≡◌, ◌≢◌, ◌⊎◌, ℕ, ◌+◌, ◌-◌, ◌*◌, ◌<◌, ◌≤◌, List, [], ◌∷◌, ◌++◌, length, set, take, drop, Option, Some, None, refl, sym, ap, ◌∙◌, inl, inr, arith}
 use Rattle.std.proofs.lemmas.Bool.{cases_eq, cases_lt}
 use Rattle.std.proofs.lemmas.List.{get_or_past, length-set, length-append, length-drop, length-take-le, take_all, drop_all, drop-drop, drop-append-le, take-append-le, get_or_append_left}
 use Rattle.std.proofs.Math.Nat.{mul-add, mul-one, mul-zero, mul-le-mul_left}
@@ -8,7 +8,7 @@ use denote.RawPtr.{Ptr}
 use Rattle.cml_log.specs.declared.raw.Address.{Address}
 use Rattle.cml_log.specs.declared.raw.chunk.Chunk.{Chunk}
 use Rattle.cml_log.specs.Blocks.{block_at, IsKept}
-use Rattle.cml_log.specs.Chunks.{row_of, link_of, cell_of, row_at, link_at, items_of}
+use Rattle.cml_log.specs.Chunks.{row_of, link_of, row_at, link_at, items_of}
 use Rattle.cml_log.specs.Linked.{IsLinked}
 use Rattle.cml_log.proofs.BlockLemmas.{within_found, block_at-here, block_at-other, same_everywhere, items_of-same, items_of-last, items_of-more, items_of-passed}
 

@@ -1,9 +1,9 @@
 -- Lemmas on chunks that are given back from the head on.
-use Rattle.std.proofs.Common.{◌≡◌, ◌≢◌, ◌⊎◌, ℕ, ◌+◌, ◌-◌, ◌*◌, ◌/◌, ◌<◌, ◌≤◌, Bool, true, false, length, get_or, set, drop, None, refl, sym, ap, ◌∙◌, inl, inr, arith}
+use Rattle.std.proofs.Common.{◌≡◌, ◌⊎◌, ℕ, ◌+◌, ◌-◌, ◌*◌, ◌/◌, ◌<◌, ◌≤◌, true, length, set, drop, None, refl, sym, ap, ◌∙◌, inl, inr, arith}
 use Rattle.std.proofs.Math.Nat.{mul-add, mul-one, mul-zero, mul-div-le}
 use Rattle.std.proofs.lemmas.Bool.{cases_eq, cases_lt, and_parts, ltb-true, eqb-true}
 use Rattle.std.proofs.lemmas.List.{get_or-set_same, get_or-set_other, get_or_past, length-set, length-drop, drop-drop}
-use Rattle.cml_log.specs.Chain.{Chunks, cell_at, count_of, count_at, end_of, is_idle, passed, Passed}
+use Rattle.cml_log.specs.Chain.{Chunks, count_of, count_at, end_of, is_idle, passed, Passed}
 use Rattle.cml_log.proofs.LinkedLemmas.{product-next}
 
 module _ {T : Type 0} (n : ℕ) where
@@ -42,6 +42,7 @@ module _ {T : Type 0} (n : ℕ) where
         end = refl;
         lies = λ number low. refl;
         counts = λ number. refl;
+        bare = λ number low high. absurd (omega (arith, low, high));
         followed = omega arith;
       }
     where
@@ -63,6 +64,12 @@ module _ {T : Type 0} (n : ℕ) where
         lies = λ number low.
             get_or-set_other mid.cells mid.given number None None (λ equal. omega (arith, equal, low)) ∙ went.lies number (omega (arith, low));
         counts = λ number. count_at-passed mid number (idle_bare mid idle) ∙ went.counts number;
+        bare = λ number low high. elim (cases_lt number mid.given) [
+          | inl before ↦ went.bare number low before
+          | inr past ↦
+              let here : number ≡ mid.given = omega (arith, past, high) in
+              sym (went.counts number) ∙ ap (count_at mid.cells) here ∙ idle_bare mid idle
+        ];
         followed = omega (arith, went.followed);
       }
     where

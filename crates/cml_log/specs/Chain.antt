@@ -76,6 +76,7 @@ module _ {T : Type 0} where
     pub end : end_of chunk new ≡ end_of chunk old
     pub lies : (number : ℕ) → new.given ≤ number → cell_at new.cells number ≡ cell_at old.cells number
     pub counts : (number : ℕ) → count_at new.cells number ≡ count_at old.cells number
+    pub bare : (number : ℕ) → old.given ≤ number → number < new.given → count_at old.cells number ≡ 0
     pub followed : new.followed + old.given ≡ old.followed + new.given
 
   -- one chunk, in which nothing is

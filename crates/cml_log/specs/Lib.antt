@@ -6,3 +6,4 @@ pub mod Lends
 pub mod Chunks
 pub mod Chain
 pub mod Linked
+pub mod ChunkLog

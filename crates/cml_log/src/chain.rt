@@ -190,6 +190,13 @@ impl<T: Drop, const N: usize> Chain<T, N> {
         self.next
     }
 
+    /// How many chunks are kept.
+    pub(crate) fn chunks(&self) -> u64
+        ensures { result ≡ end_of N self.now / N - self.now.given + 1 }
+    {
+        self.tail.number - self.head.number + 1
+    }
+
     /// The chunks made less those given back are those from the head to the tail.
     pub(crate) fn counted(&self)
         ensures counts { self.now.made ≡ self.now.given + (end_of N self.now / N - self.now.given + 1) }

@@ -3,6 +3,7 @@
 
 mod back;
 mod chain;
+mod chunk_log;
 mod key;
 mod message_log;
 mod places;
@@ -11,6 +12,7 @@ mod raw;
 mod row;
 
 pub use back::Back;
+pub use chunk_log::ChunkLog;
 pub use key::Key;
 pub use message_log::MessageLog;
 pub use plain_log::PlainLog;

@@ -1,4 +1,4 @@
-use Rattle.std.proofs.Common.{◌≡◌, ◌+◌, ◌-◌, Some, sym, ap, subst, ◌∙◌, arith}
+use Rattle.std.proofs.Common.{◌≡◌, ◌+◌, sym, ap, subst, ◌∙◌, arith}
 use Rattle.cml_log.specs.Chain.{LiesAt, count_of, count_at, with_count}
 use Rattle.cml_log.proofs.BlockLemmas.{kept_where_lies, cell_shows}
 use Rattle.cml_log.proofs.ChainLemmas.{IsChain-recounted, shown-recounted}

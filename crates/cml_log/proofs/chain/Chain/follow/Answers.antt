@@ -1,4 +1,4 @@
-use Rattle.std.proofs.Common.{◌≡◌, ◌<◌, ◌/◌, Option, Some, map, unwrap_or, sym, ap, subst, ◌∙◌, arith}
+use Rattle.std.proofs.Common.{◌<◌, ◌/◌, map, unwrap_or, sym, ap, subst, ◌∙◌, arith}
 use Rattle.cml_log.specs.Chunks.{cell_of}
 use Rattle.cml_log.specs.Chain.{LiesAt, end_of}
 use Rattle.cml_log.proofs.BlockLemmas.{kept_where_lies}

@@ -1,4 +1,4 @@
-use Rattle.std.proofs.Common.{◌≡◌, ◌+◌, ◌<◌, ◌/◌, sym, ap, subst, ◌∙◌, arith}
+use Rattle.std.proofs.Common.{◌<◌, ◌/◌, sym, ap, subst, ◌∙◌, arith}
 use Rattle.cml_log.specs.Linked.{IsChain}
 use Rattle.cml_log.specs.Chain.{LiesAt, end_of, passed}
 use Rattle.cml_log.proofs.BlockLemmas.{kept_where_lies}

@@ -1,4 +1,4 @@
-use Rattle.std.proofs.Common.{◌≡◌, ◌+◌, ◌<◌, ◌%◌, ◌∷◌, ◌++◌, [], OnOk, Some, sym, ap, subst, ◌∙◌, arith}
+use Rattle.std.proofs.Common.{◌<◌, sym, ap, subst, ◌∙◌, arith}
 use Rattle.cml_log.specs.Chain.{end_of, Pushed}
 use Rattle.cml_log.proofs.ChainLemmas.{shown, end_shown, slot_is, within, IsChain-pushed, Pushed-within, IsChain-joined, Pushed-joined, tail_put}
 use Rattle.cml_log.proofs.chain.Chain.push.Goals as goal

@@ -1,0 +1,192 @@
+ghost use Rattle.std.specs.Prelude.{◌≡◌, ℕ, ◌+◌, ◌-◌, ◌%◌, ◌<◌, ◌≤◌, ◌↔◌, Some, None, IsTrue, OnOk, OnErr, IfOk, IfErr, length, slice_get, slice_set, option_copied};
+ghost use Rattle.std.proofs.Common.{rules};
+ghost use Rattle.slab.specs.Slab.{ContainsKey};
+ghost use Rattle.cml_log.specs.PlainLog.{chunk_of};
+
+use crate::chain::Chain;
+use crate::raw::Address;
+use crate::{Back, Key, MessageLog};
+use slab::Slab;
+use std::alloc::{AllocError, Global};
+use std::marker::{Model, Send};
+
+// Where a cursor stands: its place, and where the place's chunk lies.
+#[derive(Clone, Copy)]
+struct Cursor {
+    at: Address,
+    place: u64,
+}
+
+// Moves the cursor under a key.
+fn move_to(cursors: &mut Slab<Cursor>, key: usize, to: Cursor)
+    requires { ContainsKey cursors.old key }
+    ensures { cursors.new.slots ≡ slice_set cursors.old.slots key (Some to) }
+{
+    if let Some(cursor) = cursors.get_mut(key) {
+        *cursor = to;
+    }
+}
+
+/// A log whose items lie in chunks of `N` places of raw memory.
+///
+/// Each cursor holds its chunk, and each chunk counts the cursors in it, so that no call looks at all cursors.
+/// `N` is from 1 to 1,024; with another there is no log, and `new` always answers `AllocError`.
+#[derive(Drop)]
+pub struct ChunkLog<T: Drop, const N: usize> {
+    chain: Chain<T, N>,
+    cursors: Slab<Cursor>,
+}
+
+impl<T: Drop, const N: usize> Model for ChunkLog<T, N> {
+    ghost use Rattle.cml_log.specs.ChunkLog.{Counted, counted_code, counted_of, IsTrim};
+
+    ghost Value = { Counted T };
+
+    ghost coded = { counted_code T.code };
+
+    ghost view = { λ a. counted_of N a.chain a.cursors.slots };
+
+    ghost invariant = { λ a. IsTrim N a.chain a.cursors.slots };
+}
+
+impl<T: Drop, const N: usize> MessageLog<T> for ChunkLog<T, N> {
+    ghost use Rattle.cml_log.specs.Log.{next_of, trimmed, with_item, with_place, place_of, owed_items, IsOpen};
+
+    const CHUNK: u64 = if N == 0 {
+        1
+    } else if N > 1024 {
+        1024
+    } else {
+        N as u64
+    };
+
+    ghost CHUNK = { chunk_of N };
+
+    ghost log = { λ counted. counted.log };
+
+    fn new(alloc: Global) -> Result<Self, AllocError> {
+        Ok(ChunkLog {
+            chain: Chain::new(alloc)?,
+            cursors: Slab::new(alloc),
+        })
+    }
+
+    fn push(&mut self, item: T) -> Result<(), Back<T>>
+        requires { next_of self.old.log < 18446744073709551614 }
+        ensures ok { OnOk result (self.new.log ≡ trimmed (chunk_of N) (with_item self.old.log item)) }
+        ensures err { OnErr result (self.new.log ≡ self.old.log) }
+        ensures back { IfErr result (λ refused. refused.0 ≡ item) }
+        ensures refused { OnErr result (next_of self.old.log % chunk_of N ≡ chunk_of N - 1) }
+
+        // As many links as chunks given back.
+        ensures followed { self.new.followed + self.old.given ≡ self.old.followed + self.new.given }
+    {
+        self.chain.push(item)?;
+        self.chain.pass_idle();
+        Ok(())
+    }
+
+    fn open_cursor(&mut self) -> Result<Key, AllocError> {
+        let cursor = Cursor {
+            at: self.chain.end(),
+            place: self.chain.next(),
+        };
+        self.cursors.reserve(1)?;
+        // So that one cursor more in its chunk can be counted.
+        let _ = self.cursors.capacity();
+        self.chain.enter(cursor.at);
+        Ok(Key(self.cursors.insert_reserved(cursor)))
+    }
+
+    fn copy_cursor(&mut self, k: Key) -> Result<Key, AllocError> {
+        let cursor = self.cursors[k.0];
+        self.cursors.reserve(1)?;
+        let _ = self.cursors.capacity();
+        self.chain.enter(cursor.at);
+        Ok(Key(self.cursors.insert_reserved(cursor)))
+    }
+
+    fn close_cursor(&mut self, k: Key)
+        requires { IsOpen self.old.log k }
+        ensures log { self.new.log ≡ trimmed (chunk_of N) (with_place self.old.log k None) }
+        ensures followed { self.new.followed + self.old.given ≡ self.old.followed + self.new.given }
+    {
+        let cursor = self.cursors.remove(k.0);
+        self.chain.leave(cursor.at);
+        self.chain.pass_idle();
+    }
+
+    fn peek(&self, k: Key) -> Option<&T> {
+        let cursor = self.cursors[k.0];
+        self.chain
+            .item(cursor.at, (cursor.place % N as u64) as usize)
+    }
+
+    fn advance(&mut self, k: Key)
+        requires opened { IsOpen self.old.log k }
+        requires owed { 0 < length (owed_items self.old.log k) }
+        ensures log { self.new.log
+            ≡ trimmed (chunk_of N) (with_place self.old.log k (Some (place_of self.old.log k + 1))) }
+
+        // One link at most, and one chunk given back at most.
+        ensures followed { self.new.followed ≤ self.old.followed + 1 }
+        ensures given { self.new.given ≤ self.old.given + 1 }
+    {
+        let Cursor { at, place } = self.cursors[k.0];
+        let place = place + 1;
+        if place % N as u64 != 0 {
+            move_to(&mut self.cursors, k.0, Cursor { at, place });
+            return;
+        }
+        let next = self.chain.follow(at);
+        // So that one cursor more in the next chunk can be counted.
+        let _ = self.cursors.len();
+        move_to(&mut self.cursors, k.0, Cursor { at: next, place });
+        self.chain.leave(at);
+        self.chain.enter(next);
+        if self.chain.is_idle() {
+            self.chain.pass_head_to(next);
+        }
+    }
+
+    fn first(&self) -> u64 {
+        self.chain.first()
+    }
+
+    fn next(&self) -> u64 {
+        self.chain.next()
+    }
+
+    fn place(&self, k: Key) -> u64 {
+        self.cursors[k.0].place
+    }
+
+    fn owed(&self, k: Key) -> u64 {
+        self.chain.next() - self.cursors[k.0].place
+    }
+
+    fn cursors(&self) -> usize {
+        self.cursors.len()
+    }
+
+    fn chunks(&self) -> u64 {
+        self.chain.chunks()
+    }
+
+    fn is_open(&self, k: Key) -> bool {
+        self.cursors.contains(k.0)
+    }
+
+    ghost bounded = { Prim.search rules };
+}
+
+impl<T: Drop, const N: usize> ChunkLog<T, N> {
+    ghost use Rattle.cml_log.specs.Log.{chunk_count};
+
+    /// The chunks made less those given back, counted by the calls that make and give back alone, are those kept.
+    pub fn counted(&self)
+        ensures { self.now.made ≡ self.now.given + chunk_count (chunk_of N) self.now.log }
+    {
+        self.chain.counted();
+    }
+}
