@@ -21,13 +21,13 @@ use crate::call::{Kind, Name};
 use crate::entry::Entry;
 use crate::message::Message;
 use crate::object::{self, Object, Reading};
-use cml_log::{Key, MessageLog, PlainLog};
+use cml_log::{ChunkLog, Key, MessageLog};
 use objects::log_at;
 use std::alloc::{AllocError, Global};
 use std::marker::Model;
 
 /// The log that boards are made with: chunks of four messages.
-pub type BoardLog<M> = PlainLog<M, 4>;
+pub type BoardLog<M> = ChunkLog<M, 4>;
 
 /// The objects, and the journal of all accepted calls.
 #[derive(Drop)]
