@@ -1,27 +1,47 @@
-//! Each log is made here, and handed to what any log passes.
+//! Each log is put through what any log passes.
 mod calls;
 mod runs;
 mod twin;
 
-use cml_log::{MessageLog, PlainLog};
-use runs::{CLOSED_AND_COPIED, IN_CHUNKS_OF_FOUR, IN_CHUNKS_OF_ONE, shows};
+use cml_log::{ChunkLog, MessageLog, PlainLog};
+use runs::{IN_CHUNKS_OF_FOUR, IN_CHUNKS_OF_ONE, IN_GREATEST_CHUNKS, shows_each};
+use std::process::Abort;
 use std::test::Fail;
 use twin::agrees;
 
-#[test]
-fn shows_small_runs(rt: HostRuntime) -> Result<(), Fail> {
-    shows(&rt, PlainLog::<u64, 4>::new(rt.alloc())?, IN_CHUNKS_OF_FOUR)?;
-    shows(&rt, PlainLog::<u64, 1>::new(rt.alloc())?, IN_CHUNKS_OF_ONE)
+/// Short runs on a log in chunks of 1, one of 4 and one of 1,024.
+fn show_runs<One: MessageLog<u64>, Four: MessageLog<u64>, Greatest: MessageLog<u64>>(
+    rt: &(impl Abort + AllocGlobal),
+) -> Result<(), Fail> {
+    shows_each::<One>(rt, IN_CHUNKS_OF_ONE)?;
+    shows_each::<Four>(rt, IN_CHUNKS_OF_FOUR)?;
+    shows_each::<Greatest>(rt, IN_GREATEST_CHUNKS)
+}
+
+fn agree<One: MessageLog<u64>, Four: MessageLog<u64>, Greatest: MessageLog<u64>>(
+    rt: &(impl Abort + AllocGlobal),
+) -> Result<(), Fail> {
+    agrees::<One>(rt, 1)?;
+    agrees::<Four>(rt, 4)?;
+    agrees::<Greatest>(rt, 1024)
 }
 
 #[test]
-fn closes_and_copies_cursors(rt: HostRuntime) -> Result<(), Fail> {
-    shows(&rt, PlainLog::<u64, 4>::new(rt.alloc())?, CLOSED_AND_COPIED)
+fn deques_show_runs(rt: HostRuntime) -> Result<(), Fail> {
+    show_runs::<PlainLog<u64, 1>, PlainLog<u64, 4>, PlainLog<u64, 1024>>(&rt)
 }
 
 #[test]
-fn agrees_with_a_plain_list(rt: HostRuntime) -> Result<(), Fail> {
-    agrees(&rt, PlainLog::<u64, 1>::new(rt.alloc())?, 1)?;
-    agrees(&rt, PlainLog::<u64, 4>::new(rt.alloc())?, 4)?;
-    agrees(&rt, PlainLog::<u64, 1024>::new(rt.alloc())?, 1024)
+fn chunks_show_runs(rt: HostRuntime) -> Result<(), Fail> {
+    show_runs::<ChunkLog<u64, 1>, ChunkLog<u64, 4>, ChunkLog<u64, 1024>>(&rt)
+}
+
+#[test]
+fn deques_agree_with_a_list(rt: HostRuntime) -> Result<(), Fail> {
+    agree::<PlainLog<u64, 1>, PlainLog<u64, 4>, PlainLog<u64, 1024>>(&rt)
+}
+
+#[test]
+fn chunks_agree_with_a_list(rt: HostRuntime) -> Result<(), Fail> {
+    agree::<ChunkLog<u64, 1>, ChunkLog<u64, 4>, ChunkLog<u64, 1024>>(&rt)
 }

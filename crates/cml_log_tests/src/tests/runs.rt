@@ -22,8 +22,21 @@ use Call::{Advance, Close, Copy, Open, Push};
 /// chunks and open cursors there are, and of each cursor where it stands, how many items it is owed, and the next one.
 pub type Row = (&'static str, Call, &'static str);
 
-/// A log in chunks of 4.
-pub const IN_CHUNKS_OF_FOUR: &[Row] = &[
+/// Runs of a log in chunks of 4.
+pub const IN_CHUNKS_OF_FOUR: &[&[Row]] = &[
+    FILLED_AND_PASSED,
+    CLOSED_AND_COPIED,
+    TWO_CURSORS,
+    FAR_BEHIND,
+];
+
+/// Runs of a log in chunks of 1.
+pub const IN_CHUNKS_OF_ONE: &[&[Row]] = &[ONE_BY_ONE];
+
+/// Runs of a log in chunks of 1,024.
+pub const IN_GREATEST_CHUNKS: &[&[Row]] = &[GREATEST];
+
+const FILLED_AND_PASSED: &[Row] = &[
     (
         "no cursor, and the chunk isn't full",
         Push(10, 3),
@@ -46,8 +59,7 @@ pub const IN_CHUNKS_OF_FOUR: &[Row] = &[
     ),
 ];
 
-/// A log in chunks of 1.
-pub const IN_CHUNKS_OF_ONE: &[Row] = &[
+const ONE_BY_ONE: &[Row] = &[
     ("a cursor", Open, "(0, 0, 1, 1) Some((0, 0, None))"),
     (
         "one item before the next place",
@@ -61,8 +73,26 @@ pub const IN_CHUNKS_OF_ONE: &[Row] = &[
     ),
 ];
 
-/// A log in chunks of 4, with a cursor that is copied and one that is closed.
-pub const CLOSED_AND_COPIED: &[Row] = &[
+const GREATEST: &[Row] = &[
+    ("one place is left", Push(0, 1023), "(0, 1023, 1, 0)"),
+    (
+        "a cursor at the last place",
+        Open,
+        "(0, 1023, 1, 1) Some((1023, 0, None))",
+    ),
+    (
+        "the last place is filled",
+        Push(1023, 1),
+        "(0, 1024, 2, 1) Some((1023, 1, Some(1023)))",
+    ),
+    (
+        "all 1,024 are given back",
+        Advance(0, 1),
+        "(1024, 1024, 1, 1) Some((1024, 0, None))",
+    ),
+];
+
+const CLOSED_AND_COPIED: &[Row] = &[
     ("a slow cursor", Open, "(0, 0, 1, 1) Some((0, 0, None))"),
     (
         "that is owed all",
@@ -91,8 +121,78 @@ pub const CLOSED_AND_COPIED: &[Row] = &[
     ),
 ];
 
+const TWO_CURSORS: &[Row] = &[
+    ("one cursor", Open, "(0, 0, 1, 1) Some((0, 0, None))"),
+    (
+        "and another",
+        Open,
+        "(0, 0, 1, 2) Some((0, 0, None)) Some((0, 0, None))",
+    ),
+    (
+        "both are owed all",
+        Push(1, 5),
+        "(0, 5, 2, 2) Some((0, 5, Some(1))) Some((0, 5, Some(1)))",
+    ),
+    (
+        "one has left the first chunk",
+        Advance(0, 4),
+        "(0, 5, 2, 2) Some((4, 1, Some(5))) Some((0, 5, Some(1)))",
+    ),
+    (
+        "so has the other, closed",
+        Close(1),
+        "(4, 5, 1, 1) Some((4, 1, Some(5))) None",
+    ),
+];
+
+/// Cursors with whole chunks between them.
+const FAR_BEHIND: &[Row] = &[
+    ("a slow cursor", Open, "(0, 0, 1, 1) Some((0, 0, None))"),
+    (
+        "three chunks are full",
+        Push(30, 14),
+        "(0, 14, 4, 1) Some((0, 14, Some(30)))",
+    ),
+    (
+        "a second one",
+        Copy(0),
+        "(0, 14, 4, 2) Some((0, 14, Some(30))) Some((0, 14, Some(30)))",
+    ),
+    (
+        "in the third chunk",
+        Advance(1, 9),
+        "(0, 14, 4, 2) Some((0, 14, Some(30))) Some((9, 5, Some(39)))",
+    ),
+    (
+        "two chunks are given back at once",
+        Close(0),
+        "(8, 14, 2, 1) None Some((9, 5, Some(39)))",
+    ),
+    (
+        "no cursor is left, and the last chunk is kept",
+        Close(1),
+        "(12, 14, 1, 0) None None",
+    ),
+    (
+        "which goes when it is full",
+        Push(44, 2),
+        "(16, 16, 1, 0) None None",
+    ),
+];
+
+/// Makes each run on a log of its own.
+pub fn shows_each<L: MessageLog<u64>>(
+    rt: &(impl Abort + AllocGlobal),
+    runs: &[&[Row]],
+) -> Result<(), Fail> {
+    for rows in runs.iter() {
+        shows(rt, L::new(rt.alloc())?, rows)?;
+    }
+    Ok(())
+}
+
 /// Makes the calls, and compares the readers behind each.
-pub fn shows<L: MessageLog<u64>>(
+fn shows<L: MessageLog<u64>>(
     rt: &(impl Abort + AllocGlobal),
     mut log: L,
     rows: &[Row],

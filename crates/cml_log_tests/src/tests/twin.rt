@@ -155,12 +155,10 @@ fn same<L: MessageLog<u64>>(
     assert_eq!(rt; seen(log, key), expected);
 }
 
-/// A thousand calls on a log in chunks of `chunk` and on a plain list.
-pub fn agrees<L: MessageLog<u64>>(
-    rt: &(impl Abort + AllocGlobal),
-    mut log: L,
-    chunk: u64,
-) -> Result<(), Fail> {
+/// A thousand calls on a log in chunks of `chunk` and on a plain list. The calls hang on the list alone, so that all logs
+/// in chunks of one size are put through the same, and what each answers is compared with the same list.
+pub fn agrees<L: MessageLog<u64>>(rt: &(impl Abort + AllocGlobal), chunk: u64) -> Result<(), Fail> {
+    let mut log = L::new(rt.alloc())?;
     let mut twin = Twin {
         chunk,
         items: Vec::new(rt.alloc()),
