@@ -1,11 +1,14 @@
 //! Each log is put through what any log passes.
 mod calls;
+mod drops;
 mod runs;
 mod twin;
 
 use cml_log::{ChunkLog, MessageLog, PlainLog};
+use drops::{Counted, drops_each_once};
 use runs::{IN_CHUNKS_OF_FOUR, IN_CHUNKS_OF_ONE, IN_GREATEST_CHUNKS, shows_each};
 use std::process::Abort;
+use std::sync::atomic::AtomicU64;
 use std::test::Fail;
 use twin::agrees;
 
@@ -44,4 +47,16 @@ fn deques_agree_with_a_list(rt: HostRuntime) -> Result<(), Fail> {
 #[test]
 fn chunks_agree_with_a_list(rt: HostRuntime) -> Result<(), Fail> {
     agree::<ChunkLog<u64, 1>, ChunkLog<u64, 4>, ChunkLog<u64, 1024>>(&rt)
+}
+
+#[test]
+fn deques_drop_each_item_once(rt: HostRuntime) -> Result<(), Fail> {
+    let drops = AtomicU64::new(0);
+    drops_each_once::<PlainLog<Counted, 4>>(&rt, &drops)
+}
+
+#[test]
+fn chunks_drop_each_item_once(rt: HostRuntime) -> Result<(), Fail> {
+    let drops = AtomicU64::new(0);
+    drops_each_once::<ChunkLog<Counted, 4>>(&rt, &drops)
 }

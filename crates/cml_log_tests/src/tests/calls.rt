@@ -3,7 +3,7 @@ use cml_log::{Key, MessageLog};
 use std::test::Fail;
 
 /// Pushes an item on a log with room for it.
-pub fn push<L: MessageLog<u64>>(log: &mut L, item: u64) -> Result<(), Fail> {
+pub fn push<T: Drop, L: MessageLog<T>>(log: &mut L, item: T) -> Result<(), Fail> {
     if log.next() >= u64::MAX - 1 || log.push(item).is_err() {
         return Err(Fail::from("the log takes no item"));
     }
@@ -11,7 +11,7 @@ pub fn push<L: MessageLog<u64>>(log: &mut L, item: u64) -> Result<(), Fail> {
 }
 
 /// Opens a cursor where another stands.
-pub fn copy<L: MessageLog<u64>>(log: &mut L, key: Key) -> Result<Key, Fail> {
+pub fn copy<T, L: MessageLog<T>>(log: &mut L, key: Key) -> Result<Key, Fail> {
     if !log.is_open(key) {
         return Err(Fail::from("a closed cursor is copied"));
     }
@@ -19,7 +19,7 @@ pub fn copy<L: MessageLog<u64>>(log: &mut L, key: Key) -> Result<Key, Fail> {
 }
 
 /// Closes an open cursor.
-pub fn close<L: MessageLog<u64>>(log: &mut L, key: Key) -> Result<(), Fail> {
+pub fn close<T, L: MessageLog<T>>(log: &mut L, key: Key) -> Result<(), Fail> {
     if !log.is_open(key) {
         return Err(Fail::from("a closed cursor is closed"));
     }
@@ -28,11 +28,19 @@ pub fn close<L: MessageLog<u64>>(log: &mut L, key: Key) -> Result<(), Fail> {
 }
 
 /// Moves an open cursor on that is owed an item.
-pub fn advance<L: MessageLog<u64>>(log: &mut L, key: Key) -> Result<(), Fail> {
+pub fn advance<T, L: MessageLog<T>>(log: &mut L, key: Key) -> Result<(), Fail> {
     if !log.is_open(key) || log.owed(key) == 0 {
         return Err(Fail::from("a cursor is moved that can't be"));
     }
     log.advance(key);
+    Ok(())
+}
+
+/// Moves a cursor on past so many items.
+pub fn advance_often<T, L: MessageLog<T>>(log: &mut L, key: Key, times: usize) -> Result<(), Fail> {
+    for _ in 0..times {
+        advance(log, key)?;
+    }
     Ok(())
 }
 

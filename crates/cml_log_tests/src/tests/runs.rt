@@ -1,5 +1,5 @@
 //! Short runs whose every reader is known.
-use super::calls::{advance, close, copy, push, seen, shape};
+use super::calls::{advance_often, close, copy, push, seen, shape};
 use cml_log::{Key, MessageLog};
 use std::alloc::{AllocError, Global};
 use std::process::Abort;
@@ -223,13 +223,6 @@ fn perform<L: MessageLog<u64>>(log: &mut L, keys: &mut Vec<Key>, call: &Call) ->
 fn push_all<L: MessageLog<u64>>(log: &mut L, first: u64, count: u64) -> Result<(), Fail> {
     for item in first..first.saturating_add(count) {
         push(log, item)?;
-    }
-    Ok(())
-}
-
-fn advance_often<L: MessageLog<u64>>(log: &mut L, key: Key, times: usize) -> Result<(), Fail> {
-    for _ in 0..times {
-        advance(log, key)?;
     }
     Ok(())
 }

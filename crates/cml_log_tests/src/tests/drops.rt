@@ -1,0 +1,42 @@
+//! When a log drops its items: as soon as the chunk of the least place lies behind them, and the rest with the log.
+use super::calls::{advance_often, push};
+use cml_log::MessageLog;
+use std::process::Abort;
+use std::sync::atomic::AtomicU64;
+use std::sync::atomic::Ordering::SeqCst;
+use std::test::Fail;
+
+/// An item that counts where it is dropped.
+pub struct Counted<'a> {
+    drops: &'a AtomicU64,
+}
+
+impl Drop for Counted<'_> {
+    fn drop(self) {
+        let Counted { drops } = self;
+        drops.fetch_add(1, SeqCst);
+    }
+}
+
+/// Nine items in chunks of 4, which one cursor passes, but for the last.
+pub fn drops_each_once<'a, L: MessageLog<Counted<'a>>>(
+    rt: &(impl Abort + AllocGlobal),
+    drops: &'a AtomicU64,
+) -> Result<(), Fail> {
+    let mut log = L::new(rt.alloc())?;
+    let key = log.open_cursor()?;
+    for _ in 0..9 {
+        push(&mut log, Counted { drops })?;
+    }
+    for &(times, dropped) in [(3, 0), (1, 4), (3, 4), (1, 8)].iter() {
+        advance_often(&mut log, key, times)?;
+        have_dropped(rt, drops, dropped);
+    }
+    drop(log);
+    have_dropped(rt, drops, 9);
+    Ok(())
+}
+
+fn have_dropped(rt: &impl Abort, drops: &AtomicU64, expected: u64) {
+    assert_eq!(rt; drops.load(SeqCst), expected);
+}
