@@ -5,8 +5,9 @@ mod runs;
 mod twin;
 
 use cml_log::{ChunkLog, MessageLog, PlainLog};
-use drops::{Counted, drops_each_once};
+use drops::{Counted, drops_each_once, drops_elsewhere};
 use runs::{IN_CHUNKS_OF_FOUR, IN_CHUNKS_OF_ONE, IN_GREATEST_CHUNKS, shows_each};
+use std::alloc::AllocError;
 use std::process::Abort;
 use std::sync::atomic::AtomicU64;
 use std::test::Fail;
@@ -59,4 +60,21 @@ fn deques_drop_each_item_once(rt: HostRuntime) -> Result<(), Fail> {
 fn chunks_drop_each_item_once(rt: HostRuntime) -> Result<(), Fail> {
     let drops = AtomicU64::new(0);
     drops_each_once::<ChunkLog<Counted, 4>>(&rt, &drops)
+}
+
+#[test]
+fn chunks_go_to_another_thread(rt: HostRuntime) -> Result<(), Fail> {
+    let drops = AtomicU64::new(0);
+    drops_elsewhere(&rt, &drops)
+}
+
+/// Chunks have from 1 to 1,024 places.
+#[test]
+fn no_log_has_other_chunks(rt: HostRuntime) {
+    is_refused::<ChunkLog<u64, 0>>(&rt);
+    is_refused::<ChunkLog<u64, 1025>>(&rt);
+}
+
+fn is_refused<L: MessageLog<u64>>(rt: &(impl Abort + AllocGlobal)) {
+    assert_eq!(rt; L::new(rt.alloc()).err(), Some(AllocError));
 }
