@@ -1,24 +1,23 @@
 //! One log of messages alone, without a board and a journal: what it takes stays the same however long it is used.
-use cml_board::BoardLog;
 use cml_log::{Key, MessageLog};
 use std::alloc::Global;
 use std::io;
+
+pub const NAME: &str = "log8";
 
 const CURSORS: usize = 8;
 
 /// A log with eight cursors, and a sum over the messages that were read, which their order changes.
 #[derive(Drop)]
-pub struct LogRun {
-    log: BoardLog<u64>,
+pub struct LogRun<L: MessageLog<u64>> {
+    log: L,
     keys: Vec<Key>,
     pub sum: u64,
 }
 
-impl LogRun {
-    pub const NAME: &'static str = "log8";
-
-    pub fn new(alloc: Global) -> io::Result<LogRun> {
-        let mut log = BoardLog::new(alloc)?;
+impl<L: MessageLog<u64>> LogRun<L> {
+    pub fn new(alloc: Global) -> io::Result<LogRun<L>> {
+        let mut log = L::new(alloc)?;
         let mut keys = Vec::new(alloc);
         for _ in 0..CURSORS {
             keys.push(log.open_cursor()?)?;
@@ -45,7 +44,7 @@ impl LogRun {
     }
 }
 
-fn read_by_each(log: &mut BoardLog<u64>, keys: &[Key], sum: u64) -> u64 {
+fn read_by_each<L: MessageLog<u64>>(log: &mut L, keys: &[Key], sum: u64) -> u64 {
     let mut sum = sum;
     for key in keys {
         sum = read(log, *key, sum);
@@ -54,7 +53,7 @@ fn read_by_each(log: &mut BoardLog<u64>, keys: &[Key], sum: u64) -> u64 {
 }
 
 /// Reads the next message of a cursor that is open and owed one.
-fn read(log: &mut BoardLog<u64>, key: Key, sum: u64) -> u64 {
+fn read<L: MessageLog<u64>>(log: &mut L, key: Key, sum: u64) -> u64 {
     if !log.is_open(key) || log.owed(key) == 0 {
         return sum;
     }

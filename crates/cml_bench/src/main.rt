@@ -1,5 +1,5 @@
-//! `cml_bench [N]`: with a number it tells how long a board's calls take, each workload done N times; without, what
-//! each came to when it was done a few times.
+//! `cml_bench [N [log8]]`: with a number it tells how long a board's calls take, each workload done N times, or a log's
+//! alone; without, what each came to when it was done a few times.
 #![tactic(auto)]
 
 mod check_run;
@@ -7,6 +7,7 @@ mod log_run;
 mod switchboard_run;
 
 use cml_board::{Board, BoardLog, Call, Name, Outcome, Reply, Who};
+use cml_log::{ChunkLog, MessageLog, PlainLog};
 use log_run::LogRun;
 use std::alloc::Global;
 use std::process::ExitCode;
@@ -23,6 +24,13 @@ const OBJECT: Name = Name(0);
 
 const PORTS: u64 = 8;
 
+/// So many ports on one channel, each of which receives once.
+const MANY_PORTS: [(&str, u64); 3] = [
+    ("ports1000", 1_000),
+    ("ports10000", 10_000),
+    ("ports100000", 100_000),
+];
+
 const FEW: u64 = 100;
 
 /// So many multicasts, each with its receives, are within a journal's limit.
@@ -31,9 +39,11 @@ const MOST: u64 = 400_000_000;
 const LIMIT: u64 = 4_294_967_296;
 
 /// What the program's words ask for.
+#[derive(Clone, Copy)]
 enum Order {
     Sums,
     Times(u64),
+    LogTimes(u64),
     Usage,
 }
 
@@ -69,8 +79,9 @@ fn main(rt: HostRuntime) -> io::Result<ExitCode> {
             print_times(&rt, count)?;
             time_switchboards(&rt, rt.alloc(), count)?;
         }
+        Order::LogTimes(count) => time_logs(&rt, count)?,
         Order::Usage => {
-            eprintln!(rt; "usage: cml_bench [N], N from 1 to {MOST}")?;
+            eprintln!(rt; "usage: cml_bench [N [log8]], N from 1 to {MOST}")?;
             return Ok(ExitCode::from(2));
         }
     }
@@ -81,12 +92,19 @@ fn asked(rt: &HostRuntime) -> io::Result<Order> {
     let words = env::args(rt)?.collect::<Vec<String>>(rt.alloc())?;
     Ok(match words.as_slice() {
         [] | [_] => Order::Sums,
-        [_, word] => match word.parse::<u64>() {
-            Ok(count) if 1 <= count && count <= MOST => Order::Times(count),
-            _ => Order::Usage,
-        },
+        [_, word] => count_of(word).map_or(Order::Usage, Order::Times),
+        [_, word, name] if name.as_str() == log_run::NAME => {
+            count_of(word).map_or(Order::Usage, Order::LogTimes)
+        }
         _ => Order::Usage,
     })
+}
+
+fn count_of(word: &str) -> Option<u64> {
+    match word.parse::<u64>() {
+        Ok(count) if 1 <= count && count <= MOST => Some(count),
+        _ => None,
+    }
 }
 
 fn print_sums(rt: &HostRuntime) -> io::Result<()> {
@@ -94,7 +112,9 @@ fn print_sums(rt: &HostRuntime) -> io::Result<()> {
         let run = performed(rt, *workload, FEW)?;
         print_sum(rt, workload.name(), run.sum)?;
     }
-    print_log_sum(rt)?;
+    print_ports_sum(rt)?;
+    print_log_sum::<PlainLog<u64, 4>>(rt, "log8_deque")?;
+    print_log_sum::<ChunkLog<u64, 4>>(rt, "log8_chunks")?;
     print_lawful(rt)
 }
 
@@ -119,10 +139,18 @@ fn print_sum(rt: &HostRuntime, workload: &str, sum: u64) -> io::Result<()> {
     println!(rt; "{workload} {sum}")
 }
 
-fn print_log_sum(rt: &HostRuntime) -> io::Result<()> {
-    let mut run = LogRun::new(rt.alloc())?;
+fn print_ports_sum(rt: &HostRuntime) -> io::Result<()> {
+    let (name, ports) = MANY_PORTS[0];
+    let mut run = Run::new(rt.alloc())?;
+    run.open_ports(ports)?;
+    run.cast_to(ports, 1)?;
+    print_sum(rt, name, run.sum)
+}
+
+fn print_log_sum<L: MessageLog<u64>>(rt: &HostRuntime, name: &str) -> io::Result<()> {
+    let mut run = LogRun::<L>::new(rt.alloc())?;
     run.perform(FEW)?;
-    print_sum(rt, LogRun::NAME, run.sum)
+    print_sum(rt, name, run.sum)
 }
 
 fn print_lawful(rt: &HostRuntime) -> io::Result<()> {
@@ -142,7 +170,10 @@ fn print_times(rt: &HostRuntime, count: u64) -> io::Result<()> {
     for workload in WORKLOADS.iter() {
         time_board(rt, *workload, count)?;
     }
-    time_log(rt, count)?;
+    for (name, ports) in MANY_PORTS.iter() {
+        time_ports(rt, name, *ports)?;
+    }
+    time_logs(rt, count)?;
     time_check(rt, count)
 }
 
@@ -164,12 +195,31 @@ fn time_of(
     Ok(start.elapsed(rt)?)
 }
 
-fn time_log(rt: &HostRuntime, count: u64) -> io::Result<()> {
-    let mut run = LogRun::new(rt.alloc())?;
+/// The time that each port's receive takes, without that of making the ports.
+fn time_ports(rt: &HostRuntime, name: &str, ports: u64) -> io::Result<()> {
+    let mut run = Run::new(rt.alloc())?;
+    run.open_ports(ports)?;
+    let time = time_of_cast(rt, &mut run, ports)?;
+    print_time(rt, name, "seryugo_board", time, ports as usize)
+}
+
+fn time_of_cast(rt: &HostRuntime, run: &mut Run, ports: u64) -> io::Result<Duration> {
+    let start = Instant::now(rt)?;
+    run.cast_to(ports, 1)?;
+    Ok(start.elapsed(rt)?)
+}
+
+fn time_logs(rt: &HostRuntime, count: u64) -> io::Result<()> {
+    time_log::<PlainLog<u64, 4>>(rt, "seryugo_log_deque", count)?;
+    time_log::<ChunkLog<u64, 4>>(rt, "seryugo_log_chunks", count)
+}
+
+fn time_log<L: MessageLog<u64>>(rt: &HostRuntime, subject: &str, count: u64) -> io::Result<()> {
+    let mut run = LogRun::<L>::new(rt.alloc())?;
     let start = Instant::now(rt)?;
     let calls = run.perform(count)?;
     let time = start.elapsed(rt)?;
-    print_time(rt, LogRun::NAME, "seryugo_log", time, calls)
+    print_time(rt, log_run::NAME, subject, time, calls)
 }
 
 /// The time that a check of a journal takes, without that of making the journal.
@@ -280,23 +330,26 @@ impl Run {
 
     /// One channel with eight ports: a multicast, and then a receive of each port.
     fn cast(&mut self, count: u64) -> io::Result<()> {
-        self.make(Call::NewChannel)?;
-        for _ in 0..PORTS {
-            self.make(Call::NewPort(OBJECT))?;
-        }
-        self.cast_on(count)
-    }
-
-    fn cast_on(&mut self, count: u64) -> io::Result<()> {
+        self.open_ports(PORTS)?;
         for message in 0..count {
-            self.make(Call::Cast(OBJECT, message))?;
-            self.receive_by_each()?;
+            self.cast_to(PORTS, message)?;
         }
         Ok(())
     }
 
-    fn receive_by_each(&mut self) -> io::Result<()> {
-        for port in 1..=PORTS {
+    /// A channel with so many ports.
+    fn open_ports(&mut self, ports: u64) -> io::Result<()> {
+        self.make(Call::NewChannel)?;
+        for _ in 0..ports {
+            self.make(Call::NewPort(OBJECT))?;
+        }
+        Ok(())
+    }
+
+    /// A multicast, and then a receive of each port.
+    fn cast_to(&mut self, ports: u64, message: u64) -> io::Result<()> {
+        self.make(Call::Cast(OBJECT, message))?;
+        for port in 1..=ports {
             self.make(Call::Recv(Name(port)))?;
         }
         Ok(())
