@@ -8,15 +8,15 @@ use denote.RawPtr.{Ptr}
 use denote.Struct.Struct.{exits_of}
 use denote.Struct.Owning.{shape, fields, to}
 use denote.Param.Send.{IsSend, AllSend, owning_send, struct_send, sendable}
-use Rattle.libc.specs.Heap.{chunk-Keyless}
+use Rattle.std.proofs.Crossing.{frees}
 use Rattle.std_alloc.proofs.SendSync.{quiet, lies}
-use Rattle.cml_log.specs.Blocks.{right_owns, block_owns, blocks_own}
+use Rattle.cml_log.specs.Blocks.{heap, right_owns, block_owns, blocks_own}
 use Rattle.cml_log.specs.contracts.raw.Blocks as Blocks
 use Rattle.cml_log.specs.contracts.raw.Right as Right
 
 module _ (R : RattleType) (s : IsSend R) where
   right-Keyless : (at : Ptr) (content : R.Denot) → Keyless (right_owns R at content)
-  right-Keyless at content = (lies R s at content, chunk-Keyless (raw (lone R.mir)) at)
+  right-Keyless at content = (lies R s at content, frees.frees heap (raw (lone R.mir)) at)
 
   block-Keyless : (block : Option (Ptr × R.Denot)) → Keyless (block_owns R block)
   block-Keyless None = tt

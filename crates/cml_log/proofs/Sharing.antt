@@ -13,8 +13,7 @@ use denote.Sharing.{ShrLaws}
 use denote.SharingLaws.{beside_shr_laws, nothing_shr_laws}
 use denote.Shares.{Shares-less}
 use denote.Struct.Lending.{lent_at, lent_at_shr_laws, Lends, Lends-both, Lends-first, Lends-lies, Lends-nothing}
-use Rattle.libc.specs.Heap.{chunk}
-use Rattle.cml_log.specs.Blocks.{block_owns, blocks_own, block_lent, blocks_lent}
+use Rattle.cml_log.specs.Blocks.{token, block_owns, blocks_own, block_lent, blocks_lent}
 
 module _ (R : RattleType) (L : RowLaws R) where
   one_laws : (block : Option (Ptr × R.Denot)) → ShrLaws (block_lent R block)
@@ -29,7 +28,7 @@ module _ {M : Type 1} {𝓤 : Ura M} (𝓛 : Logic 𝓤) (l : Lft) (R : RattleTy
   Lends-one : (block : Option (Ptr × R.Denot)) → Lends 𝓛 (block_owns R block) (block_lent R block) l
   Lends-one None = Lends-nothing 𝓛 ftrue l
   Lends-one (Some block) =
-      Lends-first 𝓛 (lies_at R full_share block.0 block.1) (chunk (raw (lone R.mir)) block.0) (lent_at R block.0 block.1) l
+      Lends-first 𝓛 (lies_at R full_share block.0 block.1) (token (raw (lone R.mir)) block.0) (lent_at R block.0 block.1) l
       (Lends-lies 𝓛 R l block.0 block.1 (Shares-less 𝓛 R R.lives l within (L.shares 𝓛) block.1))
 
   pub Lends-all : (kept : List (Option (Ptr × R.Denot))) → Lends 𝓛 (blocks_own R kept) (blocks_lent R kept) l

@@ -40,5 +40,5 @@ pub use Rattle.core.proofs.alloc.Calls.{Goes-blank, handle_tells}
 pub use Rattle.core.proofs.atomic.Steps.{fm, tail}
 pub use Rattle.std_alloc.specs.Box.Ownership.{box_owns}
 pub use Rattle.std_alloc.proofs.RcSteps.{Good, Ptr-Good, word, word-Good}
-pub use Rattle.libc.specs.Heap.{chunk}
+pub use Rattle.cml_log.specs.Blocks.{token}
 pub use Rattle.cml_log.specs.Blocks.{block_at, IsKept, right_owns, block_owns, blocks_own, block_lent}

@@ -6,7 +6,9 @@ use denote.RawPtr.{Ptr}
 use denote.Sharing.{nothing, beside}
 use denote.Struct.Lending.{lent_at}
 use Rattle.std_alloc.specs.Box.Ownership.{box_owns}
-use Rattle.libc.specs.Heap.{chunk}
+use mir.Syntax.{Ty}
+use Rattle.std.specs.declared.alloc.Global.{Global}
+use Rattle.std.specs.contracts.impls.GlobalAllocator.TheImpl.{ghosts}
 
 module _ {C : Type 0} where
   -- the block of this number, if it is kept
@@ -23,10 +25,18 @@ module _ {C : Type 0} where
   IsBare (None ∷ rest) = IsBare rest
   IsBare (Some block ∷ rest) = ⊥
 
+-- a handle to the heap: all are alike
+abbrev pub heap : Global
+heap = record { memory = record { seal = tt } }
+
+-- the right to give a block of the heap back
+abbrev pub token : Ty → Ptr → Fml
+token = ghosts.dealloc_token heap
+
 module _ (R : RattleType) where
   -- what the right to a block owns
   abbrev pub right_owns : Ptr → R.Denot → Fml
-  right_owns at content = box_owns chunk R at content
+  right_owns at content = box_owns token R at content
 
   -- what a number owns: the right to its block, if that is kept
   abbrev pub block_owns : Option (Ptr × R.Denot) → Fml

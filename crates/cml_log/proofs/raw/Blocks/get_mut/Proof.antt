@@ -1,5 +1,5 @@
 -- `get_mut` lends one content, and the blocks follow it.
-use Rattle.cml_log.proofs.Steps.{List, [], ◌∷◌, ◌≡◌, refl, sym, Option, Some, None, slice_index_or, slice_set, raw, ‵, ◌⊛◌, some, later, ◌$◌, ◌∵◌, !, at_ret, qed, by, keep, move, split, split3, join, group, fsplit, fsplit3, fjoin, fpack, pick, await, use0, use1, use2, rewrite, done, id⊢, ent, sep, sem, emp, never, ftrue, fsep, fat, flft, Fml, GName, Logic, full_share, fact, fact_i, SProp, Val, vptr, a_type, named, bare, inst_fn, owns, types_at, enter, alloc_all, pass_all, free_all, look_at, get, get_in, through, sets, sets_last, take_at, give_at, of_opd, addr, fld, stop, sub, whole, first, blocks, exec, env, tail, returns, nothing, heard, opens, tables, proved, leaves, RattleType, param, layout, layouts, yes, no, Stays, stay_dropped, plain, mut_ref_to, Goes-dropped, Goes-spent_ref, walk_of, mem, cell_at, lone, mut_vals, mut_Tells, MutRef, Ptr, block_ptr, in_a_block, lies_at, chunk, IsKept, block_at, block_owns, blocks_own}
+use Rattle.cml_log.proofs.Steps.{List, [], ◌∷◌, ◌≡◌, refl, sym, Option, Some, None, slice_index_or, slice_set, raw, ‵, ◌⊛◌, some, later, ◌$◌, ◌∵◌, !, at_ret, qed, by, keep, move, split, split3, join, group, fsplit, fsplit3, fjoin, fpack, pick, await, use0, use1, use2, rewrite, done, id⊢, ent, sep, sem, emp, never, ftrue, fsep, fat, flft, Fml, GName, Logic, full_share, fact, fact_i, SProp, Val, vptr, a_type, named, bare, inst_fn, owns, types_at, enter, alloc_all, pass_all, free_all, look_at, get, get_in, through, sets, sets_last, take_at, give_at, of_opd, addr, fld, stop, sub, whole, first, blocks, exec, env, tail, returns, nothing, heard, opens, tables, proved, leaves, RattleType, param, layout, layouts, yes, no, Stays, stay_dropped, plain, mut_ref_to, Goes-dropped, Goes-spent_ref, walk_of, mem, cell_at, lone, mut_vals, mut_Tells, MutRef, Ptr, block_ptr, in_a_block, lies_at, token, IsKept, block_at, block_owns, blocks_own}
 use Prim.Native.Nat.{ℕ}
 use seplogic.Ra.Ura.{Ura}
 use denote.Memory.{part_of}
@@ -17,7 +17,7 @@ use Rattle.cml_log.proofs.raw.Blocks.get_mut.Code as code
 module _ (R : RattleType) {M : Type 1} {𝓤 : Ura M} (𝓛 : Logic 𝓤) (d : (the_row R).Denot) (n : ℕ) (at : Ptr) (b o : ℕ) (vs : List Val) where
   -- all but the content
   abbrev Rest : Fml
-  Rest = fsep (chunk (bare (lone R.mir)) at) (fsep (blocks_own R (slice_set d.kept n None)) (fsep ((Marking R).own_val (tt, tt) vs) (cell_at full_share (the_row R).mir vs b o)))
+  Rest = fsep (token (bare (lone R.mir)) at) (fsep (blocks_own R (slice_set d.kept n None)) (fsep ((Marking R).own_val (tt, tt) vs) (cell_at full_share (the_row R).mir vs b o)))
 
   back : (pb po : ℕ) → at ≡ block_ptr pb po → (w : R.Denot) → ent 𝓤 (sep 𝓤 (sem 𝓛 ((mem R).own_at w pb po)) (sem 𝓛 Rest)) (sem 𝓛 ((mem (the_row R)).own_at (with_content d n at w) b o))
   unfolding part_of

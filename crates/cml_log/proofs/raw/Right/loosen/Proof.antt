@@ -1,5 +1,5 @@
 -- `loosen` puts the allocator's handle beside the right.
-use Rattle.cml_log.proofs.Steps.{List, [], ◌∷◌, ◌++◌, ◌≡◌, refl, sym, subst, raw, ‵, ◌⊛◌, ◌$◌, ◌∵◌, !, qed, by, keep, move, split, fsplit, fjoin, use0, suffices, ent, id⊢, emp, ftrue, flft, fact, fact_i, SProp, WpFn, Val, vptr, a_type, inst_fn, owns, types_at, enter, alloc_all, pass_all, free_all, look_at, get, get_in, sets, of_opd, fld, stop, sub, whole, agg, no_more, and_then, returns, nothing, tables, proved_at, leaves, RattleType, param, param_laws, layout, layouts, yes, no, Stays, stay_dropped, plain, Goes-blank, Goes-dropped, walk_of, block_ptr, null_ptr, in_a_block, never, fst∗, sem, bare, chunk, right_owns, word, handle_tells, Ptr, ap, ◌∙◌}
+use Rattle.cml_log.proofs.Steps.{List, [], ◌∷◌, ◌++◌, ◌≡◌, refl, sym, subst, raw, ‵, ◌⊛◌, ◌$◌, ◌∵◌, !, qed, by, keep, move, split, fsplit, fjoin, use0, suffices, ent, id⊢, emp, ftrue, flft, fact, fact_i, SProp, WpFn, Val, vptr, a_type, inst_fn, owns, types_at, enter, alloc_all, pass_all, free_all, look_at, get, get_in, sets, of_opd, fld, stop, sub, whole, agg, no_more, and_then, returns, nothing, tables, proved_at, leaves, RattleType, param, param_laws, layout, layouts, yes, no, Stays, stay_dropped, plain, Goes-blank, Goes-dropped, walk_of, block_ptr, null_ptr, in_a_block, never, fst∗, sem, bare, token, right_owns, word, handle_tells, Ptr, ap, ◌∙◌}
 use Rattle.std.specs.contracts.alloc.Global.{the_row as Heap}
 use Rattle.std.proofs.alloc.Global.TheLaws as heap_laws
 use Rattle.std.specs.contracts.impls.GlobalAllocator.TheImpl.{ghosts}
@@ -18,7 +18,7 @@ loosen_spec 𝓤 𝓛 𝓜 𝓡 wired X L =
     let κs = z.0.0 in let right = z.0.3.0 in let alloc = z.0.3.1.0 in let Post : Val → SProp 𝓤 = (walk_of 𝓛 En hs c).post z in let Run : List Val → SProp 𝓤 = λ us. WpFn 𝓤 𝓛.H 𝓣.C 𝓣.Λ fn us Post in
     qed 𝓛 (((‵ (flft κs.0 z.0.1.0) ⊛ ‵ ftrue) ⊛ ‵ (owns (types_at En.signature.params κs) z.0.3 z.0.4)) ∷ raw ((c κs z.0.3).requires z.1) ∷ []) ∵
     split ! $ move ! (1 ∷ []) $ fsplit ! $ fsplit ! $ move ! (2 ∷ []) $ fsplit ! $ handle_tells (handle R Z LZ ghosts) ! alloc z.0.4.1.0 (λ h eh fits. move ! (3 ∷ []) $
-    in_a_block ! right.at (λ p. right_owns R p right.content) (fst∗ 𝓤 (never 𝓤) (sem 𝓛 (chunk (bare (layout X)) null_ptr))) (λ b o e. let p : Ptr = block_ptr b o in let w : Val = word p in let made : Val = both (vptr b o) h in
+    in_a_block ! right.at (λ p. right_owns R p right.content) (fst∗ 𝓤 (never 𝓤) (sem 𝓛 (token (bare (layout X)) null_ptr))) (λ b o e. let p : Ptr = block_ptr b o in let w : Val = word p in let made : Val = both (vptr b o) h in
     -- [the box; the handle; nothing; the field; the token; what is required]
     keep ! (0 ∷ 1 ∷ 4 ∷ []) $ let er : z.0.4.0 ≡ w ∷ [] = (right_laws.lowers R (param_laws 0 X L)).val_is right z.0.4.0 are.0 ∙ ap (λ (q : Ptr). word q ∷ []) e in
     suffices ! (Run (w ∷ h ∷ [])) (subst (λ (ws : List Val). ent 𝓤 (Run (w ∷ h ∷ [])) (Run ws)) (sym (λ i. er i ++ (eh i ++ []))) (id⊢ 𝓤 (Run (w ∷ h ∷ [])))) $
