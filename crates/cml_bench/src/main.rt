@@ -356,7 +356,7 @@ impl Run {
     }
 
     /// Makes a call that is to be answered.
-    fn make(&mut self, call: Call<u64>) -> io::Result<()> {
+    fn make(&mut self, call: Call<u64>) -> Result<(), io::ErrorKind> {
         match self.board.apply(SEAT, call) {
             Outcome::Answered(answer) => {
                 if let Reply::Got(message) = answer.reply() {
@@ -364,8 +364,8 @@ impl Run {
                 }
                 Ok(())
             }
-            Outcome::WouldWait(_) => Err(io::ErrorKind::WouldBlock.into()),
-            Outcome::Refused(_, _) => Err(io::ErrorKind::OutOfMemory.into()),
+            Outcome::WouldWait(_) => Err(io::ErrorKind::WouldBlock),
+            Outcome::Refused(_, _) => Err(io::ErrorKind::OutOfMemory),
         }
     }
 }

@@ -52,5 +52,5 @@ pub struct Entry<M> {
     pub reply: Reply<M>,
 }
 
-/// An entry of a number's board is at most 72 bytes.
-const _: () = prove!(mem::size_of::<Entry<u64>>() <= 72);
+/// An entry of a number's board is at most 56 bytes.
+const _: () = prove!(mem::size_of::<Entry<u64>>() <= 56);

@@ -14,6 +14,8 @@ use cml_log::MessageLog;
 
 impl<M: Message, L: MessageLog<M>> Board<M, L> {
     /// Makes a call for `who`. An answered call adds its entry to the journal, and nothing else changes the board.
+    // Inlined, and what it calls is not: so each outcome is written once, where the caller looks at it.
+    #[inline(always)]
     pub fn apply(&mut self, who: Who, call: Call<M>) -> Outcome<M>
         ensures { Applies L.CHUNK M.SURE self.old self.new who call result }
     {

@@ -20,6 +20,7 @@ use cml_log::{Key, MessageLog};
 
 impl<M: Message, L: MessageLog<M>> Board<M, L> {
     /// Makes an object that holds no message.
+    #[inline(never)]
     pub(super) fn make(&mut self, who: Who, making: Making) -> Outcome<M>
         requires can { CanMake self.old making }
         requires room { HasRoom self.old }
@@ -41,6 +42,7 @@ impl<M: Message, L: MessageLog<M>> Board<M, L> {
         note(&mut self.journal, entry, call, Reply::Made(reply))
     }
 
+    #[inline(never)]
     pub(super) fn copy_port(&mut self, who: Who, port: Name) -> Outcome<M>
         requires fits { is_a is_port self.old.history port.0 ≡ true }
         requires room { HasRoom self.old }
@@ -52,6 +54,7 @@ impl<M: Message, L: MessageLog<M>> Board<M, L> {
         }
     }
 
+    #[inline(never)]
     pub(super) fn close_port(&mut self, who: Who, port: Name) -> Outcome<M>
         requires fits { is_a is_port self.old.history port.0 ≡ true }
         requires room { HasRoom self.old }

@@ -20,6 +20,7 @@ use std::alloc::{AllocError, Global};
 
 impl<M: Message, L: MessageLog<M>> Board<M, L> {
     /// Sends a message to a mailbox, or multicasts it on a channel.
+    #[inline(never)]
     pub(super) fn put(&mut self, who: Who, name: Name, message: M, putting: Putting) -> Outcome<M>
         requires fits { Fits self.old.history (putting_call putting name message) }
         requires room { HasRoom self.old }
@@ -43,6 +44,7 @@ impl<M: Message, L: MessageLog<M>> Board<M, L> {
         note(&mut self.journal, entry, call, Reply::Done)
     }
 
+    #[inline(never)]
     pub(super) fn receive(&mut self, who: Who, name: Name) -> Outcome<M>
         requires fits { is_a is_receiver self.old.history name.0 ≡ true }
         requires room { HasRoom self.old }
@@ -57,6 +59,7 @@ impl<M: Message, L: MessageLog<M>> Board<M, L> {
         self.take(who, name, source, key, Taking::Waiting)
     }
 
+    #[inline(never)]
     pub(super) fn poll(&mut self, who: Who, name: Name) -> Outcome<M>
         requires fits { is_a is_receiver self.old.history name.0 ≡ true }
         requires room { HasRoom self.old }
@@ -72,6 +75,7 @@ impl<M: Message, L: MessageLog<M>> Board<M, L> {
     }
 
     /// A call on a port that was closed before.
+    #[inline(always)]
     pub(super) fn find_closed(&mut self, who: Who, name: Name, asking: Asking) -> Outcome<M>
         requires fits { Fits self.old.history (asking_call asking name) }
         requires closed { is_open self.old.history name.0 ≡ false }
@@ -91,6 +95,7 @@ impl<M: Message, L: MessageLog<M>> Board<M, L> {
     }
 
     /// A poll where nothing is owed.
+    #[inline(always)]
     fn find_nothing(&mut self, who: Who, name: Name) -> Outcome<M>
         requires fits { is_a is_receiver self.old.history name.0 ≡ true }
         requires opened { is_open self.old.history name.0 ≡ true }
@@ -110,6 +115,7 @@ impl<M: Message, L: MessageLog<M>> Board<M, L> {
     }
 
     /// Takes the first message that is owed.
+    #[inline(always)]
     fn take(&mut self, who: Who, name: Name, source: Name, key: Key, taking: Taking) -> Outcome<M>
         requires reads { ReadsAt self.old name.0 source.0 key }
         requires owed { owed self.old.history name.0 ≢ [] }

@@ -21,6 +21,7 @@ use std::alloc::AllocError;
 
 impl<M: Message, L: MessageLog<M>> Board<M, L> {
     /// Makes an m-variable that holds this.
+    #[inline(never)]
     pub(super) fn make_full(&mut self, who: Who, message: M) -> Outcome<M>
         requires { HasRoom self.old }
         ensures { Applies L.CHUNK M.SURE self.old self.new who (Call.MVarInit message) result }
@@ -49,6 +50,7 @@ impl<M: Message, L: MessageLog<M>> Board<M, L> {
     }
 
     /// Puts a message into a variable, unless it is full.
+    #[inline(never)]
     pub(super) fn fill(&mut self, who: Who, name: Name, message: M) -> Outcome<M>
         requires fits { Fits self.old.history (Call.Put name message) }
         requires room { HasRoom self.old }
@@ -113,6 +115,7 @@ impl<M: Message, L: MessageLog<M>> Board<M, L> {
     }
 
     /// Gives what a variable holds, and empties it or not.
+    #[inline(never)]
     pub(super) fn look(&mut self, who: Who, name: Name, looking: Looking) -> Outcome<M>
         requires fits { Fits self.old.history (looking_call looking name) }
         requires room { HasRoom self.old }
@@ -202,6 +205,7 @@ impl<M: Message, L: MessageLog<M>> Board<M, L> {
     }
 
     /// Stores a message in an m-variable and gives what it held.
+    #[inline(never)]
     pub(super) fn swap(&mut self, who: Who, name: Name, message: M) -> Outcome<M>
         requires fits { Fits self.old.history (Call.Swap name message) }
         requires room { HasRoom self.old }
