@@ -7,6 +7,7 @@ mod BlockMemory
 mod BlockValues
 mod BlockSend
 mod Sharing
+mod RowLemmas
 mod BlockLemmas
 mod LinkedLemmas
 mod ChainLemmas

@@ -10,10 +10,10 @@ use denote.Param.Laws.{Laws}
 use denote.RattleType.{RattleType, RowLaws}
 use denote.RawPtr.{Ptr, lies_at}
 use denote.Sharing.{ShrLaws}
-use denote.SharingLaws.{beside_shr_laws, nothing_shr_laws}
+use denote.SharingLaws.{beside_shr_laws, nothing_shr_laws, said_shr_laws}
 use denote.Shares.{Shares-less}
-use denote.Struct.Lending.{lent_at, lent_at_shr_laws, Lends, Lends-both, Lends-first, Lends-lies, Lends-nothing}
-use Rattle.cml_log.specs.Blocks.{token, block_owns, blocks_own, block_lent, blocks_lent}
+use denote.Struct.Lending.{lent_at, lent_at_shr_laws, Lends, Lends-both, Lends-first, Lends-lies, Lends-nothing, Lends-said}
+use Rattle.cml_log.specs.Blocks.{token, fits, block_owns, blocks_own, block_lent, blocks_lent}
 
 module _ (R : RattleType) (L : RowLaws R) where
   one_laws : (block : Option (Ptr × R.Denot)) → ShrLaws (block_lent R block)
@@ -21,7 +21,7 @@ module _ (R : RattleType) (L : RowLaws R) where
   one_laws (Some block) = lent_at_shr_laws R L block.0 block.1
 
   pub lent_laws : (kept : List (Option (Ptr × R.Denot))) → ShrLaws (blocks_lent R kept)
-  lent_laws [] = nothing_shr_laws
+  lent_laws [] = said_shr_laws (fits R) tt
   lent_laws (block ∷ rest) = beside_shr_laws (block_lent R block) (blocks_lent R rest) (one_laws block) (lent_laws rest)
 
 module _ {M : Type 1} {𝓤 : Ura M} (𝓛 : Logic 𝓤) (l : Lft) (R : RattleType) (L : Laws R) (within : Incl l R.lives) where
@@ -32,6 +32,6 @@ module _ {M : Type 1} {𝓤 : Ura M} (𝓛 : Logic 𝓤) (l : Lft) (R : RattleTy
       (Lends-lies 𝓛 R l block.0 block.1 (Shares-less 𝓛 R R.lives l within (L.shares 𝓛) block.1))
 
   pub Lends-all : (kept : List (Option (Ptr × R.Denot))) → Lends 𝓛 (blocks_own R kept) (blocks_lent R kept) l
-  Lends-all [] = Lends-nothing 𝓛 ftrue l
+  Lends-all [] = Lends-said 𝓛 (fits R) tt l
   Lends-all (block ∷ rest) =
       Lends-both 𝓛 (block_owns R block) (blocks_own R rest) (block_lent R block) (blocks_lent R rest) l (Lends-one block) (Lends-all rest)

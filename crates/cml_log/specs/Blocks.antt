@@ -1,9 +1,11 @@
 -- The blocks of a log: each under its number, with where it lies and its content, or nothing where it was taken.
-use Rattle.std.specs.Prelude.{◌≡◌, ℕ, List, [], ◌∷◌, Option, Some, None, slice_index_or, ⊤}
-use base.Fml.{Lft, Fml, ftrue, fsep}
+use Rattle.std.specs.Prelude.{◌≡◌, ℕ, ◌^◌, List, [], ◌∷◌, Option, Some, None, slice_index_or, ⊤}
+use base.Fml.{Lft, Fml, ftrue, flt, fsep}
+use prog.Memory.{size}
 use denote.RattleType.{RattleType}
 use denote.RawPtr.{Ptr}
-use denote.Sharing.{nothing, beside}
+use denote.Param.{layout}
+use denote.Sharing.{nothing, said, beside}
 use denote.Struct.Lending.{lent_at}
 use Rattle.std_alloc.specs.Box.Ownership.{box_owns}
 use mir.Syntax.{Ty}
@@ -34,6 +36,10 @@ abbrev pub token : Ty → Ptr → Fml
 token = ghosts.dealloc_token heap
 
 module _ (R : RattleType) where
+  -- a content fits in memory
+  abbrev pub fits : Fml
+  fits = flt (size (layout R)) (2 ^ 63)
+
   -- what the right to a block owns
   abbrev pub right_owns : Ptr → R.Denot → Fml
   right_owns at content = box_owns token R at content
@@ -43,16 +49,16 @@ module _ (R : RattleType) where
   block_owns None = ftrue
   block_owns (Some block) = right_owns block.0 block.1
 
-  -- what the blocks own
+  -- what the blocks own: the right to each that is kept, and that a content fits in memory
   abbrev pub blocks_own : List (Option (Ptr × R.Denot)) → Fml
-  blocks_own [] = ftrue
+  blocks_own [] = fits
   blocks_own (block ∷ rest) = fsep (block_owns block) (blocks_own rest)
 
   abbrev pub block_lent : Option (Ptr × R.Denot) → Lft → Fml
   block_lent None = nothing
   block_lent (Some block) = lent_at R block.0 block.1
 
-  -- what is lent by a `&` to the blocks: the content of each that is kept
+  -- what is lent by a `&` to the blocks: the content of each that is kept, and that one fits in memory
   abbrev pub blocks_lent : List (Option (Ptr × R.Denot)) → Lft → Fml
-  blocks_lent [] = nothing
+  blocks_lent [] = said fits
   blocks_lent (block ∷ rest) = beside (block_lent block) (blocks_lent rest)

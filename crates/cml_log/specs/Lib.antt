@@ -3,6 +3,7 @@ pub mod Holds
 pub mod PlainLog
 pub mod Blocks
 pub mod Lends
+pub mod Row
 pub mod Chunks
 pub mod Chain
 pub mod Linked

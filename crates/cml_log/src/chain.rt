@@ -1,7 +1,7 @@
 ghost use Rattle.std.specs.Prelude.{◌≡◌, ℕ, ◌+◌, ◌-◌, ◌*◌, ◌/◌, ◌%◌, ◌^◌, ◌<◌, ◌≤◌, [], ◌∷◌, ◌++◌, Some, length, drop, false, option_copied, slice_get, ltb, IfOk, OnOk, OnErr, IfErr};
 
 use crate::Back;
-use crate::raw::{Address, Blocks, Chunk, Count};
+use crate::raw::{Address, Blocks, Chunk, Count, fits};
 use std::alloc::{AllocError, Global};
 use std::marker::Model;
 
@@ -42,11 +42,11 @@ impl<T: Drop, const N: usize> Model for Chain<T, N> {
 impl<T: Drop, const N: usize> Chain<T, N> {
     ghost use Rattle.cml_log.specs.Chain.{cell_at, count_at, LiesAt, end_of, is_idle, passed, with_count, Pushed, Passed, Begins};
 
-    /// A chain of one empty chunk. There is none of chunks without a place, or with more than 1,024.
+    /// A chain of one empty chunk. There is none of chunks without a place, with more than 1,024, or too large for memory.
     pub(crate) fn new(alloc: Global) -> Result<Chain<T, N>, AllocError>
         ensures { IfOk result (λ made. Begins made) }
     {
-        if N == 0 || N > 1024 {
+        if N == 0 || N > 1024 || !fits::<Chunk<T, N>>() {
             return Err(AllocError);
         }
         let mut made = Count::zero();
@@ -73,6 +73,7 @@ impl<T: Drop, const N: usize> Chain<T, N> {
         ensures back { IfErr result (λ refused. refused.0 ≡ item) }
         ensures refused { OnErr result (end_of N self.old % N ≡ N - 1) }
     {
+        self.blocks.fit();
         let slot = (self.next % N as u64) as usize;
         if slot + 1 < N {
             self.blocks.write(self.tail, slot, item);
@@ -97,6 +98,7 @@ impl<T: Drop, const N: usize> Chain<T, N> {
         ensures { option_copied result
             ≡ slice_get (drop (N * (at.number - self.now.given)) self.now.items) slot }
     {
+        self.blocks.fit();
         self.blocks.item(at, slot)
     }
 
@@ -116,6 +118,7 @@ impl<T: Drop, const N: usize> Chain<T, N> {
         ensures lies { LiesAt self.old.cells result.number result.at }
         ensures followed { self.new ≡ record self.old { followed = self.old.followed + 1 } }
     {
+        self.blocks.fit();
         self.blocks.follow(at, &mut self.followed).unwrap_or(at)
     }
 
@@ -125,6 +128,7 @@ impl<T: Drop, const N: usize> Chain<T, N> {
         requires room { count_at self.old.cells at.number + 1 < 2 ^ 64 }
         ensures { self.new ≡ with_count self.old at.number at.at (count_at self.old.cells at.number + 1) }
     {
+        self.blocks.fit();
         let cursors = self.blocks.cursors(at);
         self.blocks.set_cursors(at, cursors + 1);
     }
@@ -135,6 +139,7 @@ impl<T: Drop, const N: usize> Chain<T, N> {
         requires entered { 0 < count_at self.old.cells at.number }
         ensures { self.new ≡ with_count self.old at.number at.at (count_at self.old.cells at.number - 1) }
     {
+        self.blocks.fit();
         let cursors = self.blocks.cursors(at);
         self.blocks.set_cursors(at, cursors - 1);
     }
@@ -142,6 +147,7 @@ impl<T: Drop, const N: usize> Chain<T, N> {
     pub(crate) fn is_idle(&self) -> bool
         ensures { result ≡ is_idle N self.now }
     {
+        self.blocks.fit();
         self.head.number < self.tail.number && self.blocks.cursors(self.head) == 0
     }
 
@@ -152,6 +158,7 @@ impl<T: Drop, const N: usize> Chain<T, N> {
         requires lies { LiesAt self.old.cells next.number next.at }
         ensures { self.new ≡ passed N self.old }
     {
+        self.blocks.fit();
         self.blocks
             .take(self.head)
             .give_back(self.alloc, &mut self.given);
@@ -219,6 +226,7 @@ impl<T: Drop, const N: usize> Chain<T, N> {
             mut given,
             followed: _,
         } = self;
+        blocks.fit();
         blocks.take(head).give_back(alloc, &mut given);
         blocks.done();
     }

@@ -1,9 +1,10 @@
 //! The memory of a log's chunks: every pointer of the crate stands in this file.
 //!
 //! A block is made and given back by its right. While it lies among the blocks its right lies there too.
-ghost use Rattle.std.specs.Prelude.{◌≡◌, ℕ, ◌+◌, List, Option, [], ◌∷◌, ◌++◌, Some, None, length, slice_set, IfOk, OnErr};
+ghost use Rattle.std.specs.Prelude.{◌≡◌, ℕ, ◌+◌, List, Option, [], ◌∷◌, ◌++◌, true, Some, None, length, slice_set, IfOk, OnErr};
 ghost use base.Fml.{ftrue};
 ghost use denote.RawPtr.{Ptr};
+ghost use Rattle.std.specs.Mem.{FitsInMemory};
 ghost use Rattle.std_alloc.specs.Box.Ownership.{box_owns};
 ghost use Rattle.cml_log.specs.Blocks.{block_at, IsKept, IsBare, blocks_own, blocks_lent, right_owns};
 
@@ -12,6 +13,7 @@ mod chunk;
 pub(crate) use chunk::Chunk;
 use std::alloc::{AllocError, Allocator, Global};
 use std::marker::{Model, PhantomData, Send, Sync};
+use std::mem::size_of;
 
 /// How often something was done, for contracts alone: it has no bytes, and so no last value.
 pub struct Count {
@@ -132,6 +134,13 @@ impl<C: Drop> Right<C> {
     }
 }
 
+/// Whether a content of this type fits in memory.
+pub(crate) fn fits<C>() -> bool
+    ensures { result ≡ true → FitsInMemory C.row }
+{
+    size_of::<C>() < 0x8000_0000_0000_0000
+}
+
 /// The blocks of a log, each under its number. It has no bytes: each call is told where the block lies.
 pub(crate) struct Blocks<C> {
     mark: PhantomData<*const C>,
@@ -151,10 +160,16 @@ impl<C> Blocks<C> {
     ghost use Rattle.cml_log.specs.Lends.{lends_block};
 
     pub(crate) fn new() -> Blocks<C>
+        requires { FitsInMemory C.row }
         ensures { result.kept ≡ [] }
     {
         Blocks { mark: PhantomData }
     }
+
+    /// A content fits in memory, as whoever made the blocks has shown. What reads or drops a content asks for it.
+    pub(crate) fn fit(&self)
+        ensures { FitsInMemory C.row }
+    {}
 
     /// Keeps a block under the next number.
     pub(crate) fn put(&mut self, number: u64, right: Right<C>) -> Address

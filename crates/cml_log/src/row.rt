@@ -1,42 +1,46 @@
-ghost use Rattle.std.specs.Prelude.{◌≡◌, ◌<◌, [], ◌∷◌, ◌++◌, length, option_copied, slice_get, IfOk};
+ghost use Rattle.std.specs.Prelude.{◌≡◌, ◌<◌, [], ◌∷◌, ◌++◌, None, length, option_copied, slice_get};
 
-use std::alloc::{AllocError, Global};
+use std::array;
 use std::marker::Model;
 
 /// The `N` places of a chunk: each is written once, in order.
 #[derive(Drop)]
 pub(crate) struct Row<T, const N: usize> {
-    items: Vec<T>,
+    places: [Option<T>; N],
 }
 
 impl<T, const N: usize> Model for Row<T, N> {
-    ghost use Rattle.std.specs.Prelude.{List, ◌≤◌};
+    ghost use Rattle.std.specs.Prelude.{List};
     ghost use Rattle.std.specs.Coded.{coded_list};
-    ghost use Rattle.std.specs.Vec.{vec_capacity};
+    ghost use Rattle.cml_log.specs.Row.{written, IsRow};
 
     ghost Value = { List T };
 
     ghost coded = { coded_list T.code };
 
-    ghost view = { λ row. row.items.items };
+    ghost view = { λ row. written row.places };
 
-    ghost invariant = { λ row. N ≤ vec_capacity row.items };
+    ghost invariant = { λ row. IsRow N row.places };
 }
 
 impl<T: Drop, const N: usize> Row<T, N> {
-    pub(crate) fn new(alloc: Global) -> Result<Row<T, N>, AllocError>
-        ensures { IfOk result (λ row. row ≡ []) }
+    pub(crate) fn new() -> Row<T, N>
+        ensures { result ≡ [] }
     {
-        Ok(Row {
-            items: Vec::with_capacity(alloc, N)?,
-        })
+        Row {
+            places: array::from_fn(
+                |_| -> Option<T>
+                    ensures { result ≡ None }
+                { None },
+            ),
+        }
     }
 
     /// The item at a slot, if it was written.
     pub(crate) fn get(&self, slot: usize) -> Option<&T>
         ensures { option_copied result ≡ slice_get self.now slot }
     {
-        self.items.get(slot)
+        self.places.get(slot)?.as_ref()
     }
 
     /// Writes the next slot.
@@ -45,6 +49,6 @@ impl<T: Drop, const N: usize> Row<T, N> {
         requires within { slot < N }
         ensures { self.new ≡ self.old ++ item ∷ [] }
     {
-        self.items.push_reserved(item);
+        self.places[slot] = Some(item);
     }
 }

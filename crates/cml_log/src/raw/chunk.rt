@@ -23,9 +23,8 @@ impl<T: Drop, const N: usize> Chunk<T, N> {
             × (made.new.count ≡ made.old.count + 1)) }
         ensures err { OnErr result (made.new ≡ made.old) }
     {
-        let row = Row::new(alloc)?;
         let chunk = Chunk {
-            row,
+            row: Row::new(),
             link: None,
             cursors: 0,
         };

@@ -1,4 +1,4 @@
-use Rattle.std.proofs.Common.{◌≡◌, ◌+◌, sym, ap, subst, ◌∙◌, arith}
+use Rattle.std.proofs.Common.{◌≡◌, ◌+◌, sym, ap, subst, ◌∙◌}
 use Rattle.cml_log.specs.Chain.{LiesAt, count_of, count_at, with_count}
 use Rattle.cml_log.proofs.BlockLemmas.{kept_where_lies, cell_shows}
 use Rattle.cml_log.proofs.ChainLemmas.{IsChain-recounted, shown-recounted}
@@ -6,7 +6,7 @@ use Rattle.cml_log.proofs.chain.Chain.enter.Goals as goal
 
 pub cursors-cursors-requires : goal.cursors-cursors-requires
 cursors-cursors-requires g c =
-    (omega arith, kept_where_lies c.self.inside.blocks.kept c.args.at.number c.args.at.at (subst (λ m. LiesAt m.cells c.args.at.number c.args.at.at) (sym c.self.view_is) c.requires.lies))
+    (c.fit.ensures, kept_where_lies c.self.inside.blocks.kept c.args.at.number c.args.at.at (subst (λ m. LiesAt m.cells c.args.at.number c.args.at.at) (sym c.self.view_is) c.requires.lies))
 
 pub invariant_of-self : goal.invariant_of-self
 invariant_of-self g c =

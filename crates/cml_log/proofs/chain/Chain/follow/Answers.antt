@@ -1,4 +1,4 @@
-use Rattle.std.proofs.Common.{◌<◌, ◌/◌, map, unwrap_or, sym, ap, subst, ◌∙◌, arith}
+use Rattle.std.proofs.Common.{◌<◌, ◌/◌, map, unwrap_or, sym, ap, subst, ◌∙◌}
 use Rattle.cml_log.specs.Chunks.{cell_of}
 use Rattle.cml_log.specs.Chain.{LiesAt, end_of}
 use Rattle.cml_log.proofs.BlockLemmas.{kept_where_lies}
@@ -7,7 +7,7 @@ use Rattle.cml_log.proofs.chain.Chain.follow.Goals as goal
 
 pub follow-requires : goal.follow-requires
 follow-requires g c =
-    (omega arith, kept_where_lies c.self.inside.blocks.kept c.args.at.number c.args.at.at (subst (λ m. LiesAt m.cells c.args.at.number c.args.at.at) (sym c.self.view_is) c.requires.lies))
+    (c.fit.ensures, kept_where_lies c.self.inside.blocks.kept c.args.at.number c.args.at.at (subst (λ m. LiesAt m.cells c.args.at.number c.args.at.at) (sym c.self.view_is) c.requires.lies))
 
 pub returns-clause-number : goal.returns-clause-number
 returns-clause-number g c =

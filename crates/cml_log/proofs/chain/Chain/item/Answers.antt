@@ -1,4 +1,4 @@
-use Rattle.std.proofs.Common.{◌-◌, ◌*◌, drop, sym, ap, subst, ◌∙◌, arith}
+use Rattle.std.proofs.Common.{◌-◌, ◌*◌, drop, sym, ap, subst, ◌∙◌}
 use Rattle.std.specs.List.{slice_get}
 use Rattle.cml_log.specs.Chain.{LiesAt}
 use Rattle.cml_log.proofs.BlockLemmas.{kept_where_lies}
@@ -7,7 +7,7 @@ use Rattle.cml_log.proofs.chain.Chain.item.Goals as goal
 
 pub item-requires : goal.item-requires
 item-requires g c =
-    (omega arith, kept_where_lies c.self.inside.blocks.kept c.args.at.number c.args.at.at (subst (λ m. LiesAt m.cells c.args.at.number c.args.at.at) (sym c.self.view_is) c.requires.lies))
+    (c.fit.ensures, kept_where_lies c.self.inside.blocks.kept c.args.at.number c.args.at.at (subst (λ m. LiesAt m.cells c.args.at.number c.args.at.at) (sym c.self.view_is) c.requires.lies))
 
 pub returns : goal.returns
 returns g c =

@@ -5,7 +5,7 @@ use Rattle.cml_log.proofs.chain.Chain.push.Goals as goal
 
 pub write-requires : goal.write-requires
 write-requires g c =
-    (omega arith, (c.self.invariant.linked.finishes, (slot_is c.self.inside.blocks.kept c.self.inside.head c.self.inside.tail c.self.inside.next c.self.inside.made.count c.self.inside.given.count c.self.invariant, within c.self.inside.blocks.kept c.self.inside.head c.self.inside.tail c.self.inside.next c.self.inside.made.count c.self.inside.given.count c.self.invariant)))
+    (c.fit.ensures, (c.self.invariant.linked.finishes, (slot_is c.self.inside.blocks.kept c.self.inside.head c.self.inside.tail c.self.inside.next c.self.inside.made.count c.self.inside.given.count c.self.invariant, within c.self.inside.blocks.kept c.self.inside.head c.self.inside.tail c.self.inside.next c.self.inside.made.count c.self.inside.given.count c.self.invariant)))
 
 pub invariant_of-self : goal.invariant_of-self
 invariant_of-self g c =
@@ -19,11 +19,11 @@ returns-then-slot-clause-ok g c =
 
 pub write-requires-2 : goal.write-requires-2
 write-requires-2 g c =
-    (omega arith, (c.self.invariant.linked.finishes, (slot_is c.self.inside.blocks.kept c.self.inside.head c.self.inside.tail c.self.inside.next c.self.inside.made.count c.self.inside.given.count c.self.invariant, within c.self.inside.blocks.kept c.self.inside.head c.self.inside.tail c.self.inside.next c.self.inside.made.count c.self.inside.given.count c.self.invariant)))
+    (c.fit.ensures, (c.self.invariant.linked.finishes, (slot_is c.self.inside.blocks.kept c.self.inside.head c.self.inside.tail c.self.inside.next c.self.inside.made.count c.self.inside.given.count c.self.invariant, within c.self.inside.blocks.kept c.self.inside.head c.self.inside.tail c.self.inside.next c.self.inside.made.count c.self.inside.given.count c.self.invariant)))
 
 pub set_link-requires : goal.set_link-requires
 set_link-requires g c =
-    (omega arith, tail_put c.self.inside.blocks.kept c.self.inside.head c.self.inside.tail c.self.inside.next c.self.inside.made.count c.self.inside.given.count c.self.invariant c.write-2.new.self.kept c.args.item c.write-2.ensures c.put-next.new.self.kept _ c.put-next.ensures.kept)
+    (c.fit.ensures, tail_put c.self.inside.blocks.kept c.self.inside.head c.self.inside.tail c.self.inside.next c.self.inside.made.count c.self.inside.given.count c.self.invariant c.write-2.new.self.kept c.args.item c.write-2.ensures c.put-next.new.self.kept _ c.put-next.ensures.kept)
 
 pub invariant_of-self-2 : goal.invariant_of-self-2
 invariant_of-self-2 g c =
