@@ -10,7 +10,7 @@ use denote.RawPtr.{Ptr}
 use Rattle.cml_log.specs.declared.raw.Address.{Address}
 use Rattle.cml_log.specs.declared.raw.chunk.Chunk.{Chunk}
 use Rattle.cml_log.specs.Blocks.{block_at, IsKept}
-use Rattle.cml_log.specs.Chunks.{row_of, cell_of, row_at, link_at, items_of, Rewrites, with_row, with_link, with_cursors}
+use Rattle.cml_log.specs.Contents.{row_of, cell_of, row_at, link_at, items_of, Rewrites, with_row, with_link, with_cursors}
 use Rattle.cml_log.specs.Chain.{Chunks, cell_at, count_of, count_at, LiesAt, end_of, passed, with_count, Pushed}
 use Rattle.cml_log.specs.Linked.{IsLinked, IsChain}
 use Rattle.cml_log.proofs.BlockLemmas.{lies_where_kept, block_at-here, block_at-other, items_of-same}

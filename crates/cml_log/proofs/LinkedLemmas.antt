@@ -8,7 +8,7 @@ use denote.RawPtr.{Ptr}
 use Rattle.cml_log.specs.declared.raw.Address.{Address}
 use Rattle.cml_log.specs.declared.raw.chunk.Chunk.{Chunk}
 use Rattle.cml_log.specs.Blocks.{block_at, IsKept}
-use Rattle.cml_log.specs.Chunks.{row_of, link_of, row_at, link_at, items_of}
+use Rattle.cml_log.specs.Contents.{row_of, link_of, row_at, link_at, items_of}
 use Rattle.cml_log.specs.Linked.{IsLinked}
 use Rattle.cml_log.proofs.BlockLemmas.{within_found, block_at-here, block_at-other, same_everywhere, items_of-same, items_of-last, items_of-more, items_of-passed}
 

@@ -4,7 +4,7 @@ pub mod PlainLog
 pub mod Blocks
 pub mod Lends
 pub mod Row
-pub mod Chunks
+pub mod Contents
 pub mod Chain
 pub mod Linked
 pub mod ChunkLog

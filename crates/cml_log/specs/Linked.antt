@@ -4,7 +4,7 @@ use denote.RawPtr.{Ptr}
 use Rattle.cml_log.specs.declared.raw.Address.{Address}
 use Rattle.cml_log.specs.declared.raw.chunk.Chunk.{Chunk}
 use Rattle.cml_log.specs.Blocks.{block_at}
-use Rattle.cml_log.specs.Chunks.{row_at, link_at, items_of}
+use Rattle.cml_log.specs.Contents.{row_at, link_at, items_of}
 
 module _ {T : Type 0} {N : ℕ} where
   -- each chunk from the head to the tail holds its part of the items, and is linked to the next

@@ -19,7 +19,7 @@ pub(crate) struct Chain<T: Drop, const N: usize> {
 
 impl<T: Drop, const N: usize> Model for Chain<T, N> {
     ghost use Rattle.std.specs.Prelude.{map};
-    ghost use Rattle.cml_log.specs.Chunks.{items_of, cell_of};
+    ghost use Rattle.cml_log.specs.Contents.{items_of, cell_of};
     ghost use Rattle.cml_log.specs.Chain.{Chunks, chunks_code};
     ghost use Rattle.cml_log.specs.Linked.{IsChain};
 

@@ -1,6 +1,6 @@
 ghost use Rattle.std.specs.Prelude.{◌≡◌, ◌+◌, ◌<◌, [], ◌∷◌, ◌++◌, Some, None, length, option_copied, slice_get, IfOk, OnErr};
 ghost use Rattle.cml_log.specs.Blocks.{block_at, IsKept};
-ghost use Rattle.cml_log.specs.Chunks.{row_at, link_at, cell_of, Rewrites, with_row, with_link, with_cursors};
+ghost use Rattle.cml_log.specs.Contents.{row_at, link_at, cell_of, Rewrites, with_row, with_link, with_cursors};
 
 use super::{Address, Blocks, Count, Right};
 use crate::row::Row;

@@ -1,5 +1,5 @@
 use Rattle.std.proofs.Common.{◌<◌, ◌/◌, map, unwrap_or, sym, ap, subst, ◌∙◌}
-use Rattle.cml_log.specs.Chunks.{cell_of}
+use Rattle.cml_log.specs.Contents.{cell_of}
 use Rattle.cml_log.specs.Chain.{LiesAt, end_of}
 use Rattle.cml_log.proofs.BlockLemmas.{kept_where_lies}
 use Rattle.cml_log.proofs.ChainLemmas.{end_shown, link_leads}

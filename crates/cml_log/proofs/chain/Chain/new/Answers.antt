@@ -1,5 +1,5 @@
 use Rattle.std.proofs.Common.{◌++◌, ◌∷◌, [], Some, map, ap, ◌∙◌}
-use Rattle.cml_log.specs.Chunks.{items_of, cell_of}
+use Rattle.cml_log.specs.Contents.{items_of, cell_of}
 use Rattle.cml_log.proofs.chain.Chain.new.Goals as goal
 
 pub returns : goal.returns

@@ -1,4 +1,4 @@
--- What the chunk of a number shows, and a change of one chunk.
+-- What the chunk in the block of a number shows, and a change of one chunk.
 use Rattle.std.specs.Prelude.{◌≡◌, ℕ, List, [], ◌∷◌, ◌++◌, Option, Some, None, slice_set}
 use denote.RawPtr.{Ptr}
 use Rattle.cml_log.specs.declared.raw.Address.{Address}
