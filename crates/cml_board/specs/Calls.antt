@@ -41,6 +41,15 @@ making_call (making.Port channel) = NewPort channel
 making_call (making.Copy port channel key) = CopyPort port
 making_call (making.Variable form) = variable_call form
 
+-- it makes an object that holds no message, and not by copying a port
+abbrev pub makes_empty : {M : Type 0} → Call M → Bool
+makes_empty NewMailbox = true
+makes_empty NewChannel = true
+makes_empty (NewPort channel) = true
+makes_empty NewIVar = true
+makes_empty NewMVar = true
+makes_empty call = false
+
 abbrev pub looking_call : {M : Type 0} → Looking → Name → Call M
 looking_call looking.Get name = Get name
 looking_call looking.GetPoll name = GetPoll name

@@ -4,11 +4,10 @@ ghost use Rattle.cml_board.specs.History.{Fits};
 ghost use Rattle.cml_board.specs.Outcome.{Applies, Refuses, HasRoom};
 
 use super::Board;
-use super::note::{Looking, Making, Putting};
+use super::note::{Looking, Putting};
 use crate::call::Call;
 use crate::entry::Who;
 use crate::message::Message;
-use crate::object::Form;
 use crate::outcome::{Outcome, Refusal};
 use cml_log::MessageLog;
 
@@ -23,17 +22,17 @@ impl<M: Message, L: MessageLog<M>> Board<M, L> {
             return Outcome::Refused(refusal, call);
         }
         match call {
-            Call::NewMailbox => self.make(who, Making::Mailbox),
-            Call::NewChannel => self.make(who, Making::Channel),
-            Call::NewPort(channel) => self.make(who, Making::Port(channel)),
+            Call::NewMailbox
+            | Call::NewChannel
+            | Call::NewPort(_)
+            | Call::NewIVar
+            | Call::NewMVar => self.make_by(who, call),
             Call::CopyPort(port) => self.copy_port(who, port),
             Call::ClosePort(port) => self.close_port(who, port),
             Call::Send(name, message) => self.put(who, name, message, Putting::Sending),
             Call::Cast(name, message) => self.put(who, name, message, Putting::Casting),
             Call::Recv(name) => self.receive(who, name),
             Call::Poll(name) => self.poll(who, name),
-            Call::NewIVar => self.make(who, Making::Variable(Form::Once)),
-            Call::NewMVar => self.make(who, Making::Variable(Form::Mutable)),
             Call::MVarInit(message) => self.make_full(who, message),
             Call::Put(name, message) => self.fill(who, name, message),
             Call::Get(name) => self.look(who, name, Looking::Get),

@@ -1,10 +1,10 @@
 //! Calls that make or close an object.
 ghost use Rattle.std.specs.Prelude.{◌≡◌, true, false, Some, MatchOption, slice_get};
 ghost use Rattle.cml_board.specs.Objects.{is_port};
-ghost use Rattle.cml_board.specs.Calls.{making_call};
+ghost use Rattle.cml_board.specs.Calls.{making_call, makes_empty};
 ghost use Rattle.cml_board.specs.Making.{CanMake};
 ghost use Rattle.cml_board.specs.Counts.{is_a};
-ghost use Rattle.cml_board.specs.History.{is_open};
+ghost use Rattle.cml_board.specs.History.{is_open, Fits};
 ghost use Rattle.cml_board.specs.Holdings.{open_port};
 ghost use Rattle.cml_board.specs.Outcome.{Applies, HasRoom};
 
@@ -14,13 +14,30 @@ use super::objects::{add_made, close_port};
 use crate::call::{Call, Name};
 use crate::entry::{Entry, Reply, Who};
 use crate::message::Message;
-use crate::object::{Object, Reading};
+use crate::object::{Form, Object, Reading};
 use crate::outcome::{Outcome, Refusal};
 use cml_log::{Key, MessageLog};
 
 impl<M: Message, L: MessageLog<M>> Board<M, L> {
-    /// Makes an object that holds no message.
+    /// A call that makes an object which holds no message.
     #[inline(never)]
+    pub(super) fn make_by(&mut self, who: Who, call: Call<M>) -> Outcome<M>
+        requires fits { Fits self.old.history call }
+        requires room { HasRoom self.old }
+        requires makes { makes_empty call ≡ true }
+        ensures { Applies L.CHUNK M.SURE self.old self.new who call result }
+    {
+        match call {
+            Call::NewMailbox => self.make(who, Making::Mailbox),
+            Call::NewChannel => self.make(who, Making::Channel),
+            Call::NewPort(channel) => self.make(who, Making::Port(channel)),
+            Call::NewIVar => self.make(who, Making::Variable(Form::Once)),
+            Call::NewMVar => self.make(who, Making::Variable(Form::Mutable)),
+            _ => unreachable!(),
+        }
+    }
+
+    /// Makes an object that holds no message.
     pub(super) fn make(&mut self, who: Who, making: Making) -> Outcome<M>
         requires can { CanMake self.old making }
         requires room { HasRoom self.old }
