@@ -82,6 +82,7 @@ pub fn log_in<M, L: MessageLog<M>>(object: &Object<M, L>) -> &L
 }
 
 /// Adds a message to the object's log, or hands it back.
+#[inline(always)]
 pub fn push<M, L: MessageLog<M>>(object: &mut Object<M, L>, message: M) -> Result<(), Back<M>>
     requires stands { IsSome (log_in (map_log L.log object.old)) }
     requires room { (log : Log M) → log_in (map_log L.log object.old) ≡ Some log → next_of log < 18446744073709551614 }
@@ -98,6 +99,7 @@ pub fn push<M, L: MessageLog<M>>(object: &mut Object<M, L>, message: M) -> Resul
 }
 
 /// Moves a cursor of the object's log past the message at its place.
+#[inline(always)]
 pub fn advance<M, L: MessageLog<M>>(object: &mut Object<M, L>, key: Key)
     requires stands { IsSome (log_in (map_log L.log object.old)) }
     requires opened { (log : Log M) → log_in (map_log L.log object.old) ≡ Some log → IsOpen log key }

@@ -66,6 +66,7 @@ impl<T: Drop, const N: usize> Chain<T, N> {
     }
 
     /// Writes an item at the next place; where it fills its chunk the next one is made first.
+    #[inline(always)]
     pub(crate) fn push(&mut self, item: T) -> Result<(), Back<T>>
         requires { end_of N self.old < 18446744073709551614 }
         ensures ok { OnOk result (Pushed N self.old self.new item) }

@@ -71,6 +71,7 @@ impl<T: Drop, const N: usize> MessageLog<T> for ChunkLog<T, N> {
         })
     }
 
+    #[inline(always)]
     fn push(&mut self, item: T) -> Result<(), Back<T>>
         requires { next_of self.old.log < 18446744073709551614 }
         ensures ok { OnOk result (self.new.log ≡ trimmed (chunk_of N) (with_item self.old.log item)) }
@@ -122,6 +123,7 @@ impl<T: Drop, const N: usize> MessageLog<T> for ChunkLog<T, N> {
             .item(cursor.at, (cursor.place % N as u64) as usize)
     }
 
+    #[inline(always)]
     fn advance(&mut self, k: Key)
         requires opened { IsOpen self.old.log k }
         requires owed { 0 < length (owed_items self.old.log k) }

@@ -19,6 +19,7 @@ pub fn log_at<M, L: MessageLog<M>>(objects: &Vec<Object<M, L>>, name: Name) -> &
 }
 
 /// Adds a message to a log, or hands it back.
+#[inline(always)]
 pub fn push_at<M, L: MessageLog<M>>(
     objects: &mut Vec<Object<M, L>>,
     name: Name,
@@ -34,6 +35,7 @@ pub fn push_at<M, L: MessageLog<M>>(
 }
 
 /// Moves a log's cursor past the message at its place.
+#[inline(always)]
 pub fn advance_at<M, L: MessageLog<M>>(objects: &mut Vec<Object<M, L>>, name: Name, key: Key)
     requires { HasOwed (seen_all L.log objects.old.items) name.0 key }
     ensures { seen_all L.log objects.new.items ≡ on_log (advanced L.CHUNK key) (seen_all L.log objects.old.items) name.0 }
