@@ -1,0 +1,3 @@
+pub mod Ring
+pub mod Ends
+pub mod Sides
