@@ -1,3 +1,5 @@
 pub mod Ring
 pub mod Ends
 pub mod Sides
+pub mod Laned
+pub mod Moving

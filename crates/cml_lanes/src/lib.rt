@@ -4,6 +4,7 @@
 
 mod inner_lane;
 mod lane;
+mod moving;
 mod way;
 
 pub use lane::{Lane, LaneEnd, LaneFull};

@@ -1,0 +1,2 @@
+pub mod Laning
+pub mod Moves

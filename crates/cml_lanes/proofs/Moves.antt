@@ -1,0 +1,169 @@
+-- Moves of messages, one after another.
+use Rattle.std.proofs.Common.{◌≡◌, ◌≢◌, ℕ, ◌+◌, ◌<◌, ◌≤◌, Bool, true, false, List, [], ◌∷◌, ◌++◌, length, slice_get, Option, Some, None, IfNone, is_some, subst, refl, sym, ap, ◌∙◌, arith, length-append, append_assoc}
+use Rattle.std.proofs.lemmas.Option.{same_Some, none-some}
+use Rattle.std.proofs.lemmas.List.{append-nil}
+use Rattle.std.proofs.lemmas.Bool.{true≢false}
+use Rattle.cml_board.specs.declared.call.Call.{Call}
+use Rattle.cml_board.specs.declared.entry.Who.TheVariants.{Lane}
+use Rattle.cml_board.specs.declared.entry.Reply.{Reply}
+use Rattle.cml_board.specs.declared.entry.Reply.TheVariants.{Done}
+use Rattle.cml_board.specs.declared.entry.Entry.{Entry}
+use Rattle.cml_board.specs.declared.outcome.Refusal.{Refusal}
+use Rattle.cml_board.specs.declared.outcome.Refusal.TheVariants.{JournalFull, NoMemory}
+use Rattle.cml_board.specs.History.{kind_of, answer}
+use Rattle.cml_board.specs.Shown.{Shown}
+use Rattle.cml_board.specs.Outcome.{IsAsBefore, AddsEntry, Refuses, HasRoom}
+use Rattle.cml_board.proofs.Sparing.{call_takes}
+use Rattle.cml_lanes.specs.Sides.{LaneSide, way_call, way_kind}
+use Rattle.cml_lanes.specs.Laned.{laned, lane_entry, with_lane}
+use Rattle.cml_lanes.specs.Moving.{KeepsLane, Moves, Stops, Looks, Drains, Empties, IsHeld}
+use Rattle.cml_lanes.proofs.Laning.{laned_more, kind_more, with_lane_more, fits_way, answer_way, way_has_message}
+
+-- what holds where there is no value holds where none is
+pub on_none : {X P : Type 0} (o : Option X) → is_some o ≡ false → IfNone o P → P
+on_none None e p = p
+on_none (Some x) e p = absurd (true≢false e)
+
+some_first : {X : Type 0} (xs : List X) → 0 < length xs → (x : X) × (slice_get xs 0 ≡ Some x)
+some_first [] some = absurd (omega (arith, some))
+some_first (x ∷ xs) some = (x, refl)
+
+no_items : {X : Type 0} (xs : List X) → length xs ≡ 0 → xs ≡ []
+no_items [] none = refl
+no_items (x ∷ xs) none = absurd (omega (arith, none))
+
+first_is : {X : Type 0} {xs ys : List X} {x y : X} → xs ≡ x ∷ ys → slice_get xs 0 ≡ Some y → y ≡ x
+first_is {X} {xs} {ys} {x} {y} all first = same_Some y x (sym first ∙ ap (λ zs. slice_get zs 0) all)
+
+module _ {M : Type 0} where
+  pub unchanged : (board : Shown M) → IsAsBefore board board
+  unchanged board = record { history = refl; limit = refl; objects = refl; reserved = omega arith }
+
+  -- none were moved
+  pub none_move : (number : ℕ) (board : Shown M) (side : LaneSide M) → Moves number 0 board board side side
+  none_move number board side = record {
+    moved = [];
+    as_many = refl;
+    history = refl;
+    limit = refl;
+    reserved = omega arith;
+    side = ap (λ received. record side { received = received }) (sym (append-nil side.received));
+    seen = refl;
+  }
+
+  -- one was moved
+  pub one_moves : (number : ℕ) (old new : Shown M) (from to : LaneSide M) (call : Call M) (reply : Reply M) (message taken : M)
+      → AddsEntry old new (Lane number) call reply → answer old.history call ≡ Some reply
+      → call ≡ way_call from.way from.target message → slice_get from.seen 0 ≡ Some message
+      → to ≡ record from { received = from.received ++ taken ∷ []; seen = to.seen } → from.seen ≡ taken ∷ to.seen → Moves number 1 old new from to
+  one_moves number old new from to call reply message taken adds answers call_is next side seen =
+      let same : message ≡ taken = first_is seen next in
+      let replied : reply ≡ Done = same_Some _ _ (sym answers ∙ ap (answer old.history) call_is ∙ answer_way old.history from.way from.target message) in
+      record {
+        moved = taken ∷ [];
+        as_many = refl;
+        history = adds.history ∙ ap (λ c. record { who = Lane number; call = c; reply = reply } ∷ old.history) call_is
+            ∙ ap (λ r. record { who = Lane number; call = way_call from.way from.target message; reply = r } ∷ old.history) replied
+            ∙ ap (λ m. lane_entry number from.way from.target m ∷ old.history) same;
+        limit = adds.limit;
+        reserved = adds.reserved;
+        side = side;
+        seen = seen;
+      }
+
+  -- some were moved, and then more
+  pub moves_more : (number count more total : ℕ) (old mid new : Shown M) (from via to : LaneSide M) → count + more ≡ total
+      → Moves number count old mid from via → Moves number more mid new via to → Moves number total old new from to
+  moves_more number count more total old mid new from via to sum a b = record {
+    moved = a.moved ++ b.moved;
+    as_many = omega (arith, length-append a.moved b.moved, a.as_many, b.as_many, sum);
+    history = b.history
+        ∙ ap (λ (side : LaneSide M). with_lane number side.way side.target b.moved mid.history) a.side
+        ∙ ap (λ h. with_lane number from.way from.target b.moved h) a.history
+        ∙ sym (with_lane_more number from.way from.target a.moved b.moved old.history);
+    limit = b.limit ∙ a.limit;
+    reserved = omega (arith, a.reserved, b.reserved, sum);
+    side = b.side
+        ∙ ap (λ (side : LaneSide M). record side { received = side.received ++ b.moved; seen = to.seen }) a.side
+        ∙ ap (λ received. record from { received = received; seen = to.seen }) (append_assoc from.received a.moved b.moved);
+    seen = a.seen ∙ ap (λ rest. a.moved ++ rest) b.seen ∙ sym (append_assoc a.moved b.moved to.seen);
+  }
+
+  -- the lane is kept
+  pub keeps_moved : (number count : ℕ) (old new : Shown M) (from to : LaneSide M) → KeepsLane old.history number from
+      → Moves number count old new from to → KeepsLane new.history number to
+  keeps_moved number count old new from to keeps m = record {
+    laned = ap (λ h. laned h number) m.history ∙ laned_more number from.way from.target m.moved old.history
+        ∙ ap (λ received. received ++ m.moved) keeps.laned ∙ sym (ap (λ (side : LaneSide M). side.received) m.side);
+    kind = ap (λ (side : LaneSide M). kind_of new.history side.target.0) m.side
+        ∙ ap (λ h. kind_of h from.target.0) m.history
+        ∙ kind_more number from.way from.target m.moved old.history from.target.0 (way_kind from.way) keeps.kind
+        ∙ sym (ap (λ (side : LaneSide M). Some (way_kind side.way)) m.side);
+  }
+
+  -- what is still seen
+  pub left_seen : {number count : ℕ} {old new : Shown M} {from to : LaneSide M} → Moves number count old new from to → length from.seen ≡ count + length to.seen
+  left_seen {number} {count} {old} {new} {from} {to} m = omega (arith, ap length m.seen, length-append m.moved to.seen, m.as_many)
+
+  pub all_moved : {number count : ℕ} {old new : Shown M} {from to : LaneSide M} → Moves number count old new from to → length from.seen ≡ count → to.seen ≡ []
+  all_moved {number} {count} {old} {new} {from} {to} m all = no_items to.seen (omega (arith, left_seen m, all))
+
+  -- the first call was refused
+  pub stops_first : (chunk : ℕ) (sure : Bool) (number : ℕ) (old new : Shown M) (side : LaneSide M) (refusal : Refusal) (message : M)
+      → IsAsBefore old new → slice_get side.seen 0 ≡ Some message → Refuses chunk sure old (way_call side.way side.target message) refusal
+      → Stops chunk sure number 0 old new side side refusal
+  stops_first chunk sure number old new side refusal message after next refuses =
+      record { at = old; moves = none_move number old side; after = after; message = message; next = next; refused = refuses }
+
+  -- the journal is full
+  pub stops_full : (chunk : ℕ) (sure : Bool) (number : ℕ) (board : Shown M) (side : LaneSide M) → KeepsLane board.history number side
+      → 0 < length side.seen → length board.history ≡ board.limit → Stops chunk sure number 0 board board side side JournalFull
+  stops_full chunk sure number board side keeps some full =
+      let first = some_first side.seen some in
+      stops_first chunk sure number board board side JournalFull first.0 (unchanged board) first.1 (fits_way board.history side.way side.target first.0 keeps.kind, full)
+
+  -- the message can't be shared
+  pub stops_unshared : (chunk : ℕ) (sure : Bool) (number : ℕ) (board : Shown M) (side : LaneSide M) → KeepsLane board.history number side
+      → 0 < length side.seen → HasRoom board → sure ≡ false → Stops chunk sure number 0 board board side side NoMemory
+  stops_unshared chunk sure number board side keeps some room unsure =
+      let first = some_first side.seen some in
+      let call : Call M = way_call side.way side.target first.0 in
+      stops_first chunk sure number board board side NoMemory first.0 (unchanged board) first.1
+      (fits_way board.history side.way side.target first.0 keeps.kind, room,
+        (λ never. none-some Done (sym never ∙ answer_way board.history side.way side.target first.0)),
+        call_takes board call (way_has_message side.way side.target first.0) unsure)
+
+  -- the call was refused by the board
+  pub stops_refused : (chunk : ℕ) (sure : Bool) (number : ℕ) (old new : Shown M) (side : LaneSide M) (refusal : Refusal) (call : Call M) (message : M)
+      → IsAsBefore old new → slice_get side.seen 0 ≡ Some message → call ≡ way_call side.way side.target message → Refuses chunk sure old call refusal
+      → Stops chunk sure number 0 old new side side refusal
+  stops_refused chunk sure number old new side refusal call message after next is refuses =
+      stops_first chunk sure number old new side refusal message after next (subst (λ c. Refuses chunk sure old c refusal) is refuses)
+
+  -- some were moved before it
+  pub stops_later : (chunk : ℕ) (sure : Bool) (number count : ℕ) (old mid new : Shown M) (from via to : LaneSide M) (refusal : Refusal)
+      → Moves number count old mid from via → Stops chunk sure number 0 mid new via to refusal → Stops chunk sure number count old new from to refusal
+  stops_later chunk sure number count old mid new from via to refusal a s =
+      record { at = s.at; moves = moves_more number count 0 count old mid s.at from via to (omega arith) a s.moves; after = s.after; message = s.message; next = s.next; refused = s.refused }
+
+  -- so many went out until one was refused
+  pub stopped_moves : {chunk : ℕ} {sure : Bool} {number count : ℕ} {old new : Shown M} {from to : LaneSide M} {refusal : Refusal}
+      → Stops chunk sure number count old new from to refusal → Moves number count old new from to
+  stopped_moves {chunk} {sure} {number} {count} {old} {new} {from} {to} {refusal} s = record {
+    moved = s.moves.moved;
+    as_many = s.moves.as_many;
+    history = s.after.history ∙ s.moves.history;
+    limit = s.after.limit ∙ s.moves.limit;
+    reserved = omega (arith, s.moves.reserved, s.after.reserved);
+    side = s.moves.side;
+    seen = s.moves.seen;
+  }
+
+  -- the refused message is still seen
+  pub still_seen : {chunk : ℕ} {sure : Bool} {number count : ℕ} {old new : Shown M} {from to : LaneSide M} {refusal : Refusal}
+      → Stops chunk sure number count old new from to refusal → 0 < length to.seen
+  still_seen {chunk} {sure} {number} {count} {old} {new} {from} {to} {refusal} s = by_cases to.seen s.next
+    where
+      by_cases : (xs : List M) → slice_get xs 0 ≡ Some s.message → 0 < length xs
+      by_cases [] next = absurd (none-some s.message next)
+      by_cases (x ∷ xs) next = omega arith

@@ -1,0 +1,32 @@
+use Rattle.std.proofs.Common.{◌≡◌, refl, sym, ap, ◌∙◌, arith, length}
+use Rattle.std.proofs.lemmas.List.{length-reverse}
+use Rattle.cml_lanes.specs.Sides.{way_call}
+use Rattle.cml_lanes.proofs.Laning.{laned_within, same_way_call}
+use Rattle.cml_lanes.proofs.Moves.{stops_full, stops_unshared, stops_refused, one_moves}
+use Rattle.cml_lanes.proofs.moving.move_next.Goals as goal
+
+pub returns-then-journal-limit-clause-stopped : goal.returns-then-journal-limit-clause-stopped
+returns-then-journal-limit-clause-stopped g c =
+    stops_full g.L.MessageLog.CHUNK g.M.Message.SURE c.args.number c.args.board.now c.args.lane.now c.requires.kept c.requires.seen
+    (omega (arith, ap length c.journal.ensures.entries, length-reverse c.args.board.now.history, c.if-journal-limit.true, c.limit.ensures.limit))
+
+pub returns-in_default-clause-stopped : goal.returns-in_default-clause-stopped
+returns-in_default-clause-stopped g c =
+    stops_unshared g.L.MessageLog.CHUNK g.M.Message.SURE c.args.number c.args.board.now c.args.lane.now c.requires.kept c.requires.seen
+    (omega (arith, ap length c.journal.ensures.entries, length-reverse c.args.board.now.history, c.journal.ensures.room, c.if-journal-limit.false, c.limit.ensures.limit)) c.in_default.ensures.sure
+
+pub take-requires-clause-countable : goal.take-requires-clause-countable
+take-requires-clause-countable g c =
+    omega (arith, ap length c.requires.kept.laned, laned_within c.args.board.now.history c.args.number, c.journal.ensures.room, c.limit.ensures.limit, c.limit.ensures.bounded)
+
+pub returns-in-Answered-clause-moved : goal.returns-in-Answered-clause-moved
+returns-in-Answered-clause-moved g c =
+    one_moves c.args.number c.args.board.now c.apply.new.self c.args.lane.now c.take.new.self c.call-call.result c.in-Answered.field-0.reply c.next.result.now c.take.result
+    c.in-Answered.ensures.5 c.in-Answered.ensures.2
+    (c.call-call.ensures ∙ same_way_call c.way.ensures c.target.ensures c.in-Ok.ensures.copy) c.next.ensures c.take.ensures.side c.take.ensures.next
+
+pub returns-clause-stopped : goal.returns-clause-stopped
+returns-clause-stopped g c =
+    stops_refused g.L.MessageLog.CHUNK g.M.Message.SURE c.args.number c.args.board.now c.apply.new.self c.args.lane.now c.in-Refused.refusal c.call-call.result c.next.result.now
+    c.in-Refused.ensures.2 c.next.ensures
+    (c.call-call.ensures ∙ same_way_call c.way.ensures c.target.ensures c.in-Ok.ensures.copy) c.in-Refused.ensures.0

@@ -1,0 +1,59 @@
+-- How messages go out of a lane's ring into the journal.
+use Rattle.std.specs.Prelude.{ℕ, ◌≡◌, ◌+◌, ◌≤◌, Bool, List, [], ◌++◌, length, slice_get, Option, Some}
+use mathlib.Core.List.{IsPrefix}
+use Rattle.cml_board.specs.declared.outcome.Refusal.{Refusal}
+use Rattle.cml_board.specs.declared.entry.Entry.{Entry}
+use Rattle.cml_board.specs.History.{kind_of}
+use Rattle.cml_board.specs.Shown.{Shown}
+use Rattle.cml_board.specs.Outcome.{IsAsBefore, Refuses}
+use Rattle.cml_lanes.specs.Sides.{LaneSide, way_call, way_kind}
+use Rattle.cml_lanes.specs.Laned.{laned, with_lane}
+
+module _ {M : Type 0} where
+  -- an open lane: what the journal has of its number is what was taken out of its ring, and its target is of the kind that
+  -- its way goes to
+  pub record KeepsLane (history : List (Entry M)) (number : ℕ) (side : LaneSide M) : Type 0 where
+    pub laned : laned history number ≡ side.received
+    pub kind : kind_of history side.target.0 ≡ Some (way_kind side.way)
+
+  -- so many messages went out of the ring, in order, and each of them has an entry; nothing else changed
+  pub record Moves (number count : ℕ) (old new : Shown M) (from to : LaneSide M) : Type 0 where
+    pub moved : List M
+    pub as_many : length moved ≡ count
+    pub history : new.history ≡ with_lane number from.way from.target moved old.history
+    pub limit : new.limit ≡ old.limit
+    pub reserved : old.reserved ≤ new.reserved + count
+    pub side : to ≡ record from { received = from.received ++ moved; seen = to.seen }
+    pub seen : from.seen ≡ moved ++ to.seen
+
+  -- so many went out, and then the call of the next, which is still in the ring, was refused
+  pub record Stops (chunk : ℕ) (sure : Bool) (number count : ℕ) (old new : Shown M) (from to : LaneSide M) (refusal : Refusal) : Type 0 where
+    pub at : Shown M
+    pub moves : Moves number count old at from to
+    pub after : IsAsBefore at new
+    pub message : M
+    pub next : slice_get to.seen 0 ≡ Some message
+    pub refused : Refuses chunk sure at (way_call to.way to.target message) refusal
+
+  -- more of the ring's messages may have been seen
+  pub record Looks (from to : LaneSide M) : Type 0 where
+    pub side : to ≡ record from { seen = to.seen }
+    pub more : IsPrefix from.seen to.seen
+    pub most : length to.seen ≤ to.capacity
+
+  -- the floor looked into the ring, and so many went out
+  pub record Drains (number count : ℕ) (old new : Shown M) (from to : LaneSide M) : Type 0 where
+    pub looked : LaneSide M
+    pub looks : Looks from looked
+    pub moves : Moves number count old new looked to
+
+  -- the floor looked into the ring, and all that it saw went out
+  pub record Empties (number count : ℕ) (old new : Shown M) (from to : LaneSide M) : Type 0 where
+    pub drains : Drains number count old new from to
+    pub none : to.seen ≡ []
+
+  -- the floor looked into the ring, and so many went out until one was refused
+  pub record IsHeld (chunk : ℕ) (sure : Bool) (number count : ℕ) (old new : Shown M) (from to : LaneSide M) (refusal : Refusal) : Type 0 where
+    pub looked : LaneSide M
+    pub looks : Looks from looked
+    pub stops : Stops chunk sure number count old new looked to refusal

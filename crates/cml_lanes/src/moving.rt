@@ -1,0 +1,60 @@
+//! How messages go out of a lane's ring into the journal: each is taken out once it has its entry.
+ghost use Rattle.std.specs.Prelude.{◌≡◌, ◌<◌, [], length, IfNone, IfSome};
+ghost use Rattle.cml_board.specs.Outcome.{IsAsBefore};
+ghost use Rattle.cml_lanes.specs.Moving.{KeepsLane, Moves, Stops};
+
+use crate::inner_lane::InnerLane;
+use cml_board::{Board, Message, Outcome, Refusal, Who};
+use cml_log::MessageLog;
+use std::alloc::Global;
+
+/// Moves all messages that were seen in the lane's ring, until one is refused: how many were moved, and the refusal.
+pub fn move_seen<M: Message, L: MessageLog<M>>(
+    alloc: Global,
+    board: &mut Board<M, L>,
+    lane: &mut InnerLane<M>,
+    number: u64,
+) -> (usize, Option<Refusal>)
+    requires { KeepsLane board.old.history number lane.old }
+    ensures moved { IfNone result.1 (Moves number result.0 board.old board.new lane.old lane.new × (lane.new.seen ≡ [])) }
+    ensures stopped { IfSome result.1 (λ refusal. Stops L.CHUNK M.SURE number result.0 board.old board.new lane.old lane.new refusal) }
+{
+    let count = lane.seen();
+    for moved in 0..count {
+        let refusal = move_next(alloc, board, lane, number);
+        if refusal.is_some() {
+            return (moved, refusal);
+        }
+    }
+    (count, None)
+}
+
+/// Moves the next message that was seen. It stays in the ring where its call is refused.
+fn move_next<M: Message, L: MessageLog<M>>(
+    alloc: Global,
+    board: &mut Board<M, L>,
+    lane: &mut InnerLane<M>,
+    number: u64,
+) -> Option<Refusal>
+    requires kept { KeepsLane board.old.history number lane.old }
+    requires seen { 0 < length lane.old.seen }
+    ensures moved { IfNone result (Moves number 1 board.old board.new lane.old lane.new) }
+    ensures stopped { IfSome result (λ refusal. Stops L.CHUNK M.SURE number 0 board.old board.new lane.old lane.new refusal) }
+{
+    // A full journal is told before any memory is asked for.
+    if board.journal().len() as u64 == board.limit() {
+        return Some(Refusal::JournalFull);
+    }
+    let Ok(message) = lane.next().share(alloc) else {
+        return Some(Refusal::NoMemory);
+    };
+    let call = lane.way().call(lane.target(), message);
+    match board.apply(Who::Lane(number), call) {
+        Outcome::Answered(_) => {
+            lane.take();
+            None
+        }
+        Outcome::WouldWait(_) => unreachable!(),
+        Outcome::Refused(refusal, _) => Some(refusal),
+    }
+}
