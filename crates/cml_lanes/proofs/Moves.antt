@@ -9,14 +9,14 @@ use Rattle.cml_board.specs.declared.entry.Reply.{Reply}
 use Rattle.cml_board.specs.declared.entry.Reply.TheVariants.{Done}
 use Rattle.cml_board.specs.declared.entry.Entry.{Entry}
 use Rattle.cml_board.specs.declared.outcome.Refusal.{Refusal}
-use Rattle.cml_board.specs.declared.outcome.Refusal.TheVariants.{JournalFull, NoMemory}
-use Rattle.cml_board.specs.History.{kind_of, answer}
+use Rattle.cml_board.specs.declared.outcome.Refusal.TheVariants.{Gone, Busy, NoSuch, WrongKind, JournalFull, Stalled, NoMemory, Unseen}
+use Rattle.cml_board.specs.History.{kind_of, answer, Fits}
 use Rattle.cml_board.specs.Shown.{Shown}
 use Rattle.cml_board.specs.Outcome.{IsAsBefore, AddsEntry, Refuses, HasRoom}
 use Rattle.cml_board.proofs.Sparing.{call_takes}
 use Rattle.cml_lanes.specs.Sides.{LaneSide, way_call, way_kind}
 use Rattle.cml_lanes.specs.Laned.{laned, lane_entry, with_lane}
-use Rattle.cml_lanes.specs.Moving.{KeepsLane, Moves, Stops, Looks, Drains, Empties, IsHeld}
+use Rattle.cml_lanes.specs.Moving.{IsLimit, KeepsLane, Moves, Stops, Looks, Drains, Empties, IsHeld}
 use Rattle.cml_lanes.proofs.Laning.{laned_more, kind_more, with_lane_more, fits_way, answer_way, way_has_message}
 
 -- what holds where there is no value holds where none is
@@ -110,17 +110,17 @@ module _ {M : Type 0} where
 
   -- the first call was refused
   pub stops_first : (chunk : ℕ) (sure : Bool) (number : ℕ) (old new : Shown M) (side : LaneSide M) (refusal : Refusal) (message : M)
-      → IsAsBefore old new → slice_get side.seen 0 ≡ Some message → Refuses chunk sure old (way_call side.way side.target message) refusal
-      → Stops chunk sure number 0 old new side side refusal
-  stops_first chunk sure number old new side refusal message after next refuses =
-      record { at = old; moves = none_move number old side; after = after; message = message; next = next; refused = refuses }
+      → IsAsBefore old new → slice_get side.seen 0 ≡ Some message → IsLimit refusal
+      → Refuses chunk sure old (way_call side.way side.target message) refusal → Stops chunk sure number 0 old new side side refusal
+  stops_first chunk sure number old new side refusal message after next limit refuses =
+      record { at = old; moves = none_move number old side; after = after; message = message; next = next; limit = limit; refused = refuses }
 
   -- the journal is full
   pub stops_full : (chunk : ℕ) (sure : Bool) (number : ℕ) (board : Shown M) (side : LaneSide M) → KeepsLane board.history number side
       → 0 < length side.seen → length board.history ≡ board.limit → Stops chunk sure number 0 board board side side JournalFull
   stops_full chunk sure number board side keeps some full =
       let first = some_first side.seen some in
-      stops_first chunk sure number board board side JournalFull first.0 (unchanged board) first.1 (fits_way board.history side.way side.target first.0 keeps.kind, full)
+      stops_first chunk sure number board board side JournalFull first.0 (unchanged board) first.1 tt (fits_way board.history side.way side.target first.0 keeps.kind, full)
 
   -- the message can't be shared
   pub stops_unshared : (chunk : ℕ) (sure : Bool) (number : ℕ) (board : Shown M) (side : LaneSide M) → KeepsLane board.history number side
@@ -128,23 +128,37 @@ module _ {M : Type 0} where
   stops_unshared chunk sure number board side keeps some room unsure =
       let first = some_first side.seen some in
       let call : Call M = way_call side.way side.target first.0 in
-      stops_first chunk sure number board board side NoMemory first.0 (unchanged board) first.1
+      stops_first chunk sure number board board side NoMemory first.0 (unchanged board) first.1 tt
       (fits_way board.history side.way side.target first.0 keeps.kind, room,
         (λ never. none-some Done (sym never ∙ answer_way board.history side.way side.target first.0)),
         call_takes board call (way_has_message side.way side.target first.0) unsure)
 
+  -- a call that fits is refused by a limit alone
+  limit_refuses : (chunk : ℕ) (sure : Bool) (board : Shown M) (call : Call M) (refusal : Refusal) → Fits board.history call
+      → Refuses chunk sure board call refusal → IsLimit refusal
+  limit_refuses chunk sure board call NoSuch fits refuses = absurd (refuses fits.0)
+  limit_refuses chunk sure board call WrongKind fits refuses = absurd (refuses.1 fits.1)
+  limit_refuses chunk sure board call JournalFull fits refuses = tt
+  limit_refuses chunk sure board call NoMemory fits refuses = tt
+  limit_refuses chunk sure board call Gone fits refuses = refuses
+  limit_refuses chunk sure board call Busy fits refuses = refuses
+  limit_refuses chunk sure board call Stalled fits refuses = refuses
+  limit_refuses chunk sure board call Unseen fits refuses = refuses
+
   -- the call was refused by the board
   pub stops_refused : (chunk : ℕ) (sure : Bool) (number : ℕ) (old new : Shown M) (side : LaneSide M) (refusal : Refusal) (call : Call M) (message : M)
-      → IsAsBefore old new → slice_get side.seen 0 ≡ Some message → call ≡ way_call side.way side.target message → Refuses chunk sure old call refusal
+      → kind_of old.history side.target.0 ≡ Some (way_kind side.way) → IsAsBefore old new → slice_get side.seen 0 ≡ Some message → call ≡ way_call side.way side.target message → Refuses chunk sure old call refusal
       → Stops chunk sure number 0 old new side side refusal
-  stops_refused chunk sure number old new side refusal call message after next is refuses =
-      stops_first chunk sure number old new side refusal message after next (subst (λ c. Refuses chunk sure old c refusal) is refuses)
+  stops_refused chunk sure number old new side refusal call message kind after next is refuses =
+      let refused = subst (λ c. Refuses chunk sure old c refusal) is refuses in
+      stops_first chunk sure number old new side refusal message after next
+      (limit_refuses chunk sure old (way_call side.way side.target message) refusal (fits_way old.history side.way side.target message kind) refused) refused
 
   -- some were moved before it
   pub stops_later : (chunk : ℕ) (sure : Bool) (number count : ℕ) (old mid new : Shown M) (from via to : LaneSide M) (refusal : Refusal)
       → Moves number count old mid from via → Stops chunk sure number 0 mid new via to refusal → Stops chunk sure number count old new from to refusal
   stops_later chunk sure number count old mid new from via to refusal a s =
-      record { at = s.at; moves = moves_more number count 0 count old mid s.at from via to (omega arith) a s.moves; after = s.after; message = s.message; next = s.next; refused = s.refused }
+      record { at = s.at; moves = moves_more number count 0 count old mid s.at from via to (omega arith) a s.moves; after = s.after; message = s.message; next = s.next; limit = s.limit; refused = s.refused }
 
   -- so many went out until one was refused
   pub stopped_moves : {chunk : ℕ} {sure : Bool} {number count : ℕ} {old new : Shown M} {from to : LaneSide M} {refusal : Refusal}

@@ -1,13 +1,20 @@
 -- How messages go out of a lane's ring into the journal.
-use Rattle.std.specs.Prelude.{ℕ, ◌≡◌, ◌+◌, ◌≤◌, Bool, List, [], ◌++◌, length, slice_get, Option, Some}
+use Rattle.std.specs.Prelude.{ℕ, ◌≡◌, ◌+◌, ◌≤◌, Bool, List, [], ◌++◌, length, slice_get, Option, Some, ⊤}
 use mathlib.Core.List.{IsPrefix}
 use Rattle.cml_board.specs.declared.outcome.Refusal.{Refusal}
+use Rattle.cml_board.specs.declared.outcome.Refusal.TheVariants.{JournalFull, NoMemory}
 use Rattle.cml_board.specs.declared.entry.Entry.{Entry}
 use Rattle.cml_board.specs.History.{kind_of}
 use Rattle.cml_board.specs.Shown.{Shown}
 use Rattle.cml_board.specs.Outcome.{IsAsBefore, Refuses}
 use Rattle.cml_lanes.specs.Sides.{LaneSide, way_call, way_kind}
 use Rattle.cml_lanes.specs.Laned.{laned, with_lane}
+
+-- what refuses a message of an open lane: the journal's limit and want of memory, and nothing else
+abbrev pub IsLimit : Refusal → Type 0
+IsLimit JournalFull = ⊤
+IsLimit NoMemory = ⊤
+IsLimit refusal = ⊥
 
 module _ {M : Type 0} where
   -- an open lane: what the journal has of its number is what was taken out of its ring, and its target is of the kind that
@@ -33,7 +40,22 @@ module _ {M : Type 0} where
     pub after : IsAsBefore at new
     pub message : M
     pub next : slice_get to.seen 0 ≡ Some message
+    pub limit : IsLimit refusal
     pub refused : Refuses chunk sure at (way_call to.way to.target message) refusal
+
+  -- a slot of a floor with an open lane
+  pub record HasLane (history : List (Entry M)) (number : ℕ) (slot : Option (LaneSide M)) : Type 0 where
+    pub side : LaneSide M
+    pub opened : slot ≡ Some side
+    pub keeps : KeepsLane history number side
+
+  -- a slot's lane stays open, and this is done to it
+  pub record OnSlot (old new : Option (LaneSide M)) (Does : LaneSide M → LaneSide M → Type 0) : Type 0 where
+    pub from : LaneSide M
+    pub to : LaneSide M
+    pub opened : old ≡ Some from
+    pub stays : new ≡ Some to
+    pub does : Does from to
 
   -- more of the ring's messages may have been seen
   pub record Looks (from to : LaneSide M) : Type 0 where

@@ -1,8 +1,7 @@
-ghost use Rattle.std.specs.Prelude.{◌≡◌, ◌+◌, ◌-◌, ◌^◌, ◌<◌, ◌≤◌, [], ◌∷◌, ◌++◌, length, slice_get, Some};
-ghost use mathlib.Core.List.{IsPrefix};
+ghost use Rattle.std.specs.Prelude.{◌≡◌, ◌+◌, ◌-◌, ◌^◌, ◌<◌, [], ◌∷◌, ◌++◌, length, slice_get, Some};
 ghost use Rattle.rtrb.specs.Ring.{received, known_items, consumer_capacity};
 ghost use Rattle.cml_lanes.specs.Ring.{Ring, ring_of};
-ghost use Rattle.cml_lanes.specs.Sides.{LaneSide};
+ghost use Rattle.cml_lanes.specs.Moving.{Looks};
 
 use crate::lane::LaneEnd;
 use crate::way::Way;
@@ -67,16 +66,14 @@ impl<M> InnerLane<M> {
 
     /// How many messages were seen in the ring, and are still there.
     pub fn seen(&self) -> usize
-        ensures value { result ≡ length self.now.seen }
-        ensures most { length self.now.seen ≤ self.now.capacity }
+        ensures { result ≡ length self.now.seen }
     {
         self.consumer.cached_slots()
     }
 
     /// Looks how many messages there are in the ring.
     pub fn look(&mut self)
-        ensures side { self.new ≡ record self.old { seen = self.new.seen } }
-        ensures more { IsPrefix self.old.seen self.new.seen }
+        ensures { Looks self.old self.new }
     {
         self.consumer.slots();
     }
@@ -85,8 +82,7 @@ impl<M> InnerLane<M> {
     pub fn look_after(&mut self, end: &mut LaneEnd<M>)
         requires { end.old.ring ≡ self.old.ring }
         ensures end { end.new ≡ end.old }
-        ensures side { self.new ≡ record self.old { seen = self.new.seen } }
-        ensures more { IsPrefix self.old.seen self.new.seen }
+        ensures looked { Looks self.old self.new }
         ensures all { self.new.received ++ self.new.seen ≡ end.old.sent }
     {
         self.consumer.slots_after(&mut end.finished);

@@ -1,12 +1,49 @@
 //! How messages go out of a lane's ring into the journal: each is taken out once it has its entry.
-ghost use Rattle.std.specs.Prelude.{◌≡◌, ◌<◌, [], length, IfNone, IfSome};
+ghost use Rattle.std.specs.Prelude.{◌≡◌, ◌<◌, [], ◌++◌, length, IfNone, IfSome};
 ghost use Rattle.cml_board.specs.Outcome.{IsAsBefore};
-ghost use Rattle.cml_lanes.specs.Moving.{KeepsLane, Moves, Stops};
+ghost use Rattle.cml_lanes.specs.Moving.{KeepsLane, Moves, Stops, HasLane, OnSlot, Empties, IsHeld};
 
 use crate::inner_lane::InnerLane;
+use crate::lane::LaneEnd;
 use cml_board::{Board, Message, Outcome, Refusal, Who};
 use cml_log::MessageLog;
 use std::alloc::Global;
+
+/// Looks into the ring of a slot's lane, and moves what it sees, until one is refused: how many were moved, and the
+/// refusal.
+pub fn drain_slot<M: Message, L: MessageLog<M>>(
+    alloc: Global,
+    board: &mut Board<M, L>,
+    slot: &mut Option<InnerLane<M>>,
+    number: u64,
+) -> (usize, Option<Refusal>)
+    requires { HasLane board.old.history number slot.old }
+    ensures whole { IfNone result.1 (OnSlot slot.old slot.new (Empties number result.0 board.old board.new)) }
+    ensures held { IfSome result.1 (λ refusal. OnSlot slot.old slot.new (λ from to. IsHeld L.CHUNK M.SURE number result.0 board.old board.new from to refusal)) }
+{
+    let Some(lane) = slot else { unreachable!() };
+    lane.look();
+    move_seen(alloc, board, lane, number)
+}
+
+/// The same with all that is left in the ring of a lane that has finished.
+pub fn drain_slot_after<M: Message, L: MessageLog<M>>(
+    alloc: Global,
+    board: &mut Board<M, L>,
+    slot: &mut Option<InnerLane<M>>,
+    end: &mut LaneEnd<M>,
+) -> (usize, Option<Refusal>)
+    requires slot { HasLane board.old.history end.old.number slot.old }
+    requires ring { IfSome slot.old (λ side. end.old.ring ≡ side.ring) }
+    ensures end { end.new ≡ end.old }
+    ensures whole { IfNone result.1 (OnSlot slot.old slot.new (Empties end.old.number result.0 board.old board.new)) }
+    ensures held { IfSome result.1 (λ refusal. OnSlot slot.old slot.new (λ from to. IsHeld L.CHUNK M.SURE end.old.number result.0 board.old board.new from to refusal)) }
+    ensures all { IfSome slot.new (λ side. side.received ++ side.seen ≡ end.old.sent) }
+{
+    let Some(lane) = slot else { unreachable!() };
+    lane.look_after(end);
+    move_seen(alloc, board, lane, end.number())
+}
 
 /// Moves all messages that were seen in the lane's ring, until one is refused: how many were moved, and the refusal.
 pub fn move_seen<M: Message, L: MessageLog<M>>(

@@ -28,5 +28,5 @@ returns-in-Answered-clause-moved g c =
 pub returns-clause-stopped : goal.returns-clause-stopped
 returns-clause-stopped g c =
     stops_refused g.L.MessageLog.CHUNK g.M.Message.SURE c.args.number c.args.board.now c.apply.new.self c.args.lane.now c.in-Refused.refusal c.call-call.result c.next.result.now
-    c.in-Refused.ensures.2 c.next.ensures
+    c.requires.kept.kind c.in-Refused.ensures.2 c.next.ensures
     (c.call-call.ensures ∙ same_way_call c.way.ensures c.target.ensures c.in-Ok.ensures.copy) c.in-Refused.ensures.0
