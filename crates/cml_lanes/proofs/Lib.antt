@@ -1,2 +1,5 @@
 pub mod Laning
 pub mod Moves
+pub mod Slots
+pub mod Lanes
+pub mod OneLane

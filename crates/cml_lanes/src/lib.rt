@@ -2,9 +2,11 @@
 //! board's journal.
 #![tactic(auto)]
 
+mod floor;
 mod inner_lane;
 mod lane;
 mod moving;
 mod way;
 
+pub use floor::Floor;
 pub use lane::{Lane, LaneEnd, LaneFull};

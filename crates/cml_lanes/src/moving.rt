@@ -31,18 +31,19 @@ pub fn drain_slot_after<M: Message, L: MessageLog<M>>(
     alloc: Global,
     board: &mut Board<M, L>,
     slot: &mut Option<InnerLane<M>>,
+    number: u64,
     end: &mut LaneEnd<M>,
 ) -> (usize, Option<Refusal>)
-    requires slot { HasLane board.old.history end.old.number slot.old }
+    requires slot { HasLane board.old.history number slot.old }
     requires ring { IfSome slot.old (λ side. end.old.ring ≡ side.ring) }
     ensures end { end.new ≡ end.old }
-    ensures whole { IfNone result.1 (OnSlot slot.old slot.new (Empties end.old.number result.0 board.old board.new)) }
-    ensures held { IfSome result.1 (λ refusal. OnSlot slot.old slot.new (λ from to. IsHeld L.CHUNK M.SURE end.old.number result.0 board.old board.new from to refusal)) }
+    ensures whole { IfNone result.1 (OnSlot slot.old slot.new (Empties number result.0 board.old board.new)) }
+    ensures held { IfSome result.1 (λ refusal. OnSlot slot.old slot.new (λ from to. IsHeld L.CHUNK M.SURE number result.0 board.old board.new from to refusal)) }
     ensures all { IfSome slot.new (λ side. side.received ++ side.seen ≡ end.old.sent) }
 {
     let Some(lane) = slot else { unreachable!() };
     lane.look_after(end);
-    move_seen(alloc, board, lane, end.number())
+    move_seen(alloc, board, lane, number)
 }
 
 /// Moves all messages that were seen in the lane's ring, until one is refused: how many were moved, and the refusal.

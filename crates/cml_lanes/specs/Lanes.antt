@@ -1,0 +1,38 @@
+-- What the calls on lanes do to a floor.
+use Rattle.std.specs.Prelude.{ℕ, ◌≡◌, ◌<◌, Bool, true, false, List, [], ◌∷◌, ◌++◌, length, Some, None, ⊤}
+use Rattle.cml_board.specs.declared.call.Name.{Name}
+use Rattle.cml_board.specs.declared.call.Kind.{Kind}
+use Rattle.cml_board.specs.declared.outcome.Refusal.{Refusal}
+use Rattle.cml_board.specs.declared.outcome.Refusal.TheVariants.{NoSuch, WrongKind, NoMemory}
+use Rattle.cml_board.specs.History.{kind_of}
+use Rattle.cml_lanes.specs.declared.way.Way.{Way}
+use Rattle.cml_lanes.specs.Ends.{LaneShown}
+use Rattle.cml_lanes.specs.Sides.{LaneSide, way_kind, NoLane}
+use Rattle.cml_lanes.specs.Floor.{FloorShown, OnLane}
+use Rattle.cml_lanes.specs.Moving.{Drains, IsHeld}
+
+module _ {M : Type 0} where
+  -- a lane is opened: it has the next number, the target's way and the capacity that was asked for, and nothing was sent on
+  -- it; both its ends are on one ring
+  pub record OpensLane (old new : FloorShown M) (target : Name) (capacity : ℕ) (lane : LaneShown M) (number : ℕ) : Type 0 where
+    pub next : number ≡ length old.lanes
+    pub end : lane ≡ record { ring = lane.ring; number = number; capacity = capacity; accepted = [] }
+    pub way : Way
+    pub kind : kind_of old.board.history target.0 ≡ Some (way_kind way)
+    pub lanes : new.lanes ≡ old.lanes ++ Some (record { ring = lane.ring; target = target; way = way; capacity = capacity; received = []; seen = [] }) ∷ []
+    pub board : new.board ≡ old.board
+
+  -- why no lane is opened
+  abbrev pub OpenRefused : FloorShown M → Name → Refusal → Type 0
+  OpenRefused floor target NoSuch = kind_of floor.board.history target.0 ≡ None
+  OpenRefused floor target WrongKind = (kind : Kind) × (kind_of floor.board.history target.0 ≡ Some kind) × NoLane kind
+  OpenRefused floor target NoMemory = (way : Way) × (kind_of floor.board.history target.0 ≡ Some (way_kind way))
+  OpenRefused floor target refusal = ⊥
+
+  -- so many messages of an open lane, the next of its ring, went into the journal; and where it is none, none was seen
+  abbrev pub DrainsLane : ℕ → ℕ → FloorShown M → FloorShown M → Type 0
+  DrainsLane number count old new = OnLane number old new (λ from to. Drains number count old.board new.board from to × (count ≡ 0 → to.seen ≡ []))
+
+  -- so many of them went, and then one was refused, which is still in the ring
+  abbrev pub HoldsUp : ℕ → Bool → ℕ → ℕ → FloorShown M → FloorShown M → Refusal → Type 0
+  HoldsUp chunk sure number count old new refusal = OnLane number old new (λ from to. IsHeld chunk sure number count old.board new.board from to refusal)

@@ -1,0 +1,143 @@
+ghost use Rattle.std.specs.Prelude.{◌≡◌, ◌≤◌, ◌<◌, true, [], ◌++◌, length, slice_set, None, count_by, is_some, IfNone, IfSome, IsTrue};
+ghost use Rattle.cml_board.specs.declared.entry.Who.TheVariants.{Seat};
+ghost use Rattle.cml_board.specs.History.{no_entries};
+ghost use Rattle.cml_board.specs.Outcome.{Applies};
+ghost use Rattle.cml_lanes.specs.Laned.{laned};
+ghost use Rattle.cml_lanes.specs.Moving.{Empties, IsHeld};
+ghost use Rattle.cml_lanes.specs.Floor.{is_open_lane, KeepsLanes, KeepsRings, IsOfRing, GivesAll, OnLane};
+
+mod lanes;
+
+use crate::inner_lane::InnerLane;
+use crate::lane::LaneEnd;
+use crate::moving::{drain_slot, drain_slot_after};
+use cml_board::{Board, Call, Message, Outcome, Refusal, Who};
+use cml_log::MessageLog;
+use std::alloc::Global;
+use std::marker::Model;
+
+/// A board with the inner ends of the lanes onto it. None of its calls waits.
+#[derive(Drop)]
+pub struct Floor<M, L: MessageLog<M>> {
+    alloc: Global,
+    board: Board<M, L>,
+    lanes: Vec<Option<InnerLane<M>>>,
+    opened: u64,
+}
+
+impl<M, L: MessageLog<M>> Model for Floor<M, L> {
+    ghost use Rattle.cml_lanes.specs.Floor.{FloorShown};
+
+    ghost Value = { FloorShown M };
+
+    ghost use Rattle.std.specs.Prelude.{◌≡◌, count_by, is_some};
+    ghost use Rattle.cml_lanes.specs.Floor.{KeepsLanes};
+
+    ghost view = { λ f. record { board = f.board; lanes = f.lanes.items } };
+
+    ghost invariant = { λ f. KeepsLanes f.board.history f.lanes.items × (f.opened ≡ count_by is_some f.lanes.items) };
+}
+
+impl<M: Message, L: MessageLog<M>> Floor<M, L> {
+    /// A floor with no lanes, on a board on which nothing was done.
+    pub fn new(alloc: Global, board: Board<M, L>) -> Floor<M, L>
+        requires { board.history ≡ no_entries }
+        ensures { result ≡ record { board = board; lanes = [] } }
+    {
+        Floor {
+            alloc,
+            board,
+            lanes: Vec::new(alloc),
+            opened: 0,
+        }
+    }
+
+    /// The board, whose journal has the calls of seats and of lanes.
+    pub fn board(&self) -> &Board<M, L>
+        ensures board { result.now ≡ self.now.board }
+
+        // The journal has of each open lane exactly what was taken out of its ring, and nothing of a number never given.
+        ensures lanes { KeepsLanes self.now.board.history self.now.lanes }
+    {
+        &self.board
+    }
+
+    /// How many lanes are open.
+    pub fn open_lanes(&self) -> u64
+        ensures { result ≡ count_by is_some self.now.lanes }
+    {
+        self.opened
+    }
+
+    /// Makes a call of the seat with this number.
+    pub fn apply(&mut self, seat: u64, call: Call<M>) -> Outcome<M>
+        ensures applied { Applies L.CHUNK M.SURE self.old.board self.new.board (Seat seat) call result }
+        ensures lanes { self.new.lanes ≡ self.old.lanes }
+        ensures rings { KeepsRings self.old self.new }
+    {
+        self.board.apply(Who::Seat(seat), call)
+    }
+
+    fn has_lane(&self, lane: u64) -> bool
+        ensures { result ≡ is_open_lane self.now lane }
+    {
+        matches!(self.lanes.get(lane as usize), Some(Some(_)))
+    }
+
+    /// Moves what is seen of an open lane, until a message is refused: how many were moved, and the refusal.
+    fn drain_open(&mut self, lane: u64) -> (usize, Option<Refusal>)
+        requires { is_open_lane self.old lane ≡ true }
+        ensures whole { IfNone result.1 (OnLane lane self.old self.new (Empties lane result.0 self.old.board self.new.board)) }
+        ensures held { IfSome result.1 (λ refusal. OnLane lane self.old self.new
+            (λ from to. IsHeld L.CHUNK M.SURE lane result.0 self.old.board self.new.board from to refusal)) }
+        ensures rings { KeepsRings self.old self.new }
+    {
+        drain_slot(
+            self.alloc,
+            &mut self.board,
+            &mut self.lanes[lane as usize],
+            lane,
+        )
+    }
+
+    /// The same with all that is left of an open lane, whose end this is.
+    fn drain_after(&mut self, lane: u64, end: &mut LaneEnd<M>) -> (usize, Option<Refusal>)
+        requires opened { is_open_lane self.old lane ≡ true }
+        requires ring { IsOfRing lane self.old end.old }
+        ensures end { end.new ≡ end.old }
+        ensures whole { IfNone result.1 (OnLane lane self.old self.new (Empties lane result.0 self.old.board self.new.board)) }
+        ensures held { IfSome result.1 (λ refusal. OnLane lane self.old self.new
+            (λ from to. IsHeld L.CHUNK M.SURE lane result.0 self.old.board self.new.board from to refusal)) }
+        ensures all { GivesAll lane self.new end.old }
+        ensures rings { KeepsRings self.old self.new }
+    {
+        drain_slot_after(
+            self.alloc,
+            &mut self.board,
+            &mut self.lanes[lane as usize],
+            lane,
+            end,
+        )
+    }
+
+    /// How many messages of an open lane are in the journal.
+    fn moved_count(&self, lane: u64) -> u64
+        requires { is_open_lane self.now lane ≡ true }
+        ensures { result ≡ length (laned self.now.board.history lane) }
+    {
+        match &self.lanes[lane as usize] {
+            Some(inner) => inner.count(),
+            None => unreachable!(),
+        }
+    }
+
+    /// Lets go of an open lane, and drops what is left in its ring.
+    fn let_go(&mut self, lane: u64)
+        requires { is_open_lane self.old lane ≡ true }
+        ensures floor { self.new ≡ record self.old { lanes = slice_set self.old.lanes lane None } }
+        ensures rings { KeepsRings self.old self.new }
+    {
+        self.lanes[lane as usize] = None;
+        self.opened -= 1;
+    }
+}

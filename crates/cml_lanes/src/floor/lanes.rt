@@ -1,0 +1,81 @@
+//! Lanes are opened, drained and closed.
+ghost use Rattle.std.specs.Prelude.{ℕ, ◌≡◌, ◌≢◌, ◌≤◌, ◌<◌, true, false, [], ◌++◌, length, slice_set, Err, None, OnOk, IsOk, IfOk, IfErr};
+ghost use Rattle.cml_board.specs.declared.outcome.Refusal.TheVariants.{NoSuch, Unseen};
+ghost use Rattle.cml_lanes.specs.Laned.{laned};
+ghost use Rattle.cml_lanes.specs.Floor.{is_open_lane, KeepsRings, SameRing, IsOfItsRing};
+ghost use Rattle.cml_lanes.specs.Lanes.{OpensLane, OpenRefused, DrainsLane, HoldsUp};
+
+use super::Floor;
+use crate::inner_lane::InnerLane;
+use crate::lane::Lane;
+use crate::way::Way;
+use cml_board::{Message, Name, Refusal};
+use cml_log::MessageLog;
+use rtrb::RingBuffer;
+
+impl<M: Message, L: MessageLog<M>> Floor<M, L> {
+    /// Opens a lane to a mailbox or a channel, which has room for `capacity` messages, and tells its number. It is
+    /// refused `NoSuch` where the target was never made, `WrongKind` where it takes no lane, and `NoMemory`. The journal
+    /// has no entry of it.
+    pub fn open_lane(
+        &mut self,
+        target: Name,
+        capacity: usize,
+    ) -> Result<(Lane<M>, u64), Refusal>
+        requires least { 1 ≤ capacity }
+        requires most { capacity ≤ 1024 }
+        ensures opened { IfOk result (λ lane. OpensLane self.old self.new target capacity lane.0 lane.1) }
+        ensures refused { IfErr result (λ refusal. OpenRefused self.old target refusal × (self.new ≡ self.old)) }
+        ensures rings { (number : ℕ) → number < length self.old.lanes → SameRing number self.old self.new }
+    {
+        let Some(kind) = self.board.kind(target) else {
+            return Err(Refusal::NoSuch);
+        };
+        let Some(way) = Way::to(kind) else {
+            return Err(Refusal::WrongKind);
+        };
+        let Ok((producer, consumer)) = RingBuffer::new(self.alloc, capacity) else {
+            return Err(Refusal::NoMemory);
+        };
+        let number = self.lanes.len() as u64;
+        let inner = InnerLane::new(consumer, target, way);
+        if self.lanes.push(Some(inner)).is_err() {
+            return Err(Refusal::NoMemory);
+        }
+        self.opened += 1;
+        Ok((Lane::new(producer, number), number))
+    }
+
+    /// Moves the messages that are seen in the lane's ring into the journal, in order, each as a call of the lane's own:
+    /// how many. It stops where one is refused, and is itself refused, `JournalFull` or `NoMemory`, only where that was
+    /// the first; `NoSuch` where no open lane has the number.
+    pub fn drain(&mut self, lane: u64) -> Result<usize, Refusal>
+        ensures unknown { is_open_lane self.old lane ≡ false → (result ≡ Err NoSuch) × (self.new ≡ self.old) }
+        ensures drained { IfOk result (λ count. DrainsLane lane count self.old self.new) }
+        ensures refused { IfErr result (λ refusal. is_open_lane self.old lane ≡ true
+            → HoldsUp L.CHUNK M.SURE lane 0 self.old self.new refusal) }
+        ensures rings { KeepsRings self.old self.new }
+    {
+        if !self.has_lane(lane) {
+            return Err(Refusal::NoSuch);
+        }
+        match self.drain_open(lane) {
+            (0, Some(refusal)) => Err(refusal),
+            (count, _) => Ok(count),
+        }
+    }
+
+    /// Closes an open lane at once. What is left in its ring is dropped. `NoSuch` where no open lane has the number.
+    pub fn abandon_lane(&mut self, lane: u64) -> Result<(), Refusal>
+        ensures unknown { is_open_lane self.old lane ≡ false → (result ≡ Err NoSuch) × (self.new ≡ self.old) }
+        ensures closed { OnOk result (self.new ≡ record self.old { lanes = slice_set self.old.lanes lane None }) }
+        ensures opened { is_open_lane self.old lane ≡ true → IsOk result }
+        ensures rings { KeepsRings self.old self.new }
+    {
+        if !self.has_lane(lane) {
+            return Err(Refusal::NoSuch);
+        }
+        self.let_go(lane);
+        Ok(())
+    }
+}
