@@ -3,3 +3,5 @@ pub mod Moves
 pub mod Slots
 pub mod Lanes
 pub mod OneLane
+pub mod Opens
+pub mod Closes

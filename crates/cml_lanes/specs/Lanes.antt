@@ -1,15 +1,16 @@
 -- What the calls on lanes do to a floor.
-use Rattle.std.specs.Prelude.{ℕ, ◌≡◌, ◌<◌, Bool, true, false, List, [], ◌∷◌, ◌++◌, length, Some, None, ⊤}
+use Rattle.std.specs.Prelude.{ℕ, ◌≡◌, ◌≢◌, ◌<◌, Bool, true, false, List, [], ◌∷◌, ◌++◌, length, Some, None, ⊤}
 use Rattle.cml_board.specs.declared.call.Name.{Name}
 use Rattle.cml_board.specs.declared.call.Kind.{Kind}
 use Rattle.cml_board.specs.declared.outcome.Refusal.{Refusal}
-use Rattle.cml_board.specs.declared.outcome.Refusal.TheVariants.{NoSuch, WrongKind, NoMemory}
+use Rattle.cml_board.specs.declared.outcome.Refusal.TheVariants.{NoSuch, WrongKind, NoMemory, Unseen}
 use Rattle.cml_board.specs.History.{kind_of}
 use Rattle.cml_lanes.specs.declared.way.Way.{Way}
-use Rattle.cml_lanes.specs.Ends.{LaneShown}
+use Rattle.cml_lanes.specs.Ends.{LaneShown, Ended}
+use Rattle.cml_lanes.specs.Laned.{laned}
 use Rattle.cml_lanes.specs.Sides.{LaneSide, way_kind, NoLane}
-use Rattle.cml_lanes.specs.Floor.{FloorShown, OnLane}
-use Rattle.cml_lanes.specs.Moving.{Drains, IsHeld}
+use Rattle.cml_lanes.specs.Floor.{FloorShown, OnLane, OffLane}
+use Rattle.cml_lanes.specs.Moving.{Drains, Empties, IsHeld}
 
 module _ {M : Type 0} where
   -- a lane is opened: it has the next number, the target's way and the capacity that was asked for, and nothing was sent on
@@ -36,3 +37,27 @@ module _ {M : Type 0} where
   -- so many of them went, and then one was refused, which is still in the ring
   abbrev pub HoldsUp : ℕ → Bool → ℕ → ℕ → FloorShown M → FloorShown M → Refusal → Type 0
   HoldsUp chunk sure number count old new refusal = OnLane number old new (λ from to. IsHeld chunk sure number count old.board new.board from to refusal)
+
+  abbrev pub HoldsUpAfter : ℕ → Bool → ℕ → ℕ → FloorShown M → FloorShown M → Type 0
+  HoldsUpAfter chunk sure number count old new = (refusal : Refusal) × HoldsUp chunk sure number count old new refusal
+
+  abbrev pub HoldsUpSome : ℕ → Bool → ℕ → FloorShown M → FloorShown M → Refusal → Type 0
+  HoldsUpSome chunk sure number old new refusal = (count : ℕ) × HoldsUp chunk sure number count old new refusal
+
+  -- all that was seen of an open lane went, so many messages, and it is closed
+  abbrev pub EmptiesOff : ℕ → ℕ → FloorShown M → FloorShown M → Type 0
+  EmptiesOff number count old new = OffLane number old new (Empties number count old.board new.board)
+
+  abbrev pub ClosesLane : ℕ → FloorShown M → FloorShown M → Type 0
+  ClosesLane number old new = (count : ℕ) × EmptiesOff number count old new
+
+  -- all that was seen of an open lane went, and it is not as many as the end tells; the lane stays open
+  pub record Miscounts (old new : FloorShown M) (end : Ended M) : Type 0 where
+    pub count : ℕ
+    pub lane : OnLane end.number old new (Empties end.number count old.board new.board)
+    pub other : length (laned new.board.history end.number) ≢ length end.sent
+
+  -- why a lane isn't closed by count
+  abbrev pub CountRefused : ℕ → Bool → FloorShown M → FloorShown M → Ended M → Refusal → Type 0
+  CountRefused chunk sure old new end Unseen = Miscounts old new end
+  CountRefused chunk sure old new end refusal = HoldsUpSome chunk sure end.number old new refusal

@@ -2,12 +2,12 @@
 ghost use Rattle.std.specs.Prelude.{ℕ, ◌≡◌, ◌≢◌, ◌≤◌, ◌<◌, true, false, [], ◌++◌, length, slice_set, Err, None, OnOk, IsOk, IfOk, IfErr};
 ghost use Rattle.cml_board.specs.declared.outcome.Refusal.TheVariants.{NoSuch, Unseen};
 ghost use Rattle.cml_lanes.specs.Laned.{laned};
-ghost use Rattle.cml_lanes.specs.Floor.{is_open_lane, KeepsRings, SameRing, IsOfItsRing};
-ghost use Rattle.cml_lanes.specs.Lanes.{OpensLane, OpenRefused, DrainsLane, HoldsUp};
+ghost use Rattle.cml_lanes.specs.Floor.{is_open_lane, KeepsRings, SameRing, IsOfItsRing, GivesAll};
+ghost use Rattle.cml_lanes.specs.Lanes.{OpensLane, OpenRefused, DrainsLane, HoldsUp, HoldsUpSome, HoldsUpAfter, EmptiesOff, ClosesLane, CountRefused};
 
 use super::Floor;
 use crate::inner_lane::InnerLane;
-use crate::lane::Lane;
+use crate::lane::{Lane, LaneEnd};
 use crate::way::Way;
 use cml_board::{Message, Name, Refusal};
 use cml_log::MessageLog;
@@ -63,6 +63,81 @@ impl<M: Message, L: MessageLog<M>> Floor<M, L> {
             (0, Some(refusal)) => Err(refusal),
             (count, _) => Ok(count),
         }
+    }
+
+    /// Moves all that is left of a lane that has finished into the journal, and closes the lane. It is refused `NoSuch`
+    /// where no open lane has the end's number. `JournalFull` and `NoMemory` may come after work: each message that was
+    /// moved before has its entry, the others are in the ring, and the lane is open, so that the end may be tried again.
+    pub fn close_lane(&mut self, mut end: LaneEnd<M>) -> Result<(), (LaneEnd<M>, Refusal)>
+        requires { IsOfItsRing self.old end }
+        ensures unknown { is_open_lane self.old end.number ≡ false → (result ≡ Err (end, NoSuch)) × (self.new ≡ self.old) }
+        ensures closed { OnOk result (ClosesLane end.number self.old self.new) }
+
+        // The journal has exactly what was sent, in order, each message once.
+        ensures all { OnOk result (laned self.new.board.history end.number ≡ end.sent) }
+        ensures refused { IfErr result (λ failed. (failed.0 ≡ end) × (is_open_lane self.old end.number ≡ true
+            → HoldsUpSome L.CHUNK M.SURE end.number self.old self.new failed.1 × GivesAll end.number self.new end)) }
+        ensures rings { KeepsRings self.old self.new }
+    {
+        let lane = end.number();
+        if !self.has_lane(lane) {
+            return Err((end, Refusal::NoSuch));
+        }
+        if let Some(refusal) = self.drain_after(lane, &mut end).1 {
+            return Err((end, refusal));
+        }
+        self.let_go(lane);
+        Ok(())
+    }
+
+    /// Moves what is seen of a lane that has finished, and closes the lane where then as many of its messages stand in
+    /// the journal as the end tells; else it is refused `Unseen`, and the lane stays open. This asks for no end of the
+    /// lane's own ring, but can tell of the count alone. The other refusals come as those of `close_lane`.
+    pub fn close_counted(&mut self, end: LaneEnd<M>) -> Result<(), (LaneEnd<M>, Refusal)>
+        ensures unknown { is_open_lane self.old end.number ≡ false → (result ≡ Err (end, NoSuch)) × (self.new ≡ self.old) }
+        ensures closed { OnOk result (ClosesLane end.number self.old self.new) }
+        ensures counted { OnOk result (length (laned self.new.board.history end.number) ≡ length end.sent) }
+        ensures refused { IfErr result (λ failed. (failed.0 ≡ end) × (is_open_lane self.old end.number ≡ true
+            → CountRefused L.CHUNK M.SURE self.old self.new end failed.1)) }
+        ensures rings { KeepsRings self.old self.new }
+    {
+        let lane = end.number();
+        if !self.has_lane(lane) {
+            return Err((end, Refusal::NoSuch));
+        }
+        if let Some(refusal) = self.drain_open(lane).1 {
+            return Err((end, refusal));
+        }
+        if self.moved_count(lane) != end.count() {
+            return Err((end, Refusal::Unseen));
+        }
+        self.let_go(lane);
+        Ok(())
+    }
+
+    /// Moves what is seen of a lane, and closes it where no message was refused: how many were moved, and whether it is
+    /// closed. It is refused as `drain` is; then, and where it tells that it isn't closed, the lane is open. Whether all
+    /// that was sent was seen, nothing tells.
+    pub fn drop_lane(&mut self, lane: u64) -> Result<(usize, bool), Refusal>
+        ensures unknown { is_open_lane self.old lane ≡ false → (result ≡ Err NoSuch) × (self.new ≡ self.old) }
+        ensures closed { IfOk result (λ told. told.1 ≡ true → EmptiesOff lane told.0 self.old self.new) }
+        ensures stopped { IfOk result (λ told. told.1 ≡ false → (0 < told.0) × HoldsUpAfter L.CHUNK M.SURE lane told.0 self.old self.new) }
+        ensures refused { IfErr result (λ refusal. is_open_lane self.old lane ≡ true
+            → HoldsUp L.CHUNK M.SURE lane 0 self.old self.new refusal) }
+        ensures rings { KeepsRings self.old self.new }
+    {
+        if !self.has_lane(lane) {
+            return Err(Refusal::NoSuch);
+        }
+        let (count, refusal) = self.drain_open(lane);
+        let Some(refusal) = refusal else {
+            self.let_go(lane);
+            return Ok((count, true));
+        };
+        if count == 0 {
+            return Err(refusal);
+        }
+        Ok((count, false))
     }
 
     /// Closes an open lane at once. What is left in its ring is dropped. `NoSuch` where no open lane has the number.
