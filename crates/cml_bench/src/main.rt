@@ -3,11 +3,13 @@
 #![tactic(auto)]
 
 mod check_run;
+mod lane_run;
 mod log_run;
 mod switchboard_run;
 
 use cml_board::{Board, BoardLog, Call, Name, Outcome, Reply, Who};
 use cml_log::{ChunkLog, MessageLog, PlainLog};
+use lane_run::LaneRun;
 use log_run::LogRun;
 use std::alloc::Global;
 use std::process::ExitCode;
@@ -115,6 +117,7 @@ fn print_sums(rt: &HostRuntime) -> io::Result<()> {
     print_ports_sum(rt)?;
     print_log_sum::<PlainLog<u64, 4>>(rt, "log8_deque")?;
     print_log_sum::<ChunkLog<u64, 4>>(rt, "log8_chunks")?;
+    print_lane_count(rt)?;
     print_lawful(rt)
 }
 
@@ -153,6 +156,11 @@ fn print_log_sum<L: MessageLog<u64>>(rt: &HostRuntime, name: &str) -> io::Result
     print_sum(rt, name, run.sum)
 }
 
+fn print_lane_count(rt: &HostRuntime) -> io::Result<()> {
+    let moved = LaneRun::new(rt.alloc())?.pass(FEW)?;
+    print_sum(rt, lane_run::NAME, moved as u64)
+}
+
 fn print_lawful(rt: &HostRuntime) -> io::Result<()> {
     let run = performed(rt, Workload::Pairs, FEW)?;
     let entries = check_run::count_lawful(rt.alloc(), run.board.journal())?;
@@ -174,6 +182,7 @@ fn print_times(rt: &HostRuntime, count: u64) -> io::Result<()> {
         time_ports(rt, name, *ports)?;
     }
     time_logs(rt, count)?;
+    time_lane(rt, count)?;
     time_check(rt, count)
 }
 
@@ -222,6 +231,28 @@ fn time_log<L: MessageLog<u64>>(rt: &HostRuntime, subject: &str, count: u64) -> 
     print_time(rt, log_run::NAME, subject, time, calls)
 }
 
+/// What a message costs its sender and the one who drains it, beside a bare ring and beside the board.
+fn time_lane(rt: &HostRuntime, count: u64) -> io::Result<()> {
+    let times = lane_run::measured(rt, rt.alloc(), count)?;
+    let messages = times.messages;
+    print_nanos(
+        rt,
+        lane_run::NAME,
+        "seryugo_lane_send",
+        times.send,
+        messages,
+    )?;
+    print_nanos(
+        rt,
+        lane_run::NAME,
+        "seryugo_lane_drain",
+        times.drain,
+        messages,
+    )?;
+    print_nanos(rt, lane_run::NAME, "rtrb_push_pop", times.ring, messages)?;
+    print_nanos(rt, lane_run::NAME, "seryugo_board", times.board, messages)
+}
+
 /// The time that a check of a journal takes, without that of making the journal.
 fn time_check(rt: &HostRuntime, count: u64) -> io::Result<()> {
     let run = performed(rt, Workload::Pairs, count)?;
@@ -256,14 +287,20 @@ fn print_time<R: Print>(
     time: Duration,
     calls: usize,
 ) -> io::Result<()> {
-    let tenths = tenths_per_call(time, calls);
-    println!(rt; "{workload} {subject} {}.{}", tenths / 10, tenths % 10)
+    print_nanos(rt, workload, subject, time.as_nanos(), calls)
 }
 
-/// Tenths of a nanosecond that each of so many calls took.
-fn tenths_per_call(time: Duration, calls: usize) -> u128 {
-    let tenths = time.as_nanos().saturating_mul(10);
-    tenths.checked_div(calls as u128).unwrap_or(0)
+/// Nanoseconds that each of so many calls took, and a tenth's digit.
+fn print_nanos<R: Print>(
+    rt: &R,
+    workload: &str,
+    subject: &str,
+    nanos: u128,
+    calls: usize,
+) -> io::Result<()> {
+    let tenths = nanos.saturating_mul(10);
+    let tenths = tenths.checked_div(calls as u128).unwrap_or(0);
+    println!(rt; "{workload} {subject} {}.{}", tenths / 10, tenths % 10)
 }
 
 impl Workload {
@@ -305,10 +342,15 @@ impl Run {
     /// One mailbox: all sends, and then all receives.
     fn burst(&mut self, count: u64) -> io::Result<()> {
         self.make(Call::NewMailbox)?;
+        self.send_all(count)?;
+        self.receive_all(count)
+    }
+
+    fn send_all(&mut self, count: u64) -> io::Result<()> {
         for message in 0..count {
             self.make(Call::Send(OBJECT, message))?;
         }
-        self.receive_all(count)
+        Ok(())
     }
 
     fn receive_all(&mut self, count: u64) -> io::Result<()> {
