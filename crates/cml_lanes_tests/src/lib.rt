@@ -1,0 +1,5 @@
+//! Tests of lanes and of a floor: of what no clause says, above all that messages really go through.
+#![tactic(auto)]
+
+#[cfg(test)]
+mod tests;

@@ -1,0 +1,84 @@
+//! A lane between two threads.
+ghost use Rattle.std.specs.Prelude.{◌≡◌, IfSome};
+ghost use Rattle.cml_lanes.specs.Floor.{SameRing};
+
+use super::floors::{Numbers, floor};
+use super::steps::SEAT;
+use cml_board::{Call, Entry, Name, Reply, Who};
+use cml_lanes::{Lane, LaneEnd};
+use std::alloc::{AllocError, Global};
+use std::thread::{self, Threads};
+
+/// How many numbers are sent, each again until it is taken.
+const COUNT: u64 = 1_000;
+
+/// How often each thread tries at most.
+const TURNS: u32 = 100_000_000;
+
+const MAILBOX: Name = Name(0);
+
+/// One thread sends numbers on a lane of capacity 2 while another drains it; once it is closed they stand in the journal,
+/// in order, each once.
+pub fn all_go_across<R: Threads + Sync>(rt: &R, alloc: Global) -> Result<bool, AllocError> {
+    let mut floor = floor(alloc, 2_000)?;
+    floor.apply(SEAT, Call::NewMailbox);
+    let Ok((lane, number)) = floor.open_lane(MAILBOX, 2) else {
+        return Ok(false);
+    };
+    let (end, mut floor) = thread::join(
+        rt,
+        move || -> Option<LaneEnd<u64>>
+            ensures { IfSome result (λ end. (end.ring ≡ lane.ring) × (end.number ≡ lane.number)) }
+        { send_all(lane) },
+        move || -> Numbers
+            ensures { SameRing number floor result }
+        { drain_all(floor, number) },
+    );
+    let Some(end) = end else {
+        return Ok(false);
+    };
+    let closed = floor.close_lane(end).is_ok();
+    Ok(closed && are_all_sent(floor.board().journal()))
+}
+
+fn send_all(lane: Lane<u64>) -> Option<LaneEnd<u64>>
+    ensures { IfSome result (λ end. (end.ring ≡ lane.ring) × (end.number ≡ lane.number)) }
+{
+    let mut lane = lane;
+    let mut next = 0u64;
+    for _turn in 0..TURNS {
+        if next >= COUNT {
+            break;
+        }
+        match lane.send(next) {
+            Ok(()) => next += 1,
+            Err(_) => thread::yield_now(),
+        }
+    }
+    lane.finish()
+}
+
+fn drain_all(floor: Numbers, number: u64) -> Numbers
+    ensures { SameRing number floor result }
+{
+    let mut floor = floor;
+    let mut moved = 0usize;
+    for _turn in 0..TURNS {
+        if moved as u64 >= COUNT {
+            break;
+        }
+        match floor.drain(number) {
+            Ok(0) => thread::yield_now(),
+            Ok(count) => moved = moved.saturating_add(count),
+            Err(_) => break,
+        }
+    }
+    floor
+}
+
+fn are_all_sent(journal: &[Entry<u64>]) -> bool {
+    journal.len() as u64 == COUNT + 1
+        && journal.iter().skip(1).zip(0..COUNT).all(|(entry, number)| {
+            entry.who == Who::Lane(0) && entry.call.same(&Call::Send(MAILBOX, number)) && entry.reply.same(&Reply::Done)
+        })
+}
