@@ -1,10 +1,9 @@
 -- What it is to drain a lane and then to let it go.
-use Rattle.std.proofs.Common.{◌≡◌, ℕ, List, [], ◌++◌, slice_get, slice_set, Option, Some, None, subst, refl, sym, ap, ◌∙◌}
+use Rattle.std.proofs.Common.{◌≡◌, ℕ, ◌++◌, slice_get, slice_set, Some, None, subst, sym, ap, ◌∙◌}
 use Rattle.std.proofs.lemmas.List.{append-nil}
 use Rattle.cml_board.specs.Shown.{Shown}
 use Rattle.cml_board.proofs.ListLemmas.{slice_get-set_same}
 use Rattle.cml_lanes.specs.Ends.{Ended}
-use Rattle.cml_lanes.specs.Sides.{LaneSide}
 use Rattle.cml_lanes.specs.Laned.{laned}
 use Rattle.cml_lanes.specs.Moving.{Empties}
 use Rattle.cml_lanes.specs.Floor.{FloorShown, GivesAll, OnLane}

@@ -1,11 +1,10 @@
 -- What a floor keeps of its lanes, while something is done to one of them.
-use Rattle.std.proofs.Common.{◌≡◌, ◌≢◌, ℕ, ◌+◌, ◌<◌, ◌≤◌, ◌⊎◌, inl, inr, Bool, true, false, eqb, List, [], ◌∷◌, ◌++◌, length, get_or, slice_get, slice_set, Option, Some, None, IfNone, IfSome, subst, refl, sym, ap, ◌∙◌, arith}
-use Rattle.std.proofs.lemmas.Option.{same_Some, none-some}
-use Rattle.std.proofs.lemmas.Bool.{eqb-true, eq-eqb, false≢true, true≢false}
+use Rattle.std.proofs.Common.{◌≡◌, ◌≢◌, ℕ, ◌≤◌, ◌⊎◌, inl, inr, Bool, true, false, eqb, List, [], ◌∷◌, length, slice_get, slice_set, Option, Some, None, subst, refl, sym, ap, ◌∙◌, arith}
+use Rattle.std.proofs.lemmas.Option.{same_Some}
+use Rattle.std.proofs.lemmas.Bool.{eqb-true, eq-eqb, false≢true}
 use Rattle.cml_board.specs.declared.call.Call.{Call}
 use Rattle.cml_board.specs.declared.entry.Who.TheVariants.{Seat}
 use Rattle.cml_board.specs.declared.entry.Entry.{Entry}
-use Rattle.cml_board.specs.declared.outcome.Refusal.{Refusal}
 use Rattle.cml_board.specs.declared.outcome.Outcome.{Outcome}
 use Rattle.cml_board.specs.declared.outcome.Outcome.TheVariants.{Answered, WouldWait, Refused}
 use Rattle.cml_board.specs.History.{kind_of}
@@ -13,15 +12,13 @@ use Rattle.cml_board.specs.Shown.{Shown}
 use Rattle.cml_board.specs.Outcome.{Applies}
 use Rattle.cml_board.proofs.Closing.{kind_kept}
 use Rattle.cml_board.proofs.ListLemmas.{slice_get-set_same, slice_get-set_other}
-use Rattle.cml_lanes.specs.Ring.{Ring}
-use Rattle.cml_lanes.specs.Ends.{Ended}
 use Rattle.cml_lanes.specs.Sides.{LaneSide, way_kind}
 use Rattle.cml_lanes.specs.Laned.{laned, is_lane}
-use Rattle.cml_lanes.specs.Moving.{KeepsLane, HasLane, OnSlot, Moves, Looks, Drains, Empties, IsHeld}
-use Rattle.cml_lanes.specs.Floor.{FloorShown, is_taken, is_open_lane, KeepsLanes, SameRing, KeepsRings, IsOfItsRing, GivesAll, OnLane}
+use Rattle.cml_lanes.specs.Moving.{KeepsLane, Drains}
+use Rattle.cml_lanes.specs.Floor.{is_taken, KeepsLanes}
 use Rattle.cml_lanes.proofs.Laning.{laned_other, laned_apart, kind_more}
-use Rattle.cml_lanes.proofs.Moves.{keeps_moved, stopped_moves}
-use Rattle.cml_lanes.proofs.Slots.{slot_at, taken_slot, taken_within, same_length, emptied}
+use Rattle.cml_lanes.proofs.Moves.{keeps_moved}
+use Rattle.cml_lanes.proofs.Slots.{taken_within, same_length, emptied}
 
 -- a number is this one or another
 pub this_or_other : (k n : ℕ) → (k ≡ n) ⊎ (k ≢ n)
@@ -82,17 +79,18 @@ module _ {M : Type 0} where
     where
       each : (k : ℕ) (side : LaneSide M) → slice_get (slice_set lanes number (Some to)) k ≡ Some (Some side) → KeepsLane new.history k side
       each k side found = elim (this_or_other k number) [
-          inl same ↦
+        | inl same ↦
             let is : to ≡ side = same_Some _ _ (same_Some _ _ (sym (ap (slice_get (slice_set lanes number (Some to))) same ∙ slice_get-set_same lanes number (Some from) (Some to) opened) ∙ found)) in
             subst (λ (s : LaneSide M). KeepsLane new.history k s) is
             (subst (λ n. KeepsLane new.history n to) (sym same) (drained_keeps number count old new lanes from to (keeps.lane number from opened) d))
-          | inr apart ↦
+        | inr apart ↦
             let was : slice_get lanes k ≡ Some (Some side) = sym (slice_get-set_other lanes number k (Some to) apart) ∙ found in
             record {
               laned = others_laned number count old new from to d k apart ∙ (keeps.lane k side was).laned;
               kind = kinds_kept number count old new from to d side (keeps.lane k side was).kind;
             }
-        ]
+      ]
+
       none : (k : ℕ) → length (slice_set lanes number (Some to)) ≤ k → laned new.history k ≡ []
       none k past =
           let within = taken_within lanes number (ap is_taken opened) in
@@ -105,8 +103,9 @@ module _ {M : Type 0} where
     where
       each : (k : ℕ) (side : LaneSide M) → slice_get (slice_set lanes number None) k ≡ Some (Some side) → KeepsLane history k side
       each k side found = elim (this_or_other k number) [
-          inl same ↦ absurd (emptied lanes number side (ap (slice_get (slice_set lanes number None)) (sym same) ∙ found))
-          | inr apart ↦ keeps.lane k side (sym (slice_get-set_other lanes number k None apart) ∙ found)
-        ]
+        | inl same ↦ absurd (emptied lanes number side (ap (slice_get (slice_set lanes number None)) (sym same) ∙ found))
+        | inr apart ↦ keeps.lane k side (sym (slice_get-set_other lanes number k None apart) ∙ found)
+      ]
+
       none : (k : ℕ) → length (slice_set lanes number None) ≤ k → laned history k ≡ []
       none k past = keeps.no_lane k (omega (arith, past, same_length lanes number None))

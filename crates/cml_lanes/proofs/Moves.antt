@@ -1,5 +1,5 @@
 -- Moves of messages, one after another.
-use Rattle.std.proofs.Common.{◌≡◌, ◌≢◌, ℕ, ◌+◌, ◌<◌, ◌≤◌, Bool, true, false, List, [], ◌∷◌, ◌++◌, length, slice_get, Option, Some, None, IfNone, is_some, subst, refl, sym, ap, ◌∙◌, arith, length-append, append_assoc}
+use Rattle.std.proofs.Common.{◌≡◌, ℕ, ◌+◌, ◌<◌, Bool, false, List, [], ◌∷◌, ◌++◌, length, slice_get, Option, Some, None, IfNone, is_some, subst, refl, sym, ap, ◌∙◌, arith, length-append, append_assoc}
 use Rattle.std.proofs.lemmas.Option.{same_Some, none-some}
 use Rattle.std.proofs.lemmas.List.{append-nil}
 use Rattle.std.proofs.lemmas.Bool.{true≢false}
@@ -7,7 +7,6 @@ use Rattle.cml_board.specs.declared.call.Call.{Call}
 use Rattle.cml_board.specs.declared.entry.Who.TheVariants.{Lane}
 use Rattle.cml_board.specs.declared.entry.Reply.{Reply}
 use Rattle.cml_board.specs.declared.entry.Reply.TheVariants.{Done}
-use Rattle.cml_board.specs.declared.entry.Entry.{Entry}
 use Rattle.cml_board.specs.declared.outcome.Refusal.{Refusal}
 use Rattle.cml_board.specs.declared.outcome.Refusal.TheVariants.{Gone, Busy, NoSuch, WrongKind, JournalFull, Stalled, NoMemory, Unseen}
 use Rattle.cml_board.specs.History.{kind_of, answer, Fits}
@@ -16,7 +15,7 @@ use Rattle.cml_board.specs.Outcome.{IsAsBefore, AddsEntry, Refuses, HasRoom}
 use Rattle.cml_board.proofs.Sparing.{call_takes}
 use Rattle.cml_lanes.specs.Sides.{LaneSide, way_call, way_kind}
 use Rattle.cml_lanes.specs.Laned.{laned, lane_entry, with_lane}
-use Rattle.cml_lanes.specs.Moving.{IsLimit, KeepsLane, Moves, Stops, Looks, Drains, Empties, IsHeld}
+use Rattle.cml_lanes.specs.Moving.{IsLimit, KeepsLane, Moves, Stops}
 use Rattle.cml_lanes.proofs.Laning.{laned_more, kind_more, with_lane_more, fits_way, answer_way, way_has_message}
 
 -- what holds where there is no value holds where none is
@@ -128,10 +127,12 @@ module _ {M : Type 0} where
   stops_unshared chunk sure number board side keeps some room unsure =
       let first = some_first side.seen some in
       let call : Call M = way_call side.way side.target first.0 in
-      stops_first chunk sure number board board side NoMemory first.0 (unchanged board) first.1 tt
-      (fits_way board.history side.way side.target first.0 keeps.kind, room,
+      stops_first chunk sure number board board side NoMemory first.0 (unchanged board) first.1 tt (
+        fits_way board.history side.way side.target first.0 keeps.kind,
+        room,
         (λ never. none-some Done (sym never ∙ answer_way board.history side.way side.target first.0)),
-        call_takes board call (way_has_message side.way side.target first.0) unsure)
+        call_takes board call (way_has_message side.way side.target first.0) unsure,
+      )
 
   -- a call that fits is refused by a limit alone
   limit_refuses : (chunk : ℕ) (sure : Bool) (board : Shown M) (call : Call M) (refusal : Refusal) → Fits board.history call

@@ -1,16 +1,14 @@
 -- What is done to the slot of a lane, as what is done to the floor.
-use Rattle.std.proofs.Common.{◌≡◌, ◌≢◌, ℕ, ◌+◌, ◌<◌, ◌≤◌, ◌⊎◌, inl, inr, Bool, true, false, List, [], ◌∷◌, ◌++◌, length, get_or, slice_get, slice_set, Option, Some, None, is_some, count_by, IfNone, IfSome, subst, refl, sym, ap, ◌∙◌, arith}
-use Rattle.std.proofs.lemmas.Option.{same_Some, none-some}
-use Rattle.cml_board.specs.declared.entry.Entry.{Entry}
+use Rattle.std.proofs.Common.{◌≡◌, ℕ, inl, inr, Bool, true, List, ◌++◌, length, get_or, slice_get, slice_set, Option, Some, None, is_some, count_by, IfNone, IfSome, subst, refl, sym, ap, ◌∙◌}
+use Rattle.std.proofs.lemmas.Option.{same_Some}
 use Rattle.cml_board.specs.declared.outcome.Refusal.{Refusal}
 use Rattle.cml_board.specs.Shown.{Shown}
 use Rattle.cml_board.proofs.ListLemmas.{slice_get-set_same, slice_get-set_other}
-use Rattle.cml_lanes.specs.Ring.{Ring}
 use Rattle.cml_lanes.specs.Ends.{Ended}
 use Rattle.cml_lanes.specs.Sides.{LaneSide}
 use Rattle.cml_lanes.specs.Laned.{laned}
-use Rattle.cml_lanes.specs.Moving.{KeepsLane, HasLane, OnSlot, Drains, Empties, IsHeld}
-use Rattle.cml_lanes.specs.Floor.{FloorShown, is_taken, is_open_lane, KeepsLanes, KeepsRings, SameRing, IsOfRing, GivesAll, OnLane}
+use Rattle.cml_lanes.specs.Moving.{HasLane, OnSlot, Drains, Empties, IsHeld}
+use Rattle.cml_lanes.specs.Floor.{FloorShown, is_taken, is_open_lane, KeepsLanes, KeepsRings, IsOfRing, GivesAll, OnLane}
 use Rattle.cml_lanes.proofs.Moves.{stopped_moves}
 use Rattle.cml_lanes.proofs.Slots.{slot_at, taken_slot, as_many_taken}
 use Rattle.cml_lanes.proofs.Lanes.{this_or_other, drain_keeps}
@@ -30,11 +28,11 @@ module _ {M : Type 0} where
   pub set_rings : (number : ℕ) (old new : FloorShown M) (from : LaneSide M) (to : Option (LaneSide M)) → slice_get old.lanes number ≡ Some (Some from)
       → new.lanes ≡ slice_set old.lanes number to → ((side : LaneSide M) → to ≡ Some side → side.ring ≡ from.ring) → KeepsRings old new
   set_rings number old new from to opened lanes ring = λ k side found. elim (this_or_other k number) [
-      inl same ↦
+    | inl same ↦
         let here : slice_get new.lanes k ≡ Some to = ap (λ ls. slice_get ls k) lanes ∙ ap (slice_get (slice_set old.lanes number to)) same ∙ slice_get-set_same old.lanes number (Some from) to opened in
         (from, ap (slice_get old.lanes) same ∙ opened, ring side (same_Some _ _ (sym here ∙ found)))
-      | inr apart ↦ (side, sym (ap (λ ls. slice_get ls k) lanes ∙ slice_get-set_other old.lanes number k to apart) ∙ found, refl)
-    ]
+    | inr apart ↦ (side, sym (ap (λ ls. slice_get ls k) lanes ∙ slice_get-set_other old.lanes number k to apart) ∙ found, refl)
+  ]
 
   same_ring : (number count : ℕ) (old new : Shown M) (from to : LaneSide M) → Drains number count old new from to → to.ring ≡ from.ring
   same_ring number count old new from to d = ap (λ (side : LaneSide M). side.ring) d.moves.side ∙ ap (λ (side : LaneSide M). side.ring) d.looks.side
@@ -78,9 +76,10 @@ module _ {M : Type 0} where
       → KeepsLanes after.history (slice_set lanes number new_slot) × (opened ≡ count_by is_some (slice_set lanes number new_slot))
   slot_keeps number count opened board after lanes slot new_slot at on keeps =
       let found : slice_get lanes number ≡ Some (Some on.from) = at ∙ ap Some on.opened in
-      let written : slice_set lanes number (Some on.to) ≡ slice_set lanes number new_slot = ap (slice_set lanes number) (sym on.stays) in
-      (subst (λ ls. KeepsLanes after.history ls) written (drain_keeps number count board after lanes on.from on.to found on.does keeps.0),
-        keeps.1 ∙ sym (as_many_taken lanes number on.from on.to found) ∙ ap (count_by is_some) written)
+      let written : slice_set lanes number (Some on.to) ≡ slice_set lanes number new_slot = ap (slice_set lanes number) (sym on.stays) in (
+        subst (λ ls. KeepsLanes after.history ls) written (drain_keeps number count board after lanes on.from on.to found on.does keeps.0),
+        keeps.1 ∙ sym (as_many_taken lanes number on.from on.to found) ∙ ap (count_by is_some) written,
+      )
 
   -- what is done to the slot is done to the lane
   pub on_lane : (number : ℕ) (board after : Shown M) (lanes : List (Option (LaneSide M))) (slot new_slot : Option (LaneSide M)) (old : FloorShown M)

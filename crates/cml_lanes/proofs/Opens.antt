@@ -1,5 +1,5 @@
 -- What a floor keeps of its lanes when one is opened.
-use Rattle.std.proofs.Common.{◌≡◌, ℕ, ◌+◌, ◌<◌, ◌≤◌, ◌⊎◌, inl, inr, Bool, true, false, not, cond, List, [], ◌∷◌, ◌++◌, length, slice_get, Option, Some, None, is_some, count_by, subst, refl, sym, ap, ◌∙◌, arith}
+use Rattle.std.proofs.Common.{◌≡◌, ℕ, ◌+◌, ◌<◌, ◌≤◌, inl, inr, Bool, false, not, cond, List, [], ◌∷◌, ◌++◌, length, slice_get, Option, Some, is_some, count_by, subst, refl, sym, ap, ◌∙◌, arith}
 use Rattle.std.proofs.lemmas.Option.{same_Some}
 use Rattle.std.proofs.lemmas.List.{length_push}
 use Rattle.cml_board.specs.declared.entry.Entry.{Entry}
@@ -24,25 +24,27 @@ module _ {M : Type 0} where
     where
       each : (number : ℕ) (s : LaneSide M) → slice_get (lanes ++ Some side ∷ []) number ≡ Some (Some s) → KeepsLane history number s
       each number s found = elim (pushed_cases lanes (Some side) (Some s) number found) [
-          inl was ↦ keeps.lane number s was
-          | inr next ↦ subst (λ (x : LaneSide M). KeepsLane history number x) (same_Some _ _ next.1)
+        | inl was ↦ keeps.lane number s was
+        | inr next ↦ subst (λ (x : LaneSide M). KeepsLane history number x) (same_Some _ _ next.1)
             (record { laned = keeps.no_lane number (omega (arith, next.0)) ∙ sym received; kind = kind })
-        ]
+      ]
+
       none : (number : ℕ) → length (lanes ++ Some side ∷ []) ≤ number → laned history number ≡ []
       none number past = keeps.no_lane number (omega (arith, past, length_push lanes (Some side)))
 
   pub opened_keeps : (history : List (Entry M)) (lanes items : List (Option (LaneSide M))) (side : LaneSide M) (opened : ℕ) → items ≡ lanes ++ Some side ∷ []
       → KeepsLanes history lanes × (opened ≡ count_by is_some lanes) → side.received ≡ [] → kind_of history side.target.0 ≡ Some (way_kind side.way)
       → KeepsLanes history items × (opened + 1 ≡ count_by is_some items)
-  opened_keeps history lanes items side opened pushed keeps received kind =
-      (subst (λ ls. KeepsLanes history ls) (sym pushed) (keeps_pushed history lanes side keeps.0 received kind),
-        omega (arith, keeps.1, one_taken_more lanes side, ap (count_by is_some) pushed))
+  opened_keeps history lanes items side opened pushed keeps received kind = (
+    subst (λ ls. KeepsLanes history ls) (sym pushed) (keeps_pushed history lanes side keeps.0 received kind),
+    omega (arith, keeps.1, one_taken_more lanes side, ap (count_by is_some) pushed),
+  )
 
   pub opened_rings : (board : Shown M) (lanes items : List (Option (LaneSide M))) (side : LaneSide M) (old : FloorShown M)
       → record { board = board; lanes = lanes } ≡ old → items ≡ lanes ++ Some side ∷ []
       → (number : ℕ) → number < length old.lanes → SameRing number old (record { board = board; lanes = items })
   opened_rings board lanes items side old view pushed number within s found =
       elim (pushed_cases lanes (Some side) (Some s) number (sym (ap (λ ls. slice_get ls number) pushed) ∙ found)) [
-        inl was ↦ (s, ap (λ (f : FloorShown M). slice_get f.lanes number) (sym view) ∙ was, refl)
+        | inl was ↦ (s, ap (λ (f : FloorShown M). slice_get f.lanes number) (sym view) ∙ was, refl)
         | inr next ↦ absurd (omega (arith, next.0, within, ap (λ (f : FloorShown M). length f.lanes) view))
       ]

@@ -1,5 +1,5 @@
 -- What a floor shows of itself, and what always holds of it.
-use Rattle.std.specs.Prelude.{ℕ, ◌≡◌, ◌<◌, ◌≤◌, Bool, true, false, List, [], ◌++◌, length, slice_get, slice_set, Option, Some, None}
+use Rattle.std.specs.Prelude.{ℕ, ◌≡◌, ◌≤◌, Bool, true, false, List, [], ◌++◌, length, slice_get, slice_set, Option, Some, None}
 use Rattle.cml_board.specs.declared.entry.Entry.{Entry}
 use Rattle.cml_board.specs.Shown.{Shown}
 use Rattle.cml_lanes.specs.Ends.{Ended}

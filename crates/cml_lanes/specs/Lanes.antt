@@ -1,5 +1,5 @@
 -- What the calls on lanes do to a floor.
-use Rattle.std.specs.Prelude.{ℕ, ◌≡◌, ◌≢◌, ◌<◌, Bool, true, false, List, [], ◌∷◌, ◌++◌, length, Some, None, ⊤}
+use Rattle.std.specs.Prelude.{ℕ, ◌≡◌, ◌≢◌, ◌<◌, ◌⊎◌, Bool, [], ◌∷◌, ◌++◌, length, Some, None}
 use Rattle.cml_board.specs.declared.call.Name.{Name}
 use Rattle.cml_board.specs.declared.call.Kind.{Kind}
 use Rattle.cml_board.specs.declared.outcome.Refusal.{Refusal}
@@ -8,9 +8,9 @@ use Rattle.cml_board.specs.History.{kind_of}
 use Rattle.cml_lanes.specs.declared.way.Way.{Way}
 use Rattle.cml_lanes.specs.Ends.{LaneShown, Ended}
 use Rattle.cml_lanes.specs.Laned.{laned}
-use Rattle.cml_lanes.specs.Sides.{LaneSide, way_kind, NoLane}
+use Rattle.cml_lanes.specs.Sides.{way_kind, NoLane}
 use Rattle.cml_lanes.specs.Floor.{FloorShown, OnLane, OffLane}
-use Rattle.cml_lanes.specs.Moving.{Drains, Empties, IsHeld}
+use Rattle.cml_lanes.specs.Moving.{Empties, IsHeld}
 
 module _ {M : Type 0} where
   -- a lane is opened: it has the next number, the target's way and the capacity that was asked for, and nothing was sent on
@@ -30,19 +30,24 @@ module _ {M : Type 0} where
   OpenRefused floor target NoMemory = (way : Way) × (kind_of floor.board.history target.0 ≡ Some (way_kind way))
   OpenRefused floor target refusal = ⊥
 
-  -- so many messages of an open lane, the next of its ring, went into the journal; and where it is none, none was seen
-  abbrev pub DrainsLane : ℕ → ℕ → FloorShown M → FloorShown M → Type 0
-  DrainsLane number count old new = OnLane number old new (λ from to. Drains number count old.board new.board from to × (count ≡ 0 → to.seen ≡ []))
+  -- all that was seen of an open lane went into the journal, so many messages, and the lane stays open
+  abbrev pub EmptiesLane : ℕ → ℕ → FloorShown M → FloorShown M → Type 0
+  EmptiesLane number count old new = OnLane number old new (Empties number count old.board new.board)
 
   -- so many of them went, and then one was refused, which is still in the ring
   abbrev pub HoldsUp : ℕ → Bool → ℕ → ℕ → FloorShown M → FloorShown M → Refusal → Type 0
   HoldsUp chunk sure number count old new refusal = OnLane number old new (λ from to. IsHeld chunk sure number count old.board new.board from to refusal)
 
-  abbrev pub HoldsUpAfter : ℕ → Bool → ℕ → ℕ → FloorShown M → FloorShown M → Type 0
-  HoldsUpAfter chunk sure number count old new = (refusal : Refusal) × HoldsUp chunk sure number count old new refusal
-
   abbrev pub HoldsUpSome : ℕ → Bool → ℕ → FloorShown M → FloorShown M → Refusal → Type 0
   HoldsUpSome chunk sure number old new refusal = (count : ℕ) × HoldsUp chunk sure number count old new refusal
+
+  -- one was refused, but not the first
+  abbrev pub StopsLate : ℕ → Bool → ℕ → ℕ → FloorShown M → FloorShown M → Type 0
+  StopsLate chunk sure number count old new = (0 < count) × (refusal : Refusal) × HoldsUp chunk sure number count old new refusal
+
+  -- so many went, which is all that was seen unless a later one was refused
+  abbrev pub DrainsLane : ℕ → Bool → ℕ → ℕ → FloorShown M → FloorShown M → Type 0
+  DrainsLane chunk sure number count old new = EmptiesLane number count old new ⊎ StopsLate chunk sure number count old new
 
   -- all that was seen of an open lane went, so many messages, and it is closed
   abbrev pub EmptiesOff : ℕ → ℕ → FloorShown M → FloorShown M → Type 0
@@ -54,7 +59,7 @@ module _ {M : Type 0} where
   -- all that was seen of an open lane went, and it is not as many as the end tells; the lane stays open
   pub record Miscounts (old new : FloorShown M) (end : Ended M) : Type 0 where
     pub count : ℕ
-    pub lane : OnLane end.number old new (Empties end.number count old.board new.board)
+    pub lane : EmptiesLane end.number count old new
     pub other : length (laned new.board.history end.number) ≢ length end.sent
 
   -- why a lane isn't closed by count

@@ -1,4 +1,4 @@
-ghost use Rattle.std.specs.Prelude.{◌≡◌, ◌≤◌, ◌<◌, true, [], ◌++◌, length, slice_set, None, count_by, is_some, IfNone, IfSome, IsTrue};
+ghost use Rattle.std.specs.Prelude.{◌≡◌, true, [], length, slice_set, None, count_by, is_some, IfNone, IfSome};
 ghost use Rattle.cml_board.specs.declared.entry.Who.TheVariants.{Seat};
 ghost use Rattle.cml_board.specs.History.{no_entries};
 ghost use Rattle.cml_board.specs.Outcome.{Applies};

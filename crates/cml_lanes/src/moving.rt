@@ -1,6 +1,5 @@
 //! How messages go out of a lane's ring into the journal: each is taken out once it has its entry.
 ghost use Rattle.std.specs.Prelude.{◌≡◌, ◌<◌, [], ◌++◌, length, IfNone, IfSome};
-ghost use Rattle.cml_board.specs.Outcome.{IsAsBefore};
 ghost use Rattle.cml_lanes.specs.Moving.{KeepsLane, Moves, Stops, HasLane, OnSlot, Empties, IsHeld};
 
 use crate::inner_lane::InnerLane;

@@ -31,13 +31,25 @@ fn tells_what_becomes_of_lanes(rt: HostRuntime) -> Result<(), Fail> {
 
 #[test]
 fn closes_a_lane_by_its_end(rt: HostRuntime) -> Result<(), Fail> {
-    is_so(&rt, closing::closes_all_that_was_sent(rt.alloc())?, "closed otherwise");
-    is_so(&rt, closing::hands_an_end_back(rt.alloc())?, "refused otherwise");
+    is_so(
+        &rt,
+        closing::closes_all_that_was_sent(rt.alloc())?,
+        "closed otherwise",
+    );
+    is_so(
+        &rt,
+        closing::hands_an_end_back(rt.alloc())?,
+        "refused otherwise",
+    );
     Ok(())
 }
 
 #[test]
 fn moves_what_another_thread_sends(rt: HostRuntime) -> Result<(), Fail> {
-    is_so(&rt, across::all_go_across(&rt, rt.alloc())?, "moved otherwise");
+    is_so(
+        &rt,
+        across::all_go_across(&rt, rt.alloc())?,
+        "moved otherwise",
+    );
     Ok(())
 }

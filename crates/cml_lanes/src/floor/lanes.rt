@@ -1,9 +1,9 @@
 //! Lanes are opened, drained and closed.
-ghost use Rattle.std.specs.Prelude.{ℕ, ◌≡◌, ◌≢◌, ◌≤◌, ◌<◌, true, false, [], ◌++◌, length, slice_set, Err, None, OnOk, IsOk, IfOk, IfErr};
-ghost use Rattle.cml_board.specs.declared.outcome.Refusal.TheVariants.{NoSuch, Unseen};
+ghost use Rattle.std.specs.Prelude.{ℕ, ◌≡◌, ◌≤◌, ◌<◌, true, false, length, slice_set, Err, None, OnOk, IsOk, IfOk, IfErr};
+ghost use Rattle.cml_board.specs.declared.outcome.Refusal.TheVariants.{NoSuch};
 ghost use Rattle.cml_lanes.specs.Laned.{laned};
 ghost use Rattle.cml_lanes.specs.Floor.{is_open_lane, KeepsRings, SameRing, IsOfItsRing, GivesAll};
-ghost use Rattle.cml_lanes.specs.Lanes.{OpensLane, OpenRefused, DrainsLane, HoldsUp, HoldsUpSome, HoldsUpAfter, EmptiesOff, ClosesLane, CountRefused};
+ghost use Rattle.cml_lanes.specs.Lanes.{OpensLane, OpenRefused, DrainsLane, HoldsUp, HoldsUpSome, StopsLate, EmptiesOff, ClosesLane, CountRefused};
 
 use super::Floor;
 use crate::inner_lane::InnerLane;
@@ -17,11 +17,7 @@ impl<M: Message, L: MessageLog<M>> Floor<M, L> {
     /// Opens a lane to a mailbox or a channel, which has room for `capacity` messages, and tells its number. It is
     /// refused `NoSuch` where the target was never made, `WrongKind` where it takes no lane, and `NoMemory`. The journal
     /// has no entry of it.
-    pub fn open_lane(
-        &mut self,
-        target: Name,
-        capacity: usize,
-    ) -> Result<(Lane<M>, u64), Refusal>
+    pub fn open_lane(&mut self, target: Name, capacity: usize) -> Result<(Lane<M>, u64), Refusal>
         requires least { 1 ≤ capacity }
         requires most { capacity ≤ 1024 }
         ensures opened { IfOk result (λ lane. OpensLane self.old self.new target capacity lane.0 lane.1) }
@@ -51,7 +47,7 @@ impl<M: Message, L: MessageLog<M>> Floor<M, L> {
     /// the first; `NoSuch` where no open lane has the number.
     pub fn drain(&mut self, lane: u64) -> Result<usize, Refusal>
         ensures unknown { is_open_lane self.old lane ≡ false → (result ≡ Err NoSuch) × (self.new ≡ self.old) }
-        ensures drained { IfOk result (λ count. DrainsLane lane count self.old self.new) }
+        ensures drained { IfOk result (λ count. DrainsLane L.CHUNK M.SURE lane count self.old self.new) }
         ensures refused { IfErr result (λ refusal. is_open_lane self.old lane ≡ true
             → HoldsUp L.CHUNK M.SURE lane 0 self.old self.new refusal) }
         ensures rings { KeepsRings self.old self.new }
@@ -59,10 +55,14 @@ impl<M: Message, L: MessageLog<M>> Floor<M, L> {
         if !self.has_lane(lane) {
             return Err(Refusal::NoSuch);
         }
-        match self.drain_open(lane) {
-            (0, Some(refusal)) => Err(refusal),
-            (count, _) => Ok(count),
+        let (count, refusal) = self.drain_open(lane);
+        let Some(refusal) = refusal else {
+            return Ok(count);
+        };
+        if count == 0 {
+            return Err(refusal);
         }
+        Ok(count)
     }
 
     /// Moves all that is left of a lane that has finished into the journal, and closes the lane. It is refused `NoSuch`
@@ -121,7 +121,7 @@ impl<M: Message, L: MessageLog<M>> Floor<M, L> {
     pub fn drop_lane(&mut self, lane: u64) -> Result<(usize, bool), Refusal>
         ensures unknown { is_open_lane self.old lane ≡ false → (result ≡ Err NoSuch) × (self.new ≡ self.old) }
         ensures closed { IfOk result (λ told. told.1 ≡ true → EmptiesOff lane told.0 self.old self.new) }
-        ensures stopped { IfOk result (λ told. told.1 ≡ false → (0 < told.0) × HoldsUpAfter L.CHUNK M.SURE lane told.0 self.old self.new) }
+        ensures stopped { IfOk result (λ told. told.1 ≡ false → StopsLate L.CHUNK M.SURE lane told.0 self.old self.new) }
         ensures refused { IfErr result (λ refusal. is_open_lane self.old lane ≡ true
             → HoldsUp L.CHUNK M.SURE lane 0 self.old self.new refusal) }
         ensures rings { KeepsRings self.old self.new }
@@ -147,10 +147,10 @@ impl<M: Message, L: MessageLog<M>> Floor<M, L> {
         ensures opened { is_open_lane self.old lane ≡ true → IsOk result }
         ensures rings { KeepsRings self.old self.new }
     {
-        if !self.has_lane(lane) {
-            return Err(Refusal::NoSuch);
+        if self.has_lane(lane) {
+            self.let_go(lane);
+            return Ok(());
         }
-        self.let_go(lane);
-        Ok(())
+        Err(Refusal::NoSuch)
     }
 }

@@ -79,6 +79,8 @@ fn drain_all(floor: Numbers, number: u64) -> Numbers
 fn are_all_sent(journal: &[Entry<u64>]) -> bool {
     journal.len() as u64 == COUNT + 1
         && journal.iter().skip(1).zip(0..COUNT).all(|(entry, number)| {
-            entry.who == Who::Lane(0) && entry.call.same(&Call::Send(MAILBOX, number)) && entry.reply.same(&Reply::Done)
+            entry.who == Who::Lane(0)
+                && entry.call.same(&Call::Send(MAILBOX, number))
+                && entry.reply.same(&Reply::Done)
         })
 }

@@ -26,7 +26,14 @@ pub fn closes_all_that_was_sent(alloc: Global) -> Result<bool, AllocError> {
         return Ok(false);
     };
     let closed = floor.close_lane(end).is_ok();
-    Ok(number == 0 && sent && full && closed && floor.open_lanes() == 0 && has(&floor, FIVE_AND_SIX))
+    Ok(
+        number == 0
+            && sent
+            && full
+            && closed
+            && floor.open_lanes() == 0
+            && has(&floor, FIVE_AND_SIX),
+    )
 }
 
 /// A journal with room for two of three messages: the end comes back, and closes nothing once the lane is abandoned.

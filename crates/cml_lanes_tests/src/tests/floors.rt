@@ -123,7 +123,10 @@ impl Place {
                 let call = call.share(alloc)?;
                 Ok(told_of_call(self.floor.apply(SEAT, call)))
             }
-            Does::Opens(target, capacity) => match self.floor.open_lane(*target, (*capacity).clamp(1, 1024)) {
+            Does::Opens(target, capacity) => match self
+                .floor
+                .open_lane(*target, (*capacity).clamp(1, 1024))
+            {
                 Ok((lane, number)) => {
                     self.lanes.push(Some(lane))?;
                     self.ends.push(None)?;
@@ -132,8 +135,14 @@ impl Place {
                 Err(refusal) => Ok(Told::Refused(refusal)),
             },
             Does::Drains(lane) => Ok(told_or(self.floor.drain(*lane).map(Told::Moved))),
-            Does::Drops(lane) => Ok(told_or(self.floor.drop_lane(*lane).map(|told| Told::Dropped(told.0, told.1)))),
-            Does::Abandons(lane) => Ok(told_or(self.floor.abandon_lane(*lane).map(|()| Told::Closed))),
+            Does::Drops(lane) => Ok(told_or(
+                self.floor
+                    .drop_lane(*lane)
+                    .map(|told| Told::Dropped(told.0, told.1)),
+            )),
+            Does::Abandons(lane) => Ok(told_or(
+                self.floor.abandon_lane(*lane).map(|()| Told::Closed),
+            )),
             Does::Counts(_, _) => Ok(Told::Nothing),
             Does::Sends(lane, message) => Ok(self.send(*lane, *message)),
             Does::Finishes(lane) => Ok(self.finish(*lane)),

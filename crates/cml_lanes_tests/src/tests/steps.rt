@@ -116,9 +116,17 @@ const FULL_WHILE_CLOSED: Row = Row {
         (FIRST, Does::Sends(0, 6), Told::Sent),
         (FIRST, Does::Sends(0, 7), Told::Sent),
         (FIRST, Does::Finishes(0), Told::Finished(3)),
-        (FIRST, Does::Counts(FIRST, 0), Told::Refused(Refusal::JournalFull)),
+        (
+            FIRST,
+            Does::Counts(FIRST, 0),
+            Told::Refused(Refusal::JournalFull),
+        ),
         (FIRST, Does::Abandons(0), Told::Closed),
-        (FIRST, Does::Counts(FIRST, 0), Told::Refused(Refusal::NoSuch)),
+        (
+            FIRST,
+            Does::Counts(FIRST, 0),
+            Told::Refused(Refusal::NoSuch),
+        ),
     ],
     journal: &[
         (Who::Seat(SEAT), Call::NewMailbox, Reply::Made(ZERO)),
@@ -140,7 +148,11 @@ const TWO_FLOORS: Row = Row {
         (SECOND, Does::Sends(0, 7), Told::Sent),
         (SECOND, Does::Sends(0, 8), Told::Sent),
         (SECOND, Does::Finishes(0), Told::Finished(2)),
-        (FIRST, Does::Counts(SECOND, 0), Told::Refused(Refusal::Unseen)),
+        (
+            FIRST,
+            Does::Counts(SECOND, 0),
+            Told::Refused(Refusal::Unseen),
+        ),
         (FIRST, Does::Drains(0), Told::Moved(0)),
         (FIRST, Does::Sends(0, 6), Told::Sent),
         (FIRST, Does::Finishes(0), Told::Finished(2)),
@@ -160,10 +172,18 @@ const NO_TARGET: Row = Row {
     steps: &[
         (FIRST, Does::Opens(ZERO, 1), Told::Refused(Refusal::NoSuch)),
         (FIRST, Does::Calls(Call::NewIVar), Told::Nothing),
-        (FIRST, Does::Opens(ZERO, 1), Told::Refused(Refusal::WrongKind)),
+        (
+            FIRST,
+            Does::Opens(ZERO, 1),
+            Told::Refused(Refusal::WrongKind),
+        ),
         (FIRST, Does::Calls(Call::NewChannel), Told::Nothing),
         (FIRST, Does::Calls(Call::NewPort(ONE)), Told::Nothing),
-        (FIRST, Does::Opens(TWO, 1), Told::Refused(Refusal::WrongKind)),
+        (
+            FIRST,
+            Does::Opens(TWO, 1),
+            Told::Refused(Refusal::WrongKind),
+        ),
         (FIRST, Does::Drains(0), Told::Refused(Refusal::NoSuch)),
         (FIRST, Does::Drops(0), Told::Refused(Refusal::NoSuch)),
         (FIRST, Does::Abandons(0), Told::Refused(Refusal::NoSuch)),

@@ -1,6 +1,5 @@
-use Rattle.std.proofs.Common.{◌≡◌, refl, sym, ap, ◌∙◌, arith, length}
+use Rattle.std.proofs.Common.{ap, ◌∙◌, arith, length}
 use Rattle.std.proofs.lemmas.List.{length-reverse}
-use Rattle.cml_lanes.specs.Sides.{way_call}
 use Rattle.cml_lanes.proofs.Laning.{laned_within, same_way_call}
 use Rattle.cml_lanes.proofs.Moves.{stops_full, stops_unshared, stops_refused, one_moves}
 use Rattle.cml_lanes.proofs.moving.move_next.Goals as goal

@@ -9,5 +9,5 @@ move_next-refusal-requires-clause-kept g c =
 pub loop-moved-preserved : goal.loop-moved-preserved
 loop-moved-preserved g c =
     moves_more c.args.number c.loop-moved.moved 1 _ c.args.board.now c.loop-moved.board c.move_next-refusal.new.board
-    c.args.lane.now c.loop-moved.lane c.move_next-refusal.new.lane refl c.loop-moved.invariant 
+    c.args.lane.now c.loop-moved.lane c.move_next-refusal.new.lane refl c.loop-moved.invariant
     (on_none c.move_next-refusal.result (sym c.if-is_some.ensures) c.move_next-refusal.ensures.moved)

@@ -1,13 +1,14 @@
-use Rattle.std.proofs.Common.{sym, ap}
+use Rattle.std.proofs.Common.{ap}
 use Rattle.cml_lanes.specs.Floor.{FloorShown}
 use Rattle.cml_lanes.proofs.Lanes.{applied_keeps}
 use Rattle.cml_lanes.proofs.OneLane.{same_rings}
 use Rattle.cml_lanes.proofs.floor.Floor.apply.Goals as goal
 
 pub invariant_of-self : goal.invariant_of-self
-invariant_of-self g c =
-    (applied_keeps g.L.MessageLog.CHUNK g.M.Message.SURE c.self.inside.board c.apply.new.self c.self.inside.lanes.items c.args.seat c.args.call c.apply.result c.apply.ensures c.self.invariant.0,
-      c.self.invariant.1)
+invariant_of-self g c = (
+  applied_keeps g.L.MessageLog.CHUNK g.M.Message.SURE c.self.inside.board c.apply.new.self c.self.inside.lanes.items c.args.seat c.args.call c.apply.result c.apply.ensures c.self.invariant.0,
+  c.self.invariant.1,
+)
 
 pub returns-clause-rings : goal.returns-clause-rings
 returns-clause-rings g c =

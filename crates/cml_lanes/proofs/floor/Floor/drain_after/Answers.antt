@@ -10,7 +10,7 @@ invariant_of-self g c =
     let lanes = c.self.inside.lanes.items in
     let at = open_slot c.args.lane c.self.inside.board lanes c.index_mut.result.now c.args.self.now c.self.view_is c.requires.opened c.index_mut.ensures.value in
     let on = slot_drains g.L.MessageLog.CHUNK g.M.Message.SURE c.args.lane c.self.inside.board c.drain_slot_after.new.board c.index_mut.result.now c.drain_slot_after.new.slot c.drain_slot_after.result
-        c.drain_slot_after.ensures.whole c.drain_slot_after.ensures.held in
+    c.drain_slot_after.ensures.whole c.drain_slot_after.ensures.held in
     slot_keeps c.args.lane c.drain_slot_after.result.0 c.self.inside.opened c.self.inside.board c.drain_slot_after.new.board lanes c.index_mut.result.now c.drain_slot_after.new.slot at on c.self.invariant
 
 pub returns-clause-whole : goal.returns-clause-whole
@@ -29,7 +29,7 @@ pub returns-clause-rings : goal.returns-clause-rings
 returns-clause-rings g c =
     let at = open_slot c.args.lane c.self.inside.board c.self.inside.lanes.items c.index_mut.result.now c.args.self.now c.self.view_is c.requires.opened c.index_mut.ensures.value in
     let on = slot_drains g.L.MessageLog.CHUNK g.M.Message.SURE c.args.lane c.self.inside.board c.drain_slot_after.new.board c.index_mut.result.now c.drain_slot_after.new.slot c.drain_slot_after.result
-        c.drain_slot_after.ensures.whole c.drain_slot_after.ensures.held in
+    c.drain_slot_after.ensures.whole c.drain_slot_after.ensures.held in
     drain_rings c.args.lane c.drain_slot_after.result.0 c.self.inside.board c.drain_slot_after.new.board c.self.inside.lanes.items c.index_mut.result.now c.drain_slot_after.new.slot c.args.self.now
     c.self.view_is at on
 
@@ -43,6 +43,6 @@ returns-clause-all g c =
     let lanes = c.self.inside.lanes.items in
     let at = open_slot c.args.lane c.self.inside.board lanes c.index_mut.result.now c.args.self.now c.self.view_is c.requires.opened c.index_mut.ensures.value in
     let on = slot_drains g.L.MessageLog.CHUNK g.M.Message.SURE c.args.lane c.self.inside.board c.drain_slot_after.new.board c.index_mut.result.now c.drain_slot_after.new.slot c.drain_slot_after.result
-        c.drain_slot_after.ensures.whole c.drain_slot_after.ensures.held in
+    c.drain_slot_after.ensures.whole c.drain_slot_after.ensures.held in
     let keeps = slot_keeps c.args.lane c.drain_slot_after.result.0 c.self.inside.opened c.self.inside.board c.drain_slot_after.new.board lanes c.index_mut.result.now c.drain_slot_after.new.slot at on c.self.invariant in
     gives_all c.args.lane c.drain_slot_after.new.board lanes c.index_mut.result.now c.drain_slot_after.new.slot c.args.end.now at keeps.0 c.drain_slot_after.ensures.all

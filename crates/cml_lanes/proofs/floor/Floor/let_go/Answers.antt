@@ -1,4 +1,4 @@
-use Rattle.std.proofs.Common.{◌≡◌, refl, sym, ap, ◌∙◌, arith, slice_get, slice_set, None}
+use Rattle.std.proofs.Common.{ap, ◌∙◌, arith, slice_get, slice_set, None}
 use Rattle.std.proofs.lemmas.Option.{none-some}
 use Rattle.cml_lanes.specs.Floor.{FloorShown, is_taken}
 use Rattle.cml_lanes.proofs.Slots.{taken_slot, one_taken_less}
@@ -13,9 +13,10 @@ overflow_sub-self g c =
 
 pub invariant_of-self : goal.invariant_of-self
 invariant_of-self g c =
-    let lane = taken_slot c.self.inside.lanes.items c.args.lane (ap (λ (f : FloorShown g.row.M.Denot). is_taken (slice_get f.lanes c.args.lane)) c.self.view_is ∙ c.requires) in
-    (let_go_keeps c.args.lane c.self.inside.board.history c.self.inside.lanes.items c.self.invariant.0,
-      omega (arith, c.self.invariant.1, one_taken_less c.self.inside.lanes.items c.args.lane lane.0 lane.1))
+    let lane = taken_slot c.self.inside.lanes.items c.args.lane (ap (λ (f : FloorShown g.row.M.Denot). is_taken (slice_get f.lanes c.args.lane)) c.self.view_is ∙ c.requires) in (
+      let_go_keeps c.args.lane c.self.inside.board.history c.self.inside.lanes.items c.self.invariant.0,
+      omega (arith, c.self.invariant.1, one_taken_less c.self.inside.lanes.items c.args.lane lane.0 lane.1),
+    )
 
 pub returns-clause-rings : goal.returns-clause-rings
 returns-clause-rings g c =
