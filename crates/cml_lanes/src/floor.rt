@@ -62,6 +62,13 @@ impl<M: Message, L: MessageLog<M>> Floor<M, L> {
         &self.board
     }
 
+    /// The board, for good. Lanes that are still open are dropped, with what is in their rings.
+    pub fn into_board(self) -> Board<M, L>
+        ensures { result ≡ self.board }
+    {
+        self.board
+    }
+
     /// How many lanes are open.
     pub fn open_lanes(&self) -> u64
         ensures { result ≡ count_by is_some self.now.lanes }
