@@ -5,7 +5,7 @@ use Rattle.cml_board.specs.declared.entry.Entry.{Entry}
 use Rattle.cml_threads.specs.declared.state.State.{State}
 use Rattle.cml_threads.specs.declared.state.State.TheVariants.{Free, Parked, Left}
 use Rattle.cml_threads.specs.Seating.{free_by, free_in}
-use Rattle.cml_threads.specs.Stalling.{IsIdle, IsStalled}
+use Rattle.cml_threads.specs.Stalling.{IsIdle, AreIdle}
 
 one_at_most : (state : State) → free_by state ≤ 1
 one_at_most Free = omega arith
@@ -22,12 +22,12 @@ module _ {M : Type 0} where
   idle_is_none history (Parked on) idle = refl
   idle_is_none history Left idle = refl
 
-  -- where nobody can go on no seat is free
-  pub stalled_none : (history : List (Entry M)) (seats : List State) → IsStalled history seats → free_in seats ≡ 0
-  stalled_none history [] stalled = refl
-  stalled_none history (state ∷ seats) stalled = omega (
+  -- where no seat can do anything none is free
+  pub idle_none : (history : List (Entry M)) (seats : List State) → AreIdle history seats → free_in seats ≡ 0
+  idle_none history [] idle = refl
+  idle_none history (state ∷ seats) idle = omega (
     arith,
     sum_by-cons free_by state seats,
-    idle_is_none history state (stalled 0 state (omega arith)),
-    stalled_none history seats (λ k d lt. stalled (suc k) d (omega (arith, lt))),
+    idle_is_none history state (idle 0 state (omega arith)),
+    idle_none history seats (λ k d lt. idle (suc k) d (omega (arith, lt))),
   )

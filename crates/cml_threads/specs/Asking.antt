@@ -15,7 +15,7 @@ use Rattle.cml_threads.specs.Hosting.{Hosted, with_state, WouldStall, Moves}
 
 module _ {M : Type 0} where
   -- by what is returned, each case with the condition under which it comes; `may` says that the seat may make the call:
-  -- the call is answered, as the board answers it, and counted for this seat and in the book
+  -- the call is answered, as the board answers it, and counted for this seat and in the book; no lane is changed
   -- or it would wait, and somebody can go on: the seat waits
   -- or the seat may not make it, and nothing is changed
   -- or it would wait, and nobody could go on then: the seat is free
@@ -23,7 +23,7 @@ module _ {M : Type 0} where
   abbrev pub Asks : ℕ → Bool → Type 0 → Hosted M → Hosted M → Sitting → Sitting → Call M → Asked M → Type 0
   Asks chunk sure may old new before after call (asked.Answered answer) =
       may × Applies chunk sure old.board new.board (Seat before.number) call (board.Answered answer)
-      × (new.seats ≡ with_state old before.number Free) × (new.book ≡ old.book + 1) × (after ≡ raised before)
+      × (new.seats ≡ with_state old before.number Free) × (new.lanes ≡ old.lanes) × (new.book ≡ old.book + 1) × (after ≡ raised before)
   Asks chunk sure may old new before after call (asked.Parked back) =
       may × Applies chunk sure old.board new.board (Seat before.number) call (board.WouldWait back)
       × ((on : Want) × (want_in call ≡ Some on) × ¬ (WouldStall old before.number on) × Moves old new before.number (Parked on))

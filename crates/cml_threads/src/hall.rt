@@ -2,6 +2,7 @@ ghost use Rattle.std.specs.Prelude.{◌≡◌, ◌^◌, ◌≤◌, [], ◌∷◌
 ghost use Rattle.cml_board.specs.declared.outcome.Refusal.TheVariants.{Gone, NoMemory};
 ghost use Rattle.cml_board.specs.History.{no_entries, entries_in, Lawful};
 ghost use Rattle.cml_board.specs.Shown.{KeepsMailboxes, KeepsPorts, KeepsClosed, KeepsVariables, KeepsLogs};
+ghost use Rattle.cml_lanes.specs.Floor.{KeepsLanes};
 ghost use Rattle.cml_threads.specs.Seating.{Sitting};
 ghost use Rattle.cml_threads.specs.Hosting.{MayAsk, with_state};
 
@@ -12,6 +13,7 @@ use crate::seat::Seat;
 use crate::seats::Seats;
 use crate::state::State;
 use cml_board::{Board, Message, Refusal};
+use cml_lanes::Floor;
 use cml_log::MessageLog;
 use std::alloc::{AllocError, Global};
 use std::marker::Model;
@@ -20,11 +22,11 @@ use std::sync::ledger::{Blank, Book, Ledger, Share};
 /// How many parts a hall's ledger is cut into: more than there can be seats. A `Blank` is made with as many.
 pub const PARTS: u64 = 1 << 63;
 
-/// What the lock of a switchboard holds: the board, what each seat does, and the book of a ledger in which each answer
+/// What the lock of a switchboard holds: the board with the lanes onto it, what each seat does, and the book of a ledger in which each answer
 /// is counted. None of its calls waits.
 #[derive(Drop)]
 pub struct Hall<M, L: MessageLog<M>, Led: Ledger> {
-    board: Board<M, L>,
+    floor: Floor<M, L>,
     seats: Seats,
     book: Book<Led>,
     rest: Share<Led>,
@@ -36,13 +38,13 @@ impl<M, L: MessageLog<M>, Led: Ledger> Model for Hall<M, L, Led> {
 
     ghost Value = { Hosted M };
 
-    ghost view = { λ h. record { board = h.board; seats = h.seats; book = h.book.total } };
+    ghost view = { λ h. record { board = h.floor.board; lanes = h.floor.lanes; seats = h.seats; book = h.book.total } };
 
-    ghost invariant = { λ h. IsCounted h.board (length h.seats) h.book.total h.rest.amount h.rest.parts Led.parts };
+    ghost invariant = { λ h. IsCounted h.floor.board (length h.seats) h.book.total h.rest.amount h.rest.parts Led.parts };
 }
 
 impl<M: Message, L: MessageLog<M>, Led: Ledger> Hall<M, L, Led> {
-    /// A hall with no seats, on a board with no objects whose journal takes `limit` entries. The blank is
+    /// A hall with no seats and no lanes, on a board with no objects whose journal takes `limit` entries. The blank is
     /// `Blank::new(PARTS)`, and names the hall's ledger.
     pub fn new(alloc: Global, limit: u64, blank: Blank) -> Result<Hall<M, L, Led>, AllocError>
         requires least { 1 ≤ limit }
@@ -52,12 +54,13 @@ impl<M: Message, L: MessageLog<M>, Led: Ledger> Hall<M, L, Led> {
         requires enough { blank.parts ≡ 2 ^ 63 }
         ensures history { IfOk result (λ hall. hall.board.history ≡ no_entries) }
         ensures limit { IfOk result (λ hall. hall.board.limit ≡ limit) }
+        ensures lanes { IfOk result (λ hall. hall.lanes ≡ []) }
         ensures seats { IfOk result (λ hall. hall.seats ≡ []) }
     {
         let board = Board::new(alloc, limit)?;
         let (book, rest) = blank.open::<Led>();
         Ok(Hall {
-            board,
+            floor: Floor::new(alloc, board),
             seats: Seats::new(alloc),
             book,
             rest,
@@ -71,6 +74,9 @@ impl<M: Message, L: MessageLog<M>, Led: Ledger> Hall<M, L, Led> {
 
         // The book counts each entry.
         ensures book { self.now.book ≡ entries_in self.now.board.history }
+
+        // The journal has of each open lane exactly what was taken out of its ring, and nothing of a number never given.
+        ensures lanes { KeepsLanes self.now.board.history self.now.lanes }
 
         // The journal is a lawful history of one thread.
         ensures lawful { Lawful self.now.board.history }
@@ -90,8 +96,9 @@ impl<M: Message, L: MessageLog<M>, Led: Ledger> Hall<M, L, Led> {
         ensures logs { KeepsLogs L.CHUNK self.now.board }
     {
         // The facts are those that the journal's reader tells.
-        let _journal = self.board.journal();
-        &self.board
+        let board = self.floor.board();
+        let _journal = board.journal();
+        board
     }
 
     /// A new seat, which is free and has the next number. Only want of memory refuses it.
@@ -99,6 +106,7 @@ impl<M: Message, L: MessageLog<M>, Led: Ledger> Hall<M, L, Led> {
         ensures seat { IfOk result (λ seat. seat ≡ record { number = length self.old.seats; share = 0 }) }
         ensures seats { OnOk result (self.new.seats ≡ self.old.seats ++ State.Free ∷ []) }
         ensures board { self.new.board ≡ self.old.board }
+        ensures lanes { self.new.lanes ≡ self.old.lanes }
         ensures book { self.new.book ≡ self.old.book }
         ensures refused { IfErr result (λ refusal. (refusal ≡ NoMemory) × (self.new ≡ self.old)) }
     {
@@ -115,6 +123,7 @@ impl<M: Message, L: MessageLog<M>, Led: Ledger> Hall<M, L, Led> {
         ensures left { OnOk result (MayAsk self.old seat.now.number
             × (self.new.seats ≡ with_state self.old seat.now.number State.Left)) }
         ensures board { self.new.board ≡ self.old.board }
+        ensures lanes { self.new.lanes ≡ self.old.lanes }
         ensures book { self.new.book ≡ self.old.book }
         ensures refused { IfErr result (λ refusal. (refusal ≡ Gone) × ¬ (MayAsk self.old seat.now.number)
             × (self.new ≡ self.old)) }

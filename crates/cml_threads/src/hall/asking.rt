@@ -8,7 +8,7 @@ use crate::asked::Asked;
 use crate::seat::Seat;
 use crate::state::State;
 use crate::waiting::park;
-use cml_board::{Call, Message, Outcome, Refusal, Who};
+use cml_board::{Call, Message, Outcome, Refusal};
 use cml_log::MessageLog;
 use std::sync::ledger::Ledger;
 
@@ -47,7 +47,7 @@ impl<M: Message, L: MessageLog<M>, Led: Ledger> Hall<M, L, Led> {
         ensures { Asks L.CHUNK M.SURE ⊤ self.old self.new seat.old seat.new call result }
     {
         let number = seat.number();
-        match self.board.apply(Who::Seat(number), call) {
+        match self.floor.apply(number, call) {
             Outcome::Answered(answer) => {
                 self.seats.set(seat.number(), State::Free);
                 seat.count(&mut self.book);
@@ -61,7 +61,7 @@ impl<M: Message, L: MessageLog<M>, Led: Ledger> Hall<M, L, Led> {
                 let Some(want) = call.want() else {
                     unreachable!()
                 };
-                if park(&self.board, &mut self.seats, number, want) {
+                if park(&self.floor, &mut self.seats, number, want) {
                     return Asked::Parked(call);
                 }
                 Asked::Refused(Refusal::Stalled, call)

@@ -12,7 +12,8 @@ use std::sync::ledger::{Book, Ledger, Share};
 
 impl<M: Message, L: MessageLog<M>, Led: Ledger> Hall<M, L, Led> {
     /// The end: the board, with a proof that the answers that were counted for the seats, and the entries of lanes and
-    /// feeds, are all its entries. It needs as many lefts as seats were made, else all is handed back.
+    /// feeds, are all its entries. It needs as many lefts as seats were made, else all is handed back. Lanes that are
+    /// still open are dropped, with what is in their rings.
     pub fn settle(
         self,
         lefts: Vec<Left<Led>>,
@@ -28,13 +29,14 @@ impl<M: Message, L: MessageLog<M>, Led: Ledger> Hall<M, L, Led> {
             return Err((self, lefts));
         }
         let Hall {
-            board,
+            floor,
             seats: _,
             mut book,
             mut rest,
         } = self;
         let seats = gather(lefts, &mut book, &mut rest);
         book.audit(&mut rest);
+        let board = floor.into_board();
         let rings = board.journal().len() as u64 - seats;
         Ok(Settled::new(board, seats, rings))
     }

@@ -6,6 +6,6 @@ use Rattle.cml_threads.proofs.waiting.park.Goals as goal
 
 pub returns-then-is_stalled : goal.returns-then-is_stalled
 returns-then-is_stalled g c = (
-  subst (IsStalled c.args.board.now.history) c.set.ensures (c.if-is_stalled.ensures.0 (search rules)),
+  subst (IsStalled c.args.floor.now) c.set.ensures (c.if-is_stalled.ensures.0 (search rules)),
   c.set-then-is_stalled.ensures ∙ (ap (λ seats. slice_set seats c.args.number Free) c.set.ensures ∙ set-set c.args.seats.now c.args.number _ Free),
 )

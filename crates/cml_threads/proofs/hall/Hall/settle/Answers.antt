@@ -1,5 +1,7 @@
 use Rattle.std.proofs.Common.{◌≡◌, ap, length, arith}
 use Rattle.std.proofs.lemmas.List.{length-reverse}
+use Rattle.cml_board.specs.History.{rings_in}
+use Rattle.cml_board.specs.Shown.{Shown}
 use Rattle.cml_threads.proofs.hall.Hall.settle.Goals as goal
 
 -- the rest has all parts again, so that its amount is the book's total
@@ -16,5 +18,7 @@ new-requires-clause-own g c =
       c.self.invariant.entries,
       c.self.invariant.rings,
       ap length c.journal.ensures.entries,
-      length-reverse c.self.inside.board.history,
+      length-reverse c.into_board-board.result.history,
+      ap (λ (b : Shown g.row.M.Denot). length b.history) c.into_board-board.ensures,
+      ap (λ (b : Shown g.row.M.Denot). rings_in b.history) c.into_board-board.ensures,
     )
