@@ -1,5 +1,5 @@
 -- What a hall shows of itself, and what always holds of it.
-use Rattle.std.specs.Prelude.{ℕ, ◌≡◌, ◌+◌, ◌^◌, ◌≤◌, List, slice_get, slice_set, Option, Some}
+use Rattle.std.specs.Prelude.{ℕ, ◌≡◌, ◌+◌, ◌^◌, ◌<◌, ◌≤◌, List, slice_get, slice_set, Option, Some}
 use Rattle.cml_board.specs.declared.call.Call.{Call}
 use Rattle.cml_board.specs.declared.want.Want.{Want}
 use Rattle.cml_board.specs.Waiting.{want_in}
@@ -50,10 +50,15 @@ module _ {M : Type 0} where
     pub book : new.book ≡ old.book
 
   -- the book counts each entry; the hall's own share those of lanes and feeds; each seat has one part of the ledger, and
-  -- the hall all others
+  -- the hall all others, of which there are some
   pub record IsCounted (board : Shown M) (seats book own parts whole : ℕ) : Type 0 where
     pub entries : book ≡ entries_in board.history
     pub rings : own ≡ rings_in board.history
     pub shared : parts + seats ≡ whole
     pub enough : whole ≡ 2 ^ 63
+    pub own_parts : 0 < parts
     pub bounded : board.limit ≤ 2 ^ 32
+
+  -- the book counts each entry that was added
+  abbrev pub Enters : Hosted M → Hosted M → Type 0
+  Enters old new = new.book + entries_in old.board.history ≡ old.book + entries_in new.board.history

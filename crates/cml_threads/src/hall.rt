@@ -7,6 +7,7 @@ ghost use Rattle.cml_threads.specs.Seating.{Sitting};
 ghost use Rattle.cml_threads.specs.Hosting.{MayAsk, with_state};
 
 mod asking;
+mod lanes;
 mod settling;
 
 use crate::seat::Seat;
