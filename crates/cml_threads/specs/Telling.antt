@@ -5,7 +5,7 @@ use Rattle.cml_board.specs.declared.call.Call.TheVariants.{NewMailbox, NewChanne
 use Rattle.cml_board.specs.declared.entry.Reply.{Reply}
 use Rattle.cml_board.specs.declared.entry.Reply.TheVariants as reply
 use Rattle.cml_board.specs.declared.outcome.Refusal.{Refusal}
-use Rattle.cml_board.specs.declared.outcome.Refusal.TheVariants.{Busy, Unseen}
+use Rattle.cml_board.specs.declared.outcome.Refusal.TheVariants.{NoSuch, WrongKind, JournalFull, NoMemory, Busy, Unseen}
 use Rattle.cml_threads.specs.declared.asked.Asked.{Asked}
 use Rattle.cml_threads.specs.declared.asked.Asked.TheVariants as asked
 use Rattle.cml_threads.specs.Seating.{Sitting, raised}
@@ -15,6 +15,25 @@ abbrev pub MayRefuse : Refusal → Type 0
 MayRefuse Busy = ⊥
 MayRefuse Unseen = ⊥
 MayRefuse refusal = ⊤
+
+-- the refusals that opening a lane may be given
+abbrev pub MayRefuseLane : Refusal → Type 0
+MayRefuseLane NoSuch = ⊤
+MayRefuseLane WrongKind = ⊤
+MayRefuseLane NoMemory = ⊤
+MayRefuseLane refusal = ⊥
+
+-- those that draining or dropping one may be given
+abbrev pub MayRefuseDrain : Refusal → Type 0
+MayRefuseDrain NoSuch = ⊤
+MayRefuseDrain JournalFull = ⊤
+MayRefuseDrain NoMemory = ⊤
+MayRefuseDrain refusal = ⊥
+
+-- those that closing one may be given
+abbrev pub MayRefuseClose : Refusal → Type 0
+MayRefuseClose Unseen = ⊤
+MayRefuseClose refusal = MayRefuseDrain refusal
 
 module _ {M : Type 0} where
   -- the forms of reply that a call has

@@ -1,0 +1,131 @@
+//! Lanes onto a switchboard, which their senders use without its lock.
+ghost use Rattle.std.specs.Prelude.{◌≡◌, ◌≤◌, ◌<◌, false, [], IfOk, IfErr};
+ghost use Rattle.cml_board.specs.declared.outcome.Refusal.TheVariants.{NoSuch};
+ghost use Rattle.cml_threads.specs.Telling.{MayRefuseLane, MayRefuseDrain, MayRefuseClose};
+
+use super::Switchboard;
+use crate::hall::Hall;
+use cml_board::{Message, Name, Refusal};
+use cml_lanes::{Lane, LaneEnd};
+use cml_log::MessageLog;
+use std::sync::Wait;
+use std::sync::ledger::Ledger;
+
+impl<M: Message, L: MessageLog<M>, Led: Ledger> Switchboard<M, L, Led> {
+    /// Opens a lane to a mailbox or a channel, which has room for `capacity` messages, and tells its number. While a
+    /// lane is open nobody is told that all are stalled, so close it, drop it or abandon it in the end.
+    pub fn open_lane<R: Wait>(
+        &self,
+        rt: &R,
+        target: Name,
+        capacity: usize,
+    ) -> Result<(Lane<M>, u64), Refusal>
+        requires least { 1 ≤ capacity }
+        requires most { capacity ≤ 1024 }
+        ensures lane { IfOk result (λ lane. lane.0 ≡ record { ring = lane.0.ring; number = lane.1; capacity = capacity; accepted = [] }) }
+        ensures refused { IfErr result MayRefuseLane }
+    {
+        open_lane(&mut self.locked.lock(rt).hall, target, capacity)
+    }
+
+    /// Moves the messages that are seen in a lane's ring into the journal, in order, each as a call of the lane's own:
+    /// how many. It stops where one is refused, and is itself refused, `JournalFull` or `NoMemory`, only where that was
+    /// the first; `NoSuch` where no open lane has the number. Where something was moved all who wait look again.
+    pub fn drain<R: Wait>(&self, rt: &R, lane: u64) -> Result<usize, Refusal>
+        ensures { IfErr result MayRefuseDrain }
+    {
+        let told = drain(&mut self.locked.lock(rt).hall, lane);
+        if !matches!(&told, Ok(0) | Err(_)) {
+            self.changed.notify_all();
+        }
+        told
+    }
+
+    /// Moves what is seen of a lane that has finished, and closes the lane where then as many of its messages stand in
+    /// the journal as the end tells, as `Hall::close_counted` does; else it is refused `Unseen`. What is refused may have
+    /// moved some, and hands the very end back. All who wait look again.
+    pub fn close_lane<R: Wait>(&self, rt: &R, end: LaneEnd<M>) -> Result<(), (LaneEnd<M>, Refusal)>
+        ensures { IfErr result (λ failed. (failed.0 ≡ end) × MayRefuseClose failed.1) }
+    {
+        let told = close_lane(&mut self.locked.lock(rt).hall, end);
+        self.changed.notify_all();
+        told
+    }
+
+    /// Moves what is seen of a lane, and closes it where no message was refused: how many were moved, and whether it is
+    /// closed. It is refused as `drain` is. All who wait look again, unless it is refused.
+    pub fn drop_lane<R: Wait>(&self, rt: &R, lane: u64) -> Result<(usize, bool), Refusal>
+        ensures stopped { IfOk result (λ told. told.1 ≡ false → 0 < told.0) }
+        ensures refused { IfErr result MayRefuseDrain }
+    {
+        let told = drop_lane(&mut self.locked.lock(rt).hall, lane);
+        if told.is_ok() {
+            self.changed.notify_all();
+        }
+        told
+    }
+
+    /// Closes an open lane at once, and all who wait look again. What is left in its ring is dropped. `NoSuch` where no
+    /// open lane has the number.
+    pub fn abandon_lane<R: Wait>(&self, rt: &R, lane: u64) -> Result<(), Refusal>
+        ensures { IfErr result (λ refusal. refusal ≡ NoSuch) }
+    {
+        let told = abandon_lane(&mut self.locked.lock(rt).hall, lane);
+        if told.is_ok() {
+            self.changed.notify_all();
+        }
+        told
+    }
+}
+
+// The hall's calls, of which the caller of a switchboard can be told this much.
+
+fn open_lane<M: Message, L: MessageLog<M>, Led: Ledger>(
+    hall: &mut Hall<M, L, Led>,
+    target: Name,
+    capacity: usize,
+) -> Result<(Lane<M>, u64), Refusal>
+    requires least { 1 ≤ capacity }
+    requires most { capacity ≤ 1024 }
+    ensures lane { IfOk result (λ lane. lane.0 ≡ record { ring = lane.0.ring; number = lane.1; capacity = capacity; accepted = [] }) }
+    ensures refused { IfErr result MayRefuseLane }
+{
+    hall.open_lane(target, capacity)
+}
+
+fn drain<M: Message, L: MessageLog<M>, Led: Ledger>(
+    hall: &mut Hall<M, L, Led>,
+    lane: u64,
+) -> Result<usize, Refusal>
+    ensures { IfErr result MayRefuseDrain }
+{
+    hall.drain(lane)
+}
+
+fn close_lane<M: Message, L: MessageLog<M>, Led: Ledger>(
+    hall: &mut Hall<M, L, Led>,
+    end: LaneEnd<M>,
+) -> Result<(), (LaneEnd<M>, Refusal)>
+    ensures { IfErr result (λ failed. (failed.0 ≡ end) × MayRefuseClose failed.1) }
+{
+    hall.close_counted(end)
+}
+
+fn drop_lane<M: Message, L: MessageLog<M>, Led: Ledger>(
+    hall: &mut Hall<M, L, Led>,
+    lane: u64,
+) -> Result<(usize, bool), Refusal>
+    ensures stopped { IfOk result (λ told. told.1 ≡ false → 0 < told.0) }
+    ensures refused { IfErr result MayRefuseDrain }
+{
+    hall.drop_lane(lane)
+}
+
+fn abandon_lane<M: Message, L: MessageLog<M>, Led: Ledger>(
+    hall: &mut Hall<M, L, Led>,
+    lane: u64,
+) -> Result<(), Refusal>
+    ensures { IfErr result (λ refusal. refusal ≡ NoSuch) }
+{
+    hall.abandon_lane(lane)
+}
