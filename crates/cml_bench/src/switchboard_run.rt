@@ -1,6 +1,7 @@
 //! Workloads on a switchboard. The clock runs from before their threads are started until they have left.
 ghost use Rattle.std.specs.Prelude.{◌≡◌, ◌^◌};
 
+mod lanes;
 mod parts;
 
 use crate::LIMIT;
@@ -23,13 +24,15 @@ pub enum Workload {
     Pairs,
     Pipe,
     FanIn,
+    Lanes,
     Variables,
 }
 
-pub const WORKLOADS: [Workload; 4] = [
+pub const WORKLOADS: [Workload; 5] = [
     Workload::Pairs,
     Workload::Pipe,
     Workload::FanIn,
+    Workload::Lanes,
     Workload::Variables,
 ];
 
@@ -83,6 +86,7 @@ impl Workload {
             Workload::Pairs => "pairs1",
             Workload::Pipe => "pipe2",
             Workload::FanIn => "fanin4",
+            Workload::Lanes => "fanin4_lanes",
             Workload::Variables => "var2",
         }
     }
@@ -91,7 +95,7 @@ impl Workload {
     fn entries(self, count: u64) -> u64 {
         match self {
             Workload::Pairs | Workload::Pipe => count.saturating_mul(2).saturating_add(1),
-            Workload::FanIn => (count / SENDERS)
+            Workload::FanIn | Workload::Lanes => (count / SENDERS)
                 .saturating_mul(2 * SENDERS)
                 .saturating_add(1),
             Workload::Variables => count.saturating_mul(4).saturating_add(2),
@@ -109,6 +113,7 @@ impl Workload {
             Workload::Pairs => pairs(rt, shared, lefts, count),
             Workload::Pipe => pipe(rt, shared, lefts, count),
             Workload::FanIn => fan_in(rt, shared, lefts, count / SENDERS),
+            Workload::Lanes => lanes::fan_in(rt, shared, lefts, count / SENDERS),
             Workload::Variables => variables(rt, shared, lefts, count),
         }
     }

@@ -5,6 +5,7 @@ mod calls;
 mod channels;
 mod ending;
 mod journals;
+mod lanes;
 mod locking;
 mod mailboxes;
 mod passing;
@@ -113,6 +114,7 @@ fn show_threads<R: Threads + Wait + Sync + Print>(rt: &R, alloc: Global) -> io::
         "locking::counted_by_two",
         &locking::counted_by_two(rt, alloc),
     )?;
+    show(rt, "lanes::collected", &lanes::collected(rt, alloc))?;
     show(rt, "ending::stalled", &ending::stalled(rt, alloc))?;
     show(rt, "ending::missed", &ending::missed(rt, alloc))
 }

@@ -4,6 +4,7 @@ ghost use Rattle.cml_threads.specs.Seating.{answers_in};
 
 use crate::calls::Trouble;
 use cml_board::{BoardLog, Call, Name, Refusal, Reply};
+use cml_lanes::LaneEnd;
 use cml_threads::{Left, Settled, Switchboard};
 use std::alloc::AllocFailed;
 use std::sync::ledger::Ledger;
@@ -26,6 +27,12 @@ impl From<Refusal> for Trouble {
 impl From<(Refusal, Call<u64>)> for Trouble {
     fn from(back: (Refusal, Call<u64>)) -> Trouble {
         Trouble::Refused(back.0)
+    }
+}
+
+impl From<(LaneEnd<u64>, Refusal)> for Trouble {
+    fn from(back: (LaneEnd<u64>, Refusal)) -> Trouble {
+        Trouble::Refused(back.1)
     }
 }
 

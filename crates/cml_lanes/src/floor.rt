@@ -77,6 +77,7 @@ impl<M: Message, L: MessageLog<M>> Floor<M, L> {
     }
 
     /// Makes a call of the seat with this number.
+    #[inline(always)]
     pub fn apply(&mut self, seat: u64, call: Call<M>) -> Outcome<M>
         ensures applied { Applies L.CHUNK M.SURE self.old.board self.new.board (Seat seat) call result }
         ensures lanes { self.new.lanes ≡ self.old.lanes }

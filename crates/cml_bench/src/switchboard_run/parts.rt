@@ -74,6 +74,23 @@ pub fn receive_all<Led: Ledger, R: Wait>(
     Part { left, sum }
 }
 
+/// Receives so many messages that are there: their sum.
+pub fn receive_some<Led: Ledger, R: Wait>(
+    rt: &R,
+    shared: &Shared<Led>,
+    seat: &mut Seat<Led>,
+    count: u64,
+) -> u64 {
+    let mut sum = 0u64;
+    for _ in 0..count {
+        let Some(message) = got(shared.recv(rt, seat, FIRST)) else {
+            break;
+        };
+        sum = sum.wrapping_add(message);
+    }
+    sum
+}
+
 /// Sends a message and receives it, so many times.
 pub fn send_and_receive<Led: Ledger, R: Wait>(
     rt: &R,

@@ -1,0 +1,144 @@
+//! A lane: what a sensor sends without a lock, another thread moves into the journal and receives.
+ghost use Rattle.std.specs.Prelude.{◌≡◌, ◌+◌, ◌^◌, [], ◌∷◌, ◌++◌, IfOk};
+
+use crate::calls::Trouble;
+use crate::threads::{Shared, got, made, settle};
+use cml_board::Name;
+use cml_lanes::{Lane, LaneEnd};
+use cml_threads::{Count, Left, PARTS, Seat};
+use std::alloc::Global;
+use std::marker::Brand;
+use std::sync::Wait;
+use std::sync::ledger::{Blank, Ledger};
+use std::thread;
+use std::thread::Threads;
+
+/// How many readings the sensor sends: 1, 2 and so on.
+const READINGS: usize = 10;
+
+/// For how many readings the lane has room: for all of them, in case no thread can be made to collect them meanwhile.
+const ROOM: usize = 16;
+
+/// The sum of all readings, and how many entries there are at the end.
+pub fn collected<R: Threads + Wait + Sync>(rt: &R, alloc: Global) -> Result<(u64, Count), Trouble>
+    ensures { IfOk result (λ found. found.1.total ≡ found.1.seats + found.1.rings) }
+{
+    collect::<Brand, R>(rt, alloc, Blank::new(PARTS))
+}
+
+fn collect<Led: Ledger + Send + Sync, R: Threads + Wait + Sync>(
+    rt: &R,
+    alloc: Global,
+    blank: Blank,
+) -> Result<(u64, Count), Trouble>
+    requires name { blank.name ≡ Led.name }
+    requires parts { blank.parts ≡ Led.parts }
+    requires enough { blank.parts ≡ 2 ^ 63 }
+    ensures { IfOk result (λ found. found.1.total ≡ found.1.seats + found.1.rings) }
+{
+    let shared = Shared::<Led>::new(alloc, 100, blank)?;
+    let (sum, left) = send_and_collect(rt, &shared)?;
+    let lefts = vec![in alloc; left]?;
+    Ok((sum?, settle(shared, lefts)?.count()))
+}
+
+/// What was collected, and the collector's seat. The sensor has none: a lane is all that it needs.
+fn send_and_collect<Led: Ledger + Send + Sync, R: Threads + Wait + Sync>(
+    rt: &R,
+    board: &Shared<Led>,
+) -> Result<(Result<u64, Trouble>, Left<Led>), Trouble> {
+    let mut collector = board.seat(rt)?;
+    let readings = made(board.mailbox(rt, &mut collector))?;
+    let (lane, number) = board.open_lane(rt, readings, ROOM)?;
+    let (collected, end) = thread::join(
+        rt,
+        move || receive_and_leave(rt, board, collector, readings, number),
+        move || send_all(rt, lane),
+    );
+    close(rt, board, number, end)?;
+    Ok(collected)
+}
+
+/// Sends all readings, and finishes.
+fn send_all<R: Wait>(rt: &R, mut lane: Lane<u64>) -> Option<LaneEnd<u64>> {
+    for reading in 1..=READINGS as u64 {
+        send(rt, &mut lane, reading);
+    }
+    lane.finish()
+}
+
+/// Sends a message, again as long as there is no room for it.
+fn send<R: Wait>(rt: &R, lane: &mut Lane<u64>, message: u64) {
+    for _ in rt.forever() {
+        if lane.send(message).is_ok() {
+            return;
+        }
+        thread::yield_now();
+    }
+    unreachable!()
+}
+
+/// Collects all readings, and leaves, whatever became of that.
+fn receive_and_leave<Led: Ledger, R: Wait>(
+    rt: &R,
+    board: &Shared<Led>,
+    mut collector: Seat<Led>,
+    readings: Name,
+    lane: u64,
+) -> (Result<u64, Trouble>, Left<Led>) {
+    let sum = receive_all(rt, board, &mut collector, readings, lane);
+    (sum, board.leave(rt, collector))
+}
+
+/// Moves what was sent into the journal, and receives it, until all readings have come: their sum.
+fn receive_all<Led: Ledger, R: Wait>(
+    rt: &R,
+    board: &Shared<Led>,
+    collector: &mut Seat<Led>,
+    readings: Name,
+    lane: u64,
+) -> Result<u64, Trouble> {
+    let mut come = 0usize;
+    let mut sum = 0u64;
+    for _ in rt.forever() {
+        if come >= READINGS {
+            return Ok(sum);
+        }
+        let moved = board.drain(rt, lane)?;
+        come = come.saturating_add(moved);
+        sum = sum.wrapping_add(receive(rt, board, collector, readings, moved)?);
+        thread::yield_now();
+    }
+    unreachable!()
+}
+
+/// Receives so many readings: their sum.
+fn receive<Led: Ledger, R: Wait>(
+    rt: &R,
+    board: &Shared<Led>,
+    collector: &mut Seat<Led>,
+    readings: Name,
+    count: usize,
+) -> Result<u64, Trouble> {
+    let mut sum = 0u64;
+    for _ in 0..count {
+        sum = sum.wrapping_add(got(board.recv(rt, collector, readings))?);
+    }
+    Ok(sum)
+}
+
+/// Closes the lane by its end; without one, by what is seen of it.
+fn close<Led: Ledger, R: Wait>(
+    rt: &R,
+    board: &Shared<Led>,
+    lane: u64,
+    end: Option<LaneEnd<u64>>,
+) -> Result<(), Trouble> {
+    match end {
+        Some(end) => board.close_lane(rt, end)?,
+        None => {
+            board.drop_lane(rt, lane)?;
+        }
+    }
+    Ok(())
+}
