@@ -4,7 +4,7 @@ ghost use Rattle.cml_board.specs.declared.outcome.Refusal.TheVariants.{NoSuch};
 ghost use Rattle.cml_board.specs.History.{entries_in};
 ghost use Rattle.cml_lanes.specs.Laned.{laned};
 ghost use Rattle.cml_lanes.specs.Floor.{is_open_lane, KeepsRings, SameRing, IsOfItsRing, GivesAll};
-ghost use Rattle.cml_lanes.specs.Lanes.{OpensLane, OpenRefused, DrainsLane, HoldsUp, HoldsUpSome, HoldsUpAfter, EmptiesOff, ClosesLane, CountRefused};
+ghost use Rattle.cml_lanes.specs.Lanes.{OpensLane, OpenRefused, DrainsLane, HoldsUp, HoldsUpSome, StopsLate, EmptiesOff, ClosesLane, CountRefused};
 ghost use Rattle.cml_threads.specs.Hosting.{floor_of, Enters};
 
 use super::Hall;
@@ -38,7 +38,7 @@ impl<M: Message, L: MessageLog<M>, Led: Ledger> Hall<M, L, Led> {
     /// counted in the book, and for no seat.
     pub fn drain(&mut self, lane: u64) -> Result<usize, Refusal>
         ensures unknown { is_open_lane (floor_of self.old) lane ≡ false → (result ≡ Err NoSuch) × (self.new ≡ self.old) }
-        ensures drained { IfOk result (λ count. DrainsLane lane count (floor_of self.old) (floor_of self.new)) }
+        ensures drained { IfOk result (λ count. DrainsLane L.CHUNK M.SURE lane count (floor_of self.old) (floor_of self.new)) }
         ensures refused { IfErr result (λ refusal. is_open_lane (floor_of self.old) lane ≡ true
             → HoldsUp L.CHUNK M.SURE lane 0 (floor_of self.old) (floor_of self.new) refusal) }
         ensures rings { KeepsRings (floor_of self.old) (floor_of self.new) }
@@ -93,7 +93,7 @@ impl<M: Message, L: MessageLog<M>, Led: Ledger> Hall<M, L, Led> {
     pub fn drop_lane(&mut self, lane: u64) -> Result<(usize, bool), Refusal>
         ensures unknown { is_open_lane (floor_of self.old) lane ≡ false → (result ≡ Err NoSuch) × (self.new ≡ self.old) }
         ensures closed { IfOk result (λ told. told.1 ≡ true → EmptiesOff lane told.0 (floor_of self.old) (floor_of self.new)) }
-        ensures stopped { IfOk result (λ told. told.1 ≡ false → (0 < told.0) × HoldsUpAfter L.CHUNK M.SURE lane told.0 (floor_of self.old) (floor_of self.new)) }
+        ensures stopped { IfOk result (λ told. told.1 ≡ false → StopsLate L.CHUNK M.SURE lane told.0 (floor_of self.old) (floor_of self.new)) }
         ensures refused { IfErr result (λ refusal. is_open_lane (floor_of self.old) lane ≡ true
             → HoldsUp L.CHUNK M.SURE lane 0 (floor_of self.old) (floor_of self.new) refusal) }
         ensures rings { KeepsRings (floor_of self.old) (floor_of self.new) }

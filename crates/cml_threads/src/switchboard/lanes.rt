@@ -4,7 +4,6 @@ ghost use Rattle.cml_board.specs.declared.outcome.Refusal.TheVariants.{NoSuch};
 ghost use Rattle.cml_threads.specs.Telling.{MayRefuseLane, MayRefuseDrain, MayRefuseClose};
 
 use super::Switchboard;
-use crate::hall::Hall;
 use cml_board::{Message, Name, Refusal};
 use cml_lanes::{Lane, LaneEnd};
 use cml_log::MessageLog;
@@ -25,7 +24,7 @@ impl<M: Message, L: MessageLog<M>, Led: Ledger> Switchboard<M, L, Led> {
         ensures lane { IfOk result (λ lane. lane.0 ≡ record { ring = lane.0.ring; number = lane.1; capacity = capacity; accepted = [] }) }
         ensures refused { IfErr result MayRefuseLane }
     {
-        open_lane(&mut self.locked.lock(rt).hall, target, capacity)
+        self.locked.lock(rt).hall.open_lane(target, capacity)
     }
 
     /// Moves the messages that are seen in a lane's ring into the journal, in order, each as a call of the lane's own:
@@ -34,7 +33,7 @@ impl<M: Message, L: MessageLog<M>, Led: Ledger> Switchboard<M, L, Led> {
     pub fn drain<R: Wait>(&self, rt: &R, lane: u64) -> Result<usize, Refusal>
         ensures { IfErr result MayRefuseDrain }
     {
-        let told = drain(&mut self.locked.lock(rt).hall, lane);
+        let told = self.locked.lock(rt).hall.drain(lane);
         if !matches!(&told, Ok(0) | Err(_)) {
             self.changed.notify_all();
         }
@@ -47,7 +46,7 @@ impl<M: Message, L: MessageLog<M>, Led: Ledger> Switchboard<M, L, Led> {
     pub fn close_lane<R: Wait>(&self, rt: &R, end: LaneEnd<M>) -> Result<(), (LaneEnd<M>, Refusal)>
         ensures { IfErr result (λ failed. (failed.0 ≡ end) × MayRefuseClose failed.1) }
     {
-        let told = close_lane(&mut self.locked.lock(rt).hall, end);
+        let told = self.locked.lock(rt).hall.close_counted(end);
         self.changed.notify_all();
         told
     }
@@ -58,7 +57,7 @@ impl<M: Message, L: MessageLog<M>, Led: Ledger> Switchboard<M, L, Led> {
         ensures stopped { IfOk result (λ told. told.1 ≡ false → 0 < told.0) }
         ensures refused { IfErr result MayRefuseDrain }
     {
-        let told = drop_lane(&mut self.locked.lock(rt).hall, lane);
+        let told = self.locked.lock(rt).hall.drop_lane(lane);
         if told.is_ok() {
             self.changed.notify_all();
         }
@@ -70,62 +69,10 @@ impl<M: Message, L: MessageLog<M>, Led: Ledger> Switchboard<M, L, Led> {
     pub fn abandon_lane<R: Wait>(&self, rt: &R, lane: u64) -> Result<(), Refusal>
         ensures { IfErr result (λ refusal. refusal ≡ NoSuch) }
     {
-        let told = abandon_lane(&mut self.locked.lock(rt).hall, lane);
+        let told = self.locked.lock(rt).hall.abandon_lane(lane);
         if told.is_ok() {
             self.changed.notify_all();
         }
         told
     }
-}
-
-// The hall's calls, of which the caller of a switchboard can be told this much.
-
-fn open_lane<M: Message, L: MessageLog<M>, Led: Ledger>(
-    hall: &mut Hall<M, L, Led>,
-    target: Name,
-    capacity: usize,
-) -> Result<(Lane<M>, u64), Refusal>
-    requires least { 1 ≤ capacity }
-    requires most { capacity ≤ 1024 }
-    ensures lane { IfOk result (λ lane. lane.0 ≡ record { ring = lane.0.ring; number = lane.1; capacity = capacity; accepted = [] }) }
-    ensures refused { IfErr result MayRefuseLane }
-{
-    hall.open_lane(target, capacity)
-}
-
-fn drain<M: Message, L: MessageLog<M>, Led: Ledger>(
-    hall: &mut Hall<M, L, Led>,
-    lane: u64,
-) -> Result<usize, Refusal>
-    ensures { IfErr result MayRefuseDrain }
-{
-    hall.drain(lane)
-}
-
-fn close_lane<M: Message, L: MessageLog<M>, Led: Ledger>(
-    hall: &mut Hall<M, L, Led>,
-    end: LaneEnd<M>,
-) -> Result<(), (LaneEnd<M>, Refusal)>
-    ensures { IfErr result (λ failed. (failed.0 ≡ end) × MayRefuseClose failed.1) }
-{
-    hall.close_counted(end)
-}
-
-fn drop_lane<M: Message, L: MessageLog<M>, Led: Ledger>(
-    hall: &mut Hall<M, L, Led>,
-    lane: u64,
-) -> Result<(usize, bool), Refusal>
-    ensures stopped { IfOk result (λ told. told.1 ≡ false → 0 < told.0) }
-    ensures refused { IfErr result MayRefuseDrain }
-{
-    hall.drop_lane(lane)
-}
-
-fn abandon_lane<M: Message, L: MessageLog<M>, Led: Ledger>(
-    hall: &mut Hall<M, L, Led>,
-    lane: u64,
-) -> Result<(), Refusal>
-    ensures { IfErr result (λ refusal. refusal ≡ NoSuch) }
-{
-    hall.abandon_lane(lane)
 }
