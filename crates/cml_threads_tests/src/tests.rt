@@ -1,11 +1,14 @@
 mod crew;
 mod forms;
 mod hall;
+mod lane_rows;
 mod scene;
+mod senders;
 mod settling;
 mod trouble;
 mod verdict;
 
+use cml_threads::Count;
 use scene::{Scene, performed};
 use std::process::Abort;
 use std::test::Fail;
@@ -17,6 +20,7 @@ const SCENES: &[(Scene, &str)] = &[
     (Scene::Forms, "as in the journal"),
     (Scene::OneLeft, "handed back, and settled"),
     (Scene::Dropped, "handed back"),
+    (Scene::Senders, "each once, in its lane's order"),
 ];
 
 fn are_as_told(rt: &impl Abort, count: usize, steps: usize) {
@@ -27,19 +31,34 @@ fn are_as_told(rt: &impl Abort, count: usize, steps: usize) {
     );
 }
 
+fn is_counted(rt: &impl Abort, count: Option<Count>, expected: Count) {
+    assert_eq!(rt; count, Some(expected), "the counts of what was settled");
+}
+
 fn is_same(rt: &impl Abort, word: &str, expected: &str) {
     assert_eq!(rt; word, expected);
 }
 
 #[test]
 fn tells_who_waits_and_who_is_stalled(rt: HostRuntime) -> Result<(), Fail> {
-    for (limit, steps) in hall::ROWS.iter() {
+    for (limit, steps) in hall::ROWS.iter().chain(lane_rows::ROWS.iter()) {
         are_as_told(
             &rt,
             hall::count_as_told(rt.alloc(), *limit, steps)?,
             steps.len(),
         );
     }
+    Ok(())
+}
+
+#[test]
+fn counts_entries_of_lanes_for_no_seat(rt: HostRuntime) -> Result<(), Fail> {
+    let expected = Count {
+        seats: 2,
+        rings: 2,
+        total: 4,
+    };
+    is_counted(&rt, settling::count_with_lane(rt.alloc())?, expected);
     Ok(())
 }
 

@@ -1,19 +1,24 @@
 //! A hall's calls, one after another, and what becomes of each.
 ghost use Rattle.std.specs.Prelude.{◌≡◌, ◌^◌, ◌≤◌};
 
+use super::lane_rows::{Work, Worked, work_on};
 use cml_board::{BoardLog, Call, Name, Refusal, Reply};
+use cml_lanes::Lane;
 use cml_threads::{Asked, Hall, PARTS, Seat};
 use std::alloc::{AllocError, Global};
 use std::marker::Brand;
 use std::sync::ledger::{Blank, Ledger};
 
-type Numbers<Led> = Hall<u64, BoardLog<u64>, Led>;
+/// A hall whose messages are numbers.
+pub type Numbers<Led> = Hall<u64, BoardLog<u64>, Led>;
 
 /// What a seat does.
 pub enum Does {
     Asks(Call<u64>),
     AsksAgain(Call<u64>),
     Leaves,
+    /// Something on the hall's one lane, which needs no seat.
+    Works(Work),
 }
 
 /// What becomes of it.
@@ -22,6 +27,7 @@ pub enum Told {
     Parked,
     Refused(Refusal),
     Left,
+    Worked(Worked),
 }
 
 /// A seat by its number, what it does, and what is to become of that.
@@ -29,7 +35,7 @@ pub type Step = (usize, Does, Told);
 
 const SEATS: usize = 3;
 
-const FIRST: Name = Name(0);
+pub const FIRST: Name = Name(0);
 
 const SECOND: Name = Name(1);
 
@@ -210,11 +216,12 @@ fn count_steps<Led: Ledger>(
     seats: &mut Vec<Seat<Led>>,
     steps: &[Step],
 ) -> Result<usize, AllocError> {
+    let mut lane = None;
     for (at, step) in steps.iter().enumerate() {
         let Some(seat) = seats.get_mut(step.0) else {
             return Ok(at);
         };
-        if !is_as_told(alloc, hall, seat, &step.1, &step.2)? {
+        if !is_as_told(alloc, hall, seat, &mut lane, &step.1, &step.2)? {
             return Ok(at);
         }
     }
@@ -225,6 +232,7 @@ fn is_as_told<Led: Ledger>(
     alloc: Global,
     hall: &mut Numbers<Led>,
     seat: &mut Seat<Led>,
+    lane: &mut Option<Lane<u64>>,
     does: &Does,
     told: &Told,
 ) -> Result<bool, AllocError> {
@@ -234,6 +242,10 @@ fn is_as_told<Led: Ledger>(
         Does::Leaves => match (hall.leave(seat), told) {
             (Ok(()), Told::Left) => Ok(true),
             (Err(refusal), Told::Refused(expected)) => Ok(refusal == *expected),
+            _ => Ok(false),
+        },
+        Does::Works(work) => match told {
+            Told::Worked(expected) => Ok(work_on(hall, lane, work) == *expected),
             _ => Ok(false),
         },
     }

@@ -3,7 +3,7 @@ ghost use Rattle.std.specs.Prelude.{◌≡◌, ◌^◌};
 
 use super::crew::{Crew, at_work};
 use super::trouble::Trouble;
-use super::{forms, settling, verdict};
+use super::{forms, senders, settling, verdict};
 use cml_board::BoardLog;
 use cml_threads::{Left, PARTS, Settled, Switchboard};
 use std::alloc::{AllocError, Global};
@@ -34,6 +34,8 @@ pub enum Scene {
     OneLeft,
     /// A seat that is dropped.
     Dropped,
+    /// Four lanes, one thread that drains them, and two seats that receive.
+    Senders,
 }
 
 /// What the scene comes to.
@@ -62,6 +64,7 @@ fn performed_in<Led: Ledger + Send + Sync, R: Threads + Wait + Sync>(
         Scene::Forms => forms::call_all(rt, alloc, board),
         Scene::OneLeft => settling::settle_late(rt, alloc, board),
         Scene::Dropped => settling::settle_without(rt, alloc, board),
+        Scene::Senders => senders::send_all(rt, alloc, board),
     }
 }
 

@@ -1,11 +1,15 @@
 //! When a switchboard is settled, and when everything is handed back.
+ghost use Rattle.std.specs.Prelude.{◌≡◌, ◌^◌};
+
+use super::hall;
 use super::scene::{Final, Numbers, alone};
 use super::trouble::Trouble;
 use cml_board::{Call, Name, Refusal, Reply};
-use cml_threads::Seat;
-use std::alloc::Global;
+use cml_threads::{Count, Hall, PARTS, Seat};
+use std::alloc::{AllocError, Global};
+use std::marker::Brand;
 use std::sync::Wait;
-use std::sync::ledger::Ledger;
+use std::sync::ledger::{Blank, Ledger};
 
 const MAILBOX: Name = Name(0);
 
@@ -85,4 +89,39 @@ pub fn settle_without<Led: Ledger, R: Wait>(
         return Ok("handed back");
     }
     Ok("not all handed back")
+}
+
+/// Two calls of a seat, and two messages of a lane that is closed by its end: how they are counted in the end.
+pub fn count_with_lane(alloc: Global) -> Result<Option<Count>, AllocError> {
+    count_in::<Brand>(alloc, Blank::new(PARTS))
+}
+
+fn count_in<Led: Ledger>(alloc: Global, blank: Blank) -> Result<Option<Count>, AllocError>
+    requires name { blank.name ≡ Led.name }
+    requires parts { blank.parts ≡ Led.parts }
+    requires enough { blank.parts ≡ 2 ^ 63 }
+{
+    let mut hall: hall::Numbers<Led> = Hall::new(alloc, 10, blank)?;
+    let Ok(mut seat) = hall.new_seat() else {
+        return Ok(None);
+    };
+    hall.ask(&mut seat, Call::NewMailbox);
+    let Ok((mut lane, _)) = hall.open_lane(MAILBOX, 2) else {
+        return Ok(None);
+    };
+    lane.send(5).is_ok();
+    lane.send(6).is_ok();
+    let Some(end) = lane.finish() else {
+        return Ok(None);
+    };
+    if hall.close_lane(end).is_err() {
+        return Ok(None);
+    }
+    hall.ask(&mut seat, Call::Recv(MAILBOX));
+    let mut lefts = Vec::new(alloc);
+    lefts.push(seat.into_left())?;
+    match hall.settle(lefts) {
+        Ok(settled) => Ok(Some(settled.count())),
+        Err(_) => Ok(None),
+    }
 }
