@@ -1,4 +1,6 @@
-use Rattle.std.proofs.Common.{ap, is_some}
+use Rattle.std.proofs.Common.{ap, is_some, sym, ◌∙◌, length}
+use Rattle.cml_lanes.specs.Laned.{laned}
+use Rattle.cml_lanes.specs.Floor.{FloorShown}
 use Rattle.cml_lanes.proofs.Moves.{on_none}
 use Rattle.cml_lanes.proofs.Closes.{empties_off}
 use Rattle.cml_lanes.proofs.floor.Floor.close_counted.Goals as goal
@@ -9,3 +11,9 @@ returns-clause-closed g c =
       c.drain_open.result.0,
       empties_off c.number-lane.result c.args.end.number c.drain_open.result.0 c.args.self.now c.drain_open.new.self c.let_go.new.self c.number-lane.ensures whole c.let_go.ensures.floor,
     )
+
+pub returns-clause-counted : goal.returns-clause-counted
+returns-clause-counted g c =
+    ap (λ (f : FloorShown g.row.M.Denot). length (laned f.board.history c.args.end.number)) c.let_go.ensures.floor
+    ∙ ap (λ number. length (laned c.drain_open.new.self.board.history number)) (sym c.number-lane.ensures)
+    ∙ sym c.moved_count.ensures ∙ c.if-moved_count-count.false ∙ c.count.ensures
