@@ -31,16 +31,13 @@ fn tells_what_becomes_of_lanes(rt: HostRuntime) -> Result<(), Fail> {
 
 #[test]
 fn closes_a_lane_by_its_end(rt: HostRuntime) -> Result<(), Fail> {
-    is_so(
-        &rt,
-        closing::closes_all_that_was_sent(rt.alloc())?,
-        "closed otherwise",
-    );
-    is_so(
-        &rt,
-        closing::hands_an_end_back(rt.alloc())?,
-        "refused otherwise",
-    );
+    for row in closing::ROWS.iter() {
+        is_so(
+            &rt,
+            closing::is_closed_so(rt.alloc(), row)?,
+            "closed otherwise",
+        );
+    }
     Ok(())
 }
 

@@ -1,9 +1,36 @@
 //! Lanes that are closed by their own ends.
-use super::floors::{Numbers, floor, is_journal};
+use super::floors::{floor, is_journal};
 use super::steps::SEAT;
 use cml_board::{Call, Name, Refusal, Reply, Who};
-use cml_lanes::LaneFull;
 use std::alloc::{AllocError, Global};
+
+/// A floor and a lane onto it, on which 5, 6 and 7 are sent.
+pub struct Closing {
+    /// How many entries the journal takes.
+    limit: u64,
+    /// How many messages the lane has room for.
+    capacity: usize,
+    /// How many of the three it takes.
+    taken: u64,
+    /// Why it can't be closed by its end. It is abandoned then, and its end closes nothing more.
+    refusal: Option<Refusal>,
+}
+
+/// Each lane moves 5 and 6: one takes no more, and one has no more room in the journal.
+pub const ROWS: &[Closing] = &[
+    Closing {
+        limit: 100,
+        capacity: 2,
+        taken: 2,
+        refusal: None,
+    },
+    Closing {
+        limit: 3,
+        capacity: 4,
+        taken: 3,
+        refusal: Some(Refusal::JournalFull),
+    },
+];
 
 const MAILBOX: Name = Name(0);
 
@@ -13,51 +40,37 @@ const FIVE_AND_SIX: &[(Who, Call<u64>, Reply<u64>)] = &[
     (Who::Lane(0), Call::Send(MAILBOX, 6), Reply::Done),
 ];
 
-/// What a lane of capacity 2 took stands in the journal once it is closed, and what it handed back doesn't.
-pub fn closes_all_that_was_sent(alloc: Global) -> Result<bool, AllocError> {
-    let mut floor = floor(alloc, 100)?;
+/// Whether it comes so.
+pub fn is_closed_so(alloc: Global, row: &Closing) -> Result<bool, AllocError> {
+    let mut floor = floor(alloc, row.limit.clamp(1, 100))?;
     floor.apply(SEAT, Call::NewMailbox);
-    let Ok((mut lane, number)) = floor.open_lane(MAILBOX, 2) else {
+    let Ok((mut lane, number)) = floor.open_lane(MAILBOX, row.capacity.clamp(1, 1024)) else {
         return Ok(false);
     };
-    let sent = lane.send(5).is_ok() && lane.send(6).is_ok();
-    let full = lane.send(7) == Err(LaneFull(7));
+    lane.send(5).is_ok();
+    lane.send(6).is_ok();
+    lane.send(7).is_ok();
     let Some(end) = lane.finish() else {
         return Ok(false);
     };
-    let closed = floor.close_lane(end).is_ok();
+    let taken = end.count();
+    if let Err((end, refusal)) = floor.close_lane(end) {
+        let held = row.refusal == Some(refusal) && floor.open_lanes() == 1;
+        let abandoned = floor.abandon_lane(number).is_ok() && floor.open_lanes() == 0;
+        let Err((_, unknown)) = floor.close_lane(end) else {
+            return Ok(false);
+        };
+        return Ok(
+            held && abandoned
+                && unknown == Refusal::NoSuch
+                && taken == row.taken
+                && is_journal(floor.board().journal(), FIVE_AND_SIX),
+        );
+    }
     Ok(
-        number == 0
-            && sent
-            && full
-            && closed
+        row.refusal.is_none()
             && floor.open_lanes() == 0
-            && has(&floor, FIVE_AND_SIX),
+            && taken == row.taken
+            && is_journal(floor.board().journal(), FIVE_AND_SIX),
     )
-}
-
-/// A journal with room for two of three messages: the end comes back, and closes nothing once the lane is abandoned.
-pub fn hands_an_end_back(alloc: Global) -> Result<bool, AllocError> {
-    let mut floor = floor(alloc, 3)?;
-    floor.apply(SEAT, Call::NewMailbox);
-    let Ok((mut lane, number)) = floor.open_lane(MAILBOX, 4) else {
-        return Ok(false);
-    };
-    let sent = lane.send(5).is_ok() && lane.send(6).is_ok() && lane.send(7).is_ok();
-    let Some(end) = lane.finish() else {
-        return Ok(false);
-    };
-    let Err((end, refusal)) = floor.close_lane(end) else {
-        return Ok(false);
-    };
-    let held = refusal == Refusal::JournalFull && floor.open_lanes() == 1;
-    let abandoned = floor.abandon_lane(number).is_ok() && floor.open_lanes() == 0;
-    let Err((_, unknown)) = floor.close_lane(end) else {
-        return Ok(false);
-    };
-    Ok(sent && held && abandoned && unknown == Refusal::NoSuch && has(&floor, FIVE_AND_SIX))
-}
-
-fn has(floor: &Numbers, expected: &[(Who, Call<u64>, Reply<u64>)]) -> bool {
-    is_journal(floor.board().journal(), expected)
 }
