@@ -23,7 +23,8 @@ module _ {M : Type 0} where
     pub laned : laned history number ≡ side.received
     pub kind : kind_of history side.target.0 ≡ Some (way_kind side.way)
 
-  -- so many messages went out of the ring, in order, and each of them has an entry; nothing else changed
+  -- so many messages went out of the ring, in order, and each of them has an entry; the journal and the lane changed in
+  -- nothing else
   pub record Moves (number count : ℕ) (old new : Shown M) (from to : LaneSide M) : Type 0 where
     pub moved : List M
     pub as_many : length moved ≡ count
