@@ -1,5 +1,5 @@
 -- How many entries the calls on lanes add, and that all of them are of lanes.
-use Rattle.std.proofs.Common.{◌≡◌, ℕ, ◌+◌, ◌≤◌, inl, inr, Bool, true, false, List, [], ◌∷◌, length, reverse, Result, Ok, Err, OnOk, IfOk, IfErr, refl, sym, ap, ◌∙◌, arith}
+use Rattle.std.proofs.Common.{◌≡◌, ℕ, ◌+◌, ◌<◌, ◌≤◌, ◌⊎◌, inl, inr, Bool, true, false, List, [], ◌∷◌, length, reverse, Result, Ok, Err, OnOk, IfOk, IfErr, refl, ap, ◌∙◌, arith}
 use Rattle.std.proofs.lemmas.List.{length-reverse}
 use Rattle.cml_board.specs.declared.call.Name.{Name}
 use Rattle.cml_board.specs.declared.entry.Entry.{Entry}
@@ -64,13 +64,6 @@ module _ {M : Type 0} where
   empties_add : (number count : ℕ) (old new : FloorShown M) → EmptiesOff number count old new → AddsRings old.board new.board
   empties_add number count old new off = drains_add number count old.board new.board off.from off.to off.does.drains
 
-  late_adds : (chunk : ℕ) (sure : Bool) (number count : ℕ) (old new : FloorShown M) → StopsLate chunk sure number count old new → AddsRings old.board new.board
-  late_adds chunk sure number count old new late = holds_up_adds chunk sure number count old new late.1 late.2
-
-  drained_adds : (chunk : ℕ) (sure : Bool) (number count : ℕ) (old new : FloorShown M) → DrainsLane chunk sure number count old new → AddsRings old.board new.board
-  drained_adds chunk sure number count old new (inl all) = drains_add number count old.board new.board all.from all.to all.does.drains
-  drained_adds chunk sure number count old new (inr late) = late_adds chunk sure number count old new late
-
   -- whatever a call on a lane answers
   drain_cases : (chunk : ℕ) (sure : Bool) (lane : ℕ) (old new : FloorShown M) (result : Result ℕ Refusal) (opened : Bool) → is_open_lane old lane ≡ opened
       → (is_open_lane old lane ≡ false → (result ≡ Err NoSuch) × (new ≡ old))
@@ -78,7 +71,8 @@ module _ {M : Type 0} where
       → IfErr result (λ refusal. is_open_lane old lane ≡ true → HoldsUp chunk sure lane 0 old new refusal)
       → AddsRings old.board new.board
   drain_cases chunk sure lane old new result false is unknown drained refused = unchanged_adds old new (unknown is).1
-  drain_cases chunk sure lane old new (Ok count) true is unknown drained refused = drained_adds chunk sure lane count old new drained
+  drain_cases chunk sure lane old new (Ok count) true is unknown (inl all) refused = drains_add lane count old.board new.board all.from all.to all.does.drains
+  drain_cases chunk sure lane old new (Ok count) true is unknown (inr late) refused = holds_up_adds chunk sure lane count old new late.1 late.2
   drain_cases chunk sure lane old new (Err refusal) true is unknown drained refused = holds_up_adds chunk sure lane 0 old new refusal (refused is)
 
   drop_cases : (chunk : ℕ) (sure : Bool) (lane : ℕ) (old new : FloorShown M) (result : Result (ℕ × Bool) Refusal) (opened : Bool) → is_open_lane old lane ≡ opened
@@ -92,7 +86,7 @@ module _ {M : Type 0} where
     where
       by_flag : (flag : Bool) → told.1 ≡ flag → AddsRings old.board new.board
       by_flag true e = empties_add lane told.0 old new (closed e)
-      by_flag false e = late_adds chunk sure lane told.0 old new (stopped e)
+      by_flag false e = holds_up_adds chunk sure lane told.0 old new (stopped e).1 (stopped e).2
   drop_cases chunk sure lane old new (Err refusal) true is unknown closed stopped refused = holds_up_adds chunk sure lane 0 old new refusal (refused is)
 
   some_add : (chunk : ℕ) (sure : Bool) (lane : ℕ) (old new : FloorShown M) (refusal : Refusal) → HoldsUpSome chunk sure lane old new refusal → AddsRings old.board new.board

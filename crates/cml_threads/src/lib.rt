@@ -1,4 +1,5 @@
-//! Threads that share one board: its lock, their seats, how they wait for each other, and a ledger of their answers.
+//! Threads that share one board: its lock, their seats, the lanes that they send on, how they wait for each other, and a
+//! ledger of their answers.
 #![tactic(auto)]
 
 mod asked;

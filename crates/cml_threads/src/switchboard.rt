@@ -77,9 +77,9 @@ impl<M: Message, L: MessageLog<M>, Led: Ledger> Switchboard<M, L, Led> {
     /// Makes a call, and waits until it is answered or refused: it may never return, if nobody ever sends what it waits
     /// for. What is refused is handed back, and did nothing.
     ///
-    /// `Stalled` means that the call would wait and that each other seat waits too or has left, so that nobody could
-    /// ever answer it. The seat is free then: make another call, which may let others go on, or leave. Those who wait
-    /// are told the same when next something changes, unless they can go on by then.
+    /// `Stalled` means that the call would wait, that each other seat waits too or has left, and that no lane is open, so
+    /// that nobody could ever answer it. The seat is free then: make another call, which may let others go on, or leave.
+    /// Those who wait are told the same when next something changes, unless they can go on by then.
     pub fn call<R: Wait>(
         &self,
         rt: &R,

@@ -1,7 +1,7 @@
 //! Threads that send on lanes of their own, one that drains them, and two that receive.
 use super::scene::{Numbers, settled};
 use super::trouble::Trouble;
-use cml_board::{Call, Entry, Name, Reply, Who};
+use cml_board::{Call, Entry, Name, Refusal, Reply, Who};
 use cml_lanes::{Lane, LaneEnd};
 use cml_threads::{Count, Left, Seat};
 use std::alloc::{AllocError, Global};
@@ -74,8 +74,8 @@ pub fn send_all<Led: Ledger + Send + Sync, R: Threads + Wait + Sync>(
             return Ok("a lane isn't closed");
         }
     }
-    if !lets_go(rt, &board) {
-        return Ok("a lane isn't let go");
+    if !lets_go(rt, &board) || !are_closed(rt, &board) {
+        return Ok("a lane is still open");
     }
     let settled = settled(board, Ok(lefts))?;
     let mut received = received;
@@ -209,6 +209,16 @@ fn lets_go<Led: Ledger, R: Wait>(rt: &R, board: &Numbers<Led>) -> bool {
         return false;
     };
     matches!(board.drop_lane(rt, one), Ok((0, true))) && board.abandon_lane(rt, two).is_ok()
+}
+
+/// Whether none of all these lanes is open.
+fn are_closed<Led: Ledger, R: Wait>(rt: &R, board: &Numbers<Led>) -> bool {
+    for lane in 0..LANES + 2 {
+        if board.drain(rt, lane) != Err(Refusal::NoSuch) {
+            return false;
+        }
+    }
+    true
 }
 
 /// Whether that is each number that was sent, in order.

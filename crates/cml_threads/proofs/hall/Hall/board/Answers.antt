@@ -1,4 +1,4 @@
-use Rattle.std.proofs.Common.{◌≡◌, ◌∙◌, ap, subst}
+use Rattle.std.proofs.Common.{◌∙◌, ap, subst}
 use Rattle.cml_board.specs.Shown.{KeepsMailboxes, KeepsPorts, KeepsClosed}
 use Rattle.cml_threads.specs.Hosting.{Hosted}
 use Rattle.cml_threads.proofs.hall.Hall.board.Goals as goal

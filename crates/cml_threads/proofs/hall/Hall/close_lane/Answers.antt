@@ -1,4 +1,4 @@
-use Rattle.std.proofs.Common.{◌≡◌, length, Err, true, OnOk, IfErr, subst, refl}
+use Rattle.std.proofs.Common.{◌≡◌, length, Err, true, OnOk, IfErr, subst}
 use Rattle.cml_board.specs.declared.outcome.Refusal.TheVariants.{NoSuch}
 use Rattle.cml_lanes.specs.Floor.{is_open_lane, KeepsRings, GivesAll}
 use Rattle.cml_lanes.specs.Lanes.{HoldsUpSome, ClosesLane}

@@ -1,6 +1,6 @@
-use Rattle.std.proofs.Common.{◌≡◌, length, Err, subst, refl}
+use Rattle.std.proofs.Common.{◌≡◌, length, Err, subst}
 use Rattle.cml_board.specs.declared.outcome.Refusal.TheVariants.{NoSuch}
-use Rattle.cml_lanes.specs.Floor.{is_open_lane, KeepsRings}
+use Rattle.cml_lanes.specs.Floor.{KeepsRings}
 use Rattle.cml_threads.proofs.Counting.{drop_adds, grown_at, counted_at, unknown_at}
 use Rattle.cml_threads.specs.Hosting.{Hosted, floor_of}
 use Rattle.cml_threads.proofs.hall.Hall.drop_lane.Goals as goal
