@@ -102,7 +102,7 @@ impl Workload {
         }
     }
 
-    fn run<Led: Ledger + Send + Sync, R: Threads + Wait + Sync>(
+    fn run<Led: Ledger + Send + Sync, R: Clock + Threads + Wait + Sync>(
         self,
         rt: &R,
         shared: &Shared<Led>,

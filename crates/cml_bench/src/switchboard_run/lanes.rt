@@ -3,20 +3,25 @@ use super::parts::{FIRST, Part, Shared, receive_some};
 use super::{SENDERS, seat_with_mailbox};
 use cml_lanes::{Lane, LaneEnd};
 use cml_threads::{Left, Seat};
+use std::rt::Clock;
 use std::sync::Wait;
 use std::sync::ledger::Ledger;
 use std::thread::Threads;
+use std::time::Duration;
 use std::{io, thread};
 
 /// How many messages each lane has room for.
 const ROOM: usize = 1_024;
+
+/// How long a sender lets the others work once its lane is full, in microseconds.
+const PAUSE: u64 = 20;
 
 /// How often a thread tries at most.
 const TURNS: u64 = 100_000_000_000;
 
 type End = Option<LaneEnd<u64>>;
 
-pub fn fan_in<Led: Ledger + Send + Sync, R: Threads + Wait + Sync>(
+pub fn fan_in<Led: Ledger + Send + Sync, R: Clock + Threads + Wait + Sync>(
     rt: &R,
     shared: &Shared<Led>,
     lefts: &mut Vec<Left<Led>>,
@@ -66,7 +71,7 @@ fn close<Led: Ledger, R: Wait>(rt: &R, shared: &Shared<Led>, end: End) -> io::Re
 }
 
 /// Two threads that send so many messages each, from this one on.
-fn send_by_two<R: Threads + Sync>(
+fn send_by_two<R: Clock + Threads + Sync>(
     rt: &R,
     one: Lane<u64>,
     two: Lane<u64>,
@@ -77,13 +82,13 @@ fn send_by_two<R: Threads + Sync>(
     let end = middle.saturating_add(each);
     thread::join(
         rt,
-        move || send_on(one, start, middle),
-        move || send_on(two, middle, end),
+        move || send_on(rt, one, start, middle),
+        move || send_on(rt, two, middle, end),
     )
 }
 
 /// Sends the messages from `start` until before `end`, each again until there is room for it.
-fn send_on(lane: Lane<u64>, start: u64, end: u64) -> End {
+fn send_on<R: Clock>(rt: &R, lane: Lane<u64>, start: u64, end: u64) -> End {
     let (mut lane, mut next) = (lane, start);
     for _ in 0..TURNS {
         if next >= end {
@@ -91,7 +96,7 @@ fn send_on(lane: Lane<u64>, start: u64, end: u64) -> End {
         }
         match lane.send(next) {
             Ok(()) => next = next.saturating_add(1),
-            Err(_) => thread::yield_now(),
+            Err(_) => thread::sleep(rt, Duration::from_micros(PAUSE)),
         }
     }
     lane.finish()
