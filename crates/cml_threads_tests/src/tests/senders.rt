@@ -20,17 +20,18 @@ const ALL: u64 = LANES * EACH;
 /// How many numbers each of the two seats receives.
 const HALF: u64 = ALL / 2;
 
-/// The mailbox and the receives are of seats, all sends of lanes.
+/// The two mailboxes and the receives are of seats, all sends of lanes.
 const COUNT: Count = Count {
-    seats: 1 + ALL,
+    seats: 2 + ALL,
     rings: ALL,
-    total: 1 + 2 * ALL,
+    total: 2 + 2 * ALL,
 };
 
 /// How often each thread tries at most.
 const TURNS: u32 = 100_000_000;
 
-const MAILBOX: Name = Name(0);
+/// The second mailbox: a lane that went to the first object would miss it.
+const MAILBOX: Name = Name(1);
 
 /// What a thread is to do.
 #[derive(Drop)]
@@ -100,6 +101,7 @@ fn jobs<Led: Ledger, R: Wait>(
 ) -> Result<Vec<Job<Led>>, Trouble> {
     let mut one = board.seat(rt)?;
     let two = board.seat(rt)?;
+    board.mailbox(rt, &mut one)?;
     board.mailbox(rt, &mut one)?;
     let mut jobs = Vec::new(alloc);
     for _ in 0..LANES {
