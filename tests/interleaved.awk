@@ -1,13 +1,17 @@
-# Which report an order of the threads gives: `awk -f tests/plain.awk -f tests/interleaved.awk LIMIT SCRIPT REPORT..`.
+# Which report an order of the threads gives: `awk -f tests/plain.awk -f tests/rings.awk -f tests/interleaved.awk LIMIT
+# SCRIPT REPORT..`.
 #
-# Of each report only the order is taken: the first word of each line of its first part is the thread that takes its
-# next step there. The plain program performs these steps and prints the report that comes of them. So a report is one
-# that some order gives just where what is printed for it is the same, byte for byte.
+# Of each report only the order is taken: each line of its first part names the thread that takes its next step there,
+# the lane whose next message comes, or the feed that gets one. The plain program performs these and prints the report
+# that comes of them. So a report is one that some order gives just where what is printed for it is the same, byte for
+# byte. Of a report that ends full, in a script with lanes or feeds, the number of steps left is taken too, where it can
+# be so many: what a lane accepted and nobody moved has no line.
 #
 # Where the order itself can't be, the last line that is printed says why, as no report's last line does. It can't be
 # where a thread takes a step that waits there, or that the journal has no room for, or has none left; nor where at the
 # end a thread could go on. For once each thread that has steps left waits, nobody ever goes on; and before that
 # nobody is told of a stall. So all that are left wait for what isn't there at the end, whoever was told first.
+# tests/rings.awk says what can't be of lanes and feeds.
 #
 # A script with a fault has no report: then its fault is printed.
 
@@ -41,33 +45,70 @@ function queue_steps(    i, thread) {
         thread = step_thread[i]
         queue[thread, ++queued[thread]] = i
     }
+    queue_rings()
 }
 
-function perform_as(report, limit,    line, word, why) {
+function perform_as(report, limit,    line, word, why, end) {
     split("", taken)
+    forget_rings()
     if (!make_declared(limit)) return "full 0 left " step_count
     while (why == "" && (getline line < report) > 0) {
+        end = line
         split(line, word, " ")
-        if (!(word[1] in queued)) break
-        why = hindered(word[1], limit)
-        if (why == "") take(queue[word[1], ++taken[word[1]]])
+        if (word[1] != "feed") why = pump_over(limit)
+        if (why != "") break
+        if (word[1] == "lane") why = from_lane(line, limit)
+        else if (word[1] == "feed" && word[3] == "recv") why = to_feed(line, limit)
+        else if (word[1] in queued) why = own_step(word[1], limit)
+        else break
     }
+    while ((getline line < report) > 0) end = line
     close(report)
+    if (why == "") why = pump_over(limit)
     if (why == "" && entries < limit) why = able()
-    return why == "" ? ending_here(limit) : why
+    return why == "" ? ended_as(end, limit) : why
 }
 
-# Why this thread can't take a step here; nothing where it can.
-function hindered(thread, limit) {
-    if (taken[thread] == queued[thread]) return "but " thread " has no step left for line " lines_out + 1
+# The place in a thread's queue of its next step that is not on a lane or a feed; none where it has no more of them.
+function next_own(thread,    i) {
+    for (i = taken[thread] + 1; i <= queued[thread]; i++) if (!is_apart(queue[thread, i])) return i
+    return 0
+}
+
+# A thread takes its next own step. Why it can't; nothing where it can.
+function own_step(thread, limit,    i, k) {
+    i = next_own(thread)
+    if (i == 0) return "but " thread " has no step left for line " lines_out + 1
+    k = queue[thread, i]
     if (entries == limit) return "but the journal is full before line " lines_out + 1
-    if (waits(queue[thread, taken[thread] + 1])) return "but " thread " waits at line " lines_out + 1
+    if (waits(k)) return "but " thread " waits at line " lines_out + 1
+    if (is_behind(thread, i)) return "but " thread " has sent on lanes what comes behind line " lines_out + 1
+    take(k)
+    taken[thread] = i
     return ""
 }
 
 # That a thread could go on here; nothing where none can.
-function able(    thread) {
-    for (thread in queued)
-        if (taken[thread] < queued[thread] && !waits(queue[thread, taken[thread] + 1])) return "but " thread " could go on"
+function able(    thread, i) {
+    for (thread in queued) {
+        i = next_own(thread)
+        if (i > 0 && !waits(queue[thread, i])) return "but " thread " could go on"
+        if (unmoved(thread, i > 0 ? i : queued[thread] + 1) > 0) return "but " thread " has a lane that it didn't close"
+    }
     return ""
+}
+
+# How it ends, where it is told so.
+function ended_as(end, limit,    thread, i, least, most, word) {
+    least = most = 0
+    for (thread in queued) {
+        i = next_own(thread)
+        if (i > 0) least += queued[thread] - i + 1
+        most += not_sure(thread)
+    }
+    if (entries < limit || most == 0) return least == 0 ? "done " lines_out : "stalled " lines_out " left " least
+    split(end, word, " ")
+    if (word[2] == "done" && least == 0 && nothing_unmoved()) return "done " lines_out
+    if (word[2] == "full" && word[5] >= least && word[5] <= most) least = word[5]
+    return "full " lines_out " left " least
 }

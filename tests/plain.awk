@@ -9,11 +9,13 @@ BEGIN {
     split("cml mailbox channel port ivar mvar thread lane feed", list, " ")
     for (i in list) reserved[list[i]] = 1
 
-    # What a line's words are: `+` gives a name of that kind, a kind (or two) uses one, `=` is a number.
+    # What a line's words are: `+` gives a name of that kind, a kind (or some) uses one, `=` is a number, and `#` a
+    # capacity.
     declares["mailbox"] = "+mailbox"; declares["channel"] = "+channel"; declares["port"] = "channel +port"
     declares["ivar"] = "+ivar"; declares["mvar"] = "+mvar"; declares["thread"] = "+thread"
+    declares["lane"] = "thread mailbox,channel #"; declares["feed"] = "thread +feed channel #"
     steps["send"] = "mailbox ="; steps["multicast"] = "channel ="
-    steps["recv"] = steps["poll"] = "mailbox,port"
+    steps["recv"] = "mailbox,port"; steps["poll"] = "mailbox,port,feed"
     steps["port"] = "channel +port"; steps["copy"] = "port +port"; steps["close"] = "port"
     steps["put"] = "ivar,mvar ="; steps["get"] = steps["getpoll"] = "ivar,mvar"
     steps["take"] = steps["takepoll"] = "mvar"; steps["swap"] = "mvar ="
@@ -22,6 +24,7 @@ BEGIN {
 {
     forget_script()
     fault = read_script()
+    if (fault == "" && ring_line > 0) fault = "line " ring_line ": needs run"
     if (fault != "") {
         print "script: " fault
         print "status 2"
@@ -35,8 +38,8 @@ BEGIN {
 
 function forget_script() {
     split("", kind); split("", owner); split("", given); split("", form); split("", first_held)
-    split("", step_line); split("", step_thread); split("", step_words)
-    names = threads = step_count = 0
+    split("", step_line); split("", step_thread); split("", step_words); split("", room)
+    names = threads = step_count = ring_line = 0
 }
 
 function forget_board() {
@@ -75,8 +78,10 @@ function fault_of(line, number,    count, word, form_of, what) {
         if (word[1] == "mvar" && count == 3) form_of = form_of " ="
         what = fault_in_form(word, 2, count, form_of, "")
         if (what != "") return what
+        if (word[1] == "lane" && ((word[2], word[3]) in room)) return "lane taken"
         if (word[1] == "thread" && threads == 64) return "too many threads"
         declare(word, count)
+        if ((word[1] == "lane" || word[1] == "feed") && ring_line == 0) ring_line = number
         return ""
     }
     if (kind[word[1]] != "thread") return "unknown line"
@@ -91,7 +96,7 @@ function fault_of(line, number,    count, word, form_of, what) {
 function fault_in_form(word, from, count, form_of, thread,    places, place, i, w) {
     places = split(form_of, place, " ")
     if (count - from + 1 != places) return "word count"
-    for (i = 1; i <= places; i++) if (place[i] != "=" && !is_name(word[from + i - 1])) return "bad name"
+    for (i = 1; i <= places; i++) if (place[i] !~ /^[=#]/ && !is_name(word[from + i - 1])) return "bad name"
     for (i = 1; i <= places; i++) if (place[i] ~ /^\+/ && (word[from + i - 1] in kind)) return "name taken"
     for (i = 1; i <= places; i++) if (place[i] ~ /^[a-z]/ && !(word[from + i - 1] in kind)) return "unknown name"
     for (i = 1; i <= places; i++) {
@@ -102,7 +107,10 @@ function fault_in_form(word, from, count, form_of, thread,    places, place, i, 
         w = word[from + i - 1]
         if (place[i] ~ /^[a-z]/ && owner[w] != "" && owner[w] != thread) return "not yours"
     }
-    for (i = 1; i <= places; i++) if (place[i] == "=" && !is_number(word[from + i - 1])) return "bad number"
+    for (i = 1; i <= places; i++) {
+        w = word[from + i - 1]
+        if (place[i] == "=" && !is_number(w) || place[i] == "#" && !is_capacity(w)) return "bad number"
+    }
     return ""
 }
 
@@ -115,6 +123,8 @@ function is_number(word) {
     return length(word) < 20 || (word "") <= "18446744073709551615"
 }
 
+function is_capacity(word) { return is_number(word) && length(word) <= 4 && word >= 1 && word <= 1024 }
+
 function give(name, its_kind, thread) {
     kind[name] = its_kind
     owner[name] = thread
@@ -122,7 +132,13 @@ function give(name, its_kind, thread) {
 }
 
 function declare(word, count) {
-    if (word[1] == "port") {
+    if (word[1] == "lane") {
+        room[word[2], word[3]] = word[4]
+    } else if (word[1] == "feed") {
+        give(word[3], "feed", word[2])
+        form["channel", word[3]] = word[4]
+        room[word[3]] = word[5]
+    } else if (word[1] == "port") {
         give(word[3], "port", "")
         form["channel", word[3]] = word[2]
     } else {
@@ -181,7 +197,7 @@ function ending_here(limit,    left) {
 function make(name) {
     entries++
     object[name] = name
-    if (kind[name] == "port") begin_port(name, form["channel", name], sent[form["channel", name]] + 0)
+    if (is_reader(name)) begin_port(name, form["channel", name], sent[form["channel", name]] + 0)
     if (name in first_held) { full[name] = 1; held[name] = first_held[name] }
 }
 
@@ -210,7 +226,9 @@ function waits(k,    word, o) {
     return 0
 }
 
-function stream(o) { return kind[o] == "port" ? channel_of[o] : o }
+function is_reader(name) { return kind[name] == "port" || kind[name] == "feed" }
+
+function stream(o) { return is_reader(o) ? channel_of[o] : o }
 
 function place(o) { return start[o] + got[o] }
 
@@ -264,18 +282,21 @@ function told(name,    first) {
         first = first_kept(name)
         return "sent " sent[name] + 0 " kept " sent[name] - first " first " first
     }
-    if (kind[name] == "port") {
-        return "start " start[name] " got " got[name] ((name in closed) ? " closed" : " owed " owed(name))
+    if (is_reader(name)) {
+        return "start " start[name] " got " got[name] ((name in closed) ? " closed" : " owed " owed(name)) taken_from(name)
     }
     return (name in full) ? "full " held[name] : "empty"
 }
+
+# A thread takes all that its feed got, at the latest when it ends the feed.
+function taken_from(name) { return kind[name] == "feed" ? " taken " got[name] : "" }
 
 # Messages lie in chunks of four, and those before the chunk of the least place are gone.
 function first_kept(channel,    least, i, name) {
     least = sent[channel] + 0
     for (i = 1; i <= names; i++) {
         name = given[i]
-        if (kind[name] != "port" || object[name] != name || channel_of[name] != channel || name in closed) continue
+        if (!is_reader(name) || object[name] != name || channel_of[name] != channel || name in closed) continue
         if (place(name) < least) least = place(name)
     }
     return least - least % 4

@@ -6,7 +6,7 @@ either_end='chat_room late_reader philosophers'
 
 # in_some_order LIMIT SCRIPT REPORT..: whether each of these reports is one that some order of the threads gives.
 in_some_order() {
-    awk -f tests/plain.awk -f tests/interleaved.awk "$@" > "$work/want"
+    awk -f tests/plain.awk -f tests/rings.awk -f tests/interleaved.awk "$@" > "$work/want"
     shift 2
     cat "$@" > "$work/got"
     [ -s "$work/want" ] && cmp -s "$work/want" "$work/got"
@@ -26,8 +26,8 @@ ran() {
 
 # order_tables: what is taken for a report, and what is not.
 order_tables() {
-    each_block possible tests/orders/possible.txt
-    each_block impossible tests/orders/impossible.txt
+    each_block possible tests/orders/possible.txt tests/orders/possible_rings.txt
+    each_block impossible tests/orders/impossible.txt tests/orders/impossible_rings.txt
 }
 
 possible() {
@@ -170,7 +170,7 @@ little_memory() {
 some_runs() {
     : > "$work/statuses"
     : > "$work/bad"
-    awk -v scripts=400 -f tests/some_scripts.awk | octal | while read -r limit text; do
+    awk -v scripts=400 -v one_in=0 -f tests/some_scripts.awk | octal | while read -r limit text; do
         # shellcheck disable=SC2059
         printf "$text" > "$work/in"
         run run --limit "$limit" < "$work/in"

@@ -1,6 +1,7 @@
 # Scripts of all lines, chosen by a sequence of numbers that is the same each time. Most have no fault; in some a word is
-# another's, so that names are unknown, of the wrong kind or another thread's. Each is a line of bytes, as numbers, behind
-# the limit that it is to be replayed under.
+# another's, so that names are unknown, of the wrong kind or another thread's. One in eight has lanes and feeds (or one
+# in another number, `-v one_in=N`; none for 0). Each is a line of bytes, as numbers, behind the limit that it is to be
+# replayed under.
 
 BEGIN {
     for (byte = 32; byte <= 126; byte++) number[sprintf("%c", byte)] = byte
@@ -11,6 +12,7 @@ BEGIN {
     wanted["take"] = wanted["takepoll"] = wanted["swap"] = "mvar"
     number_word["send"] = number_word["multicast"] = number_word["put"] = number_word["swap"] = 1
     state = 20240229
+    if (one_in == "") one_in = 8
     for (script = 1; script <= scripts; script++) print_script()
 }
 
@@ -38,6 +40,7 @@ function pick(its_kind,    tries, i) {
 function suits(one, other) {
     if (other == "receiver") return one == "mailbox" || one == "port"
     if (other == "variable") return one == "ivar" || one == "mvar"
+    if (other == "target") return one == "mailbox" || one == "channel"
     return one == other
 }
 
@@ -59,19 +62,43 @@ function print_script(    i, count, its_kind, name, threads) {
     }
     threads = 1 + below(4)
     for (i = 1; i <= threads; i++) line("thread T" i)
+    rings = one_in > 0 && below(one_in) == 0
+    if (rings) print_rings(threads)
     count = below(30)
     for (i = 1; i <= count; i++) print_step("T" (1 + below(threads)), i)
     printf "\n"
 }
 
+# Lines of lanes and feeds, a feed for each thread at most; now and then a lane that stands already, or a capacity that
+# is none.
+function print_rings(threads,    i, count, text) {
+    split("", laid); split("", feed_of)
+    count = 1 + below(4)
+    for (i = 1; i <= count; i++) {
+        text = "lane T" (1 + below(threads)) " " pick("target")
+        if ((text in laid) && below(30) > 0) continue
+        laid[text] = 1
+        line(text " " capacity())
+    }
+    for (i = 1; i <= threads; i++) {
+        if (below(2)) continue
+        line("feed T" i " f" i " " pick("channel") " " capacity())
+        feed_of["T" i] = "f" i
+        give("f" i, "feed")
+    }
+}
+
+function capacity() { return below(60) == 0 ? 1025 * below(2) : 1 + below(3) }
+
 function print_step(thread, i,    v, text, own) {
     v = verb[1 + below(verbs)]
     text = thread " " v " " pick((v in wanted) ? wanted[v] : "receiver")
+    if (rings && v == "poll" && (thread in feed_of) && below(2)) text = thread " poll " feed_of[thread]
     if (v == "port" || v == "copy") {
         own = thread "q" i
         text = text " " own
     }
-    if (v in number_word) text = text " " below(1000)
+    if (v in number_word) text = text " " (rings ? i : below(1000))
     line(text)
     if (own != "") give(own, "port")
 }
