@@ -1,13 +1,16 @@
 //! Workloads on a switchboard. The clock runs from before their threads are started until they have left.
 ghost use Rattle.std.specs.Prelude.{◌≡◌, ◌^◌};
 
+mod feeds;
 mod lanes;
 mod parts;
 
 use crate::LIMIT;
 use cml_board::Call;
 use cml_threads::{Left, PARTS, Seat};
-use parts::{Adding, Part, Shared, answer_all, ask_all, receive_all, send_all, send_and_receive};
+use parts::{
+    Adding, FIRST, Part, Shared, answer_all, ask_all, receive_all, send_all, send_and_receive,
+};
 use std::alloc::Global;
 use std::marker::Brand;
 use std::rt::Clock;
@@ -25,14 +28,18 @@ pub enum Workload {
     Pipe,
     FanIn,
     Lanes,
+    Ports,
+    Feeds,
     Variables,
 }
 
-pub const WORKLOADS: [Workload; 5] = [
+pub const WORKLOADS: [Workload; 7] = [
     Workload::Pairs,
     Workload::Pipe,
     Workload::FanIn,
     Workload::Lanes,
+    Workload::Ports,
+    Workload::Feeds,
     Workload::Variables,
 ];
 
@@ -68,7 +75,7 @@ fn perform<Led: Ledger + Send + Sync, R: Clock + Threads + Wait + Sync>(
     let shared: Shared<Led> = Shared::<Led>::new(alloc, LIMIT, blank)?;
     let mut lefts = Vec::new(alloc);
     let start = Instant::now(rt)?;
-    let sum = workload.run(rt, &shared, &mut lefts, count)?;
+    let sum = workload.run(rt, alloc, &shared, &mut lefts, count)?;
     let time = start.elapsed(rt)?;
     let Ok(settled) = shared.settle(lefts) else {
         return Err(io::ErrorKind::InvalidData.into());
@@ -87,6 +94,8 @@ impl Workload {
             Workload::Pipe => "pipe2",
             Workload::FanIn => "fanin4",
             Workload::Lanes => "fanin4_lanes",
+            Workload::Ports => "cast8",
+            Workload::Feeds => "feed8",
             Workload::Variables => "var2",
         }
     }
@@ -98,6 +107,9 @@ impl Workload {
             Workload::FanIn | Workload::Lanes => (count / SENDERS)
                 .saturating_mul(2 * SENDERS)
                 .saturating_add(1),
+            Workload::Ports | Workload::Feeds => count
+                .saturating_add(1)
+                .saturating_mul(feeds::READERS + 1),
             Workload::Variables => count.saturating_mul(4).saturating_add(2),
         }
     }
@@ -105,6 +117,7 @@ impl Workload {
     fn run<Led: Ledger + Send + Sync, R: Clock + Threads + Wait + Sync>(
         self,
         rt: &R,
+        alloc: Global,
         shared: &Shared<Led>,
         lefts: &mut Vec<Left<Led>>,
         count: u64,
@@ -114,6 +127,8 @@ impl Workload {
             Workload::Pipe => pipe(rt, shared, lefts, count),
             Workload::FanIn => fan_in(rt, shared, lefts, count / SENDERS),
             Workload::Lanes => lanes::fan_in(rt, shared, lefts, count / SENDERS),
+            Workload::Ports => feeds::ports(rt, alloc, shared, lefts, count),
+            Workload::Feeds => feeds::feeds(rt, alloc, shared, lefts, count),
             Workload::Variables => variables(rt, shared, lefts, count),
         }
     }
@@ -143,7 +158,7 @@ fn pipe<Led: Ledger + Send + Sync, R: Threads + Wait + Sync>(
     let sender = new_seat(rt, shared)?;
     let (received, sent) = thread::join(
         rt,
-        move || receive_all(rt, shared, receiver, count, Adding::InOrder),
+        move || receive_all(rt, shared, receiver, FIRST, count, Adding::InOrder),
         move || send_all(rt, shared, sender, 0, count),
     );
     lefts.push(received.left)?;
@@ -165,7 +180,7 @@ fn fan_in<Led: Ledger + Send + Sync, R: Threads + Wait + Sync>(
     let half = each.saturating_mul(SENDERS / 2);
     let (received, ((one, two), (three, four))) = thread::join(
         rt,
-        move || receive_all(rt, shared, receiver, count, Adding::InAnyOrder),
+        move || receive_all(rt, shared, receiver, FIRST, count, Adding::InAnyOrder),
         move || {
             thread::join(
                 rt,

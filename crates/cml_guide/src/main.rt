@@ -4,6 +4,7 @@
 mod calls;
 mod channels;
 mod ending;
+mod feeds;
 mod journals;
 mod lanes;
 mod locking;
@@ -115,6 +116,7 @@ fn show_threads<R: Threads + Wait + Sync + Print>(rt: &R, alloc: Global) -> io::
         &locking::counted_by_two(rt, alloc),
     )?;
     show(rt, "lanes::collected", &lanes::collected(rt, alloc))?;
+    show(rt, "feeds::shown", &feeds::shown(rt, alloc))?;
     show(rt, "ending::stalled", &ending::stalled(rt, alloc))?;
     show(rt, "ending::missed", &ending::missed(rt, alloc))
 }

@@ -2,6 +2,7 @@ mod crew;
 mod forms;
 mod hall;
 mod lane_rows;
+mod rings;
 mod scene;
 mod senders;
 mod settling;
@@ -14,6 +15,7 @@ use std::process::Abort;
 use std::test::Fail;
 
 const SCENES: &[(Scene, &str)] = &[
+    (Scene::Rings, "as in the journal"),
     (Scene::Callers, "all confirmed"),
     (Scene::Crowd, "each once, and lawful"),
     (Scene::Stall, "each is told"),

@@ -55,17 +55,18 @@ pub fn send_all<Led: Ledger, R: Wait>(
     shared.leave(rt, seat)
 }
 
-/// Receives so many messages, and waits for each.
+/// Receives so many messages from the mailbox or the port, and waits for each.
 pub fn receive_all<Led: Ledger, R: Wait>(
     rt: &R,
     shared: &Shared<Led>,
     seat: Seat<Led>,
+    from: Name,
     count: u64,
     adding: Adding,
 ) -> Part<Led> {
     let (mut seat, mut sum) = (seat, 0u64);
     for _ in 0..count {
-        let Some(message) = got(shared.recv(rt, &mut seat, FIRST)) else {
+        let Some(message) = got(shared.recv(rt, &mut seat, from)) else {
             break;
         };
         sum = adding.add(sum, message);

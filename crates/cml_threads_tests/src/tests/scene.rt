@@ -3,7 +3,7 @@ ghost use Rattle.std.specs.Prelude.{◌≡◌, ◌^◌};
 
 use super::crew::{Crew, at_work};
 use super::trouble::Trouble;
-use super::{forms, senders, settling, verdict};
+use super::{forms, rings, senders, settling, verdict};
 use cml_board::BoardLog;
 use cml_threads::{Left, PARTS, Settled, Switchboard};
 use std::alloc::{AllocError, Global};
@@ -22,6 +22,8 @@ const LIMIT: u64 = 65_536;
 
 #[derive(Clone, Copy)]
 pub enum Scene {
+    /// A lane and a feed, each on the second object of its kind.
+    Rings,
     /// Two threads, each of which needs what the other sends.
     Callers,
     /// All named forms in turn.
@@ -58,6 +60,7 @@ fn performed_in<Led: Ledger + Send + Sync, R: Threads + Wait + Sync>(
 {
     let board: Numbers<Led> = Switchboard::new(alloc, LIMIT, blank)?;
     match scene {
+        Scene::Rings => rings::try_rings(rt, board),
         Scene::Callers => judged(rt, alloc, board, Crew::Callers),
         Scene::Crowd => judged(rt, alloc, board, Crew::Crowd),
         Scene::Stall => judged(rt, alloc, board, Crew::Stalled),
