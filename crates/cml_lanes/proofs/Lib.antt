@@ -1,5 +1,7 @@
 pub mod Laning
 pub mod Moves
+pub mod Feeding
+pub mod Pumps
 pub mod Slots
 pub mod Lanes
 pub mod OneLane

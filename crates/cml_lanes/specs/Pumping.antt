@@ -8,6 +8,7 @@ use Rattle.cml_board.specs.declared.outcome.Refusal.{Refusal}
 use Rattle.cml_board.specs.History.{kind_of, is_open, got, answer}
 use Rattle.cml_board.specs.Shown.{Shown}
 use Rattle.cml_board.specs.Outcome.{IsAsBefore, Refuses}
+use Rattle.cml_lanes.specs.Ends.{Ended}
 use Rattle.cml_lanes.specs.Sides.{FeedSide}
 use Rattle.cml_lanes.specs.Fed.{fed, with_feed}
 use Rattle.cml_lanes.specs.Moving.{IsLimit}
@@ -52,6 +53,12 @@ module _ {M : Type 0} where
     pub side : FeedSide M
     pub opened : slot ≡ Some side
     pub keeps : KeepsFeed history number side
+
+  -- a slot's feed is ended: all that was put into its ring is what was pumped
+  pub record EndsSlot (number : ℕ) (old : Option (FeedSide M)) (end : Ended M) : Type 0 where
+    pub side : FeedSide M
+    pub opened : old ≡ Some side
+    pub ends : end ≡ record { ring = side.ring; number = number; sent = side.pushed }
 
   -- more of the ring's slots may be known to be free
   pub record LearnsFree (from to : FeedSide M) : Type 0 where

@@ -8,6 +8,7 @@ mod inner_feed;
 mod inner_lane;
 mod lane;
 mod moving;
+mod pumping;
 mod way;
 
 pub use feed::{Feed, FeedEnd, Taken};
