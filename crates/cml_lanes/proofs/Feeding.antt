@@ -11,10 +11,15 @@ use Rattle.cml_board.specs.declared.entry.Entry.{Entry}
 use Rattle.cml_board.specs.Objects.{takes}
 use Rattle.cml_board.specs.History.{message_in, received, owed, kind_of, is_open, got, answer, Fits}
 use Rattle.cml_board.proofs.Closing.{kind_kept}
-use Rattle.cml_board.proofs.Telling.{stays_open}
-use Rattle.cml_lanes.specs.Laned.{laned}
+use Rattle.cml_board.proofs.Telling.{stays_open, none_got}
+use Rattle.cml_lanes.specs.declared.way.Way.{Way}
+use Rattle.cml_lanes.specs.declared.way.Way.TheVariants.{Send, Cast}
+use Rattle.cml_lanes.specs.Sides.{LaneSide, FeedSide, way_kind}
+use Rattle.cml_lanes.specs.Laned.{laned, lane_entry, with_lane}
 use Rattle.cml_lanes.specs.Fed.{is_feed, fed, feed_entry, with_feed}
-use Rattle.cml_lanes.proofs.Laning.{laned_other}
+use Rattle.cml_lanes.specs.Moving.{KeepsLane}
+use Rattle.cml_lanes.specs.Pumping.{KeepsFeed}
+use Rattle.cml_lanes.proofs.Laning.{laned_other, kind_more}
 
 module _ {M : Type 0} where
   -- an entry of another adds none
@@ -87,6 +92,65 @@ module _ {M : Type 0} where
   open_fed number port (message ∷ messages) history object =
       open_fed number port messages (feed_entry number port message ∷ history) object
       ∙ stays_open history (feed_entry number port message) object refl
+
+  -- the entries of a lane's messages add nothing to a feed, no port receives by them, and none is closed
+  fed_by_lane : (number : ℕ) (way : Way) (target : Name) (message : M) (history : List (Entry M)) (feed : ℕ)
+      → fed (lane_entry number way target message ∷ history) feed ≡ fed history feed
+  fed_by_lane number way target message history feed = fed_other (lane_entry number way target message) history feed refl
+
+  got_by_lane : (number : ℕ) (way : Way) (target : Name) (message : M) (history : List (Entry M)) (object : ℕ)
+      → got (lane_entry number way target message ∷ history) object ≡ got history object
+  got_by_lane number Send target message history object = none_got history (lane_entry number Send target message) object refl
+  got_by_lane number Cast target message history object = none_got history (lane_entry number Cast target message) object refl
+
+  open_by_lane : (number : ℕ) (way : Way) (target : Name) (message : M) (history : List (Entry M)) (object : ℕ)
+      → is_open (lane_entry number way target message ∷ history) object ≡ is_open history object
+  open_by_lane number Send target message history object = stays_open history (lane_entry number Send target message) object refl
+  open_by_lane number Cast target message history object = stays_open history (lane_entry number Cast target message) object refl
+
+  pub fed_laned : (number : ℕ) (way : Way) (target : Name) (messages : List M) (history : List (Entry M)) (feed : ℕ)
+      → fed (with_lane number way target messages history) feed ≡ fed history feed
+  fed_laned number way target [] history feed = refl
+  fed_laned number way target (message ∷ messages) history feed =
+      fed_laned number way target messages (lane_entry number way target message ∷ history) feed ∙ fed_by_lane number way target message history feed
+
+  pub got_laned : (number : ℕ) (way : Way) (target : Name) (messages : List M) (history : List (Entry M)) (object : ℕ)
+      → got (with_lane number way target messages history) object ≡ got history object
+  got_laned number way target [] history object = refl
+  got_laned number way target (message ∷ messages) history object =
+      got_laned number way target messages (lane_entry number way target message ∷ history) object ∙ got_by_lane number way target message history object
+
+  pub open_laned : (number : ℕ) (way : Way) (target : Name) (messages : List M) (history : List (Entry M)) (object : ℕ)
+      → is_open (with_lane number way target messages history) object ≡ is_open history object
+  open_laned number way target [] history object = refl
+  open_laned number way target (message ∷ messages) history object =
+      open_laned number way target messages (lane_entry number way target message ∷ history) object ∙ open_by_lane number way target message history object
+
+  -- so a feed is kept by the entries of any lane, and of a feed of another port; and a lane by those of any feed
+  pub keeps_laned : (number : ℕ) (way : Way) (target : Name) (messages : List M) (history : List (Entry M)) (feed : ℕ) (side : FeedSide M)
+      → KeepsFeed history feed side → KeepsFeed (with_lane number way target messages history) feed side
+  keeps_laned number way target messages history feed side keeps = record {
+    fed = fed_laned number way target messages history feed ∙ keeps.fed;
+    got = got_laned number way target messages history side.port.0 ∙ keeps.got;
+    kind = kind_more number way target messages history side.port.0 Port keeps.kind;
+    opened = open_laned number way target messages history side.port.0 ∙ keeps.opened;
+  }
+
+  pub keeps_fed : (number : ℕ) (port : Name) (messages : List M) (history : List (Entry M)) (feed : ℕ) (side : FeedSide M)
+      → feed ≢ number → side.port.0 ≢ port.0 → KeepsFeed history feed side → KeepsFeed (with_feed number port messages history) feed side
+  keeps_fed number port messages history feed side apart away keeps = record {
+    fed = fed_apart number port messages history feed apart ∙ keeps.fed;
+    got = got_apart number port messages history side.port.0 away ∙ keeps.got;
+    kind = kind_fed number port messages history side.port.0 Port keeps.kind;
+    opened = open_fed number port messages history side.port.0 ∙ keeps.opened;
+  }
+
+  pub keeps_lane_fed : (number : ℕ) (port : Name) (messages : List M) (history : List (Entry M)) (lane : ℕ) (side : LaneSide M)
+      → KeepsLane history lane side → KeepsLane (with_feed number port messages history) lane side
+  keeps_lane_fed number port messages history lane side keeps = record {
+    laned = laned_fed number port messages history lane ∙ keeps.laned;
+    kind = kind_fed number port messages history side.target.0 (way_kind side.way) keeps.kind;
+  }
 
   -- the entries of messages and then of more
   pub with_feed_more : (number : ℕ) (port : Name) (messages more : List M) (history : List (Entry M))
