@@ -7,3 +7,6 @@ pub mod Moving
 pub mod Pumping
 pub mod Floor
 pub mod Lanes
+pub mod Barring
+pub mod Slots
+pub mod Feeds

@@ -3,6 +3,7 @@
 #![tactic(auto)]
 
 mod feed;
+mod feed_slots;
 mod floor;
 mod inner_feed;
 mod inner_lane;
