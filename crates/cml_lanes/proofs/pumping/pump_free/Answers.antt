@@ -1,4 +1,4 @@
-use Rattle.std.proofs.Common.{sym, refl}
+use Rattle.std.proofs.Common.{rules, sym, refl}
 use Rattle.cml_lanes.proofs.Feeding.{still_owed}
 use Rattle.cml_lanes.proofs.Moves.{on_none}
 use Rattle.cml_lanes.proofs.Pumps.{keeps_pumped, pumps_more}
@@ -19,3 +19,12 @@ loop-pumped-preserved g c =
     pumps_more c.args.number c.loop-pumped.pumped 1 _ c.args.board.now c.loop-pumped.board c.pump_next-refusal.new.board
     c.args.feed.now c.loop-pumped.feed c.pump_next-refusal.new.feed refl c.loop-pumped.invariant
     (on_none c.pump_next-refusal.result (sym c.if-is_some.ensures) c.pump_next-refusal.ensures.pumped)
+
+pub returns-then-would_wait-clause-pumped : goal.returns-then-would_wait-clause-pumped
+returns-then-would_wait-clause-pumped g c = search rules
+
+pub returns-then-would_wait-clause-balked : goal.returns-then-would_wait-clause-balked
+returns-then-would_wait-clause-balked g c = search rules
+
+pub returns-then-is_some-clause-pumped : goal.returns-then-is_some-clause-pumped
+returns-then-is_some-clause-pumped g c = search rules
