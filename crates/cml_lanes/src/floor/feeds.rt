@@ -82,6 +82,7 @@ impl<M: Message, L: MessageLog<M>> Floor<M, L> {
         ensures unknown { is_open_feed self.old feed ≡ false → (result ≡ Err NoSuch) × (self.new ≡ self.old) }
         ensures ended { IfOk result (λ end. EndsFeed feed self.old self.new end) }
         ensures opened { is_open_feed self.old feed ≡ true → IsOk result }
+        ensures board { self.new.board ≡ self.old.board }
         ensures rings { KeepsRings self.old self.new }
     {
         if self.has_feed(feed) {
