@@ -20,7 +20,7 @@ use Rattle.cml_lanes.specs.Sides.{LaneSide, FeedSide, way_kind}
 use Rattle.cml_lanes.specs.Fed.{is_feed, fed}
 use Rattle.cml_lanes.specs.Pumping.{KeepsFeed}
 use Rattle.cml_lanes.specs.Floor.{FloorShown, KeepsLanes, KeepsFeeds, SameFeedRing}
-use Rattle.cml_lanes.specs.Barring.{is_feeds}
+use Rattle.cml_lanes.specs.Barring.{is_feeds_port}
 use Rattle.cml_lanes.specs.Feeds.{MakesPort}
 use Rattle.cml_lanes.proofs.Laning.{laned_other}
 use Rattle.cml_lanes.proofs.KeptFeeds.{no_port}
@@ -47,10 +47,10 @@ module _ {M : Type 0} where
       none-some Port (sym none ∙ (keeps.feed number side found).kind)
 
   pub own_new_port : (number : ℕ) (old new : Shown M) (channel name : Name) (feeds news : List (Option (FeedSide M))) → MakesPort number old new channel name
-      → KeepsFeeds old.history feeds → news ≡ feeds → is_feeds news name.0 ≡ false
+      → KeepsFeeds old.history feeds → news ≡ feeds → is_feeds_port news name.0 ≡ false
   own_new_port number old new channel name feeds news makes keeps same =
       let next = next_port number old new channel name makes in
-      ap (λ fs. is_feeds fs name.0) same
+      ap (λ fs. is_feeds_port fs name.0) same
       ∙ no_port feeds name.0 (λ k side found here. feeds_no_next old.history feeds keeps k side found (here ∙ next))
 
   -- what the entry that makes the port leaves, and what it begins

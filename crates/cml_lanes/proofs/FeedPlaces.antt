@@ -12,7 +12,7 @@ use Rattle.cml_lanes.specs.Sides.{FeedSide}
 use Rattle.cml_lanes.specs.Moving.{OnSlot}
 use Rattle.cml_lanes.specs.Pumping.{KeepsFeed, HasFeed, EndsSlot, LearnsFree, Pumps, Fills, IsStarved}
 use Rattle.cml_lanes.specs.Floor.{is_taken}
-use Rattle.cml_lanes.specs.Barring.{is_feeds}
+use Rattle.cml_lanes.specs.Barring.{is_feeds_port}
 use Rattle.cml_lanes.specs.Slots.{SlotsShown, OnPlace, HasPorts}
 use Rattle.cml_lanes.proofs.Pumps.{balked_pumps}
 use Rattle.cml_lanes.proofs.Slots.{slot_at, taken_slot}
@@ -116,11 +116,11 @@ module _ {M : Type 0} where
   pub add_ports : {E : Type 0} (inserted : Result Bool E) (port : ℕ) (ports news : List ℕ) (feeds items : List (Option (FeedSide M))) (side : FeedSide M) → is_err inserted ≡ false
       → ((q : ℕ) → list_any (nat_eq q) news ≡ cond (nat_eq port q) true (list_any (nat_eq q) ports))
       → IfOk inserted (λ added. added ≡ not (list_any (nat_eq port) ports)) → IfOk inserted (λ added. length news ≡ length ports + cond added 1 0)
-      → port ≡ side.port.0 → is_feeds feeds side.port.0 ≡ false → items ≡ feeds ++ Some side ∷ [] → HasPorts ports feeds → HasPorts news items
+      → port ≡ side.port.0 → is_feeds_port feeds side.port.0 ≡ false → items ≡ feeds ++ Some side ∷ [] → HasPorts ports feeds → HasPorts news items
   add_ports inserted port ports news feeds items side fine step added longer same free pushed has =
       let told = ok_of inserted fine in
       let is_added : told.0 ≡ not (list_any (nat_eq port) ports) = subst (λ r. IfOk r (λ added. added ≡ not (list_any (nat_eq port) ports))) told.1 added in
-      let one : told.0 ≡ true = is_added ∙ ap not (has.each port ∙ ap (is_feeds feeds) same ∙ free) in
+      let one : told.0 ≡ true = is_added ∙ ap not (has.each port ∙ ap (is_feeds_port feeds) same ∙ free) in
       let more : length news ≡ length ports + cond told.0 1 0 = subst (λ r. IfOk r (λ added. length news ≡ length ports + cond added 1 0)) told.1 longer in
       subst (λ fs. HasPorts news fs) (sym pushed)
       (ports_more ports news feeds side has (λ q. step q ∙ ap (λ p. cond (nat_eq p q) true (list_any (nat_eq q) ports)) same)
@@ -129,7 +129,7 @@ module _ {M : Type 0} where
   -- one is ended, and its port taken away
   pub end_ports : {room : ℕ} (number port : ℕ) (ports news : List ℕ) (feeds : List (Option (FeedSide M))) (slot new_slot : Option (FeedSide M)) (shown : SlotsShown M) (removed : Bool)
       → record { feeds = feeds; room = room } ≡ shown → is_taken (slice_get shown.feeds number) ≡ true
-      → ((side : FeedSide M) → slice_get shown.feeds number ≡ Some (Some side) → is_feeds (slice_set shown.feeds number None) side.port.0 ≡ false)
+      → ((side : FeedSide M) → slice_get shown.feeds number ≡ Some (Some side) → is_feeds_port (slice_set shown.feeds number None) side.port.0 ≡ false)
       → slot ≡ get_or feeds number slot → IfSome slot (λ side. port ≡ side.port.0) → removed ≡ list_any (nat_eq port) ports
       → ((q : ℕ) → list_any (nat_eq q) news ≡ cond (nat_eq port q) false (list_any (nat_eq q) ports)) → length news + cond removed 1 0 ≡ length ports
       → new_slot ≡ None → HasPorts ports feeds → HasPorts news (slice_set feeds number new_slot)
@@ -137,10 +137,10 @@ module _ {M : Type 0} where
       let found = taken_feed number feeds shown view opened in
       let here : slot ≡ Some found.0 = same_Some _ _ (sym (feed_slot number feeds slot shown view opened at) ∙ found.1) in
       let is : port ≡ found.0.port.0 = subst (λ s. IfSome s (λ side. port ≡ side.port.0)) here told in
-      let free : is_feeds (slice_set feeds number None) found.0.port.0 ≡ false =
-      ap (λ (s : SlotsShown M). is_feeds (slice_set s.feeds number None) found.0.port.0) view
+      let free : is_feeds_port (slice_set feeds number None) found.0.port.0 ≡ false =
+      ap (λ (s : SlotsShown M). is_feeds_port (slice_set s.feeds number None) found.0.port.0) view
       ∙ own found.0 (ap (λ (s : SlotsShown M). slice_get s.feeds number) (sym view) ∙ found.1) in
-      let there : removed ≡ true = test ∙ has.each port ∙ ap (is_feeds feeds) is ∙ found_port feeds number found.0 found.1 in
+      let there : removed ≡ true = test ∙ has.each port ∙ ap (is_feeds_port feeds) is ∙ found_port feeds number found.0 found.1 in
       subst (λ s. HasPorts news (slice_set feeds number s)) (sym gone)
       (ports_less ports news feeds number found.0 found.1 free has (λ q. step q ∙ ap (λ p. cond (nat_eq p q) false (list_any (nat_eq q) ports)) is)
       (ap (λ b. length news + cond b 1 0) (sym there) ∙ shorter))

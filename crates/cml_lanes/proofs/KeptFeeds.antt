@@ -24,7 +24,7 @@ use Rattle.cml_lanes.specs.Fed.{fed}
 use Rattle.cml_lanes.specs.Moving.{Drains}
 use Rattle.cml_lanes.specs.Pumping.{KeepsFeed, LearnsFree, Pumps}
 use Rattle.cml_lanes.specs.Floor.{is_taken, KeepsLanes, KeepsFeeds}
-use Rattle.cml_lanes.specs.Barring.{has_port, is_feeds, is_barred}
+use Rattle.cml_lanes.specs.Barring.{has_port, is_feeds_port, is_barred}
 use Rattle.cml_lanes.proofs.Feeding.{fed_other, fed_laned, fed_apart, keeps_laned, keeps_fed}
 use Rattle.cml_lanes.proofs.Pumps.{keeps_pumped}
 use Rattle.cml_lanes.proofs.Slots.{this_or_other, taken_within, same_length, emptied, set_places}
@@ -35,21 +35,21 @@ or_true false c is = is
 
 module _ {M : Type 0} where
   -- an open feed's port is found
-  pub found_port : (feeds : List (Option (FeedSide M))) (number : ℕ) (side : FeedSide M) → slice_get feeds number ≡ Some (Some side) → is_feeds feeds side.port.0 ≡ true
+  pub found_port : (feeds : List (Option (FeedSide M))) (number : ℕ) (side : FeedSide M) → slice_get feeds number ≡ Some (Some side) → is_feeds_port feeds side.port.0 ≡ true
   found_port [] number side found = absurd (none-some (Some side) found)
   found_port (slot ∷ feeds) zero side found =
-      ap (λ s. has_port side.port.0 s || is_feeds feeds side.port.0) (same_Some _ _ found)
-      ∙ ap (λ b. b || is_feeds feeds side.port.0) (eq-eqb side.port.0 side.port.0 refl)
+      ap (λ s. has_port side.port.0 s || is_feeds_port feeds side.port.0) (same_Some _ _ found)
+      ∙ ap (λ b. b || is_feeds_port feeds side.port.0) (eq-eqb side.port.0 side.port.0 refl)
   found_port (slot ∷ feeds) (suc number) side found =
-      or_true (has_port side.port.0 slot) (is_feeds feeds side.port.0) (found_port feeds number side found)
+      or_true (has_port side.port.0 slot) (is_feeds_port feeds side.port.0) (found_port feeds number side found)
 
   -- and no port is that none has
   pub no_port : (feeds : List (Option (FeedSide M))) (object : ℕ) → ((number : ℕ) (side : FeedSide M) → slice_get feeds number ≡ Some (Some side) → side.port.0 ≢ object)
-      → is_feeds feeds object ≡ false
+      → is_feeds_port feeds object ≡ false
   no_port [] object none = refl
   no_port (None ∷ feeds) object none = no_port feeds object (λ number. none (suc number))
   no_port (Some side ∷ feeds) object none =
-      ap (λ b. b || is_feeds feeds object) (ne_eqb side.port.0 object (none zero side refl)) ∙ no_port feeds object (λ number. none (suc number))
+      ap (λ b. b || is_feeds_port feeds object) (ne_eqb side.port.0 object (none zero side refl)) ∙ no_port feeds object (λ number. none (suc number))
 
   -- nothing is kept at the beginning
   pub begins : (history : List (Entry M)) (lanes : List (Option (LaneSide M))) (feeds : List (Option (FeedSide M))) → history ≡ [] → lanes ≡ [] → feeds ≡ []
@@ -82,10 +82,10 @@ module _ {M : Type 0} where
       (laned_keeps_feeds number d.looked.way d.looked.target d.moves.moved old.history feeds keeps)
 
   -- a call that isn't barred leaves the port of an open feed
-  other_port : (feeds : List (Option (FeedSide M))) (name object : ℕ) → is_feeds feeds object ≡ true → is_feeds feeds name ≡ false → eqb name object ≡ false
-  other_port feeds name object here free = ne_eqb name object (λ same. false≢true (sym free ∙ ap (is_feeds feeds) same ∙ here))
+  other_port : (feeds : List (Option (FeedSide M))) (name object : ℕ) → is_feeds_port feeds object ≡ true → is_feeds_port feeds name ≡ false → eqb name object ≡ false
+  other_port feeds name object here free = ne_eqb name object (λ same. false≢true (sym free ∙ ap (is_feeds_port feeds) same ∙ here))
 
-  untouched : (feeds : List (Option (FeedSide M))) (call : Call M) (reply : Reply M) (object : ℕ) → is_feeds feeds object ≡ true → is_barred feeds call ≡ false
+  untouched : (feeds : List (Option (FeedSide M))) (call : Call M) (reply : Reply M) (object : ℕ) → is_feeds_port feeds object ≡ true → is_barred feeds call ≡ false
       → (got_by call reply object ≡ []) × (closes call reply object ≡ false)
   untouched feeds (Recv name) reply object here free = (ap (λ t. cond t (message_in reply) []) (other_port feeds name.0 object here free), refl)
   untouched feeds (Poll name) reply object here free = (ap (λ t. cond t (message_in reply) []) (other_port feeds name.0 object here free), refl)
@@ -149,7 +149,7 @@ module _ {M : Type 0} where
 
   -- its port is then no feed's
   pub own_port : (number : ℕ) (history : List (Entry M)) (feeds : List (Option (FeedSide M))) (from : FeedSide M) → slice_get feeds number ≡ Some (Some from)
-      → KeepsFeeds history feeds → is_feeds (slice_set feeds number None) from.port.0 ≡ false
+      → KeepsFeeds history feeds → is_feeds_port (slice_set feeds number None) from.port.0 ≡ false
   own_port number history feeds from opened keeps = no_port (slice_set feeds number None) from.port.0 others
     where
       others : (k : ℕ) (side : FeedSide M) → slice_get (slice_set feeds number None) k ≡ Some (Some side) → side.port.0 ≢ from.port.0

@@ -9,7 +9,7 @@ use Rattle.cml_lanes.specs.Sides.{LaneSide, FeedSide}
 use Rattle.cml_lanes.specs.Fed.{fed, with_feed}
 use Rattle.cml_lanes.specs.Pumping.{Pumps, Fills, IsStarved}
 use Rattle.cml_lanes.specs.Floor.{FloorShown, is_taken, is_open_feed, KeepsLanes, KeepsFeeds, KeepsRings, OnFeed}
-use Rattle.cml_lanes.specs.Barring.{is_feeds}
+use Rattle.cml_lanes.specs.Barring.{is_feeds_port}
 use Rattle.cml_lanes.specs.Slots.{OnPlace}
 use Rattle.cml_lanes.specs.Feeds.{EndsFeed}
 use Rattle.cml_lanes.proofs.Feeding.{laned_fed, keeps_lane_fed}
@@ -93,7 +93,7 @@ module _ {M : Type 0} where
 
   -- no other open feed has its port
   pub its_own_port : (number : ℕ) (history : List (Entry M)) (feeds : List (Option (FeedSide M))) → KeepsFeeds history feeds
-      → (side : FeedSide M) → slice_get feeds number ≡ Some (Some side) → is_feeds (slice_set feeds number None) side.port.0 ≡ false
+      → (side : FeedSide M) → slice_get feeds number ≡ Some (Some side) → is_feeds_port (slice_set feeds number None) side.port.0 ≡ false
   its_own_port number history feeds keeps side opened = own_port number history feeds side opened keeps
 
   -- a feed is ended

@@ -12,12 +12,12 @@ module _ {M : Type 0} where
   has_port object (Some side) = side.port.0 == object
 
   -- an open feed has it
-  abbrev pub is_feeds : List (Option (FeedSide M)) → ℕ → Bool
-  is_feeds feeds object = list_any (has_port object) feeds
+  abbrev pub is_feeds_port : List (Option (FeedSide M)) → ℕ → Bool
+  is_feeds_port feeds object = list_any (has_port object) feeds
 
   -- nobody but an open feed receives from its port, and nobody closes it
   abbrev pub is_barred : List (Option (FeedSide M)) → Call M → Bool
-  is_barred feeds (Recv port) = is_feeds feeds port.0
-  is_barred feeds (Poll port) = is_feeds feeds port.0
-  is_barred feeds (ClosePort port) = is_feeds feeds port.0
+  is_barred feeds (Recv port) = is_feeds_port feeds port.0
+  is_barred feeds (Poll port) = is_feeds_port feeds port.0
+  is_barred feeds (ClosePort port) = is_feeds_port feeds port.0
   is_barred feeds call = false

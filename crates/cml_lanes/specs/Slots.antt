@@ -2,7 +2,7 @@
 use Rattle.std.specs.Prelude.{ℕ, ◌≡◌, List, length, slice_get, slice_set, Option, Some, is_some, count_by, nat_eq}
 use Rattle.std.specs.List.{list_any}
 use Rattle.cml_lanes.specs.Sides.{FeedSide}
-use Rattle.cml_lanes.specs.Barring.{is_feeds}
+use Rattle.cml_lanes.specs.Barring.{is_feeds_port}
 
 -- by number the floor's end of each feed, of open ones alone; and for how many more there is memory
 pub record SlotsShown (M : Type 0) : Type 0 where
@@ -19,5 +19,5 @@ pub record OnPlace {Side : Type 0} (number : ℕ) (old new : List (Option Side))
 
 -- just the ports of open feeds, each once
 pub record HasPorts {M : Type 0} (ports : List ℕ) (feeds : List (Option (FeedSide M))) : Type 0 where
-  pub each : (object : ℕ) → list_any (nat_eq object) ports ≡ is_feeds feeds object
+  pub each : (object : ℕ) → list_any (nat_eq object) ports ≡ is_feeds_port feeds object
   pub count : length ports ≡ count_by is_some feeds

@@ -2,7 +2,7 @@ ghost use Rattle.std.specs.Prelude.{◌≡◌, ◌<◌, ◌∷◌, ◌++◌, [],
 ghost use Rattle.cml_lanes.specs.Sides.{FeedSide};
 ghost use Rattle.cml_lanes.specs.Floor.{is_taken};
 ghost use Rattle.cml_lanes.specs.Pumping.{KeepsFeed, Fills, IsStarved};
-ghost use Rattle.cml_lanes.specs.Barring.{is_feeds, is_barred};
+ghost use Rattle.cml_lanes.specs.Barring.{is_feeds_port, is_barred};
 ghost use Rattle.cml_lanes.specs.Slots.{OnPlace};
 
 use crate::feed::FeedEnd;
@@ -86,7 +86,7 @@ impl<M: Message> FeedSlots<M> {
     }
 
     fn has_port(&self, port: u64) -> bool
-        ensures { result ≡ is_feeds self.now.feeds port }
+        ensures { result ≡ is_feeds_port self.now.feeds port }
     {
         self.ports.contains(&port)
     }
@@ -103,7 +103,7 @@ impl<M: Message> FeedSlots<M> {
     /// Adds a feed with the next number.
     pub fn add(&mut self, feed: InnerFeed<M>)
         requires room { 0 < self.old.room }
-        requires own { is_feeds self.old.feeds feed.port.0 ≡ false }
+        requires own { is_feeds_port self.old.feeds feed.port.0 ≡ false }
         ensures { self.new.feeds ≡ self.old.feeds ++ Some feed ∷ [] }
     {
         if self.ports.insert(feed.port().0).is_err() {
@@ -133,7 +133,7 @@ impl<M: Message> FeedSlots<M> {
     pub fn end(&mut self, number: u64) -> Option<FeedEnd<M>>
         requires opened { is_taken (slice_get self.old.feeds number) ≡ true }
         requires own { (side : FeedSide M) → slice_get self.old.feeds number ≡ Some (Some side)
-            → is_feeds (slice_set self.old.feeds number None) side.port.0 ≡ false }
+            → is_feeds_port (slice_set self.old.feeds number None) side.port.0 ≡ false }
         ensures feeds { self.new.feeds ≡ slice_set self.old.feeds number None }
         ensures ended { (side : FeedSide M) → slice_get self.old.feeds number ≡ Some (Some side)
             → IfSome result (λ end. end ≡ record { ring = side.ring; number = number; sent = side.pushed }) }
