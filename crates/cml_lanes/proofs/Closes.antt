@@ -18,6 +18,7 @@ module _ {M : Type 0} where
     to = on.to;
     opened = on.opened;
     lanes = ap (λ (f : FloorShown M). f.lanes) gone ∙ ap (λ ls. slice_set ls number None) on.lanes ∙ set_again old.lanes number (Some on.to) None;
+    feeds = ap (λ (f : FloorShown M). f.feeds) gone ∙ on.feeds;
     does = subst (λ (b : Shown M). Empties number count old.board b on.from on.to) (sym (ap (λ (f : FloorShown M). f.board) gone)) on.does;
   })
 

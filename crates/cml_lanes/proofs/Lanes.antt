@@ -1,7 +1,6 @@
 -- What a floor keeps of its lanes, while something is done to one of them.
-use Rattle.std.proofs.Common.{◌≡◌, ◌≢◌, ℕ, ◌≤◌, ◌⊎◌, inl, inr, Bool, true, false, eqb, List, [], ◌∷◌, length, slice_get, slice_set, Option, Some, None, subst, refl, sym, ap, ◌∙◌, arith}
+use Rattle.std.proofs.Common.{◌≡◌, ◌≢◌, ℕ, ◌≤◌, inl, inr, Bool, List, [], ◌∷◌, length, slice_get, slice_set, Option, Some, None, subst, refl, sym, ap, ◌∙◌, arith}
 use Rattle.std.proofs.lemmas.Option.{same_Some}
-use Rattle.std.proofs.lemmas.Bool.{eqb-true, eq-eqb, false≢true}
 use Rattle.cml_board.specs.declared.call.Call.{Call}
 use Rattle.cml_board.specs.declared.entry.Who.TheVariants.{Seat}
 use Rattle.cml_board.specs.declared.entry.Entry.{Entry}
@@ -18,15 +17,7 @@ use Rattle.cml_lanes.specs.Moving.{KeepsLane, Drains}
 use Rattle.cml_lanes.specs.Floor.{is_taken, KeepsLanes}
 use Rattle.cml_lanes.proofs.Laning.{laned_other, laned_apart, kind_more}
 use Rattle.cml_lanes.proofs.Moves.{keeps_moved}
-use Rattle.cml_lanes.proofs.Slots.{taken_within, same_length, emptied}
-
--- a number is this one or another
-pub this_or_other : (k n : ℕ) → (k ≡ n) ⊎ (k ≢ n)
-this_or_other k n = by_cases (eqb k n) refl
-  where
-    by_cases : (t : Bool) → eqb k n ≡ t → (k ≡ n) ⊎ (k ≢ n)
-    by_cases true e = inl (eqb-true k n e)
-    by_cases false e = inr (λ same. false≢true (sym e ∙ eq-eqb k n same))
+use Rattle.cml_lanes.proofs.Slots.{this_or_other, taken_within, same_length, emptied}
 
 module _ {M : Type 0} where
   -- what an entry of a seat leaves

@@ -1,7 +1,14 @@
 pub mod Laning
 pub mod Moves
+pub mod Feeding
+pub mod Pumps
 pub mod Slots
 pub mod Lanes
+pub mod Ports
+pub mod KeptFeeds
+pub mod FeedPlaces
 pub mod OneLane
+pub mod OneFeed
 pub mod Opens
+pub mod FeedOpens
 pub mod Closes

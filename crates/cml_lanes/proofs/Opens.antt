@@ -6,18 +6,18 @@ use Rattle.cml_board.specs.declared.entry.Entry.{Entry}
 use Rattle.cml_board.specs.History.{kind_of}
 use Rattle.cml_board.specs.Shown.{Shown}
 use Rattle.cml_board.proofs.ListLemmas.{pushed_cases}
-use Rattle.cml_lanes.specs.Sides.{LaneSide, way_kind}
+use Rattle.cml_lanes.specs.Sides.{LaneSide, FeedSide, way_kind}
 use Rattle.cml_lanes.specs.Laned.{laned}
 use Rattle.cml_lanes.specs.Moving.{KeepsLane}
-use Rattle.cml_lanes.specs.Floor.{FloorShown, KeepsLanes, SameRing}
+use Rattle.cml_lanes.specs.Floor.{FloorShown, KeepsLanes, KeepsFeeds, SameRing}
 use Rattle.cml_lanes.proofs.Slots.{one_taken_more}
 
-module _ {M : Type 0} where
-  -- a push that was not refused
-  pub was_pushed : (lanes items : List (Option (LaneSide M))) (side : LaneSide M) (ok err : Bool) → items ≡ cond ok (lanes ++ Some side ∷ []) lanes
-      → ok ≡ not err → err ≡ false → items ≡ lanes ++ Some side ∷ []
-  was_pushed lanes items side ok err is negation none = is ∙ ap (λ b. cond b (lanes ++ Some side ∷ []) lanes) (negation ∙ ap not none)
+-- a push that was not refused
+pub was_pushed : {Side : Type 0} (slots items : List (Option Side)) (side : Side) (ok err : Bool) → items ≡ cond ok (slots ++ Some side ∷ []) slots
+    → ok ≡ not err → err ≡ false → items ≡ slots ++ Some side ∷ []
+was_pushed slots items side ok err is negation none = is ∙ ap (λ b. cond b (slots ++ Some side ∷ []) slots) (negation ∙ ap not none)
 
+module _ {M : Type 0} where
   keeps_pushed : (history : List (Entry M)) (lanes : List (Option (LaneSide M))) (side : LaneSide M) → KeepsLanes history lanes
       → side.received ≡ [] → kind_of history side.target.0 ≡ Some (way_kind side.way) → KeepsLanes history (lanes ++ Some side ∷ [])
   keeps_pushed history lanes side keeps received kind = record { lane = each; no_lane = none }
@@ -32,17 +32,18 @@ module _ {M : Type 0} where
       none : (number : ℕ) → length (lanes ++ Some side ∷ []) ≤ number → laned history number ≡ []
       none number past = keeps.no_lane number (omega (arith, past, length_push lanes (Some side)))
 
-  pub opened_keeps : (history : List (Entry M)) (lanes items : List (Option (LaneSide M))) (side : LaneSide M) (opened : ℕ) → items ≡ lanes ++ Some side ∷ []
-      → KeepsLanes history lanes × (opened ≡ count_by is_some lanes) → side.received ≡ [] → kind_of history side.target.0 ≡ Some (way_kind side.way)
-      → KeepsLanes history items × (opened + 1 ≡ count_by is_some items)
+  pub opened_keeps : {feeds : List (Option (FeedSide M))} (history : List (Entry M)) (lanes items : List (Option (LaneSide M))) (side : LaneSide M) (opened : ℕ) → items ≡ lanes ++ Some side ∷ []
+      → KeepsLanes history lanes × (opened ≡ count_by is_some lanes) × KeepsFeeds history feeds → side.received ≡ [] → kind_of history side.target.0 ≡ Some (way_kind side.way)
+      → KeepsLanes history items × (opened + 1 ≡ count_by is_some items) × KeepsFeeds history feeds
   opened_keeps history lanes items side opened pushed keeps received kind = (
     subst (λ ls. KeepsLanes history ls) (sym pushed) (keeps_pushed history lanes side keeps.0 received kind),
     omega (arith, keeps.1, one_taken_more lanes side, ap (count_by is_some) pushed),
+    keeps.2,
   )
 
-  pub opened_rings : (board : Shown M) (lanes items : List (Option (LaneSide M))) (side : LaneSide M) (old : FloorShown M)
-      → record { board = board; lanes = lanes } ≡ old → items ≡ lanes ++ Some side ∷ []
-      → (number : ℕ) → number < length old.lanes → SameRing number old (record { board = board; lanes = items })
+  pub opened_rings : {feeds : List (Option (FeedSide M))} (board : Shown M) (lanes items : List (Option (LaneSide M))) (side : LaneSide M) (old : FloorShown M)
+      → record { board = board; lanes = lanes; feeds = feeds } ≡ old → items ≡ lanes ++ Some side ∷ []
+      → (number : ℕ) → number < length old.lanes → SameRing number old (record { board = board; lanes = items; feeds = feeds })
   opened_rings board lanes items side old view pushed number within s found =
       elim (pushed_cases lanes (Some side) (Some s) number (sym (ap (λ ls. slice_get ls number) pushed) ∙ found)) [
         | inl was ↦ (s, ap (λ (f : FloorShown M). slice_get f.lanes number) (sym view) ∙ was, refl)

@@ -1,9 +1,34 @@
 -- Places in a list of slots.
-use Rattle.std.proofs.Common.{◌≡◌, ℕ, zero, suc, ◌+◌, ◌<◌, true, cond, List, [], ◌∷◌, ◌++◌, length, get_or, slice_get, slice_set, Option, Some, None, is_some, count_by, refl, sym, ap, ◌∙◌, arith}
+use Rattle.std.proofs.Common.{◌≡◌, ◌≢◌, ℕ, zero, suc, ◌+◌, ◌<◌, ◌⊎◌, inl, inr, Bool, true, false, cond, eqb, List, [], ◌∷◌, ◌++◌, length, get_or, slice_get, slice_set, Option, Some, None, is_some, count_by, refl, sym, ap, ◌∙◌, arith}
 use Rattle.std.proofs.lemmas.Option.{same_Some, none-some}
 use Rattle.std.proofs.lemmas.List.Recursion.{is_count_by}
-use Rattle.std.proofs.lemmas.Bool.{false≢true}
+use Rattle.std.proofs.lemmas.Bool.{eqb-true, eq-eqb, false≢true}
+use Rattle.cml_board.proofs.ListLemmas.{slice_get-set_same, slice_get-set_other}
 use Rattle.cml_lanes.specs.Floor.{is_taken}
+
+-- a number is this one or another
+pub this_or_other : (k n : ℕ) → (k ≡ n) ⊎ (k ≢ n)
+this_or_other k n = by_cases (eqb k n) refl
+  where
+    by_cases : (t : Bool) → eqb k n ≡ t → (k ≡ n) ⊎ (k ≢ n)
+    by_cases true e = inl (eqb-true k n e)
+    by_cases false e = inr (λ same. false≢true (sym e ∙ eq-eqb k n same))
+
+-- what was in each slot that is taken now, where none was written
+pub same_places : {Side P : Type 0} (told : Side → P) (olds news : List (Option Side)) → news ≡ olds
+    → (k : ℕ) (side : Side) → slice_get news k ≡ Some (Some side) → (was : Side) × (slice_get olds k ≡ Some (Some was)) × (told side ≡ told was)
+same_places told olds news same = λ k side found. (side, ap (λ slots. slice_get slots k) (sym same) ∙ found, refl)
+
+-- and where one was
+pub set_places : {Side P : Type 0} (told : Side → P) (number : ℕ) (olds news : List (Option Side)) (from : Side) (to : Option Side)
+    → slice_get olds number ≡ Some (Some from) → news ≡ slice_set olds number to → ((side : Side) → to ≡ Some side → told side ≡ told from)
+    → (k : ℕ) (side : Side) → slice_get news k ≡ Some (Some side) → (was : Side) × (slice_get olds k ≡ Some (Some was)) × (told side ≡ told was)
+set_places told number olds news from to opened written same = λ k side found. elim (this_or_other k number) [
+  | inl here ↦
+      let is : slice_get news k ≡ Some to = ap (λ slots. slice_get slots k) written ∙ ap (slice_get (slice_set olds number to)) here ∙ slice_get-set_same olds number (Some from) to opened in
+      (from, ap (slice_get olds) here ∙ opened, same side (same_Some _ _ (sym is ∙ found)))
+  | inr apart ↦ (side, sym (ap (λ slots. slice_get slots k) written ∙ slice_get-set_other olds number k to apart) ∙ found, refl)
+]
 
 module _ {X : Type 0} where
   -- the slot that an index gave

@@ -1,5 +1,6 @@
--- What the sender's end of a lane shows of itself, and what is left of it once its thread has finished.
+-- What the ends that threads have of lanes and feeds show of themselves, and what is left of an end that has finished.
 use Rattle.std.specs.Prelude.{ℕ, List}
+use Rattle.cml_board.specs.declared.call.Name.{Name}
 use Rattle.cml_lanes.specs.Ring.{Ring}
 
 -- a lane: its ring, its number on the floor, how many messages the ring has room for, and all that it accepted, in order
@@ -9,7 +10,14 @@ pub record LaneShown (M : Type 0) : Type 0 where
   pub capacity : ℕ
   pub accepted : List M
 
--- a lane that has finished: its ring, its number, and all that was sent on it, in order
+-- a feed: its ring, its number on the floor, its port, and all that was taken from it, in order
+pub record FeedShown (M : Type 0) : Type 0 where
+  pub ring : Ring
+  pub number : ℕ
+  pub port : Name
+  pub taken : List M
+
+-- a lane or a feed that has finished: its ring, its number, and all that was put into the ring, in order
 pub record Ended (M : Type 0) : Type 0 where
   pub ring : Ring
   pub number : ℕ

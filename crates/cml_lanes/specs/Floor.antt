@@ -3,38 +3,59 @@ use Rattle.std.specs.Prelude.{ℕ, ◌≡◌, ◌≤◌, Bool, true, false, List
 use Rattle.cml_board.specs.declared.entry.Entry.{Entry}
 use Rattle.cml_board.specs.Shown.{Shown}
 use Rattle.cml_lanes.specs.Ends.{Ended}
-use Rattle.cml_lanes.specs.Sides.{LaneSide}
+use Rattle.cml_lanes.specs.Sides.{LaneSide, FeedSide}
 use Rattle.cml_lanes.specs.Laned.{laned}
+use Rattle.cml_lanes.specs.Fed.{fed}
 use Rattle.cml_lanes.specs.Moving.{KeepsLane}
+use Rattle.cml_lanes.specs.Pumping.{KeepsFeed}
 
--- the board, and by its number the floor's end of each lane that was opened; none of one that is no longer open
+-- the board, and by its number the floor's end of each lane and of each feed that was opened; none of one that is no
+-- longer open
 pub record FloorShown (M : Type 0) : Type 0 where
   pub board : Shown M
   pub lanes : List (Option (LaneSide M))
+  pub feeds : List (Option (FeedSide M))
 
 abbrev pub is_taken : {X : Type 0} → Option (Option X) → Bool
 is_taken None = false
 is_taken (Some None) = false
-is_taken (Some (Some lane)) = true
+is_taken (Some (Some side)) = true
 
 module _ {M : Type 0} where
   -- the lane of this number is open
   abbrev pub is_open_lane : FloorShown M → ℕ → Bool
   is_open_lane floor number = is_taken (slice_get floor.lanes number)
 
+  -- the feed of this number is open
+  abbrev pub is_open_feed : FloorShown M → ℕ → Bool
+  is_open_feed floor number = is_taken (slice_get floor.feeds number)
+
   -- the journal has of each open lane what was taken out of its ring, and of a number that was never given nothing
   pub record KeepsLanes (history : List (Entry M)) (lanes : List (Option (LaneSide M))) : Type 0 where
     pub lane : (number : ℕ) (side : LaneSide M) → slice_get lanes number ≡ Some (Some side) → KeepsLane history number side
     pub no_lane : (number : ℕ) → length lanes ≤ number → laned history number ≡ []
+
+  -- of each open feed the journal has what was put into its ring, which is all that its port received, and of a number that
+  -- was never given nothing; no two open feeds have one port
+  pub record KeepsFeeds (history : List (Entry M)) (feeds : List (Option (FeedSide M))) : Type 0 where
+    pub feed : (number : ℕ) (side : FeedSide M) → slice_get feeds number ≡ Some (Some side) → KeepsFeed history number side
+    pub no_feed : (number : ℕ) → length feeds ≤ number → fed history number ≡ []
+    pub apart : (one two : ℕ) (a b : FeedSide M) → slice_get feeds one ≡ Some (Some a) → slice_get feeds two ≡ Some (Some b)
+        → a.port ≡ b.port → one ≡ two
 
   -- where the lane of this number is open now, it was open before, and is on the same ring
   abbrev pub SameRing : ℕ → FloorShown M → FloorShown M → Type 0
   SameRing number old new = (side : LaneSide M) → slice_get new.lanes number ≡ Some (Some side)
       → (from : LaneSide M) × (slice_get old.lanes number ≡ Some (Some from)) × (side.ring ≡ from.ring)
 
-  -- no lane was opened, and no open lane has another ring
+  -- the same of the feed of this number
+  abbrev pub SameFeedRing : ℕ → FloorShown M → FloorShown M → Type 0
+  SameFeedRing number old new = (side : FeedSide M) → slice_get new.feeds number ≡ Some (Some side)
+      → (from : FeedSide M) × (slice_get old.feeds number ≡ Some (Some from)) × (side.ring ≡ from.ring)
+
+  -- no lane and no feed was opened, and no open one has another ring
   abbrev pub KeepsRings : FloorShown M → FloorShown M → Type 0
-  KeepsRings old new = (number : ℕ) → SameRing number old new
+  KeepsRings old new = ((number : ℕ) → SameRing number old new) × ((number : ℕ) → SameFeedRing number old new)
 
   -- where the lane of this number is open, the end is of its ring
   abbrev pub IsOfRing : ℕ → FloorShown M → Ended M → Type 0
@@ -47,18 +68,29 @@ module _ {M : Type 0} where
   abbrev pub GivesAll : ℕ → FloorShown M → Ended M → Type 0
   GivesAll number floor end = (side : LaneSide M) → slice_get floor.lanes number ≡ Some (Some side) → laned floor.board.history number ++ side.seen ≡ end.sent
 
-  -- this is done to an open lane, which stays open; and nothing to another
+  -- this is done to an open lane, which stays open; and nothing to another, nor to a feed
   pub record OnLane (number : ℕ) (old new : FloorShown M) (Does : LaneSide M → LaneSide M → Type 0) : Type 0 where
     pub from : LaneSide M
     pub to : LaneSide M
     pub opened : slice_get old.lanes number ≡ Some (Some from)
     pub lanes : new.lanes ≡ slice_set old.lanes number (Some to)
+    pub feeds : new.feeds ≡ old.feeds
     pub does : Does from to
 
-  -- this is done to an open lane, which is then closed for good; and nothing to another
+  -- this is done to an open lane, which is then closed for good; and nothing to another, nor to a feed
   pub record OffLane (number : ℕ) (old new : FloorShown M) (Does : LaneSide M → LaneSide M → Type 0) : Type 0 where
     pub from : LaneSide M
     pub to : LaneSide M
     pub opened : slice_get old.lanes number ≡ Some (Some from)
     pub lanes : new.lanes ≡ slice_set old.lanes number None
+    pub feeds : new.feeds ≡ old.feeds
+    pub does : Does from to
+
+  -- this is done to an open feed, which stays open; and nothing to another, nor to a lane
+  pub record OnFeed (number : ℕ) (old new : FloorShown M) (Does : FeedSide M → FeedSide M → Type 0) : Type 0 where
+    pub from : FeedSide M
+    pub to : FeedSide M
+    pub opened : slice_get old.feeds number ≡ Some (Some from)
+    pub feeds : new.feeds ≡ slice_set old.feeds number (Some to)
+    pub lanes : new.lanes ≡ old.lanes
     pub does : Does from to

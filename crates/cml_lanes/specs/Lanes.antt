@@ -22,6 +22,7 @@ module _ {M : Type 0} where
     pub kind : kind_of old.board.history target.0 ≡ Some (way_kind way)
     pub lanes : new.lanes ≡ old.lanes ++ Some (record { ring = lane.ring; target = target; way = way; capacity = capacity; received = []; seen = [] }) ∷ []
     pub board : new.board ≡ old.board
+    pub feeds : new.feeds ≡ old.feeds
 
   -- why no lane is opened
   abbrev pub OpenRefused : FloorShown M → Name → Refusal → Type 0

@@ -2,6 +2,11 @@ pub mod Ring
 pub mod Ends
 pub mod Sides
 pub mod Laned
+pub mod Fed
 pub mod Moving
+pub mod Pumping
 pub mod Floor
 pub mod Lanes
+pub mod Barring
+pub mod Slots
+pub mod Feeds

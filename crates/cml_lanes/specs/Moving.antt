@@ -16,6 +16,14 @@ IsLimit JournalFull = ⊤
 IsLimit NoMemory = ⊤
 IsLimit refusal = ⊥
 
+-- the lane or the feed of a slot stays open, and this is done to it
+pub record OnSlot {Side : Type 0} (old new : Option Side) (Does : Side → Side → Type 0) : Type 0 where
+  pub from : Side
+  pub to : Side
+  pub opened : old ≡ Some from
+  pub stays : new ≡ Some to
+  pub does : Does from to
+
 module _ {M : Type 0} where
   -- an open lane: what the journal has of its number is what was taken out of its ring, and its target is of the kind that
   -- its way goes to
@@ -49,14 +57,6 @@ module _ {M : Type 0} where
     pub side : LaneSide M
     pub opened : slot ≡ Some side
     pub keeps : KeepsLane history number side
-
-  -- a slot's lane stays open, and this is done to it
-  pub record OnSlot (old new : Option (LaneSide M)) (Does : LaneSide M → LaneSide M → Type 0) : Type 0 where
-    pub from : LaneSide M
-    pub to : LaneSide M
-    pub opened : old ≡ Some from
-    pub stays : new ≡ Some to
-    pub does : Does from to
 
   -- more of the ring's messages may have been seen
   pub record Looks (from to : LaneSide M) : Type 0 where

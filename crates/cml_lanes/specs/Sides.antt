@@ -1,4 +1,4 @@
--- What the floor's end of a lane shows of itself.
+-- What the floor's end of a lane, and of a feed, shows of itself.
 use Rattle.std.specs.Prelude.{ℕ, ◌≢◌, List}
 use Rattle.cml_board.specs.declared.call.Name.{Name}
 use Rattle.cml_board.specs.declared.call.Kind.{Kind}
@@ -18,6 +18,15 @@ pub record LaneSide (M : Type 0) : Type 0 where
   pub capacity : ℕ
   pub received : List M
   pub seen : List M
+
+-- its ring; the port whose messages it pumps; how many messages the ring has room for; those that were pumped so far, in
+-- order; and how many slots of the ring are known to be free
+pub record FeedSide (M : Type 0) : Type 0 where
+  pub ring : Ring
+  pub port : Name
+  pub capacity : ℕ
+  pub pushed : List M
+  pub free : ℕ
 
 -- the call that a message is moved by
 abbrev pub way_call : {M : Type 0} → Way → Name → M → Call M

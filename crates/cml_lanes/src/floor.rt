@@ -1,13 +1,18 @@
-ghost use Rattle.std.specs.Prelude.{◌≡◌, true, [], length, slice_set, None, count_by, is_some, IfNone, IfSome};
+ghost use Rattle.std.specs.Prelude.{◌≡◌, true, false, [], length, slice_set, None, count_by, is_some, IfNone, IfSome};
 ghost use Rattle.cml_board.specs.declared.entry.Who.TheVariants.{Seat};
+ghost use Rattle.cml_board.specs.declared.outcome.Outcome.TheVariants.{Refused};
+ghost use Rattle.cml_board.specs.declared.outcome.Refusal.TheVariants.{WrongKind};
 ghost use Rattle.cml_board.specs.History.{no_entries};
 ghost use Rattle.cml_board.specs.Outcome.{Applies};
 ghost use Rattle.cml_lanes.specs.Laned.{laned};
 ghost use Rattle.cml_lanes.specs.Moving.{Empties, IsHeld};
-ghost use Rattle.cml_lanes.specs.Floor.{is_open_lane, KeepsLanes, KeepsRings, IsOfRing, GivesAll, OnLane};
+ghost use Rattle.cml_lanes.specs.Floor.{is_open_lane, is_open_feed, KeepsLanes, KeepsFeeds, KeepsRings, IsOfRing, GivesAll, OnLane};
+ghost use Rattle.cml_lanes.specs.Barring.{is_barred};
 
+mod feeds;
 mod lanes;
 
+use crate::feed_slots::FeedSlots;
 use crate::inner_lane::InnerLane;
 use crate::lane::LaneEnd;
 use crate::moving::{drain_slot, drain_slot_after};
@@ -16,13 +21,14 @@ use cml_log::MessageLog;
 use std::alloc::Global;
 use std::marker::Model;
 
-/// A board with the inner ends of the lanes onto it. None of its calls waits.
+/// A board with the inner ends of the lanes onto it and of the feeds from its ports. None of its calls waits.
 #[derive(Drop)]
 pub struct Floor<M, L: MessageLog<M>> {
     alloc: Global,
     board: Board<M, L>,
     lanes: Vec<Option<InnerLane<M>>>,
     opened: u64,
+    feeds: FeedSlots<M>,
 }
 
 impl<M, L: MessageLog<M>> Model for Floor<M, L> {
@@ -31,38 +37,42 @@ impl<M, L: MessageLog<M>> Model for Floor<M, L> {
     ghost Value = { FloorShown M };
 
     ghost use Rattle.std.specs.Prelude.{◌≡◌, count_by, is_some};
-    ghost use Rattle.cml_lanes.specs.Floor.{KeepsLanes};
+    ghost use Rattle.cml_lanes.specs.Floor.{KeepsLanes, KeepsFeeds};
 
-    ghost view = { λ f. record { board = f.board; lanes = f.lanes.items } };
+    ghost view = { λ f. record { board = f.board; lanes = f.lanes.items; feeds = f.feeds.feeds } };
 
-    ghost invariant = { λ f. KeepsLanes f.board.history f.lanes.items × (f.opened ≡ count_by is_some f.lanes.items) };
+    ghost invariant = { λ f. KeepsLanes f.board.history f.lanes.items × (f.opened ≡ count_by is_some f.lanes.items) × KeepsFeeds f.board.history f.feeds.feeds };
 }
 
 impl<M: Message, L: MessageLog<M>> Floor<M, L> {
-    /// A floor with no lanes, on a board on which nothing was done.
+    /// A floor with no lanes and no feeds, on a board on which nothing was done.
     pub fn new(alloc: Global, board: Board<M, L>) -> Floor<M, L>
         requires { board.history ≡ no_entries }
-        ensures { result ≡ record { board = board; lanes = [] } }
+        ensures { result ≡ record { board = board; lanes = []; feeds = [] } }
     {
         Floor {
             alloc,
             board,
             lanes: Vec::new(alloc),
             opened: 0,
+            feeds: FeedSlots::new(alloc),
         }
     }
 
-    /// The board, whose journal has the calls of seats and of lanes.
+    /// The board, whose journal has the calls of seats, of lanes and of feeds.
     pub fn board(&self) -> &Board<M, L>
         ensures board { result.now ≡ self.now.board }
 
         // The journal has of each open lane exactly what was taken out of its ring, and nothing of a number never given.
         ensures lanes { KeepsLanes self.now.board.history self.now.lanes }
+
+        // The journal has of each open feed exactly what was put into its ring, which is all that its own port received.
+        ensures feeds { KeepsFeeds self.now.board.history self.now.feeds }
     {
         &self.board
     }
 
-    /// The board, for good. Lanes that are still open are dropped, with what is in their rings.
+    /// The board, for good. Lanes and feeds that are still open are dropped, with what is in their rings.
     pub fn into_board(self) -> Board<M, L>
         ensures { result ≡ self.board }
     {
@@ -76,13 +86,27 @@ impl<M: Message, L: MessageLog<M>> Floor<M, L> {
         self.opened
     }
 
-    /// Makes a call of the seat with this number.
+    /// How many feeds are open.
+    pub fn open_feeds(&self) -> u64
+        ensures { result ≡ count_by is_some self.now.feeds }
+    {
+        self.feeds.open_count()
+    }
+
+    /// Makes a call of the seat with this number. An open feed's port is the feed's own: to receive from it or to close it
+    /// is refused `WrongKind`. It may be copied, and once the feed has ended it is a port like any other.
     #[inline(always)]
     pub fn apply(&mut self, seat: u64, call: Call<M>) -> Outcome<M>
-        ensures applied { Applies L.CHUNK M.SURE self.old.board self.new.board (Seat seat) call result }
+        ensures barred { is_barred self.old.feeds call ≡ true → (result ≡ Refused WrongKind call) × (self.new ≡ self.old) }
+        ensures applied { is_barred self.old.feeds call ≡ false
+            → Applies L.CHUNK M.SURE self.old.board self.new.board (Seat seat) call result }
         ensures lanes { self.new.lanes ≡ self.old.lanes }
+        ensures feeds { self.new.feeds ≡ self.old.feeds }
         ensures rings { KeepsRings self.old self.new }
     {
+        if self.feeds.bars(&call) {
+            return Outcome::Refused(Refusal::WrongKind, call);
+        }
         self.board.apply(Who::Seat(seat), call)
     }
 
@@ -90,6 +114,12 @@ impl<M: Message, L: MessageLog<M>> Floor<M, L> {
         ensures { result ≡ is_open_lane self.now lane }
     {
         matches!(self.lanes.get(lane as usize), Some(Some(_)))
+    }
+
+    fn has_feed(&self, feed: u64) -> bool
+        ensures { result ≡ is_open_feed self.now feed }
+    {
+        self.feeds.has(feed)
     }
 
     /// Moves what is seen of an open lane, until a message is refused: how many were moved, and the refusal.

@@ -1,12 +1,17 @@
-//! Lanes onto a board: rings on which threads send without a lock, and the floor that moves what they sent into the
-//! board's journal.
+//! Lanes onto a board and feeds from its ports: rings on which threads send and receive without a lock, and the floor that
+//! moves what they sent into the board's journal, and what the ports receive out of it.
 #![tactic(auto)]
 
+mod feed;
+mod feed_slots;
 mod floor;
+mod inner_feed;
 mod inner_lane;
 mod lane;
 mod moving;
+mod pumping;
 mod way;
 
+pub use feed::{Feed, FeedEnd, Taken};
 pub use floor::Floor;
 pub use lane::{Lane, LaneEnd, LaneFull};

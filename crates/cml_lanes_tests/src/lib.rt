@@ -1,4 +1,4 @@
-//! Tests of lanes and of a floor: of what no clause says, above all that messages really go through.
+//! Tests of lanes, of feeds and of a floor: of what no clause says, above all that messages really go through.
 #![tactic(auto)]
 
 #[cfg(test)]

@@ -1,5 +1,7 @@
 mod across;
 mod closing;
+mod ending;
+mod feeding;
 mod floors;
 mod steps;
 
@@ -47,6 +49,40 @@ fn moves_what_another_thread_sends(rt: HostRuntime) -> Result<(), Fail> {
         &rt,
         across::all_go_across(&rt, rt.alloc())?,
         "moved otherwise",
+    );
+    Ok(())
+}
+
+#[test]
+fn tells_what_becomes_of_feeds(rt: HostRuntime) -> Result<(), Fail> {
+    for row in feeding::ROWS.iter() {
+        let told = feeding::performed(rt.alloc(), row)?;
+        are_as_told(&rt, told.steps, row.steps.len());
+        is_so(
+            &rt,
+            told.left,
+            "the journal is otherwise, or other feeds are open",
+        );
+    }
+    Ok(())
+}
+
+#[test]
+fn gives_what_is_left_of_a_feed(rt: HostRuntime) -> Result<(), Fail> {
+    is_so(
+        &rt,
+        ending::gives_what_was_pumped(rt.alloc())?,
+        "given otherwise",
+    );
+    Ok(())
+}
+
+#[test]
+fn takes_what_another_thread_pumps(rt: HostRuntime) -> Result<(), Fail> {
+    is_so(
+        &rt,
+        across::all_are_taken(&rt, rt.alloc())?,
+        "taken otherwise",
     );
     Ok(())
 }

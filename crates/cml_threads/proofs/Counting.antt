@@ -37,7 +37,7 @@ module _ {M : Type 0} where
   lane_rings number way target (message ∷ messages) history =
       omega (arith, lane_rings number way target messages (lane_entry number way target message ∷ history))
 
-  unchanged_adds : (old new : FloorShown M) → new ≡ old → AddsRings old.board new.board
+  pub unchanged_adds : (old new : FloorShown M) → new ≡ old → AddsRings old.board new.board
   unchanged_adds old new same = record {
     grown = omega (arith, ap (λ (f : FloorShown M). entries_in f.board.history) same);
     rings = omega (arith, ap (λ (f : FloorShown M). entries_in f.board.history) same, ap (λ (f : FloorShown M). rings_in f.board.history) same);
@@ -172,18 +172,26 @@ module _ {M : Type 0} where
         bounded = omega (arith, adds.limit, counted.bounded);
       }
 
-  -- no lane has the number, and nothing is changed
-  pub unknown_at : (hall : Hosted M) (old new : FloorShown M) (seen now : Shown M) (before : List (Entry M)) (seats : List State) (book book' lane : ℕ) (Told : Type 0)
-      → record { board = old.board; lanes = old.lanes; seats = seats; book = book } ≡ hall
+  -- no lane or feed has the number, and nothing is changed
+  pub unknown_by : (is_open : FloorShown M → Bool) (hall : Hosted M) (old new : FloorShown M) (seen now : Shown M) (before : List (Entry M)) (seats : List State) (book book' : ℕ) (Told : Type 0)
+      → record { board = old.board; lanes = old.lanes; feeds = old.feeds; seats = seats; book = book } ≡ hall
       → before ≡ reverse seen.history → seen ≡ old.board → now ≡ new.board → book' + length before ≡ book + entries_in now.history
-      → (is_open_lane old lane ≡ false → Told × (new ≡ old))
-      → is_open_lane (floor_of hall) lane ≡ false
-      → Told × (record { board = new.board; lanes = new.lanes; seats = seats; book = book' } ≡ hall)
-  unknown_at hall old new seen now before seats book book' lane Told view is same same_now total unknown closed =
-      let none = unknown (ap (λ (h : Hosted M). is_open_lane (floor_of h) lane) view ∙ closed) in
+      → (is_open old ≡ false → Told × (new ≡ old))
+      → is_open (floor_of hall) ≡ false
+      → Told × (record { board = new.board; lanes = new.lanes; feeds = new.feeds; seats = seats; book = book' } ≡ hall)
+  unknown_by is_open hall old new seen now before seats book book' Told view is same same_now total unknown closed =
+      let none = unknown (ap (λ (h : Hosted M). is_open (floor_of h)) view ∙ closed) in
       let same_book : book' ≡ book =
       omega (arith, total, length_before old.board seen before is same, ap (λ (b : Shown M). entries_in b.history) same_now, ap (λ (f : FloorShown M). entries_in f.board.history) none.1) in (
         none.0,
-        ap (λ (f : FloorShown M). record { board = f.board; lanes = f.lanes; seats = seats; book = book' }) none.1
-            ∙ ap (λ (n : ℕ). record { board = old.board; lanes = old.lanes; seats = seats; book = n }) same_book ∙ view,
+        ap (λ (f : FloorShown M). record { board = f.board; lanes = f.lanes; feeds = f.feeds; seats = seats; book = book' }) none.1
+            ∙ ap (λ (n : ℕ). record { board = old.board; lanes = old.lanes; feeds = old.feeds; seats = seats; book = n }) same_book ∙ view,
       )
+
+  pub unknown_at : (hall : Hosted M) (old new : FloorShown M) (seen now : Shown M) (before : List (Entry M)) (seats : List State) (book book' lane : ℕ) (Told : Type 0)
+      → record { board = old.board; lanes = old.lanes; feeds = old.feeds; seats = seats; book = book } ≡ hall
+      → before ≡ reverse seen.history → seen ≡ old.board → now ≡ new.board → book' + length before ≡ book + entries_in now.history
+      → (is_open_lane old lane ≡ false → Told × (new ≡ old))
+      → is_open_lane (floor_of hall) lane ≡ false
+      → Told × (record { board = new.board; lanes = new.lanes; feeds = new.feeds; seats = seats; book = book' } ≡ hall)
+  unknown_at hall old new seen now before seats book book' lane = unknown_by (λ floor. is_open_lane floor lane) hall old new seen now before seats book book'

@@ -1,3 +1,4 @@
 pub mod Counting
+pub mod FeedCounting
 pub mod Idling
 pub mod Turning

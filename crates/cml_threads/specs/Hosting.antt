@@ -5,24 +5,25 @@ use Rattle.cml_board.specs.declared.want.Want.{Want}
 use Rattle.cml_board.specs.Waiting.{want_in}
 use Rattle.cml_board.specs.History.{entries_in, rings_in}
 use Rattle.cml_board.specs.Shown.{Shown}
-use Rattle.cml_lanes.specs.Sides.{LaneSide}
+use Rattle.cml_lanes.specs.Sides.{LaneSide, FeedSide}
 use Rattle.cml_lanes.specs.Floor.{FloorShown}
 use Rattle.cml_threads.specs.declared.state.State.{State}
 use Rattle.cml_threads.specs.declared.state.State.TheVariants.{Free, Parked}
 use Rattle.cml_threads.specs.Stalling.{IsStalled}
 
--- the board; by its number the floor's end of each lane, of open ones alone; the state of each seat, by number; and the
--- total of the ledger's book
+-- the board; by its number the floor's end of each lane and of each feed, of open ones alone; the state of each seat, by
+-- number; and the total of the ledger's book
 pub record Hosted (M : Type 0) : Type 0 where
   pub board : Shown M
   pub lanes : List (Option (LaneSide M))
+  pub feeds : List (Option (FeedSide M))
   pub seats : List State
   pub book : ℕ
 
 module _ {M : Type 0} where
-  -- the board with its lanes
+  -- the board with its lanes and feeds
   abbrev pub floor_of : Hosted M → FloorShown M
-  floor_of hall = record { board = hall.board; lanes = hall.lanes }
+  floor_of hall = record { board = hall.board; lanes = hall.lanes; feeds = hall.feeds }
 
   abbrev pub state_of : Hosted M → ℕ → Option State
   state_of hall number = slice_get hall.seats number
@@ -43,10 +44,11 @@ module _ {M : Type 0} where
   abbrev pub WouldStall : Hosted M → ℕ → Want → Type 0
   WouldStall hall number on = IsStalled (floor_of hall) (with_state hall number (Parked on))
 
-  -- the seat's state is this now, and no other's has changed, nor a lane, nor the book
+  -- the seat's state is this now, and no other's has changed, nor a lane, nor a feed, nor the book
   pub record Moves (old new : Hosted M) (number : ℕ) (state : State) : Type 0 where
     pub seats : new.seats ≡ with_state old number state
     pub lanes : new.lanes ≡ old.lanes
+    pub feeds : new.feeds ≡ old.feeds
     pub book : new.book ≡ old.book
 
   -- the book counts each entry; the hall's own share those of lanes and feeds; each seat has one part of the ledger, and

@@ -23,14 +23,19 @@ MayRefuseLane WrongKind = ⊤
 MayRefuseLane NoMemory = ⊤
 MayRefuseLane refusal = ⊥
 
--- those that draining or dropping one may be given
+-- those that opening a feed may be given
+abbrev pub MayRefuseFeed : Refusal → Type 0
+MayRefuseFeed JournalFull = ⊤
+MayRefuseFeed refusal = MayRefuseLane refusal
+
+-- those that draining or dropping a lane, or pumping a feed, may be given
 abbrev pub MayRefuseDrain : Refusal → Type 0
 MayRefuseDrain NoSuch = ⊤
 MayRefuseDrain JournalFull = ⊤
 MayRefuseDrain NoMemory = ⊤
 MayRefuseDrain refusal = ⊥
 
--- those that closing one may be given
+-- those that closing a lane may be given
 abbrev pub MayRefuseClose : Refusal → Type 0
 MayRefuseClose Unseen = ⊤
 MayRefuseClose refusal = MayRefuseDrain refusal

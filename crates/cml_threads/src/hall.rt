@@ -2,11 +2,13 @@ ghost use Rattle.std.specs.Prelude.{◌≡◌, ◌^◌, ◌≤◌, [], ◌∷◌
 ghost use Rattle.cml_board.specs.declared.outcome.Refusal.TheVariants.{Gone, NoMemory};
 ghost use Rattle.cml_board.specs.History.{no_entries, entries_in, Lawful};
 ghost use Rattle.cml_board.specs.Shown.{KeepsMailboxes, KeepsPorts, KeepsClosed, KeepsVariables, KeepsLogs};
-ghost use Rattle.cml_lanes.specs.Floor.{KeepsLanes};
+ghost use Rattle.cml_lanes.specs.Floor.{KeepsLanes, KeepsFeeds};
 ghost use Rattle.cml_threads.specs.Seating.{Sitting};
 ghost use Rattle.cml_threads.specs.Hosting.{MayAsk, with_state};
 
 mod asking;
+mod counting;
+mod feeds;
 mod lanes;
 mod settling;
 
@@ -23,8 +25,8 @@ use std::sync::ledger::{Blank, Book, Ledger, Share};
 /// How many parts a hall's ledger is cut into: more than there can be seats. A `Blank` is made with as many.
 pub const PARTS: u64 = 1 << 63;
 
-/// What the lock of a switchboard holds: the board with the lanes onto it, what each seat does, and the book of a ledger in which each answer
-/// is counted. None of its calls waits.
+/// What the lock of a switchboard holds: the board with the lanes onto it and the feeds from its ports, what each seat
+/// does, and the book of a ledger in which each answer is counted. None of its calls waits.
 #[derive(Drop)]
 pub struct Hall<M, L: MessageLog<M>, Led: Ledger> {
     floor: Floor<M, L>,
@@ -39,13 +41,13 @@ impl<M, L: MessageLog<M>, Led: Ledger> Model for Hall<M, L, Led> {
 
     ghost Value = { Hosted M };
 
-    ghost view = { λ h. record { board = h.floor.board; lanes = h.floor.lanes; seats = h.seats; book = h.book.total } };
+    ghost view = { λ h. record { board = h.floor.board; lanes = h.floor.lanes; feeds = h.floor.feeds; seats = h.seats; book = h.book.total } };
 
     ghost invariant = { λ h. IsCounted h.floor.board (length h.seats) h.book.total h.rest.amount h.rest.parts Led.parts };
 }
 
 impl<M: Message, L: MessageLog<M>, Led: Ledger> Hall<M, L, Led> {
-    /// A hall with no seats and no lanes, on a board with no objects whose journal takes `limit` entries. The blank is
+    /// A hall with no seats, no lanes and no feeds, on a board with no objects whose journal takes `limit` entries. The blank is
     /// `Blank::new(PARTS)`, and names the hall's ledger.
     pub fn new(alloc: Global, limit: u64, blank: Blank) -> Result<Hall<M, L, Led>, AllocError>
         requires least { 1 ≤ limit }
@@ -56,6 +58,7 @@ impl<M: Message, L: MessageLog<M>, Led: Ledger> Hall<M, L, Led> {
         ensures history { IfOk result (λ hall. hall.board.history ≡ no_entries) }
         ensures limit { IfOk result (λ hall. hall.board.limit ≡ limit) }
         ensures lanes { IfOk result (λ hall. hall.lanes ≡ []) }
+        ensures feeds { IfOk result (λ hall. hall.feeds ≡ []) }
         ensures seats { IfOk result (λ hall. hall.seats ≡ []) }
     {
         let board = Board::new(alloc, limit)?;
@@ -78,6 +81,9 @@ impl<M: Message, L: MessageLog<M>, Led: Ledger> Hall<M, L, Led> {
 
         // The journal has of each open lane exactly what was taken out of its ring, and nothing of a number never given.
         ensures lanes { KeepsLanes self.now.board.history self.now.lanes }
+
+        // The journal has of each open feed exactly what was put into its ring, which is all that its own port received.
+        ensures feeds { KeepsFeeds self.now.board.history self.now.feeds }
 
         // The journal is a lawful history of one thread.
         ensures lawful { Lawful self.now.board.history }
@@ -108,6 +114,7 @@ impl<M: Message, L: MessageLog<M>, Led: Ledger> Hall<M, L, Led> {
         ensures seats { OnOk result (self.new.seats ≡ self.old.seats ++ State.Free ∷ []) }
         ensures board { self.new.board ≡ self.old.board }
         ensures lanes { self.new.lanes ≡ self.old.lanes }
+        ensures feeds { self.new.feeds ≡ self.old.feeds }
         ensures book { self.new.book ≡ self.old.book }
         ensures refused { IfErr result (λ refusal. (refusal ≡ NoMemory) × (self.new ≡ self.old)) }
     {
@@ -125,6 +132,7 @@ impl<M: Message, L: MessageLog<M>, Led: Ledger> Hall<M, L, Led> {
             × (self.new.seats ≡ with_state self.old seat.now.number State.Left)) }
         ensures board { self.new.board ≡ self.old.board }
         ensures lanes { self.new.lanes ≡ self.old.lanes }
+        ensures feeds { self.new.feeds ≡ self.old.feeds }
         ensures book { self.new.book ≡ self.old.book }
         ensures refused { IfErr result (λ refusal. (refusal ≡ Gone) × ¬ (MayAsk self.old seat.now.number)
             × (self.new ≡ self.old)) }

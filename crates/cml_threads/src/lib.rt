@@ -1,5 +1,5 @@
-//! Threads that share one board: its lock, their seats, the lanes that they send on, how they wait for each other, and a
-//! ledger of their answers.
+//! Threads that share one board: its lock, their seats, the lanes that they send on and the feeds that they receive from,
+//! how they wait for each other, and a ledger of their answers.
 #![tactic(auto)]
 
 mod asked;

@@ -5,6 +5,7 @@ ghost use Rattle.cml_threads.specs.Seating.{Sitting, raised, answers_in};
 ghost use Rattle.cml_threads.specs.Telling.{suits, MayRefuse, Tells, Replies};
 
 mod channels;
+mod feeds;
 mod lanes;
 mod mailboxes;
 mod variables;

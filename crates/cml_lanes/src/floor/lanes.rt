@@ -23,6 +23,7 @@ impl<M: Message, L: MessageLog<M>> Floor<M, L> {
         ensures opened { IfOk result (λ lane. OpensLane self.old self.new target capacity lane.0 lane.1) }
         ensures refused { IfErr result (λ refusal. OpenRefused self.old target refusal × (self.new ≡ self.old)) }
         ensures rings { (number : ℕ) → number < length self.old.lanes → SameRing number self.old self.new }
+        ensures feeds { self.new.feeds ≡ self.old.feeds }
     {
         let Some(kind) = self.board.kind(target) else {
             return Err(Refusal::NoSuch);

@@ -1,21 +1,23 @@
-//! A lane between two threads.
+//! A lane, and a feed, between two threads.
 ghost use Rattle.std.specs.Prelude.{◌≡◌, IfSome};
 ghost use Rattle.cml_lanes.specs.Floor.{SameRing};
 
 use super::floors::{Numbers, floor};
 use super::steps::SEAT;
 use cml_board::{Call, Entry, Name, Reply, Who};
-use cml_lanes::{Lane, LaneEnd};
+use cml_lanes::{Feed, Lane, LaneEnd};
 use std::alloc::{AllocError, Global};
 use std::thread::{self, Threads};
 
-/// How many numbers are sent, each again until it is taken.
+/// How many numbers go across.
 const COUNT: u64 = 1_000;
 
 /// How often each thread tries at most.
 const TURNS: u32 = 100_000_000;
 
 const MAILBOX: Name = Name(0);
+
+const CHANNEL: Name = Name(0);
 
 /// One thread sends numbers on a lane of capacity 2 while another drains it; once it is closed they stand in the journal,
 /// in order, each once.
@@ -83,4 +85,55 @@ fn are_all_sent(journal: &[Entry<u64>]) -> bool {
                 && entry.call.same(&Call::Send(MAILBOX, number))
                 && entry.reply.same(&Reply::Done)
         })
+}
+
+/// One thread takes numbers from a feed of capacity 2 while another pumps them: those that were multicast, in order.
+pub fn all_are_taken<R: Threads + Sync>(rt: &R, alloc: Global) -> Result<bool, AllocError> {
+    let mut floor = floor(alloc, 3_000)?;
+    floor.apply(SEAT, Call::NewChannel);
+    let Ok((feed, number)) = floor.open_feed(CHANNEL, 2) else {
+        return Ok(false);
+    };
+    for message in 0..COUNT {
+        floor.apply(SEAT, Call::Cast(CHANNEL, message));
+    }
+    let (taken, pumped) = thread::join(
+        rt,
+        move || -> u64 { take_all(feed) },
+        move || -> u64 { pump_all(floor, number) },
+    );
+    Ok(taken == COUNT && pumped == COUNT)
+}
+
+/// How many numbers were taken before the first that was out of order.
+fn take_all(feed: Feed<u64>) -> u64 {
+    let mut feed = feed;
+    let mut next = 0u64;
+    for _turn in 0..TURNS {
+        if next >= COUNT {
+            break;
+        }
+        match feed.recv() {
+            Some(number) if number == next => next += 1,
+            Some(_) => break,
+            None => thread::yield_now(),
+        }
+    }
+    next
+}
+
+fn pump_all(floor: Numbers, number: u64) -> u64 {
+    let mut floor = floor;
+    let mut pumped = 0u64;
+    for _turn in 0..TURNS {
+        if pumped >= COUNT {
+            break;
+        }
+        match floor.pump(number) {
+            Ok(0) => thread::yield_now(),
+            Ok(count) => pumped = pumped.saturating_add(count as u64),
+            Err(_) => break,
+        }
+    }
+    pumped
 }

@@ -1,17 +1,17 @@
 //! The calls on lanes. None of them changes what a seat does.
-ghost use Rattle.std.specs.Prelude.{ℕ, ◌≡◌, ◌+◌, ◌≤◌, ◌<◌, true, false, length, slice_set, count_by, is_some, Err, None, OnOk, IsOk, IfOk, IfErr};
+ghost use Rattle.std.specs.Prelude.{ℕ, ◌≡◌, ◌≤◌, ◌<◌, true, false, length, slice_set, count_by, is_some, Err, None, OnOk, IsOk, IfOk, IfErr};
 ghost use Rattle.cml_board.specs.declared.outcome.Refusal.TheVariants.{NoSuch};
-ghost use Rattle.cml_board.specs.History.{entries_in};
 ghost use Rattle.cml_lanes.specs.Laned.{laned};
 ghost use Rattle.cml_lanes.specs.Floor.{is_open_lane, KeepsRings, SameRing, IsOfItsRing, GivesAll};
 ghost use Rattle.cml_lanes.specs.Lanes.{OpensLane, OpenRefused, DrainsLane, HoldsUp, HoldsUpSome, StopsLate, EmptiesOff, ClosesLane, CountRefused};
 ghost use Rattle.cml_threads.specs.Hosting.{floor_of, Enters};
 
 use super::Hall;
-use cml_board::{Board, Message, Name, Refusal};
+use super::counting::count_since;
+use cml_board::{Message, Name, Refusal};
 use cml_lanes::{Lane, LaneEnd};
 use cml_log::MessageLog;
-use std::sync::ledger::{Book, Ledger, Share};
+use std::sync::ledger::Ledger;
 
 impl<M: Message, L: MessageLog<M>, Led: Ledger> Hall<M, L, Led> {
     /// How many lanes are open. While it is any, nobody is told of a stall.
@@ -28,6 +28,7 @@ impl<M: Message, L: MessageLog<M>, Led: Ledger> Hall<M, L, Led> {
         ensures opened { IfOk result (λ lane. OpensLane (floor_of self.old) (floor_of self.new) target capacity lane.0 lane.1) }
         ensures refused { IfErr result (λ refusal. OpenRefused (floor_of self.old) target refusal × (self.new ≡ self.old)) }
         ensures rings { (number : ℕ) → number < length self.old.lanes → SameRing number (floor_of self.old) (floor_of self.new) }
+        ensures feeds { self.new.feeds ≡ self.old.feeds }
         ensures seats { self.new.seats ≡ self.old.seats }
         ensures book { self.new.book ≡ self.old.book }
     {
@@ -117,21 +118,4 @@ impl<M: Message, L: MessageLog<M>, Led: Ledger> Hall<M, L, Led> {
     {
         self.floor.abandon_lane(lane)
     }
-}
-
-/// Counts the entries that the journal has beyond so many, in the book and as the hall's own.
-fn count_since<M: Message, L: MessageLog<M>, Led: Ledger>(
-    before: usize,
-    board: &Board<M, L>,
-    book: &mut Book<Led>,
-    rest: &mut Share<Led>,
-)
-    requires grown { before ≤ entries_in board.now.history }
-    requires parts { 0 < rest.old.parts }
-    ensures total { book.new.total + before ≡ book.old.total + entries_in board.now.history }
-    ensures amount { rest.new.amount + before ≡ rest.old.amount + entries_in board.now.history }
-    ensures parts { rest.new.parts ≡ rest.old.parts }
-{
-    let entries = board.journal().len() - before;
-    book.add(rest, entries as u64);
 }

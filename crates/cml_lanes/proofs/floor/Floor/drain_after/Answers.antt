@@ -45,4 +45,4 @@ returns-clause-all g c =
     let on = slot_drains g.L.MessageLog.CHUNK g.M.Message.SURE c.args.lane c.self.inside.board c.drain_slot_after.new.board c.index_mut.result.now c.drain_slot_after.new.slot c.drain_slot_after.result
     c.drain_slot_after.ensures.whole c.drain_slot_after.ensures.held in
     let keeps = slot_keeps c.args.lane c.drain_slot_after.result.0 c.self.inside.opened c.self.inside.board c.drain_slot_after.new.board lanes c.index_mut.result.now c.drain_slot_after.new.slot at on c.self.invariant in
-    gives_all c.args.lane c.drain_slot_after.new.board lanes c.index_mut.result.now c.drain_slot_after.new.slot c.args.end.now at keeps.0 c.drain_slot_after.ensures.all
+    gives_all c.args.lane c.drain_slot_after.new.board lanes c.self.inside.feeds.feeds c.index_mut.result.now c.drain_slot_after.new.slot c.args.end.now at keeps.0 c.drain_slot_after.ensures.all

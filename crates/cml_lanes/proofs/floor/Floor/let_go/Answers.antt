@@ -16,10 +16,12 @@ invariant_of-self g c =
     let lane = taken_slot c.self.inside.lanes.items c.args.lane (ap (λ (f : FloorShown g.row.M.Denot). is_taken (slice_get f.lanes c.args.lane)) c.self.view_is ∙ c.requires) in (
       let_go_keeps c.args.lane c.self.inside.board.history c.self.inside.lanes.items c.self.invariant.0,
       omega (arith, c.self.invariant.1, one_taken_less c.self.inside.lanes.items c.args.lane lane.0 lane.1),
+      c.self.invariant.2,
     )
 
 pub returns-clause-rings : goal.returns-clause-rings
 returns-clause-rings g c =
     let lane = taken_slot c.args.self.now.lanes c.args.lane c.requires in
-    set_rings c.args.lane c.args.self.now (record { board = c.self.inside.board; lanes = slice_set c.self.inside.lanes.items c.args.lane None }) lane.0 None lane.1 (ap (λ (f : FloorShown g.row.M.Denot). slice_set f.lanes c.args.lane None) c.self.view_is)
+    set_rings c.args.lane c.args.self.now (record { board = c.self.inside.board; lanes = slice_set c.self.inside.lanes.items c.args.lane None; feeds = c.self.inside.feeds.feeds }) lane.0 None lane.1
+    (ap (λ (f : FloorShown g.row.M.Denot). slice_set f.lanes c.args.lane None) c.self.view_is) (ap (λ (f : FloorShown g.row.M.Denot). f.feeds) c.self.view_is)
     (λ side is. absurd (none-some side is))

@@ -1,0 +1,132 @@
+//! Feeds are opened, pumped and ended.
+ghost use Rattle.std.specs.Prelude.{ℕ, ◌≡◌, ◌≤◌, ◌<◌, true, false, length, IsOk, IfOk, IfErr, IfNone, IfSome, MatchOption, Err};
+ghost use Rattle.cml_board.specs.declared.call.Call.TheVariants.{NewPort};
+ghost use Rattle.cml_board.specs.declared.outcome.Refusal.TheVariants.{NoSuch};
+ghost use Rattle.cml_board.specs.History.{Fits, Lawful};
+ghost use Rattle.cml_board.specs.Outcome.{HasRoom, IsAsBefore, Refuses};
+ghost use Rattle.cml_lanes.specs.Floor.{is_open_feed, KeepsRings, SameFeedRing};
+ghost use Rattle.cml_lanes.specs.Feeds.{MakesPort, OpensFeed, FeedRefused, FillsFeed, PumpsFeed, Starves, EndsFeed};
+
+use super::Floor;
+use crate::feed::{Feed, FeedEnd};
+use crate::inner_feed::InnerFeed;
+use cml_board::{Board, Call, Kind, Message, Name, Outcome, Refusal, Reply, Who};
+use cml_log::MessageLog;
+use rtrb::RingBuffer;
+
+impl<M: Message, L: MessageLog<M>> Floor<M, L> {
+    /// Opens a feed of what is multicast on a channel from now on, whose ring has room for `capacity` messages, and tells
+    /// its number. The feed has a port of its own, which is made for it. It is refused `NoSuch`, `WrongKind`,
+    /// `JournalFull` and `NoMemory` just where the port would be, and for want of memory for the ring.
+    pub fn open_feed(&mut self, channel: Name, capacity: usize) -> Result<(Feed<M>, u64), Refusal>
+        requires least { 1 ≤ capacity }
+        requires most { capacity ≤ 1024 }
+        ensures opened { IfOk result (λ feed. OpensFeed self.old self.new channel capacity feed.0 feed.1) }
+        ensures refused { IfErr result (λ refusal. FeedRefused L.CHUNK M.SURE self.old self.new channel refusal) }
+        ensures rings { (number : ℕ) → number < length self.old.feeds → SameFeedRing number self.old self.new }
+        ensures lanes { self.new.lanes ≡ self.old.lanes }
+    {
+        // What refuses the port is told before any memory is asked for.
+        if let Some(refusal) = port_refusal(&self.board, channel) {
+            return Err(refusal);
+        }
+        let Ok((producer, consumer)) = RingBuffer::new(self.alloc, capacity) else {
+            return Err(Refusal::NoMemory);
+        };
+        if self.feeds.reserve().is_err() {
+            return Err(Refusal::NoMemory);
+        }
+        let number = self.feeds.count() as u64;
+        let port = make_port(&mut self.board, number, channel)?;
+        self.feeds.add(InnerFeed::new(producer, port));
+        Ok((Feed::new(consumer, number, port), number))
+    }
+
+    /// Receives from an open feed's port what it is owed, in order, each by a call of the feed's own, and puts it into the
+    /// ring while a slot is known to be free: how many messages. It stops where one is refused, and is itself refused,
+    /// `JournalFull` or `NoMemory`, only where that was the first; `NoSuch` where no open feed has the number.
+    pub fn pump(&mut self, feed: u64) -> Result<usize, Refusal>
+        ensures unknown { is_open_feed self.old feed ≡ false → (result ≡ Err NoSuch) × (self.new ≡ self.old) }
+        ensures pumped { IfOk result (λ count. PumpsFeed L.CHUNK M.SURE feed count self.old self.new) }
+        ensures refused { IfErr result (λ refusal. is_open_feed self.old feed ≡ true
+            → Starves L.CHUNK M.SURE feed 0 self.old self.new refusal) }
+        ensures rings { KeepsRings self.old self.new }
+    {
+        if !self.has_feed(feed) {
+            return Err(Refusal::NoSuch);
+        }
+        let (count, refusal) = self.pump_open(feed);
+        let Some(refusal) = refusal else {
+            return Ok(count);
+        };
+        if count == 0 {
+            return Err(refusal);
+        }
+        Ok(count)
+    }
+
+    /// Pumps an open feed until one is refused: how many messages, and the refusal.
+    fn pump_open(&mut self, feed: u64) -> (usize, Option<Refusal>)
+        requires { is_open_feed self.old feed ≡ true }
+        ensures whole { IfNone result.1 (FillsFeed feed result.0 self.old self.new) }
+        ensures starved { IfSome result.1 (λ refusal. Starves L.CHUNK M.SURE feed result.0 self.old self.new refusal) }
+        ensures rings { KeepsRings self.old self.new }
+    {
+        self.feeds.pump(&mut self.board, feed)
+    }
+
+    /// Ends an open feed for good: nothing more is put into its ring. What it gives tells the subscriber what is left
+    /// there; it gives `None` only where the subscriber has let go of the feed before. The port stays, and is a port like
+    /// any other from now on. `NoSuch` where no open feed has the number.
+    pub fn end_feed(&mut self, feed: u64) -> Result<Option<FeedEnd<M>>, Refusal>
+        ensures unknown { is_open_feed self.old feed ≡ false → (result ≡ Err NoSuch) × (self.new ≡ self.old) }
+        ensures ended { IfOk result (λ end. EndsFeed feed self.old self.new end) }
+        ensures opened { is_open_feed self.old feed ≡ true → IsOk result }
+        ensures board { self.new.board ≡ self.old.board }
+        ensures rings { KeepsRings self.old self.new }
+    {
+        if self.has_feed(feed) {
+            return Ok(self.feeds.end(feed));
+        }
+        Err(Refusal::NoSuch)
+    }
+}
+
+/// Why a board would make no port of this channel, but for want of memory.
+fn port_refusal<M: Message, L: MessageLog<M>>(board: &Board<M, L>, channel: Name) -> Option<Refusal>
+    ensures told { MatchOption result (Fits board.now.history (NewPort channel) × HasRoom board.now)
+        (λ refusal. Refuses L.CHUNK M.SURE board.now (NewPort channel) refusal) }
+    ensures lawful { IfNone result (Lawful board.now.history) }
+{
+    let Some(kind) = board.kind(channel) else {
+        return Some(Refusal::NoSuch);
+    };
+    if kind != Kind::Channel {
+        return Some(Refusal::WrongKind);
+    }
+    if board.journal().len() as u64 == board.limit() {
+        return Some(Refusal::JournalFull);
+    }
+    None
+}
+
+/// Makes the port of the feed with this number.
+fn make_port<M: Message, L: MessageLog<M>>(
+    board: &mut Board<M, L>,
+    number: u64,
+    channel: Name,
+) -> Result<Name, Refusal>
+    ensures made { IfOk result (λ port. MakesPort number board.old board.new channel port) }
+    ensures refused { IfErr result (λ refusal. Refuses L.CHUNK M.SURE board.old (NewPort channel) refusal × IsAsBefore board.old board.new) }
+{
+    match board.apply(Who::Feed(number), Call::NewPort(channel)) {
+        Outcome::Answered(answer) => {
+            let Reply::Made(port) = answer.into_reply() else {
+                unreachable!()
+            };
+            Ok(port)
+        }
+        Outcome::WouldWait(_) => unreachable!(),
+        Outcome::Refused(refusal, _) => Err(refusal),
+    }
+}

@@ -1,0 +1,24 @@
+//! Entries of lanes and feeds are counted for no seat.
+ghost use Rattle.std.specs.Prelude.{◌≡◌, ◌+◌, ◌≤◌, ◌<◌};
+ghost use Rattle.cml_board.specs.History.{entries_in};
+
+use cml_board::{Board, Message};
+use cml_log::MessageLog;
+use std::sync::ledger::{Book, Ledger, Share};
+
+/// Counts the entries that the journal has beyond so many, in the book and as the hall's own.
+pub fn count_since<M: Message, L: MessageLog<M>, Led: Ledger>(
+    before: usize,
+    board: &Board<M, L>,
+    book: &mut Book<Led>,
+    rest: &mut Share<Led>,
+)
+    requires grown { before ≤ entries_in board.now.history }
+    requires parts { 0 < rest.old.parts }
+    ensures total { book.new.total + before ≡ book.old.total + entries_in board.now.history }
+    ensures amount { rest.new.amount + before ≡ rest.old.amount + entries_in board.now.history }
+    ensures parts { rest.new.parts ≡ rest.old.parts }
+{
+    let entries = board.journal().len() - before;
+    book.add(rest, entries as u64);
+}

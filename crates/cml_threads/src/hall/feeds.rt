@@ -1,0 +1,70 @@
+//! The calls on feeds. None of them changes what a seat does.
+ghost use Rattle.std.specs.Prelude.{ℕ, ◌≡◌, ◌≤◌, ◌<◌, true, false, length, count_by, is_some, Err, IsOk, IfOk, IfErr};
+ghost use Rattle.cml_board.specs.declared.outcome.Refusal.TheVariants.{NoSuch};
+ghost use Rattle.cml_lanes.specs.Floor.{is_open_feed, KeepsRings, SameFeedRing};
+ghost use Rattle.cml_lanes.specs.Feeds.{OpensFeed, FeedRefused, PumpsFeed, Starves, EndsFeed};
+ghost use Rattle.cml_threads.specs.Hosting.{floor_of, Enters};
+
+use super::Hall;
+use super::counting::count_since;
+use cml_board::{Message, Name, Refusal};
+use cml_lanes::{Feed, FeedEnd};
+use cml_log::MessageLog;
+use std::sync::ledger::Ledger;
+
+impl<M: Message, L: MessageLog<M>, Led: Ledger> Hall<M, L, Led> {
+    /// How many feeds are open.
+    pub fn open_feeds(&self) -> u64
+        ensures { result ≡ count_by is_some self.now.feeds }
+    {
+        self.floor.open_feeds()
+    }
+
+    /// Opens a feed of what is multicast on a channel from now on, as `Floor::open_feed` does. The entry that makes its
+    /// port is counted in the book, and for no seat.
+    pub fn open_feed(&mut self, channel: Name, capacity: usize) -> Result<(Feed<M>, u64), Refusal>
+        requires least { 1 ≤ capacity }
+        requires most { capacity ≤ 1024 }
+        ensures opened { IfOk result (λ feed. OpensFeed (floor_of self.old) (floor_of self.new) channel capacity feed.0 feed.1) }
+        ensures refused { IfErr result (λ refusal. FeedRefused L.CHUNK M.SURE (floor_of self.old) (floor_of self.new) channel refusal) }
+        ensures rings { (number : ℕ) → number < length self.old.feeds → SameFeedRing number (floor_of self.old) (floor_of self.new) }
+        ensures lanes { self.new.lanes ≡ self.old.lanes }
+        ensures seats { self.new.seats ≡ self.old.seats }
+        ensures book { Enters self.old self.new }
+    {
+        let before = self.floor.board().journal().len();
+        let told = self.floor.open_feed(channel, capacity);
+        count_since(before, self.floor.board(), &mut self.book, &mut self.rest);
+        told
+    }
+
+    /// Receives what an open feed's port is owed and puts it into the ring, as `Floor::pump` does. Each entry is counted
+    /// in the book, and for no seat.
+    pub fn pump(&mut self, feed: u64) -> Result<usize, Refusal>
+        ensures unknown { is_open_feed (floor_of self.old) feed ≡ false → (result ≡ Err NoSuch) × (self.new ≡ self.old) }
+        ensures pumped { IfOk result (λ count. PumpsFeed L.CHUNK M.SURE feed count (floor_of self.old) (floor_of self.new)) }
+        ensures refused { IfErr result (λ refusal. is_open_feed (floor_of self.old) feed ≡ true
+            → Starves L.CHUNK M.SURE feed 0 (floor_of self.old) (floor_of self.new) refusal) }
+        ensures rings { KeepsRings (floor_of self.old) (floor_of self.new) }
+        ensures seats { self.new.seats ≡ self.old.seats }
+        ensures book { Enters self.old self.new }
+    {
+        let before = self.floor.board().journal().len();
+        let told = self.floor.pump(feed);
+        count_since(before, self.floor.board(), &mut self.book, &mut self.rest);
+        told
+    }
+
+    /// Ends an open feed for good, as `Floor::end_feed` does. Its port is a port like any other from now on.
+    pub fn end_feed(&mut self, feed: u64) -> Result<Option<FeedEnd<M>>, Refusal>
+        ensures unknown { is_open_feed (floor_of self.old) feed ≡ false → (result ≡ Err NoSuch) × (self.new ≡ self.old) }
+        ensures ended { IfOk result (λ end. EndsFeed feed (floor_of self.old) (floor_of self.new) end) }
+        ensures opened { is_open_feed (floor_of self.old) feed ≡ true → IsOk result }
+        ensures board { self.new.board ≡ self.old.board }
+        ensures rings { KeepsRings (floor_of self.old) (floor_of self.new) }
+        ensures seats { self.new.seats ≡ self.old.seats }
+        ensures book { self.new.book ≡ self.old.book }
+    {
+        self.floor.end_feed(feed)
+    }
+}
