@@ -1,4 +1,4 @@
-use Rattle.std.proofs.Common.{ap, ◌∙◌}
+use Rattle.std.proofs.Common.{rules, ap, ◌∙◌}
 use Rattle.cml_lanes.specs.Sides.{FeedSide}
 use Rattle.cml_lanes.specs.Barring.{is_feeds_port}
 use Rattle.cml_lanes.proofs.FeedOpens.{own_new_port, feed_opened_keeps, feed_opened_rings}
@@ -20,3 +20,6 @@ pub returns-clause-rings : goal.returns-clause-rings
 returns-clause-rings g c =
     feed_opened_rings c.self.inside.board c.make_port.new.board c.self.inside.feeds.feeds c.reserve.new.self.feeds c.add.new.self.feeds c.new-2.result c.args.self.now c.self.view_is
     c.reserve.ensures.feeds c.add.ensures
+
+pub returns-clause-opened : goal.returns-clause-opened
+returns-clause-opened g c = search rules
