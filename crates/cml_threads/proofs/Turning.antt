@@ -120,8 +120,8 @@ module _ {M : Type 0} where
       let reaches = waiting_reaches chunk sure floor new number call back bars applies in
       let now : Reaches chunk sure floor new before.number call (WouldWait back) = subst (λ n. Reaches chunk sure floor new n call (WouldWait back)) same reaches in
       let moving : ¬ (IsStalled floor (slice_set seats before.number (Parked on))) = λ stalled.
-          goes_on.0 (still_stalled new floor (slice_set seats number (Parked on)) (sym lanes) (sym reaches.applies.4.history)
-          (subst (λ n. IsStalled floor (slice_set seats n (Parked on))) (sym same) stalled)) in
+      goes_on.0 (still_stalled new floor (slice_set seats number (Parked on)) (sym lanes) (sym reaches.applies.4.history)
+      (subst (λ n. IsStalled floor (slice_set seats n (Parked on))) (sym same) stalled)) in
       let told : Asks chunk sure ⊤ (hall_of floor seats book) (hall_of new seats' book) before before call (asked.Parked back) = (
         tt,
         now,
@@ -146,8 +146,8 @@ module _ {M : Type 0} where
       let reaches = waiting_reaches chunk sure floor new number call back bars applies in
       let now : Reaches chunk sure floor new before.number call (WouldWait back) = subst (λ n. Reaches chunk sure floor new n call (WouldWait back)) same reaches in
       let stalled : IsStalled floor (slice_set seats before.number (Parked on)) =
-          subst (λ n. IsStalled floor (slice_set seats n (Parked on))) same
-          (still_stalled floor new (slice_set seats number (Parked on)) lanes reaches.applies.4.history stuck.0) in
+      subst (λ n. IsStalled floor (slice_set seats n (Parked on))) same
+      (still_stalled floor new (slice_set seats number (Parked on)) lanes reaches.applies.4.history stuck.0) in
       let told : Asks chunk sure ⊤ (hall_of floor seats book) (hall_of new seats' book) before before call (asked.Refused Stalled back) = (
         tt,
         now,
@@ -185,9 +185,9 @@ module _ {M : Type 0} where
   refused_asks chunk sure hall floor new seats seats' book before number call back refusal view same bars applies lanes feeds set =
       let why = refused_reaches chunk sure floor new number call back refusal bars applies in
       let here : Reaches chunk sure floor new before.number call (Refused refusal back) ⊎ IsBarred floor new call refusal back =
-          subst (λ n. Reaches chunk sure floor new n call (Refused refusal back) ⊎ IsBarred floor new call refusal back) same why in
+      subst (λ n. Reaches chunk sure floor new n call (Refused refusal back) ⊎ IsBarred floor new call refusal back) same why in
       let moves : Moves (hall_of floor seats book) (hall_of new seats' book) before.number Free =
-          record { seats = set ∙ ap (λ n. slice_set seats n Free) same; lanes = lanes; feeds = feeds; book = refl } in
+      record { seats = set ∙ ap (λ n. slice_set seats n Free) same; lanes = lanes; feeds = feeds; book = refl } in
       subst (λ (h : Hosted M). Asks chunk sure ⊤ h (hall_of new seats' book) before before call (asked.Refused refusal back)) view
       (by_refusal chunk sure (hall_of floor seats book) (hall_of new seats' book) before call back refusal here moves)
 

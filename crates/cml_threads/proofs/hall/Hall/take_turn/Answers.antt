@@ -1,4 +1,4 @@
-use Rattle.std.proofs.Common.{sym, ◌∙◌, length}
+use Rattle.std.proofs.Common.{sym, ◌∙◌}
 use Rattle.cml_threads.specs.declared.state.State.TheVariants.{Free}
 use Rattle.cml_threads.proofs.Turning.{answered_asks, parked_asks, stalled_asks, refused_asks, answered_counted, refused_counted}
 use Rattle.cml_threads.proofs.hall.Hall.take_turn.Goals as goal
