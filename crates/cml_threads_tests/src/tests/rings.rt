@@ -8,7 +8,9 @@ use std::sync::Wait;
 use std::sync::ledger::Ledger;
 
 const MAILBOX: Name = Name(1);
+
 const CHANNEL: Name = Name(3);
+
 const PORT: Name = Name(4);
 
 /// The number of the first feed, and of the first lane.
