@@ -13,11 +13,12 @@ use Rattle.cml_grammar.specs.declared.names.Users.TheVariants as users
 use Rattle.cml_grammar.specs.declared.forms.Declares.{Declares}
 use Rattle.cml_grammar.specs.declared.forms.Verb.{Verb}
 use Rattle.cml_grammar.specs.declared.script.Declaration.{Declaration}
+use Rattle.cml_grammar.specs.declared.script.Lane.{Lane}
 use Rattle.cml_grammar.specs.declared.script.Step.{Step}
 use Rattle.cml_grammar.specs.Words.{words_of}
 use Rattle.cml_grammar.specs.Names.{Given, is_given}
-use Rattle.cml_grammar.specs.Forms.{declaration, step, form_of, declared_places, step_places, fresh_word, named_by}
-use Rattle.cml_grammar.specs.Faults.{fault_in_words, after_words, given_as}
+use Rattle.cml_grammar.specs.Forms.{declaration, step, form_of, declared_places, step_places, fresh_word, owner_of, named_by}
+use Rattle.cml_grammar.specs.Faults.{Ends, fault_in_words, after_words, given_as}
 use Rattle.cml_grammar.specs.Script.{Lines}
 use Rattle.cml_grammar.specs.Meaning.{scope_of, names_of, makes_by, action_by}
 use Rattle.cml_grammar.specs.Reading.{view_of, texts_of, UsesWell, IsMadeWell, IsReadSoFar, threads_by}
@@ -43,42 +44,42 @@ pub record Declared (now : Lines) (d : Declaration) (what : Declares) (rest : Li
   pub fits : fault_in_words (scope_of now) (words_of (string_bytes d.line.text)) ≡ None
   pub form : form_of (names_of now) (words_of (string_bytes d.line.text)) ≡ declaration what rest
 
-module _ (v : ℕ) (now : Lines) (m : Names) (ds ds' : List Declaration) (ss : List Step) (threads : ℕ)
+module _ (v : ℕ) (now : Lines) (m : Names) (ds ds' : List Declaration) (ls : List Lane) (cs : List (Ends × ℕ)) (ss : List Step) (threads : ℕ)
     (d : Declaration) (what : Declares) (rest : List (List ℕ)) (name : List ℕ)
-    (seen : view_of v ds ss ≡ now)
-    (so_far : IsReadSoFar (view_of v ds ss) m.entries ds ss threads)
+    (seen : view_of v ds ls ss ≡ now)
+    (so_far : IsReadSoFar (view_of v ds ls ss) m.entries ds ls cs ss threads)
     (read : Declared now d what rest)
     (there : fresh_word (declared_places what rest) rest ≡ Some name)
     (makes : makes_by (texts_of m.entries) what rest ≡ Some d.makes)
     (well : IsMadeWell (texts_of m.entries) (length (texts_of m.entries)) d.makes)
     (pushed : ds' ≡ ds ++ d ∷ []) where
-  before : Declared (view_of v ds ss) d what rest
+  before : Declared (view_of v ds ls ss) d what rest
   before = subst (λ (s : Lines). Declared s d what rest) (sym seen) read
 
   fresh : is_given (texts_of m.entries) name ≡ false
   fresh =
       ap (λ gs. is_given gs name) so_far.names
-      ∙ fresh_is_new (names_of (view_of v ds ss)) (declared_places what rest) rest name (declared_suits (view_of v ds ss) (words_of (string_bytes d.line.text)) what rest before.fits before.form) there
+      ∙ fresh_is_new (names_of (view_of v ds ls ss)) (declared_places what rest) rest name (declared_suits (view_of v ds ls ss) (words_of (string_bytes d.line.text)) what rest before.fits before.form) there
 
-  made : makes_by (names_of (view_of v ds ss)) what rest ≡ Some d.makes
+  made : makes_by (names_of (view_of v ds ls ss)) what rest ≡ Some d.makes
   made = ap (λ gs. makes_by gs what rest) (sym so_far.names) ∙ makes
 
-  made_well : IsMadeWell (names_of (view_of v ds ss)) (length (names_of (view_of v ds ss))) d.makes
+  made_well : IsMadeWell (names_of (view_of v ds ls ss)) (length (names_of (view_of v ds ls ss))) d.makes
   made_well = subst (λ gs. IsMadeWell gs (length gs) d.makes) so_far.names well
 
   pub declared_closes : (es' : List (String Global × Named)) (threads' : ℕ) (key : String Global) (n : Named)
-      → string_bytes key ≡ name → n ≡ named_by what threads → es' ≡ insert_entry string_eq m.entries key n → threads' ≡ threads + threads_by what
-      → IsReadSoFar (view_of v ds' ss) es' ds' ss threads'
+      → string_bytes key ≡ name → n ≡ named_by what threads (owner_of (texts_of m.entries) rest) → es' ≡ insert_entry string_eq m.entries key n → threads' ≡ threads + threads_by what
+      → IsReadSoFar (view_of v ds' ls ss) es' ds' ls cs ss threads'
   declared_closes es' threads' key n same named inserted counted =
-      let entries = ap texts_of inserted ∙ inserted_texts m key n name same fresh ∙ ap (λ k. texts_of m.entries ++ (name, k) ∷ []) named in
-      let whole = declared_so_far v m.entries ds ss threads d what rest name so_far before.fits before.form there made made_well es' entries in
-      subst (λ (t : ℕ). IsReadSoFar (view_of v ds' ss) es' ds' ss t) (sym counted)
-      (subst (λ (xs : List Declaration). IsReadSoFar (view_of v xs ss) es' xs ss (threads + threads_by what)) (sym pushed) whole)
+      let entries = ap texts_of inserted ∙ inserted_texts m key n name same fresh ∙ ap (λ k. texts_of m.entries ++ (name, k) ∷ []) (named ∙ ap (λ gs. named_by what threads (owner_of gs rest)) so_far.names) in
+      let whole = declared_so_far v m.entries ds ls cs ss threads d what rest name so_far before.fits before.form there made made_well es' entries in
+      subst (λ (t : ℕ). IsReadSoFar (view_of v ds' ls ss) es' ds' ls cs ss t) (sym counted)
+      (subst (λ (xs : List Declaration). IsReadSoFar (view_of v xs ls ss) es' xs ls cs ss (threads + threads_by what)) (sym pushed) whole)
 
-  pub declared_scopes : scope_of (view_of v ds' ss) ≡ after_words (scope_of now) (words_of (string_bytes d.line.text))
+  pub declared_scopes : scope_of (view_of v ds' ls ss) ≡ after_words (scope_of now) (words_of (string_bytes d.line.text))
   declared_scopes =
-      ap (λ (xs : List Declaration). scope_of (view_of v xs ss)) pushed
-      ∙ declared_scope v m.entries ds ss threads d what rest name so_far before.fits before.form there made made_well
+      ap (λ (xs : List Declaration). scope_of (view_of v xs ls ss)) pushed
+      ∙ declared_scope v m.entries ds ls cs ss threads d what rest name so_far before.fits before.form there made made_well
       ∙ ap (λ (s : Lines). after_words (scope_of s) (words_of (string_bytes d.line.text))) seen
 
 -- what a step was read from
@@ -90,43 +91,43 @@ pub asked_suits : (now : Lines) (words : List (List ℕ)) (seat : ℕ) (verb : V
 asked_suits now words seat verb rest fits form =
     all_suit-passes (scope_of now) (step seat verb rest) (subst (Passes (scope_of now)) form (words_pass (scope_of now) words fits).1)
 
-module _ (v : ℕ) (now : Lines) (m : Names) (ds : List Declaration) (ss ss' : List Step) (threads : ℕ)
+module _ (v : ℕ) (now : Lines) (m : Names) (ds : List Declaration) (ls : List Lane) (cs : List (Ends × ℕ)) (ss ss' : List Step) (threads : ℕ)
     (s : Step) (verb : Verb) (rest : List (List ℕ))
-    (seen : view_of v ds ss ≡ now)
-    (so_far : IsReadSoFar (view_of v ds ss) m.entries ds ss threads)
+    (seen : view_of v ds ls ss ≡ now)
+    (so_far : IsReadSoFar (view_of v ds ls ss) m.entries ds ls cs ss threads)
     (read : Asked now s verb rest)
     (action : action_by (texts_of m.entries) verb rest ≡ Some s.action)
     (uses : UsesWell (texts_of m.entries) s.action)
     (pushed : ss' ≡ ss ++ s ∷ []) where
-  before_step : Asked (view_of v ds ss) s verb rest
+  before_step : Asked (view_of v ds ls ss) s verb rest
   before_step = subst (λ (x : Lines). Asked x s verb rest) (sym seen) read
 
-  means : action_by (names_of (view_of v ds ss)) verb rest ≡ Some s.action
+  means : action_by (names_of (view_of v ds ls ss)) verb rest ≡ Some s.action
   means = ap (λ gs. action_by gs verb rest) (sym so_far.names) ∙ action
 
-  uses_well : UsesWell (names_of (view_of v ds ss)) s.action
+  uses_well : UsesWell (names_of (view_of v ds ls ss)) s.action
   uses_well = subst (λ gs. UsesWell gs s.action) so_far.names uses
 
-  closes : (es' : List (String Global × Named)) → texts_of es' ≡ texts_of m.entries ++ given_as (called.Port (users.One s.seat)) (fresh_word (step_places verb) rest) → IsReadSoFar (view_of v ds ss') es' ds ss' threads
+  closes : (es' : List (String Global × Named)) → texts_of es' ≡ texts_of m.entries ++ given_as (called.Port (users.One s.seat)) (fresh_word (step_places verb) rest) → IsReadSoFar (view_of v ds ls ss') es' ds ls cs ss' threads
   closes es' entries =
-      subst (λ (xs : List Step). IsReadSoFar (view_of v ds xs) es' ds xs threads) (sym pushed)
-      (asked_so_far v m.entries ds ss threads s verb rest so_far before_step.fits before_step.form means uses_well es' entries)
+      subst (λ (xs : List Step). IsReadSoFar (view_of v ds ls xs) es' ds ls cs xs threads) (sym pushed)
+      (asked_so_far v m.entries ds ls cs ss threads s verb rest so_far before_step.fits before_step.form means uses_well es' entries)
 
   -- a step that gives no name, and one that does
-  pub asked_closes : fresh_word (step_places verb) rest ≡ None → IsReadSoFar (view_of v ds ss') m.entries ds ss' threads
+  pub asked_closes : fresh_word (step_places verb) rest ≡ None → IsReadSoFar (view_of v ds ls ss') m.entries ds ls cs ss' threads
   asked_closes none = closes m.entries (sym (ap (λ (o : Option (List ℕ)). texts_of m.entries ++ given_as (called.Port (users.One s.seat)) o) none ∙ append-nil (texts_of m.entries)))
 
   pub giving_closes : (name : List ℕ) → fresh_word (step_places verb) rest ≡ Some name → (es' : List (String Global × Named)) (key : String Global)
-      → string_bytes key ≡ name → es' ≡ insert_entry string_eq m.entries key (called.Port (users.One s.seat)) → IsReadSoFar (view_of v ds ss') es' ds ss' threads
+      → string_bytes key ≡ name → es' ≡ insert_entry string_eq m.entries key (called.Port (users.One s.seat)) → IsReadSoFar (view_of v ds ls ss') es' ds ls cs ss' threads
   giving_closes name there es' key same inserted =
-      let free : is_given (texts_of m.entries) name ≡ false = ap (λ gs. is_given gs name) so_far.names ∙ fresh_is_new (names_of (view_of v ds ss)) (step_places verb) rest name (asked_suits (view_of v ds ss) (words_of (string_bytes s.line.text)) s.seat verb rest before_step.fits before_step.form) there in
+      let free : is_given (texts_of m.entries) name ≡ false = ap (λ gs. is_given gs name) so_far.names ∙ fresh_is_new (names_of (view_of v ds ls ss)) (step_places verb) rest name (asked_suits (view_of v ds ls ss) (words_of (string_bytes s.line.text)) s.seat verb rest before_step.fits before_step.form) there in
       closes es' (
       ap texts_of inserted
       ∙ inserted_texts m key (called.Port (users.One s.seat)) name same free
       ∙ sym (ap (λ (o : Option (List ℕ)). texts_of m.entries ++ given_as (called.Port (users.One s.seat)) o) there))
 
-  pub asked_scopes : scope_of (view_of v ds ss') ≡ after_words (scope_of now) (words_of (string_bytes s.line.text))
+  pub asked_scopes : scope_of (view_of v ds ls ss') ≡ after_words (scope_of now) (words_of (string_bytes s.line.text))
   asked_scopes =
-      ap (λ (xs : List Step). scope_of (view_of v ds xs)) pushed
-      ∙ asked_scope v m.entries ds ss threads s verb rest so_far before_step.fits before_step.form means uses_well
+      ap (λ (xs : List Step). scope_of (view_of v ds ls xs)) pushed
+      ∙ asked_scope v m.entries ds ls cs ss threads s verb rest so_far before_step.fits before_step.form means uses_well
       ∙ ap (λ (x : Lines). after_words (scope_of x) (words_of (string_bytes s.line.text))) seen

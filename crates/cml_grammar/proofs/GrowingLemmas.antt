@@ -1,8 +1,11 @@
 -- What is said of names stays true where more names are given.
-use Rattle.std.proofs.Common.{◌≡◌, ℕ, ◌≤◌, List, [], ◌∷◌, ◌++◌, slice_get, Option, Some, None, is_some, string_bytes, refl, sym, ap, ◌∙◌, subst, inl, inr}
-use Rattle.std.specs.Option.{option_map, option_and_then}
+use Rattle.std.proofs.Common.{◌≡◌, ℕ, ◌+◌, ◌≤◌, ◌==◌, ◌&&◌, Bool, cond, List, [], ◌∷◌, ◌++◌, map, All, slice_get, Option, Some, None, is_some, string_bytes, refl, sym, ap, ◌∙◌, subst, inl, inr, arith}
+use Rattle.std.specs.Map.{keys_of, lookup}
+use Rattle.std.specs.Option.{option_map, option_map_or, option_and_then, option_to_list}
 use Rattle.std.specs.Str.Parse.{digits_value}
-use Rattle.std.proofs.lemmas.Option.{none-some, option_and_then_some}
+use Rattle.std.proofs.lemmas.List.Elements.{All-head, All-tail, All-weaker}
+use Rattle.std.proofs.lemmas.List.Sums.{sum_by-append}
+use Rattle.std.proofs.lemmas.Option.{none-some, same_Some, option_and_then_some}
 use Rattle.cml_grammar.specs.declared.names.Named.{Named}
 use Rattle.cml_grammar.specs.declared.forms.Declares.{Declares}
 use Rattle.cml_grammar.specs.declared.forms.Declares.TheVariants as declares
@@ -13,12 +16,17 @@ use Rattle.cml_grammar.specs.declared.forms.Verb.TheVariants as verb
 use Rattle.cml_grammar.specs.declared.forms.Action.{Action}
 use Rattle.cml_grammar.specs.declared.forms.Action.TheVariants as action
 use Rattle.cml_grammar.specs.declared.script.Declaration.{Declaration}
+use Rattle.cml_grammar.specs.declared.forms.FeedMaking.{FeedMaking}
+use Rattle.cml_grammar.specs.declared.script.Lane.{Lane}
 use Rattle.cml_grammar.specs.declared.script.Step.{Step}
 use Rattle.cml_grammar.specs.Words.{words_of}
-use Rattle.cml_grammar.specs.Names.{Given, is_called, position_of, named, seat_in, thread_count}
+use Rattle.cml_grammar.specs.Names.{Given, is_called, position_of, named, seat_in, seat_of, thread_count}
 use Rattle.cml_grammar.specs.Forms.{declares_of, verb_of, step_places, fresh_word}
-use Rattle.cml_grammar.specs.Meaning.{makes_by, makes_of, action_by, action_of, seat_of_step}
-use Rattle.cml_grammar.specs.Reading.{IsMailboxAt, IsChannelAt, IsPortAt, IsReceiverAt, IsIVarAt, IsMVarAt, IsVariableAt, GivesAt, GivesNames, IsMadeWell, ReadsDeclaration, ReadsStep, UsesWell, used_by, gives_name}
+use Rattle.cml_grammar.specs.Faults.{Ends, ends_by, are_same}
+use Rattle.cml_grammar.specs.Script.{SourceLine}
+use Rattle.cml_grammar.specs.Meaning.{ends_of, all_ends, feed_by, makes_by, makes_of, action_by, action_of, seat_of_step}
+use Rattle.cml_grammar.specs.Rings.{Laid, lane_by, lane_of, capacity_of}
+use Rattle.cml_grammar.specs.Reading.{source_of, IsMailboxAt, IsChannelAt, IsPortAt, IsFeedAt, IsTargetAt, IsReceiverAt, IsPolledAt, IsIVarAt, IsMVarAt, IsVariableAt, IsSeat, GivesAt, GivesNames, IsMadeWell, ReadsDeclaration, ReadsLane, ReadsStep, UsesWell, capacities_of, used_by, gives_name}
 use Rattle.cml_grammar.proofs.ListLemmas.{position-append, mapped_some, slice_get-append}
 
 -- a name keeps its position
@@ -38,6 +46,14 @@ seat_of_step-append names more [] seat h = absurd (none-some seat h)
 seat_of_step-append names more (thread ∷ rest) seat h =
     option_and_then_some seat_in (named names thread) seat h (λ n found is. ap (option_and_then seat_in) (named-append names more thread n found) ∙ is)
 
+seat_of-append : (names more : List Given) (word : List ℕ) (seat : ℕ) → seat_of names word ≡ Some seat → seat_of (names ++ more) word ≡ Some seat
+seat_of-append names more word seat h = seat_of_step-append names more (word ∷ []) seat h
+
+pub IsSeat-append : (names more : List Given) (seat : ℕ) → IsSeat names seat → IsSeat (names ++ more) seat
+IsSeat-append names more seat h =
+    let counted : thread_count (names ++ more) ≡ thread_count names + thread_count more = sum_by-append _ names more in
+    (h.0, omega (arith, h.1, counted))
+
 pub IsMailboxAt-append : (names more : List Given) (at : ℕ) → IsMailboxAt names at → IsMailboxAt (names ++ more) at
 IsMailboxAt-append names more at h = (h.0, slice_get-append names more at _ h.1)
 
@@ -49,6 +65,15 @@ IsReceiverAt-append names more at h = elim h [ inl a ↦ inl (IsMailboxAt-append
 
 pub IsChannelAt-append : (names more : List Given) (at : ℕ) → IsChannelAt names at → IsChannelAt (names ++ more) at
 IsChannelAt-append names more at h = (h.0, slice_get-append names more at _ h.1)
+
+IsFeedAt-append : (names more : List Given) (at : ℕ) → IsFeedAt names at → IsFeedAt (names ++ more) at
+IsFeedAt-append names more at h = (h.0, h.1, slice_get-append names more at _ h.2)
+
+IsTargetAt-append : (names more : List Given) (at : ℕ) → IsTargetAt names at → IsTargetAt (names ++ more) at
+IsTargetAt-append names more at h = elim h [ inl a ↦ inl (IsMailboxAt-append names more at a) | inr b ↦ inr (IsChannelAt-append names more at b) ]
+
+IsPolledAt-append : (names more : List Given) (at : ℕ) → IsPolledAt names at → IsPolledAt (names ++ more) at
+IsPolledAt-append names more at h = elim h [ inl a ↦ inl (IsReceiverAt-append names more at a) | inr b ↦ inr (IsFeedAt-append names more at b) ]
 
 pub IsIVarAt-append : (names more : List Given) (at : ℕ) → IsIVarAt names at → IsIVarAt (names ++ more) at
 IsIVarAt-append names more at h = (h.0, slice_get-append names more at _ h.1)
@@ -67,6 +92,7 @@ GivesAt-append names more at word (makes.Port channel) h = slice_get-append name
 GivesAt-append names more at word makes.IVar h = slice_get-append names more at _ h
 GivesAt-append names more at word makes.MVar h = slice_get-append names more at _ h
 GivesAt-append names more at word (makes.MVarInit message) h = slice_get-append names more at _ h
+GivesAt-append names more at word (makes.Feed f) h = slice_get-append names more at _ h
 
 pub IsMadeWell-append : (names more : List Given) (i : ℕ) (made : Makes) → IsMadeWell names i made → IsMadeWell (names ++ more) i made
 IsMadeWell-append names more i makes.Thread h = tt
@@ -76,6 +102,28 @@ IsMadeWell-append names more i (makes.Port channel) h = (IsChannelAt-append name
 IsMadeWell-append names more i makes.IVar h = tt
 IsMadeWell-append names more i makes.MVar h = tt
 IsMadeWell-append names more i (makes.MVarInit message) h = h
+IsMadeWell-append names more i (makes.Feed f) h = (IsChannelAt-append names more f.channel h.0, h.1, IsSeat-append names more f.seat h.2, h.3)
+
+-- what a pair of look-ups found
+pub both_found : {X Y Z : Type 0} (f : X → Y → Z) (first : Option X) (second : Option Y) (z : Z) → option_and_then (λ x. option_map (f x) second) first ≡ Some z → (x : X) × (y : Y) × (first ≡ Some x) × (second ≡ Some y) × (f x y ≡ z)
+both_found f None second z h = absurd (none-some z h)
+both_found f (Some x) None z h = absurd (none-some z h)
+both_found f (Some x) (Some y) z h = (x, y, refl, refl, same_Some (f x y) z h)
+
+pub both_same : {X Y Z : Type 0} (f : X → Y → Z) (first : Option X) (second : Option Y) (x : X) (y : Y) → first ≡ Some x → second ≡ Some y → option_and_then (λ x. option_map (f x) second) first ≡ Some (f x y)
+both_same f first second x y e g = ap (option_and_then (λ x. option_map (f x) second)) e ∙ ap (option_map (f x)) g
+
+feed_by-append : (names more : List Given) (rest : List (List ℕ)) (f : FeedMaking) → feed_by names rest ≡ Some f → feed_by (names ++ more) rest ≡ Some f
+feed_by-append names more [] f h = absurd (none-some f h)
+feed_by-append names more (thread ∷ []) f h = absurd (none-some f h)
+feed_by-append names more (thread ∷ name ∷ []) f h = absurd (none-some f h)
+feed_by-append names more (thread ∷ name ∷ channel ∷ []) f h = absurd (none-some f h)
+feed_by-append names more (thread ∷ name ∷ channel ∷ capacity ∷ word ∷ rest) f h = absurd (none-some f h)
+feed_by-append names more (thread ∷ name ∷ channel ∷ capacity ∷ []) f h =
+    let said : ℕ → ℕ → FeedMaking = (λ seat at. record { seat = seat; channel = at; capacity = digits_value 10 capacity }) in
+    let found = both_found said (seat_of names thread) (position_of names channel) f h in
+    both_same said (seat_of (names ++ more) thread) (position_of (names ++ more) channel) found.0 found.1 (seat_of-append names more thread found.0 found.2) (position_of-append names more channel found.1 found.3)
+    ∙ ap Some found.4
 
 pub makes_by-append : (names more : List Given) (what : Declares) (rest : List (List ℕ)) (made : Makes) → makes_by names what rest ≡ Some made → makes_by (names ++ more) what rest ≡ Some made
 makes_by-append names more declares.Mailbox rest made h = h
@@ -90,6 +138,9 @@ makes_by-append names more declares.MVar (name ∷ []) made h = h
 makes_by-append names more declares.MVar (name ∷ message ∷ []) made h = h
 makes_by-append names more declares.MVar (name ∷ message ∷ word ∷ rest) made h = h
 makes_by-append names more declares.Thread rest made h = h
+makes_by-append names more declares.Feed rest made h =
+    let found = mapped_some makes.Feed (feed_by names rest) made h in
+    ap (option_map makes.Feed) (feed_by-append names more rest found.0 found.1) ∙ ap Some found.2
 
 makes_of-append : (names more : List Given) (words : List (List ℕ)) (made : Makes) → makes_of names words ≡ Some made → makes_of (names ++ more) words ≡ Some made
 makes_of-append names more [] made h = absurd (none-some made h)
@@ -161,7 +212,7 @@ UsesWell-append : (names more : List Given) (a : Action) → UsesWell names a �
 UsesWell-append names more (action.Send at message) h = (IsMailboxAt-append names more at h.0, h.1)
 UsesWell-append names more (action.Multicast at message) h = (IsChannelAt-append names more at h.0, h.1)
 UsesWell-append names more (action.Recv at) h = IsReceiverAt-append names more at h
-UsesWell-append names more (action.Poll at) h = IsReceiverAt-append names more at h
+UsesWell-append names more (action.Poll at) h = IsPolledAt-append names more at h
 UsesWell-append names more (action.Port at) h = IsChannelAt-append names more at h
 UsesWell-append names more (action.Copy at) h = IsPortAt-append names more at h
 UsesWell-append names more (action.Close at) h = IsPortAt-append names more at h
@@ -181,3 +232,70 @@ ReadsStep-append names more s same h = record {
   yours = (h.yours.0, slice_get-append names more (used_by s.action) h.yours.0 h.yours.1, h.yours.2);
   gives = h.gives;
 }
+
+-- ---- what a lane line says
+ends_by-append : (names more : List Given) (rest : List (List ℕ)) (ends : Ends) → ends_by names rest ≡ Some ends → ends_by (names ++ more) rest ≡ Some ends
+ends_by-append names more [] ends h = absurd (none-some ends h)
+ends_by-append names more (thread ∷ []) ends h = absurd (none-some ends h)
+ends_by-append names more (thread ∷ target ∷ rest) ends h =
+    let found = both_found (λ (seat at : ℕ). (seat, at)) (seat_of names thread) (position_of names target) ends h in
+    both_same (λ (seat at : ℕ). (seat, at)) (seat_of (names ++ more) thread) (position_of (names ++ more) target) found.0 found.1 (seat_of-append names more thread found.0 found.2) (position_of-append names more target found.1 found.3)
+    ∙ ap Some found.4
+
+lane_by-append : (names more : List Given) (rest : List (List ℕ)) (l : Laid) → lane_by names rest ≡ Some l → lane_by (names ++ more) rest ≡ Some l
+lane_by-append names more [] l h = absurd (none-some l h)
+lane_by-append names more (thread ∷ []) l h = absurd (none-some l h)
+lane_by-append names more (thread ∷ target ∷ []) l h = absurd (none-some l h)
+lane_by-append names more (thread ∷ target ∷ capacity ∷ word ∷ rest) l h = absurd (none-some l h)
+lane_by-append names more (thread ∷ target ∷ capacity ∷ []) l h =
+    let said : Ends → Laid = (λ ends. (ends, digits_value 10 capacity)) in
+    let found = mapped_some said (ends_by names (thread ∷ target ∷ [])) l h in
+    ap (option_map said) (ends_by-append names more (thread ∷ target ∷ []) found.0 found.1) ∙ ap Some found.2
+
+lane_of-append : (names more : List Given) (words : List (List ℕ)) (l : Laid) → lane_of names words ≡ Some l → lane_of (names ++ more) words ≡ Some l
+lane_of-append names more [] l h = absurd (none-some l h)
+lane_of-append names more (word ∷ rest) l h = lane_by-append names more rest l h
+
+pub ReadsLane-append : (names more : List Given) (l : Lane) → ReadsLane names l → ReadsLane (names ++ more) l
+ReadsLane-append names more l h = record {
+  says = lane_of-append names more (words_of (string_bytes l.line.text)) ((l.seat, l.target), l.capacity) h.says;
+  seated = IsSeat-append names more l.seat h.seated;
+  target = IsTargetAt-append names more l.target h.target;
+  capacity = h.capacity;
+}
+
+-- a lane line says its ends
+ends_from_lane : (names : List Given) (words : List (List ℕ)) (l : Laid) → lane_of names words ≡ Some l → ends_of names words ≡ Some l.0
+ends_from_lane names [] l h = absurd (none-some l h)
+ends_from_lane names (word ∷ []) l h = absurd (none-some l h)
+ends_from_lane names (word ∷ thread ∷ []) l h = absurd (none-some l h)
+ends_from_lane names (word ∷ thread ∷ target ∷ []) l h = absurd (none-some l h)
+ends_from_lane names (word ∷ thread ∷ target ∷ capacity ∷ more ∷ rest) l h = absurd (none-some l h)
+ends_from_lane names (word ∷ thread ∷ target ∷ capacity ∷ []) l h =
+    let said : Ends → Laid = (λ ends. (ends, digits_value 10 capacity)) in
+    let found = mapped_some said (ends_by names (thread ∷ target ∷ [])) l h in
+    found.1 ∙ ap Some (ap (λ (x : Laid). x.0) found.2)
+
+abbrev lines_of_lanes : List Lane → List SourceLine
+lines_of_lanes ls = map (λ (l : Lane). source_of l.line) ls
+
+-- the lanes' ends, as their lines say them and as they are kept
+pub ends_kept : (names : List Given) (ls : List Lane) → All (ReadsLane names) ls → all_ends names (lines_of_lanes ls) ≡ keys_of (capacities_of ls)
+ends_kept names [] h = refl
+ends_kept names (l ∷ ls) h =
+    ap (λ o. option_to_list o ++ all_ends names (lines_of_lanes ls)) (ends_from_lane names (words_of (string_bytes l.line.text)) ((l.seat, l.target), l.capacity) (All-head (ReadsLane names) l ls h).says)
+    ∙ ap (λ ends. (l.seat, l.target) ∷ ends) (ends_kept names ls (All-tail (ReadsLane names) l ls h))
+
+-- and they stay the same where more names are given
+pub ends_same : (names more : List Given) (ls : List Lane) → All (ReadsLane names) ls → all_ends (names ++ more) (lines_of_lanes ls) ≡ all_ends names (lines_of_lanes ls)
+ends_same names more ls h =
+    ends_kept (names ++ more) ls (All-weaker (ReadsLane names) (ReadsLane (names ++ more)) (λ l r. ReadsLane-append names more l r) ls h) ∙ sym (ends_kept names ls h)
+
+-- the capacity that is kept for some ends is the one that a line says
+pub capacity_kept : (names : List Given) (ls : List Lane) (ends : Ends) → All (ReadsLane names) ls → lookup (are_same ends) (capacities_of ls) ≡ capacity_of names (lines_of_lanes ls) ends
+capacity_kept names [] ends h = refl
+capacity_kept names (l ∷ ls) ends h =
+    let same = capacity_kept names ls ends (All-tail (ReadsLane names) l ls h) in
+    let later = capacity_of names (lines_of_lanes ls) ends in
+    ap (λ o. cond (are_same ends (l.seat, l.target)) (Some l.capacity) o) same
+    ∙ ap (λ o. option_map_or (λ (laid : Laid). cond (are_same ends laid.0) (Some laid.1) later) o later) (sym (All-head (ReadsLane names) l ls h).says)

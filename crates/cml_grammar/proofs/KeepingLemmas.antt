@@ -1,6 +1,8 @@
 -- What holds of the lines so far holds with one more declaration, and with one more step.
 use Rattle.std.proofs.Common.{◌≡◌, ℕ, ◌+◌, ◌≤◌, ◌==◌, Bool, true, false, not, ◌&&◌, ◌||◌, List, [], ◌∷◌, ◌++◌, length, map, slice_get, nat_le, Option, Some, None, String, string_bytes, All, refl, sym, ap, ◌∙◌, subst, arith, inl, inr, ◌⊎◌, ◌<◌, count_by, cond, is_some}
+use Rattle.std.specs.Prelude.{⊤}
 use Rattle.std.specs.Global.{Global}
+use Rattle.std.specs.Map.{keys_of}
 use Rattle.std.specs.Option.{option_map_or, option_and_then, option_map}
 use Rattle.std.specs.Str.Parse.{digits_value}
 use Rattle.std.proofs.lemmas.Bool.{or_right, or_parts, leb-false, ne_eqb, not-false, eqb-true}
@@ -21,93 +23,34 @@ use Rattle.cml_grammar.specs.declared.forms.Action.TheVariants as action
 use Rattle.cml_grammar.specs.declared.forms.Makes.{Makes}
 use Rattle.cml_grammar.specs.declared.forms.Makes.TheVariants as makes
 use Rattle.cml_grammar.specs.declared.script.Declaration.{Declaration}
+use Rattle.cml_grammar.specs.declared.forms.FeedMaking.{FeedMaking}
+use Rattle.cml_grammar.specs.declared.script.Lane.{Lane}
 use Rattle.cml_grammar.specs.declared.script.Step.{Step}
 use Rattle.cml_grammar.specs.Words.{words_of}
 use Rattle.cml_grammar.specs.Names.{Given, thread_count, seat_in, seat_of, named, position_of}
-use Rattle.cml_grammar.specs.Forms.{unknown, no_step, declaration, step, form_of, step_form, declares_of, declared_places, verb_of, fresh_word, named_by, step_places, is_others}
-use Rattle.cml_grammar.specs.Faults.{Scope, fault_in_words, after_words, gives, given_as, is_step, declares_thread, any_word, is_not_yours}
+use Rattle.cml_grammar.specs.Forms.{declaration, step, form_of, declared_places, fresh_word, owner_of, named_by, step_places, is_others}
+use Rattle.cml_grammar.specs.Faults.{Scope, Ends, fault_in_words, after_words, gives, given_as, is_step, declares_thread, any_word, is_not_yours}
 use Rattle.cml_grammar.specs.Script.{SourceLine}
-use Rattle.cml_grammar.specs.Meaning.{scope_of, names_of, makes_by, makes_of, action_by, action_of, seat_of_step}
-use Rattle.cml_grammar.specs.Reading.{source_of, view_of, texts_of, IsSeatedWithin, IsReceiverAt, IsVariableAt, GivesAt, Gives, GivesNames, IsMadeWell, ReadsDeclaration, ReadsStep, UsesWell, UsesEarlier, MayUse, IsYours, used_by, IsReadSoFar, threads_by}
+use Rattle.cml_grammar.specs.Meaning.{scope_of, names_of, feed_by, makes_by, makes_of, action_by, action_of, seat_of_step}
+use Rattle.cml_grammar.specs.Reading.{source_of, view_of, texts_of, IsSeatedWithin, IsReceiverAt, IsPolledAt, IsVariableAt, IsSeat, GivesAt, Gives, GivesNames, IsMadeWell, ReadsDeclaration, ReadsLane, ReadsStep, UsesWell, UsesEarlier, MayUse, IsYours, used_by, IsReadSoFar, threads_by}
 use Rattle.cml_grammar.specs.Giving.{declared_word, asked_word, is_giving, names_before, NamesAreGiven}
 use Rattle.cml_grammar.proofs.ListLemmas.{mapped_some, slice_get-push, each-push}
-use Rattle.cml_grammar.proofs.GrowingLemmas.{GivesAt-append, IsMadeWell-append, ReadsDeclaration-append, GivesNames-append, ReadsStep-append, Asks, step_asks}
+use Rattle.cml_grammar.proofs.GrowingLemmas.{both_found, GivesAt-append, IsMadeWell-append, ReadsDeclaration-append, GivesNames-append, ReadsStep-append, Asks, step_asks, ReadsLane-append, ends_kept, ends_same}
+use Rattle.cml_grammar.proofs.FormLemmas.{IsDeclarationLine, IsStepLine, declaration_line, step_line}
+use Rattle.cml_grammar.proofs.SeatLemmas.{seated_from}
 use Rattle.cml_grammar.proofs.GivingLemmas.{given-declaration, before_same, before_last, given-step}
 use Rattle.cml_grammar.proofs.TableLemmas.{Passes, words_pass}
 use Rattle.cml_grammar.proofs.ReadingLemmas.{no_steps, scope_of-with_words, view-declaration, view-step}
 
--- ---- what the form of a line says of its words
-chosen : {A B : Type 0} (o : Option A) (f : A → B) (d : B) → ((a : A) × (o ≡ Some a) × (option_map_or f o d ≡ f a)) ⊎ ((o ≡ None) × (option_map_or f o d ≡ d))
-chosen None f d = inr (refl, refl)
-chosen (Some a) f d = inl (a, refl, refl)
-
-pub record IsDeclarationLine (words : List (List ℕ)) (what : Declares) (rest : List (List ℕ)) : Type 0 where
-  pub word : List ℕ
-  pub is : words ≡ word ∷ rest
-  pub declares : declares_of word ≡ Some what
-
-pub record IsStepLine (names : List Given) (words : List (List ℕ)) (seat : ℕ) (verb : Verb) (rest : List (List ℕ)) : Type 0 where
-  pub thread : List ℕ
-  pub word : List ℕ
-  pub is : words ≡ thread ∷ word ∷ rest
-  pub seated : seat_of names thread ≡ Some seat
-  pub does : verb_of word ≡ Some verb
-
-not_declaration : (seat : ℕ) (words : List (List ℕ)) (what : Declares) (rest : List (List ℕ)) → step_form seat words ≡ declaration what rest → ⊥
-not_declaration seat [] what rest h = cc
-not_declaration seat (word ∷ words) what rest h =
-    elim (chosen (verb_of word) (λ v. step seat v words) (no_step seat)) [
-      | inl a ↦ let e : step seat a.0 words ≡ declaration what rest = sym a.2 ∙ h in cc
-      | inr b ↦ let e : no_step seat ≡ declaration what rest = sym b.1 ∙ h in cc
-    ]
-
-pub declaration_line : (names : List Given) (words : List (List ℕ)) (what : Declares) (rest : List (List ℕ)) → form_of names words ≡ declaration what rest → IsDeclarationLine words what rest
-declaration_line names [] what rest h = absurd (let e : unknown ≡ declaration what rest = h in cc)
-declaration_line names (word ∷ words) what rest h =
-    elim (chosen (declares_of word) (λ d. declaration d words) (option_map_or (λ seat. step_form seat words) (seat_of names word) unknown)) [
-      | inl a ↦
-          let e : declaration a.0 words ≡ declaration what rest = sym a.2 ∙ h in
-          let same : a.0 ≡ what = cc in
-          let left : words ≡ rest = cc in
-          record { word = word; is = ap (λ ws. word ∷ ws) left; declares = a.1 ∙ ap Some same }
-      | inr b ↦ absurd (elim (chosen (seat_of names word) (λ seat. step_form seat words) unknown) [
-        | inl s ↦ not_declaration s.0 words what rest (sym s.2 ∙ sym b.1 ∙ h)
-        | inr n ↦ let e : unknown ≡ declaration what rest = sym n.1 ∙ sym b.1 ∙ h in cc
-      ])
-    ]
-
-step_line_from : (names : List Given) (thread : List ℕ) (given seat : ℕ) (words : List (List ℕ)) (verb : Verb) (rest : List (List ℕ)) → seat_of names thread ≡ Some given → step_form given words ≡ step seat verb rest → IsStepLine names (thread ∷ words) seat verb rest
-step_line_from names thread given seat [] verb rest found h = absurd (let e : no_step given ≡ step seat verb rest = h in cc)
-step_line_from names thread given seat (word ∷ words) verb rest found h =
-    elim (chosen (verb_of word) (λ v. step given v words) (no_step given)) [
-      | inl a ↦
-          let e : step given a.0 words ≡ step seat verb rest = sym a.2 ∙ h in
-          let same : given ≡ seat = cc in
-          let does : a.0 ≡ verb = cc in
-          let left : words ≡ rest = cc in
-          record { thread = thread; word = word; is = ap (λ ws. thread ∷ word ∷ ws) left; seated = found ∙ ap Some same; does = a.1 ∙ ap Some does }
-      | inr b ↦ absurd (let e : no_step given ≡ step seat verb rest = sym b.1 ∙ h in cc)
-    ]
-
-pub step_line : (names : List Given) (words : List (List ℕ)) (seat : ℕ) (verb : Verb) (rest : List (List ℕ)) → form_of names words ≡ step seat verb rest → IsStepLine names words seat verb rest
-step_line names [] seat verb rest h = absurd (let e : unknown ≡ step seat verb rest = h in cc)
-step_line names (word ∷ words) seat verb rest h =
-    elim (chosen (declares_of word) (λ d. declaration d words) (option_map_or (λ seat. step_form seat words) (seat_of names word) unknown)) [
-      | inl a ↦ absurd (let e : declaration a.0 words ≡ step seat verb rest = sym a.2 ∙ h in cc)
-      | inr b ↦ elim (chosen (seat_of names word) (λ seat. step_form seat words) unknown) [
-        | inl s ↦ step_line_from names word s.0 seat words verb rest s.1 (sym s.2 ∙ sym b.1 ∙ h)
-        | inr n ↦ absurd (let e : unknown ≡ step seat verb rest = sym n.1 ∙ sym b.1 ∙ h in cc)
-      ]
-    ]
-
 -- ---- names with one more
-pub thread_count-push : (names : List Given) (word : List ℕ) (what : Declares) (threads : ℕ) → thread_count (names ++ (word, named_by what threads) ∷ []) ≡ thread_count names + threads_by what
-thread_count-push names word declares.Mailbox threads = sum_by_push _ names (word, called.Mailbox)
-thread_count-push names word declares.Channel threads = sum_by_push _ names (word, called.Channel)
-thread_count-push names word declares.Port threads = sum_by_push _ names (word, called.Port users.Every)
-thread_count-push names word declares.IVar threads = sum_by_push _ names (word, called.IVar)
-thread_count-push names word declares.MVar threads = sum_by_push _ names (word, called.MVar)
-thread_count-push names word declares.Thread threads = sum_by_push _ names (word, called.Thread (threads + 1))
+pub thread_count-push : (names : List Given) (word : List ℕ) (what : Declares) (threads owner : ℕ) → thread_count (names ++ (word, named_by what threads owner) ∷ []) ≡ thread_count names + threads_by what
+thread_count-push names word declares.Mailbox threads owner = sum_by_push _ names (word, called.Mailbox)
+thread_count-push names word declares.Channel threads owner = sum_by_push _ names (word, called.Channel)
+thread_count-push names word declares.Port threads owner = sum_by_push _ names (word, called.Port users.Every)
+thread_count-push names word declares.IVar threads owner = sum_by_push _ names (word, called.IVar)
+thread_count-push names word declares.MVar threads owner = sum_by_push _ names (word, called.MVar)
+thread_count-push names word declares.Thread threads owner = sum_by_push _ names (word, called.Thread (threads + 1))
+thread_count-push names word declares.Feed threads owner = sum_by_push _ names (word, called.Feed owner)
 
 seated_more : (m n : ℕ) → m ≤ n → (k : Named) → IsSeatedWithin m k → IsSeatedWithin n k
 seated_more m n le (called.Thread seat) h = (h.0, omega (arith, h.1))
@@ -116,92 +59,133 @@ seated_more m n le called.Channel h = tt
 seated_more m n le (called.Port whose) h = tt
 seated_more m n le called.IVar h = tt
 seated_more m n le called.MVar h = tt
+seated_more m n le (called.Feed owner) h = (h.0, omega (arith, h.1))
 
-seated_new : (what : Declares) (threads : ℕ) → IsSeatedWithin (threads + threads_by what) (named_by what threads)
-seated_new declares.Mailbox threads = tt
-seated_new declares.Channel threads = tt
-seated_new declares.Port threads = tt
-seated_new declares.IVar threads = tt
-seated_new declares.MVar threads = tt
-seated_new declares.Thread threads = (omega arith, omega arith)
+-- the owner of a feed is one of the threads
+IsOwned : Declares → ℕ → ℕ → Type 0
+IsOwned declares.Feed n owner = (1 ≤ owner) × (owner ≤ n)
+IsOwned _ n owner = ⊤
 
-seats_push : (names : List Given) (word : List ℕ) (what : Declares) → All (λ g. IsSeatedWithin (thread_count names) g.1) names
-    → All (λ g. IsSeatedWithin (thread_count (names ++ (word, named_by what (thread_count names)) ∷ [])) g.1) (names ++ (word, named_by what (thread_count names)) ∷ [])
-seats_push names word what seats =
+seated_new : (what : Declares) (threads owner : ℕ) → IsOwned what threads owner → IsSeatedWithin (threads + threads_by what) (named_by what threads owner)
+unfolding IsOwned
+seated_new declares.Mailbox threads owner h = tt
+seated_new declares.Channel threads owner h = tt
+seated_new declares.Port threads owner h = tt
+seated_new declares.IVar threads owner h = tt
+seated_new declares.MVar threads owner h = tt
+seated_new declares.Thread threads owner h = (omega arith, omega arith)
+seated_new declares.Feed threads owner h = (h.0, omega (arith, h.1))
+
+seats_push : (names : List Given) (word : List ℕ) (what : Declares) (owner : ℕ) → IsOwned what (thread_count names) owner → All (λ g. IsSeatedWithin (thread_count names) g.1) names
+    → All (λ g. IsSeatedWithin (thread_count (names ++ (word, named_by what (thread_count names) owner) ∷ [])) g.1) (names ++ (word, named_by what (thread_count names) owner) ∷ [])
+seats_push names word what owner owned seats =
     let count = thread_count names in
-    let grown : count + threads_by what ≡ thread_count (names ++ (word, named_by what count) ∷ []) = sym (thread_count-push names word what count) in
-    subst (λ n. All (λ (g : Given). IsSeatedWithin n g.1) (names ++ (word, named_by what count) ∷ [])) grown
-    (All-push (λ (g : Given). IsSeatedWithin (count + threads_by what) g.1) names (word, named_by what count)
+    let grown : count + threads_by what ≡ thread_count (names ++ (word, named_by what count owner) ∷ []) = sym (thread_count-push names word what count owner) in
+    subst (λ n. All (λ (g : Given). IsSeatedWithin n g.1) (names ++ (word, named_by what count owner) ∷ [])) grown
+    (All-push (λ (g : Given). IsSeatedWithin (count + threads_by what) g.1) names (word, named_by what count owner)
     (All-weaker (λ (g : Given). IsSeatedWithin count g.1) (λ (g : Given). IsSeatedWithin (count + threads_by what) g.1) (λ g h. seated_more count (count + threads_by what) (omega arith) g.1 h) names seats)
-    (seated_new what count))
+    (seated_new what count owner owned))
+
+-- a feed's line names the seat that its making has
+owner_found : (names : List Given) (rest : List (List ℕ)) (f : FeedMaking) → feed_by names rest ≡ Some f → owner_of names rest ≡ f.seat
+owner_found names [] f h = absurd (none-some f h)
+owner_found names (thread ∷ []) f h = absurd (none-some f h)
+owner_found names (thread ∷ name ∷ []) f h = absurd (none-some f h)
+owner_found names (thread ∷ name ∷ channel ∷ []) f h = absurd (none-some f h)
+owner_found names (thread ∷ name ∷ channel ∷ capacity ∷ word ∷ words) f h = absurd (none-some f h)
+owner_found names (thread ∷ name ∷ channel ∷ capacity ∷ []) f h =
+    let said : ℕ → ℕ → FeedMaking = (λ seat at. record { seat = seat; channel = at; capacity = digits_value 10 capacity }) in
+    let found = both_found said (seat_of names thread) (position_of names channel) f h in
+    ap (λ (o : Option ℕ). option_map_or (λ seat. seat) o 0) found.2 ∙ ap (λ (m : FeedMaking). m.seat) found.4
+
+-- so it is owned where it is made well
+owned_from : (names : List Given) (what : Declares) (rest : List (List ℕ)) (made : Makes) (i : ℕ) → makes_by names what rest ≡ Some made → IsMadeWell names i made → IsOwned what (thread_count names) (owner_of names rest)
+unfolding IsOwned
+owned_from names declares.Mailbox rest made i h well = tt
+owned_from names declares.Channel rest made i h well = tt
+owned_from names declares.Port rest made i h well = tt
+owned_from names declares.IVar rest made i h well = tt
+owned_from names declares.MVar rest made i h well = tt
+owned_from names declares.Thread rest made i h well = tt
+owned_from names declares.Feed rest made i h well =
+    let found = mapped_some makes.Feed (feed_by names rest) made h in
+    let there = subst (IsMadeWell names i) (sym found.2) well in
+    subst (λ (seat : ℕ). IsSeat names seat) (sym (owner_found names rest found.0 found.1)) there.2
 
 mvar_new : (names : List Given) (word : List ℕ) (made given : Makes) → Some given ≡ Some made → GivesAt (names ++ (word, called.MVar) ∷ []) (length names) word given → GivesAt (names ++ (word, called.MVar) ∷ []) (length names) word made
 mvar_new names word made given h at = subst (GivesAt (names ++ (word, called.MVar) ∷ []) (length names) word) (same_Some _ _ h) at
 
-GivesAt-new : (names : List Given) (word : List ℕ) (what : Declares) (threads : ℕ) (made : Makes) (rest : List (List ℕ)) → makes_by names what rest ≡ Some made → GivesAt (names ++ (word, named_by what threads) ∷ []) (length names) word made
-GivesAt-new names word declares.Mailbox threads made rest h = subst (GivesAt (names ++ (word, called.Mailbox) ∷ []) (length names) word) (same_Some _ _ h) (slice_get-push names (word, called.Mailbox))
-GivesAt-new names word declares.Channel threads made rest h = subst (GivesAt (names ++ (word, called.Channel) ∷ []) (length names) word) (same_Some _ _ h) (slice_get-push names (word, called.Channel))
-GivesAt-new names word declares.Port threads made [] h = absurd (none-some made h)
-GivesAt-new names word declares.Port threads made (channel ∷ rest) h =
+GivesAt-new : (names : List Given) (word : List ℕ) (what : Declares) (threads owner : ℕ) (made : Makes) (rest : List (List ℕ)) → owner ≡ owner_of names rest → makes_by names what rest ≡ Some made → GivesAt (names ++ (word, named_by what threads owner) ∷ []) (length names) word made
+GivesAt-new names word declares.Mailbox threads owner made rest own h = subst (GivesAt (names ++ (word, called.Mailbox) ∷ []) (length names) word) (same_Some _ _ h) (slice_get-push names (word, called.Mailbox))
+GivesAt-new names word declares.Channel threads owner made rest own h = subst (GivesAt (names ++ (word, called.Channel) ∷ []) (length names) word) (same_Some _ _ h) (slice_get-push names (word, called.Channel))
+GivesAt-new names word declares.Port threads owner made [] own h = absurd (none-some made h)
+GivesAt-new names word declares.Port threads owner made (channel ∷ rest) own h =
     let found = mapped_some makes.Port (position_of names channel) made h in
     subst (GivesAt (names ++ (word, called.Port users.Every) ∷ []) (length names) word) found.2 (slice_get-push names (word, called.Port users.Every))
-GivesAt-new names word declares.IVar threads made rest h = subst (GivesAt (names ++ (word, called.IVar) ∷ []) (length names) word) (same_Some _ _ h) (slice_get-push names (word, called.IVar))
-GivesAt-new names word declares.MVar threads made [] h = mvar_new names word made makes.MVar h (slice_get-push names (word, called.MVar))
-GivesAt-new names word declares.MVar threads made (name ∷ []) h = mvar_new names word made makes.MVar h (slice_get-push names (word, called.MVar))
-GivesAt-new names word declares.MVar threads made (name ∷ message ∷ []) h = mvar_new names word made (makes.MVarInit (digits_value 10 message)) h (slice_get-push names (word, called.MVar))
-GivesAt-new names word declares.MVar threads made (name ∷ message ∷ more ∷ rest) h = mvar_new names word made makes.MVar h (slice_get-push names (word, called.MVar))
-GivesAt-new names word declares.Thread threads made rest h = subst (GivesAt (names ++ (word, called.Thread (threads + 1)) ∷ []) (length names) word) (same_Some _ _ h) (threads + 1, slice_get-push names (word, called.Thread (threads + 1)))
+GivesAt-new names word declares.IVar threads owner made rest own h = subst (GivesAt (names ++ (word, called.IVar) ∷ []) (length names) word) (same_Some _ _ h) (slice_get-push names (word, called.IVar))
+GivesAt-new names word declares.MVar threads owner made [] own h = mvar_new names word made makes.MVar h (slice_get-push names (word, called.MVar))
+GivesAt-new names word declares.MVar threads owner made (name ∷ []) own h = mvar_new names word made makes.MVar h (slice_get-push names (word, called.MVar))
+GivesAt-new names word declares.MVar threads owner made (name ∷ message ∷ []) own h = mvar_new names word made (makes.MVarInit (digits_value 10 message)) h (slice_get-push names (word, called.MVar))
+GivesAt-new names word declares.MVar threads owner made (name ∷ message ∷ more ∷ rest) own h = mvar_new names word made makes.MVar h (slice_get-push names (word, called.MVar))
+GivesAt-new names word declares.Thread threads owner made rest own h = subst (GivesAt (names ++ (word, called.Thread (threads + 1)) ∷ []) (length names) word) (same_Some _ _ h) (threads + 1, slice_get-push names (word, called.Thread (threads + 1)))
+GivesAt-new names word declares.Feed threads owner made rest own h =
+    let found = mapped_some makes.Feed (feed_by names rest) made h in
+    subst (GivesAt (names ++ (word, called.Feed owner) ∷ []) (length names) word) found.2
+    (slice_get-push names (word, called.Feed owner) ∙ ap (λ (seat : ℕ). Some (word, called.Feed seat)) (own ∙ owner_found names rest found.0 found.1))
 
-pub GivesNames-push : (names : List Given) (ds : List Declaration) (word : List ℕ) (what : Declares) (threads : ℕ) (d : Declaration) (rest : List (List ℕ))
-    → length names ≡ length ds → GivesNames names ds → declared_word (words_of (string_bytes d.line.text)) ≡ Some word → makes_by names what rest ≡ Some d.makes → IsMadeWell names (length names) d.makes
-    → GivesNames (names ++ (word, named_by what threads) ∷ []) (ds ++ d ∷ [])
-GivesNames-push names ds word what threads d rest same h there makes well =
-    let more : List Given = (word, named_by what threads) ∷ [] in
+pub GivesNames-push : (names : List Given) (ds : List Declaration) (word : List ℕ) (what : Declares) (threads owner : ℕ) (d : Declaration) (rest : List (List ℕ))
+    → owner ≡ owner_of names rest → length names ≡ length ds → GivesNames names ds → declared_word (words_of (string_bytes d.line.text)) ≡ Some word → makes_by names what rest ≡ Some d.makes → IsMadeWell names (length names) d.makes
+    → GivesNames (names ++ (word, named_by what threads owner) ∷ []) (ds ++ d ∷ [])
+GivesNames-push names ds word what threads owner d rest own same h there makes well =
+    let more : List Given = (word, named_by what threads owner) ∷ [] in
     record {
       each = each-push (Gives (names ++ more)) ds d (λ i x found. let g = h.each i x found in (g.0, g.1, GivesAt-append names more i g.0 x.makes g.2))
-          (subst (λ (n : ℕ). Gives (names ++ more) n d) same (word, there, GivesAt-new names word what threads d.makes rest makes));
+          (subst (λ (n : ℕ). Gives (names ++ more) n d) same (word, there, GivesAt-new names word what threads owner d.makes rest own makes));
       made = each-push (λ i (x : Declaration). IsMadeWell (names ++ more) i x.makes) ds d (λ i x found. IsMadeWell-append names more i x.makes (h.made i x found))
           (subst (λ (n : ℕ). IsMadeWell (names ++ more) n d.makes) same (IsMadeWell-append names more (length names) d.makes well));
     }
 
 -- ---- the lines so far, with one more declaration
-module _ (v : ℕ) (es : List (String Global × Named)) (ds : List Declaration) (ss : List Step) (threads : ℕ)
+module _ (v : ℕ) (es : List (String Global × Named)) (ds : List Declaration) (ls : List Lane) (cs : List (Ends × ℕ)) (ss : List Step) (threads : ℕ)
     (d : Declaration) (what : Declares) (rest : List (List ℕ)) (name : List ℕ)
-    (so_far : IsReadSoFar (view_of v ds ss) es ds ss threads)
-    (none : fault_in_words (scope_of (view_of v ds ss)) (words_of (string_bytes d.line.text)) ≡ None)
-    (form : form_of (names_of (view_of v ds ss)) (words_of (string_bytes d.line.text)) ≡ declaration what rest)
+    (so_far : IsReadSoFar (view_of v ds ls ss) es ds ls cs ss threads)
+    (none : fault_in_words (scope_of (view_of v ds ls ss)) (words_of (string_bytes d.line.text)) ≡ None)
+    (form : form_of (names_of (view_of v ds ls ss)) (words_of (string_bytes d.line.text)) ≡ declaration what rest)
     (there : fresh_word (declared_places what rest) rest ≡ Some name)
-    (makes : makes_by (names_of (view_of v ds ss)) what rest ≡ Some d.makes)
-    (well : IsMadeWell (names_of (view_of v ds ss)) (length (names_of (view_of v ds ss))) d.makes) where
-  pub declared_passes : Passes (scope_of (view_of v ds ss)) (declaration what rest)
-  declared_passes = subst (Passes (scope_of (view_of v ds ss))) form (words_pass (scope_of (view_of v ds ss)) (words_of (string_bytes d.line.text)) none).1
+    (makes : makes_by (names_of (view_of v ds ls ss)) what rest ≡ Some d.makes)
+    (well : IsMadeWell (names_of (view_of v ds ls ss)) (length (names_of (view_of v ds ls ss))) d.makes) where
+  pub declared_passes : Passes (scope_of (view_of v ds ls ss)) (declaration what rest)
+  declared_passes = subst (Passes (scope_of (view_of v ds ls ss))) form (words_pass (scope_of (view_of v ds ls ss)) (words_of (string_bytes d.line.text)) none).1
 
-  sources_started : (scope_of (view_of v ds ss)).started ≡ not (length (view_of v ds ss).steps == 0)
+  sources_started : (scope_of (view_of v ds ls ss)).started ≡ not (length (view_of v ds ls ss).steps == 0)
   sources_started = so_far.started ∙ ap (λ n. not (n == 0)) (sym (length-map ss _))
 
   no_step_seen : ss ≡ []
-  no_step_seen = by ss (no_steps (view_of v ds ss) (declaration what rest) sources_started declared_passes refl)
+  no_step_seen = by ss (no_steps (view_of v ds ls ss) (declaration what rest) sources_started declared_passes refl)
     where
       by : (xs : List Step) → map (λ (s : Step). source_of s.line) xs ≡ [] → xs ≡ []
       by [] e = refl
       by (x ∷ xs) e = absurd (let f : length (map (λ (s : Step). source_of s.line) (x ∷ xs)) ≡ 0 = ap length e in omega arith)
 
-  pub declared_scope : scope_of (view_of v (ds ++ d ∷ []) ss) ≡ after_words (scope_of (view_of v ds ss)) (words_of (string_bytes d.line.text))
+  pub declared_scope : scope_of (view_of v (ds ++ d ∷ []) ls ss) ≡ after_words (scope_of (view_of v ds ls ss)) (words_of (string_bytes d.line.text))
   declared_scope =
-      ap scope_of (view-declaration v ds ss d rest what form)
-      ∙ scope_of-with_words (view_of v ds ss) d.line.number (string_bytes d.line.text) sources_started none
+      ap scope_of (view-declaration v ds ls ss d rest what form)
+      ∙ scope_of-with_words (view_of v ds ls ss) d.line.number (string_bytes d.line.text) sources_started (λ more. ends_same (names_of (view_of v ds ls ss)) more ls so_far.lanes) none
 
-  declared_names : names_of (view_of v (ds ++ d ∷ []) ss) ≡ names_of (view_of v ds ss) ++ (name, named_by what (thread_count (names_of (view_of v ds ss)))) ∷ []
+  abbrev owner : ℕ
+  owner = owner_of (names_of (view_of v ds ls ss)) rest
+
+  declared_names : names_of (view_of v (ds ++ d ∷ []) ls ss) ≡ names_of (view_of v ds ls ss) ++ (name, named_by what (thread_count (names_of (view_of v ds ls ss))) owner) ∷ []
   declared_names =
       ap (λ (s : Scope). s.names) declared_scope
-      ∙ ap (λ f. names_of (view_of v ds ss) ++ gives (names_of (view_of v ds ss)) f) form
-      ∙ ap (λ w. names_of (view_of v ds ss) ++ given_as (named_by what (thread_count (names_of (view_of v ds ss)))) w) there
+      ∙ ap (λ f. names_of (view_of v ds ls ss) ++ gives (names_of (view_of v ds ls ss)) f) form
+      ∙ ap (λ w. names_of (view_of v ds ls ss) ++ given_as (named_by what (thread_count (names_of (view_of v ds ls ss))) owner) w) there
 
-  declared_started : (scope_of (view_of v (ds ++ d ∷ []) ss)).started ≡ not (length ss == 0)
+  declared_started : (scope_of (view_of v (ds ++ d ∷ []) ls ss)).started ≡ not (length ss == 0)
   declared_started =
       ap (λ (s : Scope). s.started) declared_scope
-      ∙ ap (λ f. (scope_of (view_of v ds ss)).started || is_step f) form
-      ∙ or_false (scope_of (view_of v ds ss)).started
+      ∙ ap (λ f. (scope_of (view_of v ds ls ss)).started || is_step f) form
+      ∙ or_false (scope_of (view_of v ds ls ss)).started
       ∙ so_far.started
     where
       or_false : (b : Bool) → (b || false) ≡ b
@@ -211,19 +195,20 @@ module _ (v : ℕ) (es : List (String Global × Named)) (ds : List Declaration) 
   room : threads + threads_by what ≤ 64
   room = by what declared_passes.room
     where
-      by : (w : Declares) → (declares_thread (declaration w rest) && nat_le 64 (thread_count (names_of (view_of v ds ss)))) ≡ false → threads + threads_by w ≤ 64
+      by : (w : Declares) → (declares_thread (declaration w rest) && nat_le 64 (thread_count (names_of (view_of v ds ls ss)))) ≡ false → threads + threads_by w ≤ 64
       by declares.Mailbox h = omega (arith, so_far.limit)
       by declares.Channel h = omega (arith, so_far.limit)
       by declares.Port h = omega (arith, so_far.limit)
       by declares.IVar h = omega (arith, so_far.limit)
       by declares.MVar h = omega (arith, so_far.limit)
-      by declares.Thread h = omega (arith, so_far.count, leb-false 64 (thread_count (names_of (view_of v ds ss))) h)
+      by declares.Feed h = omega (arith, so_far.limit)
+      by declares.Thread h = omega (arith, so_far.count, leb-false 64 (thread_count (names_of (view_of v ds ls ss))) h)
 
   line : IsDeclarationLine (words_of (string_bytes d.line.text)) what rest
-  line = declaration_line (names_of (view_of v ds ss)) (words_of (string_bytes d.line.text)) what rest form
+  line = declaration_line (names_of (view_of v ds ls ss)) (words_of (string_bytes d.line.text)) what rest form
 
-  reads : ReadsDeclaration (names_of (view_of v ds ss)) d
-  reads = record { makes = ap (makes_of (names_of (view_of v ds ss))) line.is ∙ ap (option_and_then (λ w. makes_by (names_of (view_of v ds ss)) w rest)) line.declares ∙ makes }
+  reads : ReadsDeclaration (names_of (view_of v ds ls ss)) d
+  reads = record { makes = ap (makes_of (names_of (view_of v ds ls ss))) line.is ∙ ap (option_and_then (λ w. makes_by (names_of (view_of v ds ls ss)) w rest)) line.declares ∙ makes }
 
   declared_there : declared_word (words_of (string_bytes d.line.text)) ≡ Some name
   declared_there = ap declared_word line.is ∙ ap (option_and_then (λ w. fresh_word (declared_places w rest) rest)) line.declares ∙ there
@@ -232,58 +217,46 @@ module _ (v : ℕ) (es : List (String Global × Named)) (ds : List Declaration) 
   abbrev declared_lines : List SourceLine
   declared_lines = map (λ (x : Declaration). source_of x.line) ds
 
-  same_length : length (names_of (view_of v ds ss)) ≡ length ds
+  same_length : length (names_of (view_of v ds ls ss)) ≡ length ds
   same_length =
-      let total : length (names_of (view_of v ds ss)) ≡ length declared_lines + 0 = so_far.given.total ∙ ap (λ (xs : List Step). length declared_lines + count_by is_giving (map (λ (x : Step). source_of x.line) xs)) no_step_seen in
+      let total : length (names_of (view_of v ds ls ss)) ≡ length declared_lines + 0 = so_far.given.total ∙ ap (λ (xs : List Step). length declared_lines + count_by is_giving (map (λ (x : Step). source_of x.line) xs)) no_step_seen in
       omega (arith, total, length-map ds (λ (x : Declaration). source_of x.line))
 
-  declared_given : NamesAreGiven (names_of (view_of v (ds ++ d ∷ []) ss)) (view_of v (ds ++ d ∷ []) ss).declarations (view_of v (ds ++ d ∷ []) ss).steps
+  declared_given : NamesAreGiven (names_of (view_of v (ds ++ d ∷ []) ls ss)) (view_of v (ds ++ d ∷ []) ls ss).declarations (view_of v (ds ++ d ∷ []) ls ss).steps
   declared_given =
-      let more : List Given = (name, named_by what (thread_count (names_of (view_of v ds ss)))) ∷ [] in
+      let more : List Given = (name, named_by what (thread_count (names_of (view_of v ds ls ss))) owner) ∷ [] in
       subst (λ (gs : List Given). NamesAreGiven gs (map (λ (x : Declaration). source_of x.line) (ds ++ d ∷ [])) (map (λ (x : Step). source_of x.line) ss)) (sym declared_names)
-      (subst (λ (ls : List SourceLine). NamesAreGiven (names_of (view_of v ds ss) ++ more) ls (map (λ (x : Step). source_of x.line) ss)) (sym (map-append (λ (x : Declaration). source_of x.line) ds (d ∷ [])))
-      (subst (λ (xs : List Step). NamesAreGiven (names_of (view_of v ds ss) ++ more) (declared_lines ++ source_of d.line ∷ []) (map (λ (x : Step). source_of x.line) xs)) (sym no_step_seen)
-      (given-declaration (names_of (view_of v ds ss)) declared_lines (source_of d.line) name (named_by what (thread_count (names_of (view_of v ds ss))))
-      (subst (λ (xs : List Step). NamesAreGiven (names_of (view_of v ds ss)) declared_lines (map (λ (x : Step). source_of x.line) xs)) no_step_seen so_far.given) declared_there)))
+      (subst (λ (lines : List SourceLine). NamesAreGiven (names_of (view_of v ds ls ss) ++ more) lines (map (λ (x : Step). source_of x.line) ss)) (sym (map-append (λ (x : Declaration). source_of x.line) ds (d ∷ [])))
+      (subst (λ (xs : List Step). NamesAreGiven (names_of (view_of v ds ls ss) ++ more) (declared_lines ++ source_of d.line ∷ []) (map (λ (x : Step). source_of x.line) xs)) (sym no_step_seen)
+      (given-declaration (names_of (view_of v ds ls ss)) declared_lines (source_of d.line) name (named_by what (thread_count (names_of (view_of v ds ls ss))) owner)
+      (subst (λ (xs : List Step). NamesAreGiven (names_of (view_of v ds ls ss)) declared_lines (map (λ (x : Step). source_of x.line) xs)) no_step_seen so_far.given) declared_there)))
 
-  pub declared_so_far : (es' : List (String Global × Named)) → texts_of es' ≡ texts_of es ++ (name, named_by what threads) ∷ [] → IsReadSoFar (view_of v (ds ++ d ∷ []) ss) es' (ds ++ d ∷ []) ss (threads + threads_by what)
+  grown_lanes : All (ReadsLane (names_of (view_of v (ds ++ d ∷ []) ls ss))) ls
+  grown_lanes =
+      subst (λ gs. All (ReadsLane gs) ls) (sym declared_names)
+      (All-weaker (ReadsLane (names_of (view_of v ds ls ss))) (ReadsLane (names_of (view_of v ds ls ss) ++ _)) (λ x h. ReadsLane-append (names_of (view_of v ds ls ss)) _ x h) ls so_far.lanes)
+
+  pub declared_so_far : (es' : List (String Global × Named)) → texts_of es' ≡ texts_of es ++ (name, named_by what threads owner) ∷ [] → IsReadSoFar (view_of v (ds ++ d ∷ []) ls ss) es' (ds ++ d ∷ []) ls cs ss (threads + threads_by what)
   declared_so_far es' entries = record {
-    names = entries ∙ ap (λ gs. gs ++ (name, named_by what threads) ∷ []) so_far.names ∙ ap (λ n. names_of (view_of v ds ss) ++ (name, named_by what n) ∷ []) so_far.count ∙ sym declared_names;
+    names = entries ∙ ap (λ gs. gs ++ (name, named_by what threads owner) ∷ []) so_far.names ∙ ap (λ n. names_of (view_of v ds ls ss) ++ (name, named_by what n owner) ∷ []) so_far.count ∙ sym declared_names;
     gives = subst (λ gs. GivesNames gs (ds ++ d ∷ [])) (sym declared_names)
-        (GivesNames-push (names_of (view_of v ds ss)) ds name what (thread_count (names_of (view_of v ds ss))) d rest same_length so_far.gives declared_there makes well);
+        (GivesNames-push (names_of (view_of v ds ls ss)) ds name what (thread_count (names_of (view_of v ds ls ss))) owner d rest refl same_length so_far.gives declared_there makes well);
     given = declared_given;
     declarations = subst (λ gs. All (ReadsDeclaration gs) (ds ++ d ∷ [])) (sym declared_names)
-        (All-weaker (ReadsDeclaration (names_of (view_of v ds ss))) (ReadsDeclaration (names_of (view_of v ds ss) ++ _)) (λ x h. ReadsDeclaration-append (names_of (view_of v ds ss)) _ x h) (ds ++ d ∷ [])
-        (All-push (ReadsDeclaration (names_of (view_of v ds ss))) ds d so_far.declarations reads));
-    steps = subst (All (ReadsStep (names_of (view_of v (ds ++ d ∷ []) ss)))) (sym no_step_seen) (All-nil (ReadsStep (names_of (view_of v (ds ++ d ∷ []) ss))));
-    earlier = subst (UsesEarlier (view_of v (ds ++ d ∷ []) ss)) (sym no_step_seen) (λ k s found. absurd (none-some s found));
-    count = ap (λ n. n + threads_by what) so_far.count ∙ sym (thread_count-push (names_of (view_of v ds ss)) name what (thread_count (names_of (view_of v ds ss)))) ∙ ap thread_count (sym declared_names);
+        (All-weaker (ReadsDeclaration (names_of (view_of v ds ls ss))) (ReadsDeclaration (names_of (view_of v ds ls ss) ++ _)) (λ x h. ReadsDeclaration-append (names_of (view_of v ds ls ss)) _ x h) (ds ++ d ∷ [])
+        (All-push (ReadsDeclaration (names_of (view_of v ds ls ss))) ds d so_far.declarations reads));
+    lanes = grown_lanes;
+    capacities_are = so_far.capacities_are;
+    steps = subst (All (ReadsStep (names_of (view_of v (ds ++ d ∷ []) ls ss)))) (sym no_step_seen) (All-nil (ReadsStep (names_of (view_of v (ds ++ d ∷ []) ls ss))));
+    earlier = subst (UsesEarlier (view_of v (ds ++ d ∷ []) ls ss)) (sym no_step_seen) (λ k s found. absurd (none-some s found));
+    count = ap (λ n. n + threads_by what) so_far.count ∙ sym (thread_count-push (names_of (view_of v ds ls ss)) name what (thread_count (names_of (view_of v ds ls ss))) owner) ∙ ap thread_count (sym declared_names);
     limit = room;
-    seats = subst (λ gs. All (λ (g : Given). IsSeatedWithin (thread_count gs) g.1) gs) (sym declared_names) (seats_push (names_of (view_of v ds ss)) name what so_far.seats);
+    seats = subst (λ gs. All (λ (g : Given). IsSeatedWithin (thread_count gs) g.1) gs) (sym declared_names) (seats_push (names_of (view_of v ds ls ss)) name what owner (owned_from (names_of (view_of v ds ls ss)) what rest d.makes (length (names_of (view_of v ds ls ss))) makes well) so_far.seats);
     started = declared_started;
+    ends = ends_kept (names_of (view_of v (ds ++ d ∷ []) ls ss)) ls grown_lanes ∙ ap keys_of (sym so_far.capacities_are);
   }
 
 -- ---- and with one more step
-seated_from : (names : List Given) (n : ℕ) (thread : List ℕ) (seat : ℕ) → All (λ g. IsSeatedWithin n g.1) names → seat_of names thread ≡ Some seat → (1 ≤ seat) × (seat ≤ n)
-seated_from names n thread seat seats h =
-    option_and_then_some seat_in (named names thread) seat h (λ k found is.
-    option_and_then_some (λ i. option_map (λ g. g.1) (slice_get names i)) (position_of names thread) k found (λ i at meant.
-    within (slice_get names i) i k refl meant is))
-  where
-    seat_within : (k : Named) → seat_in k ≡ Some seat → IsSeatedWithin n k → (1 ≤ seat) × (seat ≤ n)
-    seat_within (called.Thread s) e w = subst (λ (m : ℕ). (1 ≤ m) × (m ≤ n)) (same_Some _ _ e) w
-    seat_within called.Mailbox e w = absurd (none-some seat e)
-    seat_within called.Channel e w = absurd (none-some seat e)
-    seat_within (called.Port whose) e w = absurd (none-some seat e)
-    seat_within called.IVar e w = absurd (none-some seat e)
-    seat_within called.MVar e w = absurd (none-some seat e)
-
-    within : (r : Option Given) (i : ℕ) (k : Named) → slice_get names i ≡ r → option_map (λ g. g.1) r ≡ Some k → seat_in k ≡ Some seat → (1 ≤ seat) × (seat ≤ n)
-    within None i k at meant is = absurd (none-some k meant)
-    within (Some g) i k at meant is =
-        let here = All-get_or (λ (x : Given). IsSeatedWithin n x.1) names i g (slice_get_within names i g at) seats in
-        seat_within k is (subst (IsSeatedWithin n) (same_Some _ _ meant) (subst (λ (x : Given). IsSeatedWithin n x.1) (get_or_from_slice_get names i g g at) here))
-
 -- a step is by the seat that may use what it uses
 may_use : (seat : ℕ) (n : Named) → is_others seat n ≡ false → MayUse seat n
 may_use seat (called.Port (users.One owner)) h = eqb-true owner seat (not-false _ h)
@@ -293,6 +266,7 @@ may_use seat called.Mailbox h = tt
 may_use seat called.Channel h = tt
 may_use seat called.IVar h = tt
 may_use seat called.MVar h = tt
+may_use seat (called.Feed owner) h = eqb-true owner seat (not-false _ h)
 
 not_others : (names : List Given) (seat : ℕ) (v : Verb) (object : List ℕ) (more : List (List ℕ)) → any_word (is_not_yours names seat) (step seat v (object ∷ more)) ≡ false → option_map_or (is_others seat) (named names object) false ≡ false
 not_others names seat verb.Send object more h = (or_parts _ _ h).0
@@ -312,6 +286,9 @@ not_others names seat verb.Swap object more h = (or_parts _ _ h).0
 receiver_stands : (names : List Given) (at : ℕ) → IsReceiverAt names at → (g : Given) × (slice_get names at ≡ Some g)
 receiver_stands names at h = elim h [ inl a ↦ (_, a.1) | inr b ↦ (_, b.2) ]
 
+polled_stands : (names : List Given) (at : ℕ) → IsPolledAt names at → (g : Given) × (slice_get names at ≡ Some g)
+polled_stands names at h = elim h [ inl a ↦ receiver_stands names at a | inr b ↦ (_, b.2) ]
+
 variable_stands : (names : List Given) (at : ℕ) → IsVariableAt names at → (g : Given) × (slice_get names at ≡ Some g)
 variable_stands names at h = elim h [ inl a ↦ (_, a.1) | inr b ↦ (_, b.1) ]
 
@@ -319,7 +296,7 @@ used_stands : (names : List Given) (a : Action) → UsesWell names a → (g : Gi
 used_stands names (action.Send at message) h = (_, h.0.1)
 used_stands names (action.Multicast at message) h = (_, h.0.1)
 used_stands names (action.Recv at) h = receiver_stands names at h
-used_stands names (action.Poll at) h = receiver_stands names at h
+used_stands names (action.Poll at) h = polled_stands names at h
 used_stands names (action.Port at) h = (_, h.1)
 used_stands names (action.Copy at) h = (_, h.2)
 used_stands names (action.Close at) h = (_, h.2)
@@ -346,104 +323,112 @@ seats-given : (names : List Given) (n : ℕ) (whose : Users) (o : Option (List �
 seats-given names n whose None h = subst (All (λ (g : Given). IsSeatedWithin n g.1)) (sym (append-nil names)) h
 seats-given names n whose (Some word) h = All-push (λ (g : Given). IsSeatedWithin n g.1) names (word, called.Port whose) h tt
 
-module _ (v : ℕ) (es : List (String Global × Named)) (ds : List Declaration) (ss : List Step) (threads : ℕ)
+module _ (v : ℕ) (es : List (String Global × Named)) (ds : List Declaration) (ls : List Lane) (cs : List (Ends × ℕ)) (ss : List Step) (threads : ℕ)
     (s : Step) (verb : Verb) (rest : List (List ℕ))
-    (so_far : IsReadSoFar (view_of v ds ss) es ds ss threads)
-    (none : fault_in_words (scope_of (view_of v ds ss)) (words_of (string_bytes s.line.text)) ≡ None)
-    (form : form_of (names_of (view_of v ds ss)) (words_of (string_bytes s.line.text)) ≡ step s.seat verb rest)
-    (action : action_by (names_of (view_of v ds ss)) verb rest ≡ Some s.action)
-    (uses : UsesWell (names_of (view_of v ds ss)) s.action) where
-  asked_sources_started : (scope_of (view_of v ds ss)).started ≡ not (length (view_of v ds ss).steps == 0)
+    (so_far : IsReadSoFar (view_of v ds ls ss) es ds ls cs ss threads)
+    (none : fault_in_words (scope_of (view_of v ds ls ss)) (words_of (string_bytes s.line.text)) ≡ None)
+    (form : form_of (names_of (view_of v ds ls ss)) (words_of (string_bytes s.line.text)) ≡ step s.seat verb rest)
+    (action : action_by (names_of (view_of v ds ls ss)) verb rest ≡ Some s.action)
+    (uses : UsesWell (names_of (view_of v ds ls ss)) s.action) where
+  asked_sources_started : (scope_of (view_of v ds ls ss)).started ≡ not (length (view_of v ds ls ss).steps == 0)
   asked_sources_started = so_far.started ∙ ap (λ n. not (n == 0)) (sym (length-map ss _))
 
-  pub asked_scope : scope_of (view_of v ds (ss ++ s ∷ [])) ≡ after_words (scope_of (view_of v ds ss)) (words_of (string_bytes s.line.text))
+  pub asked_scope : scope_of (view_of v ds ls (ss ++ s ∷ [])) ≡ after_words (scope_of (view_of v ds ls ss)) (words_of (string_bytes s.line.text))
   asked_scope =
-      ap scope_of (view-step v ds ss s s.seat verb rest form)
-      ∙ scope_of-with_words (view_of v ds ss) s.line.number (string_bytes s.line.text) asked_sources_started none
+      ap scope_of (view-step v ds ls ss s s.seat verb rest form)
+      ∙ scope_of-with_words (view_of v ds ls ss) s.line.number (string_bytes s.line.text) asked_sources_started (λ more. ends_same (names_of (view_of v ds ls ss)) more ls so_far.lanes) none
 
   abbrev pub given_more : List Given
   given_more = given_as (called.Port (users.One s.seat)) (fresh_word (step_places verb) rest)
 
-  asked_names : names_of (view_of v ds (ss ++ s ∷ [])) ≡ names_of (view_of v ds ss) ++ given_more
+  asked_names : names_of (view_of v ds ls (ss ++ s ∷ [])) ≡ names_of (view_of v ds ls ss) ++ given_more
   asked_names =
       ap (λ (x : Scope). x.names) asked_scope
-      ∙ ap (λ f. names_of (view_of v ds ss) ++ gives (names_of (view_of v ds ss)) f) form
+      ∙ ap (λ f. names_of (view_of v ds ls ss) ++ gives (names_of (view_of v ds ls ss)) f) form
 
-  asked_started : (scope_of (view_of v ds (ss ++ s ∷ []))).started ≡ not (length (ss ++ s ∷ []) == 0)
+  asked_started : (scope_of (view_of v ds ls (ss ++ s ∷ []))).started ≡ not (length (ss ++ s ∷ []) == 0)
   asked_started =
       ap (λ (x : Scope). x.started) asked_scope
-      ∙ ap (λ f. (scope_of (view_of v ds ss)).started || is_step f) form
-      ∙ or_right (scope_of (view_of v ds ss)).started true refl
+      ∙ ap (λ f. (scope_of (view_of v ds ls ss)).started || is_step f) form
+      ∙ or_right (scope_of (view_of v ds ls ss)).started true refl
       ∙ ap not (sym (ne_eqb (length (ss ++ s ∷ [])) 0 (λ e. omega (arith, length-append ss (s ∷ [])))))
 
-  asked_line : IsStepLine (names_of (view_of v ds ss)) (words_of (string_bytes s.line.text)) s.seat verb rest
-  asked_line = step_line (names_of (view_of v ds ss)) (words_of (string_bytes s.line.text)) s.seat verb rest form
+  asked_line : IsStepLine (names_of (view_of v ds ls ss)) (words_of (string_bytes s.line.text)) s.seat verb rest
+  asked_line = step_line (names_of (view_of v ds ls ss)) (words_of (string_bytes s.line.text)) s.seat verb rest form
 
-  asks : Asks (names_of (view_of v ds ss)) verb rest s.action
-  asks = step_asks (names_of (view_of v ds ss)) verb rest s.action action
+  asks : Asks (names_of (view_of v ds ls ss)) verb rest s.action
+  asks = step_asks (names_of (view_of v ds ls ss)) verb rest s.action action
 
-  asked_passes : Passes (scope_of (view_of v ds ss)) (step s.seat verb rest)
-  asked_passes = subst (Passes (scope_of (view_of v ds ss))) form (words_pass (scope_of (view_of v ds ss)) (words_of (string_bytes s.line.text)) none).1
+  asked_passes : Passes (scope_of (view_of v ds ls ss)) (step s.seat verb rest)
+  asked_passes = subst (Passes (scope_of (view_of v ds ls ss))) form (words_pass (scope_of (view_of v ds ls ss)) (words_of (string_bytes s.line.text)) none).1
 
   asked_there : asked_word (words_of (string_bytes s.line.text)) ≡ fresh_word (step_places verb) rest
   asked_there = ap asked_word asked_line.is ∙ ap (option_and_then (λ w. fresh_word (step_places w) rest)) asked_line.does
 
-  asked_seat : seat_of_step (names_of (view_of v ds ss)) (words_of (string_bytes s.line.text)) ≡ Some s.seat
-  asked_seat = ap (seat_of_step (names_of (view_of v ds ss))) asked_line.is ∙ asked_line.seated
+  asked_seat : seat_of_step (names_of (view_of v ds ls ss)) (words_of (string_bytes s.line.text)) ≡ Some s.seat
+  asked_seat = ap (seat_of_step (names_of (view_of v ds ls ss))) asked_line.is ∙ asked_line.seated
 
-  reads_step : ReadsStep (names_of (view_of v ds ss)) s
+  reads_step : ReadsStep (names_of (view_of v ds ls ss)) s
   reads_step = record {
     seat = asked_seat;
-    seated = seated_from (names_of (view_of v ds ss)) (thread_count (names_of (view_of v ds ss))) asked_line.thread s.seat so_far.seats asked_line.seated;
-    action = ap (action_of (names_of (view_of v ds ss))) asked_line.is ∙ ap (option_and_then (λ w. action_by (names_of (view_of v ds ss)) w rest)) asked_line.does ∙ action;
+    seated = seated_from (names_of (view_of v ds ls ss)) (thread_count (names_of (view_of v ds ls ss))) asked_line.thread s.seat so_far.seats asked_line.seated;
+    action = ap (action_of (names_of (view_of v ds ls ss))) asked_line.is ∙ ap (option_and_then (λ w. action_by (names_of (view_of v ds ls ss)) w rest)) asked_line.does ∙ action;
     uses = uses;
-    yours = is_yours (names_of (view_of v ds ss)) s.seat verb rest s.action asked_passes.yours asks uses;
+    yours = is_yours (names_of (view_of v ds ls ss)) s.seat verb rest s.action asked_passes.yours asks uses;
     gives = asks.gives ∙ ap is_some (sym asked_there);
   }
 
-  asked_given : NamesAreGiven (names_of (view_of v ds ss) ++ given_more) (view_of v ds ss).declarations ((view_of v ds ss).steps ++ source_of s.line ∷ [])
-  asked_given = given-step (names_of (view_of v ds ss)) (view_of v ds ss).declarations (view_of v ds ss).steps (source_of s.line) s.seat (fresh_word (step_places verb) rest) so_far.given asked_there asked_seat
+  asked_given : NamesAreGiven (names_of (view_of v ds ls ss) ++ given_more) (view_of v ds ls ss).declarations ((view_of v ds ls ss).steps ++ source_of s.line ∷ [])
+  asked_given = given-step (names_of (view_of v ds ls ss)) (view_of v ds ls ss).declarations (view_of v ds ls ss).steps (source_of s.line) s.seat (fresh_word (step_places verb) rest) so_far.given asked_there asked_seat
 
-  asked_lines : (view_of v ds (ss ++ s ∷ [])).steps ≡ (view_of v ds ss).steps ++ source_of s.line ∷ []
+  asked_lines : (view_of v ds ls (ss ++ s ∷ [])).steps ≡ (view_of v ds ls ss).steps ++ source_of s.line ∷ []
   asked_lines = map-append (λ (x : Step). source_of x.line) ss (s ∷ [])
 
   -- before which names an earlier step and this one stand
-  before_same_step : (k : ℕ) → k ≤ length ss → names_before (view_of v ds ss).declarations (view_of v ds (ss ++ s ∷ [])).steps k ≡ names_before (view_of v ds ss).declarations (view_of v ds ss).steps k
+  before_same_step : (k : ℕ) → k ≤ length ss → names_before (view_of v ds ls ss).declarations (view_of v ds ls (ss ++ s ∷ [])).steps k ≡ names_before (view_of v ds ls ss).declarations (view_of v ds ls ss).steps k
   before_same_step k le =
-      ap (λ ls. names_before (view_of v ds ss).declarations ls k) asked_lines
-      ∙ before_same (names_of (view_of v ds ss)) [] (view_of v ds ss).declarations (view_of v ds ss).steps (source_of s.line) so_far.given k (omega (arith, le, length-map ss (λ (x : Step). source_of x.line)))
+      ap (λ lines. names_before (view_of v ds ls ss).declarations lines k) asked_lines
+      ∙ before_same (names_of (view_of v ds ls ss)) [] (view_of v ds ls ss).declarations (view_of v ds ls ss).steps (source_of s.line) so_far.given k (omega (arith, le, length-map ss (λ (x : Step). source_of x.line)))
 
-  before_this_step : names_before (view_of v ds ss).declarations (view_of v ds (ss ++ s ∷ [])).steps (length ss) ≡ length (names_of (view_of v ds ss))
+  before_this_step : names_before (view_of v ds ls ss).declarations (view_of v ds ls (ss ++ s ∷ [])).steps (length ss) ≡ length (names_of (view_of v ds ls ss))
   before_this_step =
-      ap (λ ls. names_before (view_of v ds ss).declarations ls (length ss)) asked_lines
-      ∙ ap (names_before (view_of v ds ss).declarations ((view_of v ds ss).steps ++ source_of s.line ∷ [])) (sym (length-map ss (λ (x : Step). source_of x.line)))
-      ∙ before_last (names_of (view_of v ds ss)) [] (view_of v ds ss).declarations (view_of v ds ss).steps (source_of s.line) so_far.given
+      ap (λ lines. names_before (view_of v ds ls ss).declarations lines (length ss)) asked_lines
+      ∙ ap (names_before (view_of v ds ls ss).declarations ((view_of v ds ls ss).steps ++ source_of s.line ∷ [])) (sym (length-map ss (λ (x : Step). source_of x.line)))
+      ∙ before_last (names_of (view_of v ds ls ss)) [] (view_of v ds ls ss).declarations (view_of v ds ls ss).steps (source_of s.line) so_far.given
 
-  uses_earlier : UsesEarlier (view_of v ds (ss ++ s ∷ [])) (ss ++ s ∷ [])
+  uses_earlier : UsesEarlier (view_of v ds ls (ss ++ s ∷ [])) (ss ++ s ∷ [])
   uses_earlier =
-      each-push (λ k (x : Step). used_by x.action < names_before (view_of v ds ss).declarations (view_of v ds (ss ++ s ∷ [])).steps k) ss s
+      each-push (λ k (x : Step). used_by x.action < names_before (view_of v ds ls ss).declarations (view_of v ds ls (ss ++ s ∷ [])).steps k) ss s
       (λ k x found. subst (λ (n : ℕ). used_by x.action < n) (sym (before_same_step k (omega (arith, slice_get_within ss k x found)))) (so_far.earlier k x found))
-      (subst (λ (n : ℕ). used_by s.action < n) (sym before_this_step) (let there = used_stands (names_of (view_of v ds ss)) s.action uses in slice_get_within (names_of (view_of v ds ss)) (used_by s.action) there.0 there.1))
+      (subst (λ (n : ℕ). used_by s.action < n) (sym before_this_step) (let there = used_stands (names_of (view_of v ds ls ss)) s.action uses in slice_get_within (names_of (view_of v ds ls ss)) (used_by s.action) there.0 there.1))
 
-  same_count : thread_count (names_of (view_of v ds ss)) ≡ thread_count (names_of (view_of v ds ss) ++ given_more)
-  same_count = thread_count-given (names_of (view_of v ds ss)) (users.One s.seat) (fresh_word (step_places verb) rest)
+  same_count : thread_count (names_of (view_of v ds ls ss)) ≡ thread_count (names_of (view_of v ds ls ss) ++ given_more)
+  same_count = thread_count-given (names_of (view_of v ds ls ss)) (users.One s.seat) (fresh_word (step_places verb) rest)
 
-  pub asked_so_far : (es' : List (String Global × Named)) → texts_of es' ≡ texts_of es ++ given_more → IsReadSoFar (view_of v ds (ss ++ s ∷ [])) es' ds (ss ++ s ∷ []) threads
+  asked_lanes : All (ReadsLane (names_of (view_of v ds ls (ss ++ s ∷ [])))) ls
+  asked_lanes =
+      subst (λ gs. All (ReadsLane gs) ls) (sym asked_names)
+      (All-weaker (ReadsLane (names_of (view_of v ds ls ss))) (ReadsLane (names_of (view_of v ds ls ss) ++ given_more)) (λ x h. ReadsLane-append (names_of (view_of v ds ls ss)) given_more x h) ls so_far.lanes)
+
+  pub asked_so_far : (es' : List (String Global × Named)) → texts_of es' ≡ texts_of es ++ given_more → IsReadSoFar (view_of v ds ls (ss ++ s ∷ [])) es' ds ls cs (ss ++ s ∷ []) threads
   asked_so_far es' entries = record {
     names = entries ∙ ap (λ gs. gs ++ given_more) so_far.names ∙ sym asked_names;
-    gives = subst (λ gs. GivesNames gs ds) (sym asked_names) (GivesNames-append (names_of (view_of v ds ss)) given_more ds so_far.gives);
-    given = subst (λ gs. NamesAreGiven gs (view_of v ds ss).declarations (view_of v ds (ss ++ s ∷ [])).steps) (sym asked_names)
-        (subst (NamesAreGiven (names_of (view_of v ds ss) ++ given_more) (view_of v ds ss).declarations) (sym asked_lines) asked_given);
+    gives = subst (λ gs. GivesNames gs ds) (sym asked_names) (GivesNames-append (names_of (view_of v ds ls ss)) given_more ds so_far.gives);
+    given = subst (λ gs. NamesAreGiven gs (view_of v ds ls ss).declarations (view_of v ds ls (ss ++ s ∷ [])).steps) (sym asked_names)
+        (subst (NamesAreGiven (names_of (view_of v ds ls ss) ++ given_more) (view_of v ds ls ss).declarations) (sym asked_lines) asked_given);
     declarations = subst (λ gs. All (ReadsDeclaration gs) ds) (sym asked_names)
-        (All-weaker (ReadsDeclaration (names_of (view_of v ds ss))) (ReadsDeclaration (names_of (view_of v ds ss) ++ given_more)) (λ x h. ReadsDeclaration-append (names_of (view_of v ds ss)) given_more x h) ds so_far.declarations);
+        (All-weaker (ReadsDeclaration (names_of (view_of v ds ls ss))) (ReadsDeclaration (names_of (view_of v ds ls ss) ++ given_more)) (λ x h. ReadsDeclaration-append (names_of (view_of v ds ls ss)) given_more x h) ds so_far.declarations);
+    lanes = asked_lanes;
+    capacities_are = so_far.capacities_are;
     steps = subst (λ gs. All (ReadsStep gs) (ss ++ s ∷ [])) (sym asked_names)
-        (All-weaker (ReadsStep (names_of (view_of v ds ss))) (ReadsStep (names_of (view_of v ds ss) ++ given_more)) (λ x h. ReadsStep-append (names_of (view_of v ds ss)) given_more x same_count h) (ss ++ s ∷ [])
-        (All-push (ReadsStep (names_of (view_of v ds ss))) ss s so_far.steps reads_step));
+        (All-weaker (ReadsStep (names_of (view_of v ds ls ss))) (ReadsStep (names_of (view_of v ds ls ss) ++ given_more)) (λ x h. ReadsStep-append (names_of (view_of v ds ls ss)) given_more x same_count h) (ss ++ s ∷ [])
+        (All-push (ReadsStep (names_of (view_of v ds ls ss))) ss s so_far.steps reads_step));
     earlier = uses_earlier;
     count = so_far.count ∙ same_count ∙ ap thread_count (sym asked_names);
     limit = so_far.limit;
     seats = subst (λ gs. All (λ (g : Given). IsSeatedWithin (thread_count gs) g.1) gs) (sym asked_names)
-        (subst (λ (n : ℕ). All (λ (g : Given). IsSeatedWithin n g.1) (names_of (view_of v ds ss) ++ given_more)) same_count
-        (seats-given (names_of (view_of v ds ss)) (thread_count (names_of (view_of v ds ss))) (users.One s.seat) (fresh_word (step_places verb) rest) so_far.seats));
+        (subst (λ (n : ℕ). All (λ (g : Given). IsSeatedWithin n g.1) (names_of (view_of v ds ls ss) ++ given_more)) same_count
+        (seats-given (names_of (view_of v ds ls ss)) (thread_count (names_of (view_of v ds ls ss))) (users.One s.seat) (fresh_word (step_places verb) rest) so_far.seats));
     started = asked_started;
+    ends = ends_kept (names_of (view_of v ds ls (ss ++ s ∷ []))) ls asked_lanes ∙ ap keys_of (sym so_far.capacities_are);
   }

@@ -1,13 +1,17 @@
 pub mod ClosingLemmas
+pub mod FormLemmas
 pub mod GivingLemmas
 pub mod GrowingLemmas
 pub mod KeepingLemmas
+pub mod LaneLemmas
 pub mod ListLemmas
 pub mod MeaningLemmas
 pub mod NameLemmas
 pub mod PartsLemmas
 pub mod ReadingLemmas
+pub mod RingLemmas
 pub mod ScriptLaws
+pub mod SeatLemmas
 pub mod TableLemmas
 pub mod WordLemmas
 pub mod TextLemmas

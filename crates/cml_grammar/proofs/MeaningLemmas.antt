@@ -12,13 +12,13 @@ use Rattle.cml_grammar.specs.declared.forms.Makes.TheVariants as makes
 use Rattle.cml_grammar.specs.declared.forms.Verb.{Verb}
 use Rattle.cml_grammar.specs.declared.forms.Verb.TheVariants as verb
 use Rattle.cml_grammar.specs.declared.forms.Place.{Place}
-use Rattle.cml_grammar.specs.declared.forms.Place.TheVariants.{Fresh, Mailbox, Channel, Port, Receiver, Variable, MVar, Number}
+use Rattle.cml_grammar.specs.declared.forms.Place.TheVariants.{Fresh, Thread, Mailbox, Channel, Target, Port, Receiver, Polled, Variable, MVar, Number, Capacity}
 use Rattle.cml_grammar.specs.declared.forms.Action.{Action}
 use Rattle.cml_grammar.specs.declared.forms.Action.TheVariants as action
 use Rattle.cml_grammar.specs.Names.{Given, is_number, position_of}
 use Rattle.cml_grammar.specs.Forms.{declared_places, suits, is_fresh, fresh_word}
 use Rattle.cml_grammar.specs.Meaning.{makes_by, action_by}
-use Rattle.cml_grammar.specs.Reading.{IsPortAt, IsReceiverAt, IsMVarAt, IsVariableAt}
+use Rattle.cml_grammar.specs.Reading.{IsPortAt, IsReceiverAt, IsPolledAt, IsMVarAt, IsVariableAt}
 use Rattle.cml_grammar.specs.Suiting.{IsSuitedAt, IsUsed, AllSuit}
 
 abbrev pub Words : Type 0
@@ -30,7 +30,7 @@ bytes words = map (λ w. w.now) words
 abbrev pub word_at : Words → ℕ → List ℕ
 word_at words i = (get_or words i (record { ref_ptr = (0, 0); now = [] })).now
 
-found_used : (names : List Given) (place : Place) (word : List ℕ) (at : ℕ) → IsUsed names place word → position_of names word ≡ Some at → IsSuitedAt names place at
+pub found_used : (names : List Given) (place : Place) (word : List ℕ) (at : ℕ) → IsUsed names place word → position_of names word ≡ Some at → IsSuitedAt names place at
 found_used names place word at h found = subst (IsSuitedAt names place) (same_Some _ _ (sym h.1 ∙ found)) h.2
 
 pub is_port_at : (names : List Given) (at : ℕ) → IsSuitedAt names Port at → IsPortAt names at
@@ -43,6 +43,7 @@ is_port_at names at h = by h.1 h.2 h.3
     by called.Channel e t = absurd (true≢false (sym t))
     by called.IVar e t = absurd (true≢false (sym t))
     by called.MVar e t = absurd (true≢false (sym t))
+    by (called.Feed owner) e t = absurd (true≢false (sym t))
 
 pub is_receiver_at : (names : List Given) (at : ℕ) → IsSuitedAt names Receiver at → IsReceiverAt names at
 is_receiver_at names at h = by h.1 h.2 h.3
@@ -50,6 +51,19 @@ is_receiver_at names at h = by h.1 h.2 h.3
     by : (n : Named) → slice_get names at ≡ Some (h.0, n) → suits Receiver n ≡ true → IsReceiverAt names at
     by called.Mailbox e t = inl (h.0, e)
     by (called.Port whose) e t = inr (h.0, whose, e)
+    by (called.Thread seat) e t = absurd (true≢false (sym t))
+    by called.Channel e t = absurd (true≢false (sym t))
+    by called.IVar e t = absurd (true≢false (sym t))
+    by called.MVar e t = absurd (true≢false (sym t))
+    by (called.Feed owner) e t = absurd (true≢false (sym t))
+
+pub is_polled_at : (names : List Given) (at : ℕ) → IsSuitedAt names Polled at → IsPolledAt names at
+is_polled_at names at h = by h.1 h.2 h.3
+  where
+    by : (n : Named) → slice_get names at ≡ Some (h.0, n) → suits Polled n ≡ true → IsPolledAt names at
+    by called.Mailbox e t = inl (inl (h.0, e))
+    by (called.Port whose) e t = inl (inr (h.0, whose, e))
+    by (called.Feed owner) e t = inr (h.0, owner, e)
     by (called.Thread seat) e t = absurd (true≢false (sym t))
     by called.Channel e t = absurd (true≢false (sym t))
     by called.IVar e t = absurd (true≢false (sym t))
@@ -65,6 +79,7 @@ is_variable_at names at h = by h.1 h.2 h.3
     by called.Mailbox e t = absurd (true≢false (sym t))
     by called.Channel e t = absurd (true≢false (sym t))
     by (called.Port whose) e t = absurd (true≢false (sym t))
+    by (called.Feed owner) e t = absurd (true≢false (sym t))
 
 pub is_mvar_at : (names : List Given) (at : ℕ) → IsSuitedAt names MVar at → IsMVarAt names at
 is_mvar_at names at h = by h.1 h.2 h.3
@@ -76,6 +91,7 @@ is_mvar_at names at h = by h.1 h.2 h.3
     by called.Mailbox e t = absurd (true≢false (sym t))
     by called.Channel e t = absurd (true≢false (sym t))
     by (called.Port whose) e t = absurd (true≢false (sym t))
+    by (called.Feed owner) e t = absurd (true≢false (sym t))
 
 -- what is named at the position of a used name
 pub port_found : (names : List Given) (word : List ℕ) (at : ℕ) → IsUsed names Port word → position_of names word ≡ Some at → IsPortAt names at
@@ -83,6 +99,9 @@ port_found names word at h found = is_port_at names at (found_used names Port wo
 
 pub receiver_found : (names : List Given) (word : List ℕ) (at : ℕ) → IsUsed names Receiver word → position_of names word ≡ Some at → IsReceiverAt names at
 receiver_found names word at h found = is_receiver_at names at (found_used names Receiver word at h found)
+
+pub polled_found : (names : List Given) (word : List ℕ) (at : ℕ) → IsUsed names Polled word → position_of names word ≡ Some at → IsPolledAt names at
+polled_found names word at h found = is_polled_at names at (found_used names Polled word at h found)
 
 pub variable_found : (names : List Given) (word : List ℕ) (at : ℕ) → IsUsed names Variable word → position_of names word ≡ Some at → IsVariableAt names at
 variable_found names word at h found = is_variable_at names at (found_used names Variable word at h found)
@@ -139,13 +158,17 @@ fresh_word-bytes : (places : List Place) (words : Words) → option_map (λ p. p
 fresh_word-bytes [] words = refl
 fresh_word-bytes (place ∷ places) [] = refl
 fresh_word-bytes (Fresh ∷ places) (w ∷ words) = refl
+fresh_word-bytes (Thread ∷ places) (w ∷ words) = fresh_word-bytes places words
 fresh_word-bytes (Mailbox ∷ places) (w ∷ words) = fresh_word-bytes places words
 fresh_word-bytes (Channel ∷ places) (w ∷ words) = fresh_word-bytes places words
+fresh_word-bytes (Target ∷ places) (w ∷ words) = fresh_word-bytes places words
 fresh_word-bytes (Port ∷ places) (w ∷ words) = fresh_word-bytes places words
 fresh_word-bytes (Receiver ∷ places) (w ∷ words) = fresh_word-bytes places words
+fresh_word-bytes (Polled ∷ places) (w ∷ words) = fresh_word-bytes places words
 fresh_word-bytes (Variable ∷ places) (w ∷ words) = fresh_word-bytes places words
 fresh_word-bytes (MVar ∷ places) (w ∷ words) = fresh_word-bytes places words
 fresh_word-bytes (Number ∷ places) (w ∷ words) = fresh_word-bytes places words
+fresh_word-bytes (Capacity ∷ places) (w ∷ words) = fresh_word-bytes places words
 
 pub fresh_found : (places : List Place) (words : Words) (found : Option (Place × Bor (List ℕ))) → found ≡ find (λ p. is_fresh p.0) (zip places words) → option_map (λ p. p.1.now) found ≡ fresh_word places (bytes words)
 fresh_found places words found e = ap (option_map (λ p. p.1.now)) e ∙ fresh_word-bytes places words

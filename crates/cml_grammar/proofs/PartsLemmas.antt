@@ -7,17 +7,23 @@ use Rattle.cml_grammar.specs.declared.fault.What.{What}
 use Rattle.cml_grammar.specs.declared.fault.What.TheVariants.{Memory}
 use Rattle.cml_grammar.specs.Words.{parts_of, words_of}
 use Rattle.cml_grammar.specs.Forms.{form_of}
-use Rattle.cml_grammar.specs.Faults.{Scope, start, says, fault_in, after, at_line, fault_at, fault_from, is_declaration, is_step, IsWhat}
+use Rattle.cml_grammar.specs.Faults.{Scope, start, says, fault_in, after, at_line, fault_at, fault_from, is_declaration, is_lane, is_step, IsWhat}
 use Rattle.cml_grammar.specs.Script.{SourceLine, Lines, source, with_line}
 use Rattle.cml_grammar.specs.Meaning.{scope_of, names_of}
 use Rattle.cml_grammar.specs.Reading.{with_next, with_words}
 
--- the declarations and the steps of the parts, whether or not they have a fault
+-- the declarations, the lanes and the steps of the parts, whether or not they have a fault
 abbrev pub declared_from : Scope → ℕ → List (List ℕ) → List SourceLine
 declared_from scope k [] = []
 declared_from scope k (part ∷ []) = []
 declared_from scope k (line ∷ next ∷ more) =
     with_line (says k line && is_declaration (form_of scope.names (words_of line))) (source k line) (declared_from (after scope k line) (suc k) (next ∷ more))
+
+abbrev pub laid_from : Scope → ℕ → List (List ℕ) → List SourceLine
+laid_from scope k [] = []
+laid_from scope k (part ∷ []) = []
+laid_from scope k (line ∷ next ∷ more) =
+    with_line (says k line && is_lane (form_of scope.names (words_of line))) (source k line) (laid_from (after scope k line) (suc k) (next ∷ more))
 
 abbrev pub asked_from : Scope → ℕ → List (List ℕ) → List SourceLine
 asked_from scope k [] = []
@@ -59,6 +65,12 @@ module _ (scope : Scope) (k : ℕ) (line : List ℕ) (rest : List ℕ) where
       ap (λ ps. declared_from scope k (line ∷ ps)) p.2
       ∙ ap (λ ps. with_line (says k line && is_declaration (form_of scope.names (words_of line))) (source k line) (declared_from (after scope k line) (suc k) ps)) (sym p.2)
 
+  pub laid_from-line : laid_from scope k (line ∷ parts_of rest) ≡ with_line (says k line && is_lane (form_of scope.names (words_of line))) (source k line) (laid_from (after scope k line) (suc k) (parts_of rest))
+  laid_from-line =
+      let p = some_part rest in
+      ap (λ ps. laid_from scope k (line ∷ ps)) p.2
+      ∙ ap (λ ps. with_line (says k line && is_lane (form_of scope.names (words_of line))) (source k line) (laid_from (after scope k line) (suc k) ps)) (sym p.2)
+
   pub asked_from-line : asked_from scope k (line ∷ parts_of rest) ≡ with_line (says k line && is_step (form_of scope.names (words_of line))) (source k line) (asked_from (after scope k line) (suc k) (parts_of rest))
   asked_from-line =
       let p = some_part rest in
@@ -76,6 +88,13 @@ with_next-declarations script k line = by (says k line)
     by : (t : Bool) → (if t then with_words script k line else script).declarations ≡ script.declarations ++ with_line (t && is_declaration (form_of (names_of script) (words_of line))) (source k line) []
     by true = refl
     by false = sym (append-nil script.declarations)
+
+pub with_next-lanes : (script : Lines) (k : ℕ) (line : List ℕ) → (with_next script k line).lanes ≡ script.lanes ++ with_line (says k line && is_lane (form_of (names_of script) (words_of line))) (source k line) []
+with_next-lanes script k line = by (says k line)
+  where
+    by : (t : Bool) → (if t then with_words script k line else script).lanes ≡ script.lanes ++ with_line (t && is_lane (form_of (names_of script) (words_of line))) (source k line) []
+    by true = refl
+    by false = sym (append-nil script.lanes)
 
 pub with_next-steps : (script : Lines) (k : ℕ) (line : List ℕ) → (with_next script k line).steps ≡ script.steps ++ with_line (says k line && is_step (form_of (names_of script) (words_of line))) (source k line) []
 with_next-steps script k line = by (says k line)
@@ -99,15 +118,17 @@ with_line-length false line lines = omega (arith, length-append lines [])
 pub record ReadsOn (text : List ℕ) (script : Lines) (k : ℕ) (rest : List ℕ) : Type 0 where
   pub fault : fault_from (scope_of script) k (parts_of rest) ≡ fault_from start 1 (parts_of text)
   pub declared : script.declarations ++ declared_from (scope_of script) k (parts_of rest) ≡ declared_from start 1 (parts_of text)
+  pub laid : script.lanes ++ laid_from (scope_of script) k (parts_of rest) ≡ laid_from start 1 (parts_of text)
   pub asked : script.steps ++ asked_from (scope_of script) k (parts_of rest) ≡ asked_from start 1 (parts_of text)
   pub version : script.version ≡ 1
   pub few : length script.declarations < k
+  pub narrow : length script.lanes < k
   pub short : length script.steps < k
   pub place : k + length rest ≤ length text + 1
 
-pub reads_on-start : (text : List ℕ) (script : Lines) → script ≡ record { version = 1; declarations = []; steps = [] } → ReadsOn text script 1 text
+pub reads_on-start : (text : List ℕ) (script : Lines) → script ≡ record { version = 1; declarations = []; lanes = []; steps = [] } → ReadsOn text script 1 text
 reads_on-start text script e = subst (λ (s : Lines). ReadsOn text s 1 text) (sym e)
-    (record { fault = refl; declared = refl; asked = refl; version = refl; few = omega arith; short = omega arith; place = omega arith })
+    (record { fault = refl; declared = refl; laid = refl; asked = refl; version = refl; few = omega arith; narrow = omega arith; short = omega arith; place = omega arith })
 
 pub reads_on-line : (text : List ℕ) (script next : Lines) (k : ℕ) (rest line later : List ℕ) → ReadsOn text script k rest
     → parts_of rest ≡ line ∷ parts_of later → length later < length rest
@@ -118,6 +139,9 @@ reads_on-line text script next k rest line later so_far cut shorter fits read sc
   where
     declarations : next.declarations ≡ script.declarations ++ with_line (says k line && is_declaration (form_of (names_of script) (words_of line))) (source k line) []
     declarations = ap (λ (s : Lines). s.declarations) read ∙ with_next-declarations script k line
+
+    lanes : next.lanes ≡ script.lanes ++ with_line (says k line && is_lane (form_of (names_of script) (words_of line))) (source k line) []
+    lanes = ap (λ (s : Lines). s.lanes) read ∙ with_next-lanes script k line
 
     steps : next.steps ≡ script.steps ++ with_line (says k line && is_step (form_of (names_of script) (words_of line))) (source k line) []
     steps = ap (λ (s : Lines). s.steps) read ∙ with_next-steps script k line
@@ -134,6 +158,12 @@ reads_on-line text script next k rest line later so_far cut shorter fits read sc
           ∙ with_line-append _ (source k line) script.declarations (declared_from (after (scope_of script) k line) (suc k) (parts_of later))
           ∙ ap (λ ls. script.declarations ++ ls) (sym (ap (declared_from (scope_of script) k) cut ∙ declared_from-line (scope_of script) k line later))
           ∙ so_far.declared;
+      laid =
+          ap (λ (s : Scope). next.lanes ++ laid_from s (suc k) (parts_of later)) scope
+          ∙ ap (λ ls. ls ++ laid_from (after (scope_of script) k line) (suc k) (parts_of later)) lanes
+          ∙ with_line-append _ (source k line) script.lanes (laid_from (after (scope_of script) k line) (suc k) (parts_of later))
+          ∙ ap (λ ls. script.lanes ++ ls) (sym (ap (laid_from (scope_of script) k) cut ∙ laid_from-line (scope_of script) k line later))
+          ∙ so_far.laid;
       asked =
           ap (λ (s : Scope). next.steps ++ asked_from s (suc k) (parts_of later)) scope
           ∙ ap (λ ls. ls ++ asked_from (after (scope_of script) k line) (suc k) (parts_of later)) steps
@@ -142,6 +172,7 @@ reads_on-line text script next k rest line later so_far cut shorter fits read sc
           ∙ so_far.asked;
       version = ap (λ (s : Lines). s.version) read ∙ with_next-version script k line ∙ so_far.version;
       few = omega (arith, so_far.few, ap length declarations, with_line-length (says k line && is_declaration (form_of (names_of script) (words_of line))) (source k line) script.declarations);
+      narrow = omega (arith, so_far.narrow, ap length lanes, with_line-length (says k line && is_lane (form_of (names_of script) (words_of line))) (source k line) script.lanes);
       short = omega (arith, so_far.short, ap length steps, with_line-length (says k line && is_step (form_of (names_of script) (words_of line))) (source k line) script.steps);
       place = omega (arith, so_far.place, shorter);
     }

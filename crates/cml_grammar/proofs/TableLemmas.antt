@@ -6,11 +6,11 @@ use Rattle.std.proofs.lemmas.Bool.{or_parts, not-false, true≢false, eqb-true}
 use Rattle.std.proofs.lemmas.Option.{none-some, same_Some}
 use Rattle.cml_grammar.specs.declared.fault.What.{What}
 use Rattle.cml_grammar.specs.declared.forms.Place.{Place}
-use Rattle.cml_grammar.specs.declared.forms.Place.TheVariants.{Fresh, Mailbox, Channel, Port, Receiver, Variable, MVar, Number}
+use Rattle.cml_grammar.specs.declared.forms.Place.TheVariants.{Fresh, Thread, Mailbox, Channel, Target, Port, Receiver, Polled, Variable, MVar, Number, Capacity}
 use Rattle.cml_grammar.specs.Names.{Given, thread_count, named, position_of, is_given}
 use Rattle.cml_grammar.specs.Words.{has_empty_word}
 use Rattle.cml_grammar.specs.Forms.{Form, form_of, places_of, rest_of, suits, fresh_word, seat_of_form}
-use Rattle.cml_grammar.specs.Faults.{Scope, first_of, tests_of_form, fault_in_words, any_word, is_unknown, is_late, is_no_step, is_bad_name, is_taken, is_unknown_name, is_wrong_kind, is_not_yours, is_bad_number, declares_thread}
+use Rattle.cml_grammar.specs.Faults.{Scope, first_of, tests_of_form, fault_in_words, any_word, is_unknown, is_late, is_no_step, is_bad_name, is_taken, is_unknown_name, is_wrong_kind, is_not_yours, is_bad_number, is_lane_taken, declares_thread}
 use Rattle.cml_grammar.specs.Suiting.{IsSuitedAt, IsUsed, Suits, AllSuit}
 
 -- each test of the table fails
@@ -25,6 +25,7 @@ pub record Passes (scope : Scope) (form : Form) : Type 0 where
   pub suited : any_word (is_wrong_kind scope.names) form ≡ false
   pub yours : any_word (is_not_yours scope.names (seat_of_form form)) form ≡ false
   pub numbers : any_word is_bad_number form ≡ false
+  pub unlaid : is_lane_taken scope.names scope.lanes form ≡ false
   pub room : (declares_thread form && nat_le 64 (thread_count scope.names)) ≡ false
 
 pub not_first : (test : Bool) (what : What) (later : Option What) → (if test then Some what else later) ≡ None → (test ≡ false) × (later ≡ None)
@@ -44,6 +45,7 @@ passes scope form h =
     let k = not_first _ _ _ j.1 in
     let l = not_first _ _ _ k.1 in
     let m = not_first _ _ _ l.1 in
+    let n = not_first _ _ _ m.1 in
     record {
       known = a.0;
       in_time = b.0;
@@ -55,7 +57,8 @@ passes scope form h =
       suited = j.0;
       yours = k.0;
       numbers = l.0;
-      room = m.0;
+      unlaid = m.0;
+      room = n.0;
     }
 
 -- a line of words without fault passes each test, and no word is empty
@@ -93,13 +96,17 @@ all_suit names (place ∷ places) (word ∷ words) count named fresh suited numb
   where
     one : (p : Place) → is_bad_name p word ≡ false → is_taken names p word ≡ false → is_wrong_kind names p word ≡ false → is_bad_number p word ≡ false → Suits names p word
     one Fresh n f s k = (not-false _ n, f)
+    one Thread n f s k = used_suits names Thread word (not-false _ s)
     one Mailbox n f s k = used_suits names Mailbox word (not-false _ s)
     one Channel n f s k = used_suits names Channel word (not-false _ s)
+    one Target n f s k = used_suits names Target word (not-false _ s)
     one Port n f s k = used_suits names Port word (not-false _ s)
     one Receiver n f s k = used_suits names Receiver word (not-false _ s)
+    one Polled n f s k = used_suits names Polled word (not-false _ s)
     one Variable n f s k = used_suits names Variable word (not-false _ s)
     one MVar n f s k = used_suits names MVar word (not-false _ s)
     one Number n f s k = not-false _ k
+    one Capacity n f s k = not-false _ k
 
 -- and each word suits its place
 pub all_suit-passes : (scope : Scope) (form : Form) → Passes scope form → AllSuit scope.names (places_of form) (rest_of form)
@@ -110,10 +117,14 @@ pub fresh_is_new : (names : List Given) (places : List Place) (words : List (Lis
 fresh_is_new names [] words word h e = absurd (none-some word e)
 fresh_is_new names (place ∷ places) [] word h e = absurd h
 fresh_is_new names (Fresh ∷ places) (w ∷ words) word h e = ap (is_given names) (sym (same_Some w word e)) ∙ h.0.1
+fresh_is_new names (Thread ∷ places) (w ∷ words) word h e = fresh_is_new names places words word h.1 e
 fresh_is_new names (Mailbox ∷ places) (w ∷ words) word h e = fresh_is_new names places words word h.1 e
 fresh_is_new names (Channel ∷ places) (w ∷ words) word h e = fresh_is_new names places words word h.1 e
+fresh_is_new names (Target ∷ places) (w ∷ words) word h e = fresh_is_new names places words word h.1 e
 fresh_is_new names (Port ∷ places) (w ∷ words) word h e = fresh_is_new names places words word h.1 e
 fresh_is_new names (Receiver ∷ places) (w ∷ words) word h e = fresh_is_new names places words word h.1 e
+fresh_is_new names (Polled ∷ places) (w ∷ words) word h e = fresh_is_new names places words word h.1 e
 fresh_is_new names (Variable ∷ places) (w ∷ words) word h e = fresh_is_new names places words word h.1 e
 fresh_is_new names (MVar ∷ places) (w ∷ words) word h e = fresh_is_new names places words word h.1 e
 fresh_is_new names (Number ∷ places) (w ∷ words) word h e = fresh_is_new names places words word h.1 e
+fresh_is_new names (Capacity ∷ places) (w ∷ words) word h e = fresh_is_new names places words word h.1 e

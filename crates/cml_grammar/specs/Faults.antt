@@ -1,6 +1,6 @@
 -- What is wrong with a line, and with a text: the first test of the table that holds, on the least line.
 use Rattle.std.specs.Prelude.{ℕ, suc, ◌≡◌, ◌⊎◌, ◌==◌, Bool, true, false, not, ◌&&◌, ◌||◌, nat_lt, nat_le, List, [], ◌∷◌, ◌++◌, length, Option, Some, None, if◌then◌else◌, codes}
-use Rattle.std.specs.Option.{option_map, option_map_or, option_to_list}
+use Rattle.std.specs.Option.{option_map, option_map_or, option_and_then, option_to_list}
 use Rattle.std.specs.List.{list_any, zip}
 use Rattle.std.specs.Str.{bytes_eq}
 use Rattle.cml_grammar.specs.declared.names.Named.{Named}
@@ -8,20 +8,26 @@ use Rattle.cml_grammar.specs.declared.names.Named.TheVariants as called
 use Rattle.cml_grammar.specs.declared.names.Users.TheVariants as users
 use Rattle.cml_grammar.specs.declared.forms.Declares.TheVariants as declares
 use Rattle.cml_grammar.specs.declared.forms.Place.{Place}
+use Rattle.cml_grammar.specs.declared.forms.Place.TheVariants.{Number, Capacity}
 use Rattle.cml_grammar.specs.declared.fault.What.{What}
-use Rattle.cml_grammar.specs.declared.fault.What.TheVariants.{NoLineEnd, BadBytes, BadHeader, BadWords, UnknownLine, LateDeclaration, UnknownStep, WordCount, BadName, NameTaken, UnknownName, WrongKind, NotYours, BadNumber, TooManyThreads, TooLong, Memory}
+use Rattle.cml_grammar.specs.declared.fault.What.TheVariants.{NoLineEnd, BadBytes, BadHeader, BadWords, UnknownLine, LateDeclaration, UnknownStep, WordCount, BadName, NameTaken, UnknownName, WrongKind, NotYours, BadNumber, LaneTaken, TooManyThreads, TooLong, Memory}
 use Rattle.cml_grammar.specs.declared.fault.Fault.{Fault}
 use Rattle.cml_grammar.specs.Words.{parts_of, words_of, is_bad_byte, is_skipped, has_empty_word}
-use Rattle.cml_grammar.specs.Names.{Given, is_name, is_number, is_given, named, thread_count}
-use Rattle.cml_grammar.specs.Forms.{Form, unknown, declaration, no_step, step, form_of, places_of, rest_of, is_name_place, is_fresh, is_used, is_number_place, suits, fresh_word, named_by, declared_places, seat_of_form, is_others, step_places}
+use Rattle.cml_grammar.specs.Names.{Given, is_name, is_number, is_capacity, position_of, is_given, named, seat_of, thread_count}
+use Rattle.cml_grammar.specs.Forms.{Form, unknown, declaration, lane, no_step, step, form_of, places_of, rest_of, is_name_place, is_fresh, is_used, suits, fresh_word, owner_of, named_by, declared_places, seat_of_form, is_others, step_places}
 
--- what the lines so far leave: the names that stand, and whether a step was seen
+-- what a lane lies between: a thread by its seat, and an object by its position among the names
+abbrev pub Ends : Type 0
+Ends = ℕ × ℕ
+
+-- what the lines so far leave: the names that stand, whether a step was seen, and between which ends lanes were said
 pub record Scope : Type 0 where
   pub names : List Given
   pub started : Bool
+  pub lanes : List Ends
 
 abbrev pub start : Scope
-start = record { names = []; started = false }
+start = record { names = []; started = false; lanes = [] }
 
 -- a line says something where it isn't the header and isn't skipped
 abbrev pub says : ℕ → List ℕ → Bool
@@ -34,18 +40,29 @@ is_bad_header k line = (k == 1) && not (bytes_eq line (codes "cml 1"))
 abbrev pub is_unknown : Form → Bool
 is_unknown unknown = true
 is_unknown (declaration d rest) = false
+is_unknown (lane rest) = false
 is_unknown (no_step seat) = false
 is_unknown (step seat v rest) = false
 
 abbrev pub is_late : Bool → Form → Bool
 is_late started unknown = false
 is_late started (declaration d rest) = started
+is_late started (lane rest) = started
 is_late started (no_step seat) = false
 is_late started (step seat v rest) = false
+
+-- a declaration, whether it gives a name or not
+abbrev pub is_declaring : Form → Bool
+is_declaring unknown = false
+is_declaring (declaration d rest) = true
+is_declaring (lane rest) = true
+is_declaring (no_step seat) = false
+is_declaring (step seat v rest) = false
 
 abbrev pub is_no_step : Form → Bool
 is_no_step unknown = false
 is_no_step (declaration d rest) = false
+is_no_step (lane rest) = false
 is_no_step (no_step seat) = true
 is_no_step (step seat v rest) = false
 
@@ -65,12 +82,28 @@ abbrev pub is_not_yours : List Given → ℕ → Place → List ℕ → Bool
 is_not_yours names seat place word = is_used place && option_map_or (is_others seat) (named names word) false
 
 abbrev pub is_bad_number : Place → List ℕ → Bool
-is_bad_number place word = is_number_place place && not (is_number word)
+is_bad_number Number word = not (is_number word)
+is_bad_number Capacity word = not (is_capacity word)
+is_bad_number _ word = false
+
+-- the ends that the words after `lane` say, where they name a thread and something
+abbrev pub ends_by : List Given → List (List ℕ) → Option Ends
+ends_by names (thread ∷ target ∷ rest) =
+    option_and_then (λ seat. option_map (λ at. (seat, at)) (position_of names target)) (seat_of names thread)
+ends_by names _ = None
+
+abbrev pub are_same : Ends → Ends → Bool
+are_same one other = (one.0 == other.0) && (one.1 == other.1)
+
+abbrev pub is_lane_taken : List Given → List Ends → Form → Bool
+is_lane_taken names lanes (lane rest) = option_map_or (λ ends. list_any (are_same ends) lanes) (ends_by names rest) false
+is_lane_taken names lanes _ = false
 
 abbrev pub declares_thread : Form → Bool
 declares_thread unknown = false
 declares_thread (declaration declares.Thread rest) = true
 declares_thread (declaration _ rest) = false
+declares_thread (lane rest) = false
 declares_thread (no_step seat) = false
 declares_thread (step seat v rest) = false
 
@@ -95,6 +128,7 @@ tests_of_form scope form =
     ∷ (any_word (is_wrong_kind scope.names) form, WrongKind)
     ∷ (any_word (is_not_yours scope.names (seat_of_form form)) form, NotYours)
     ∷ (any_word is_bad_number form, BadNumber)
+    ∷ (is_lane_taken scope.names scope.lanes form, LaneTaken)
     ∷ (declares_thread form && nat_le 64 (thread_count scope.names), TooManyThreads)
     ∷ []
 
@@ -117,27 +151,47 @@ given_as n word = option_to_list (option_map (λ w. (w, n)) word)
 -- the names that a line gives
 abbrev pub gives : List Given → Form → List Given
 gives names unknown = []
-gives names (declaration d rest) = given_as (named_by d (thread_count names)) (fresh_word (declared_places d rest) rest)
+gives names (declaration d rest) = given_as (named_by d (thread_count names) (owner_of names rest)) (fresh_word (declared_places d rest) rest)
+gives names (lane rest) = []
 gives names (no_step seat) = []
 gives names (step seat v rest) = given_as (called.Port (users.One seat)) (fresh_word (step_places v) rest)
+
+-- the ends of the lane that a line says, if it says one
+abbrev pub lays : List Given → Form → List Ends
+lays names (lane rest) = option_to_list (ends_by names rest)
+lays names _ = []
 
 abbrev pub is_step : Form → Bool
 is_step unknown = false
 is_step (declaration d rest) = false
+is_step (lane rest) = false
 is_step (no_step seat) = false
 is_step (step seat v rest) = true
 
+-- a declaration that gives a name
 abbrev pub is_declaration : Form → Bool
 is_declaration unknown = false
 is_declaration (declaration d rest) = true
+is_declaration (lane rest) = false
 is_declaration (no_step seat) = false
 is_declaration (step seat v rest) = false
+
+abbrev pub is_lane : Form → Bool
+is_lane unknown = false
+is_lane (declaration d rest) = false
+is_lane (lane rest) = true
+is_lane (no_step seat) = false
+is_lane (step seat v rest) = false
 
 -- the scope behind a line of words
 abbrev pub after_words : Scope → List (List ℕ) → Scope
 after_words scope words =
     let form = form_of scope.names words in
-    record { names = scope.names ++ gives scope.names form; started = scope.started || is_step form }
+    record {
+      names = scope.names ++ gives scope.names form;
+      started = scope.started || is_step form;
+      lanes = scope.lanes ++ lays scope.names form;
+    }
 
 -- the scope behind the line of number k
 abbrev pub after : Scope → ℕ → List ℕ → Scope

@@ -11,10 +11,10 @@ use Rattle.cml_grammar.specs.declared.forms.Declares.TheVariants as declares
 use Rattle.cml_grammar.specs.declared.forms.Verb.{Verb}
 use Rattle.cml_grammar.specs.declared.forms.Verb.TheVariants as verb
 use Rattle.cml_grammar.specs.declared.forms.Place.{Place}
-use Rattle.cml_grammar.specs.declared.forms.Place.TheVariants.{Fresh, Mailbox, Channel, Port, Receiver, Variable, MVar, Number}
+use Rattle.cml_grammar.specs.declared.forms.Place.TheVariants.{Fresh, Thread, Mailbox, Channel, Target, Port, Receiver, Polled, Variable, MVar, Number, Capacity}
 use Rattle.cml_grammar.specs.Names.{Given, seat_of}
 
--- a declaration's first word
+-- the first word of a declaration that gives a name
 abbrev pub declares_of : List ℕ → Option Declares
 declares_of word =
     if bytes_eq word (codes "mailbox") then Some declares.Mailbox
@@ -23,6 +23,7 @@ declares_of word =
     else if bytes_eq word (codes "ivar") then Some declares.IVar
     else if bytes_eq word (codes "mvar") then Some declares.MVar
     else if bytes_eq word (codes "thread") then Some declares.Thread
+    else if bytes_eq word (codes "feed") then Some declares.Feed
     else None
 
 -- what stands after it: an m-variable's name stands alone, or with its first message where there are two words
@@ -33,6 +34,15 @@ declared_places declares.Port rest = Channel ∷ Fresh ∷ []
 declared_places declares.IVar rest = Fresh ∷ []
 declared_places declares.MVar rest = if length rest == 2 then Fresh ∷ Number ∷ [] else Fresh ∷ []
 declared_places declares.Thread rest = Fresh ∷ []
+declared_places declares.Feed rest = Thread ∷ Fresh ∷ Channel ∷ Capacity ∷ []
+
+-- the first word of a lane line, which gives no name
+abbrev pub is_lane_word : List ℕ → Bool
+is_lane_word word = bytes_eq word (codes "lane")
+
+-- what stands after it
+abbrev pub lane_places : List Place
+lane_places = Thread ∷ Target ∷ Capacity ∷ []
 
 -- a step's second word
 abbrev pub verb_of : List ℕ → Option Verb
@@ -57,7 +67,7 @@ abbrev pub step_places : Verb → List Place
 step_places verb.Send = Mailbox ∷ Number ∷ []
 step_places verb.Multicast = Channel ∷ Number ∷ []
 step_places verb.Recv = Receiver ∷ []
-step_places verb.Poll = Receiver ∷ []
+step_places verb.Poll = Polled ∷ []
 step_places verb.Port = Channel ∷ Fresh ∷ []
 step_places verb.Copy = Port ∷ Fresh ∷ []
 step_places verb.Close = Port ∷ []
@@ -72,6 +82,7 @@ step_places verb.Swap = MVar ∷ Number ∷ []
 pub data Form : Type 0 where
   unknown : Form
   declaration : Declares → List (List ℕ) → Form
+  lane : List (List ℕ) → Form
   no_step : ℕ → Form
   step : ℕ → Verb → List (List ℕ) → Form
 
@@ -79,35 +90,40 @@ abbrev pub step_form : ℕ → List (List ℕ) → Form
 step_form seat [] = no_step seat
 step_form seat (word ∷ rest) = option_map_or (λ v. step seat v rest) (verb_of word) (no_step seat)
 
--- the first word is a declaration's, or a thread that was declared
+-- the first word is a declaration's or a lane line's, or a thread that was declared
 abbrev pub form_of : List Given → List (List ℕ) → Form
 form_of names [] = unknown
 form_of names (word ∷ rest) =
     option_map_or (λ d. declaration d rest) (declares_of word)
-    (option_map_or (λ seat. step_form seat rest) (seat_of names word) unknown)
+    (if is_lane_word word then lane rest
+    else option_map_or (λ seat. step_form seat rest) (seat_of names word) unknown)
 
 abbrev pub places_of : Form → List Place
 places_of unknown = []
 places_of (declaration d rest) = declared_places d rest
+places_of (lane rest) = lane_places
 places_of (no_step seat) = []
 places_of (step seat v rest) = step_places v
 
 abbrev pub rest_of : Form → List (List ℕ)
 rest_of unknown = []
 rest_of (declaration d rest) = rest
+rest_of (lane rest) = rest
 rest_of (no_step seat) = []
 rest_of (step seat v rest) = rest
 
--- the seat of the thread whose line it is, and 0 for the other lines
+-- the seat of the thread whose step it is, and 0 for the other lines
 abbrev pub seat_of_form : Form → ℕ
 seat_of_form unknown = 0
 seat_of_form (declaration d rest) = 0
+seat_of_form (lane rest) = 0
 seat_of_form (no_step seat) = seat
 seat_of_form (step seat v rest) = seat
 
 -- whether a place is a name's, is for a name that the line gives, or for one that it uses
 abbrev pub is_name_place : Place → Bool
 is_name_place Number = false
+is_name_place Capacity = false
 is_name_place _ = true
 
 abbrev pub is_fresh : Place → Bool
@@ -117,36 +133,45 @@ is_fresh _ = false
 abbrev pub is_used : Place → Bool
 is_used place = is_name_place place && not (is_fresh place)
 
-abbrev pub is_number_place : Place → Bool
-is_number_place Number = true
-is_number_place _ = false
-
 -- whether what is named may stand in a place
 abbrev pub suits : Place → Named → Bool
+suits Thread (called.Thread seat) = true
 suits Mailbox called.Mailbox = true
 suits Channel called.Channel = true
+suits Target called.Mailbox = true
+suits Target called.Channel = true
 suits Port (called.Port whose) = true
 suits Receiver called.Mailbox = true
 suits Receiver (called.Port whose) = true
+suits Polled called.Mailbox = true
+suits Polled (called.Port whose) = true
+suits Polled (called.Feed owner) = true
 suits Variable called.IVar = true
 suits Variable called.MVar = true
 suits MVar called.MVar = true
 suits _ _ = false
 
--- whether what is named is a port of another seat
+-- whether what is named is a port or a feed of another seat
 abbrev pub is_others : ℕ → Named → Bool
 is_others seat (called.Port (users.One owner)) = not (owner == seat)
+is_others seat (called.Feed owner) = not (owner == seat)
 is_others seat _ = false
 
 -- the word that stands in the place of a name that the line gives
 abbrev pub fresh_word : List Place → List (List ℕ) → Option (List ℕ)
 fresh_word places words = option_map (λ p. p.1) (find (λ p. is_fresh p.0) (zip places words))
 
--- what a declaration's name names, where so many threads were declared before
-abbrev pub named_by : Declares → ℕ → Named
-named_by declares.Mailbox threads = called.Mailbox
-named_by declares.Channel threads = called.Channel
-named_by declares.Port threads = called.Port users.Every
-named_by declares.IVar threads = called.IVar
-named_by declares.MVar threads = called.MVar
-named_by declares.Thread threads = called.Thread (threads + 1)
+-- the seat of the thread that stands first in the rest of a feed's line, and 0 where none does
+abbrev pub owner_of : List Given → List (List ℕ) → ℕ
+owner_of names [] = 0
+owner_of names (thread ∷ rest) = option_map_or (λ seat. seat) (seat_of names thread) 0
+
+-- what a declaration's name names, where so many threads were declared before; a feed's is the owner's
+abbrev pub named_by : Declares → ℕ → ℕ → Named
+named_by declares.Mailbox threads owner = called.Mailbox
+named_by declares.Channel threads owner = called.Channel
+named_by declares.Port threads owner = called.Port users.Every
+named_by declares.IVar threads owner = called.IVar
+named_by declares.MVar threads owner = called.MVar
+named_by declares.Thread threads owner = called.Thread (threads + 1)
+named_by declares.Feed threads owner = called.Feed owner

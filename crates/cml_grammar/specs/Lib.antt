@@ -5,6 +5,7 @@ pub mod Faults
 pub mod Script
 pub mod Meaning
 pub mod Giving
+pub mod Rings
 pub mod Reading
 pub mod Shown
 pub mod Flaws

@@ -33,6 +33,10 @@ abbrev pub is_number : List ℕ → Bool
 is_number [] = false
 is_number (b ∷ bs) = all_ascii_digits (b ∷ bs) && (not (b == 48) || length bs == 0) && nat_lt (digits_value 10 (b ∷ bs)) (2 ^ 64)
 
+-- a capacity is a number from 1 to 1,024
+abbrev pub is_capacity : List ℕ → Bool
+is_capacity word = is_number word && nat_le 1 (digits_value 10 word) && nat_le (digits_value 10 word) 1024
+
 -- a name that stands, and what it names
 abbrev pub Given : Type 0
 Given = List ℕ × Named

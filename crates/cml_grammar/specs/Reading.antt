@@ -1,6 +1,7 @@
 -- How a script is kept, and what a reader of its lists may rely on.
 use Rattle.std.specs.Prelude.{ℕ, ◌≡◌, ◌<◌, ◌≤◌, ◌==◌, ◌^◌, Bool, true, false, not, if◌then◌else◌, List, [], ◌++◌, length, map, Some, is_some, String, string_bytes, slice_get, All, ⊤, ◌⊎◌}
 use Rattle.std.specs.Global.{Global}
+use Rattle.std.specs.Map.{keys_of}
 use Rattle.cml_grammar.specs.declared.names.Named.{Named}
 use Rattle.cml_grammar.specs.declared.names.Named.TheVariants as called
 use Rattle.cml_grammar.specs.declared.names.Users.{Users}
@@ -13,22 +14,25 @@ use Rattle.cml_grammar.specs.declared.forms.Makes.{Makes}
 use Rattle.cml_grammar.specs.declared.forms.Makes.TheVariants as makes
 use Rattle.cml_grammar.specs.declared.script.Line.{Line}
 use Rattle.cml_grammar.specs.declared.script.Declaration.{Declaration}
+use Rattle.cml_grammar.specs.declared.script.Lane.{Lane}
 use Rattle.cml_grammar.specs.declared.script.Step.{Step}
 use Rattle.cml_grammar.specs.Words.{words_of}
 use Rattle.cml_grammar.specs.Names.{Given, thread_count}
 use Rattle.cml_grammar.specs.Forms.{form_of}
-use Rattle.cml_grammar.specs.Faults.{is_declaration, is_step, says}
+use Rattle.cml_grammar.specs.Faults.{Ends, is_declaration, is_lane, is_step, says}
 use Rattle.cml_grammar.specs.Script.{SourceLine, Lines, source, with_line}
 use Rattle.cml_grammar.specs.Meaning.{scope_of, names_of, makes_of, action_of, seat_of_step}
 use Rattle.cml_grammar.specs.Giving.{declared_word, asked_word, names_before, NamesAreGiven}
+use Rattle.cml_grammar.specs.Rings.{lane_of}
 
 abbrev pub source_of : Line → SourceLine
 source_of line = record { number = line.number; words = words_of (string_bytes line.text) }
 
-abbrev pub view_of : ℕ → List Declaration → List Step → Lines
-view_of version declarations steps = record {
+abbrev pub view_of : ℕ → List Declaration → List Lane → List Step → Lines
+view_of version declarations lanes steps = record {
   version = version;
   declarations = map (λ d. source_of d.line) declarations;
+  lanes = map (λ l. source_of l.line) lanes;
   steps = map (λ s. source_of s.line) steps;
 }
 
@@ -48,9 +52,21 @@ IsChannelAt names at = (word : List ℕ) × (slice_get names at ≡ Some (word, 
 abbrev pub IsPortAt : List Given → ℕ → Type 0
 IsPortAt names at = (word : List ℕ) × (whose : Users) × (slice_get names at ≡ Some (word, called.Port whose))
 
--- .. and one's that can be received from
+-- .. a feed's
+abbrev pub IsFeedAt : List Given → ℕ → Type 0
+IsFeedAt names at = (word : List ℕ) × (owner : ℕ) × (slice_get names at ≡ Some (word, called.Feed owner))
+
+-- .. one's that a lane can lead to
+abbrev pub IsTargetAt : List Given → ℕ → Type 0
+IsTargetAt names at = IsMailboxAt names at ⊎ IsChannelAt names at
+
+-- .. one's that can be received from
 abbrev pub IsReceiverAt : List Given → ℕ → Type 0
 IsReceiverAt names at = IsMailboxAt names at ⊎ IsPortAt names at
+
+-- .. and one's that can be polled
+abbrev pub IsPolledAt : List Given → ℕ → Type 0
+IsPolledAt names at = IsReceiverAt names at ⊎ IsFeedAt names at
 
 -- .. an i-variable's
 abbrev pub IsIVarAt : List Given → ℕ → Type 0
@@ -69,7 +85,7 @@ abbrev pub UsesWell : List Given → Action → Type 0
 UsesWell names (Send at message) = IsMailboxAt names at × (message < 2 ^ 64)
 UsesWell names (Multicast at message) = IsChannelAt names at × (message < 2 ^ 64)
 UsesWell names (Recv at) = IsReceiverAt names at
-UsesWell names (Poll at) = IsReceiverAt names at
+UsesWell names (Poll at) = IsPolledAt names at
 UsesWell names (Port at) = IsChannelAt names at
 UsesWell names (Copy at) = IsPortAt names at
 UsesWell names (Close at) = IsPortAt names at
@@ -96,9 +112,10 @@ used_by (Take at) = at
 used_by (TakePoll at) = at
 used_by (Swap at message) = at
 
--- a port of one seat is that seat's alone
+-- a port of one seat is that seat's alone, and so is a feed
 abbrev pub MayUse : ℕ → Named → Type 0
 MayUse seat (called.Port (users.One owner)) = owner ≡ seat
+MayUse seat (called.Feed owner) = owner ≡ seat
 MayUse seat _ = ⊤
 
 -- the name at this position is for this seat
@@ -111,15 +128,25 @@ gives_name (Port at) = true
 gives_name (Copy at) = true
 gives_name _ = false
 
--- each name that the declaration at this position uses was given before it, for something that it can be made of, and a message has 64 bits
+-- a seat is a declared thread's
+abbrev pub IsSeat : List Given → ℕ → Type 0
+IsSeat names seat = (1 ≤ seat) × (seat ≤ thread_count names)
+
+abbrev pub IsCapacity : ℕ → Type 0
+IsCapacity capacity = (1 ≤ capacity) × (capacity ≤ 1024)
+
+-- each name that the declaration at this position uses was given before it, for something that it can be made of, a message has
+-- 64 bits, and a feed is a declared thread's and has a capacity from 1 to 1,024
 abbrev pub IsMadeWell : List Given → ℕ → Makes → Type 0
 IsMadeWell names i (makes.Port channel) = IsChannelAt names channel × (channel < i)
 IsMadeWell names i (makes.MVarInit message) = message < 2 ^ 64
+IsMadeWell names i (makes.Feed f) = IsChannelAt names f.channel × (f.channel < i) × IsSeat names f.seat × IsCapacity f.capacity
 IsMadeWell names i _ = ⊤
 
--- a thread's seat is one of the first n
+-- a thread's seat is one of the first n, and so is a feed's
 abbrev pub IsSeatedWithin : ℕ → Named → Type 0
 IsSeatedWithin n (called.Thread seat) = (1 ≤ seat) × (seat ≤ n)
+IsSeatedWithin n (called.Feed owner) = (1 ≤ owner) × (owner ≤ n)
 IsSeatedWithin n _ = ⊤
 
 -- the word is the name at this position, and names what the declaration makes
@@ -131,6 +158,7 @@ GivesAt names at word (makes.Port channel) = slice_get names at ≡ Some (word, 
 GivesAt names at word makes.IVar = slice_get names at ≡ Some (word, called.IVar)
 GivesAt names at word makes.MVar = slice_get names at ≡ Some (word, called.MVar)
 GivesAt names at word (makes.MVarInit message) = slice_get names at ≡ Some (word, called.MVar)
+GivesAt names at word (makes.Feed f) = slice_get names at ≡ Some (word, called.Feed f.seat)
 
 -- the i-th declaration gives the i-th name, the word that stands there for it
 abbrev pub Gives : List Given → ℕ → Declaration → Type 0
@@ -143,6 +171,13 @@ pub record GivesNames (names : List Given) (declared : List Declaration) : Type 
 -- what a declaration was read as is what its words mean among the script's names
 pub record ReadsDeclaration (names : List Given) (d : Declaration) : Type 0 where
   pub makes : makes_of names (words_of (string_bytes d.line.text)) ≡ Some d.makes
+
+-- what a lane line was read as is what its words mean among the script's names
+pub record ReadsLane (names : List Given) (l : Lane) : Type 0 where
+  pub says : lane_of names (words_of (string_bytes l.line.text)) ≡ Some ((l.seat, l.target), l.capacity)
+  pub seated : IsSeat names l.seat
+  pub target : IsTargetAt names l.target
+  pub capacity : IsCapacity l.capacity
 
 -- what a step was read as is what its words mean among the script's names
 pub record ReadsStep (names : List Given) (s : Step) : Type 0 where
@@ -157,29 +192,39 @@ pub record ReadsStep (names : List Given) (s : Step) : Type 0 where
 abbrev pub UsesEarlier : Lines → List Step → Type 0
 UsesEarlier script asked = (k : ℕ) (s : Step) → slice_get asked k ≡ Some s → used_by s.action < names_before script.declarations script.steps k
 
-pub record IsReading (script : Lines) (entries : List (String Global × Named)) (declared : List Declaration) (asked : List Step) : Type 0 where
+-- the capacity of each lane by its ends
+abbrev pub capacities_of : List Lane → List (Ends × ℕ)
+capacities_of lanes = map (λ l. ((l.seat, l.target), l.capacity)) lanes
+
+pub record IsReading (script : Lines) (entries : List (String Global × Named)) (declared : List Declaration) (laid : List Lane) (capacities : List (Ends × ℕ)) (asked : List Step) : Type 0 where
   pub names : texts_of entries ≡ names_of script
   pub gives : GivesNames (names_of script) declared
   pub given : NamesAreGiven (names_of script) script.declarations script.steps
   pub declarations : All (ReadsDeclaration (names_of script)) declared
+  pub lanes : All (ReadsLane (names_of script)) laid
+  pub capacities_are : capacities ≡ capacities_of laid
   pub steps : All (ReadsStep (names_of script)) asked
   pub earlier : UsesEarlier script asked
   pub threads : thread_count (names_of script) ≤ 64
   pub few : length declared ≤ 1048576
+  pub narrow : length laid ≤ 1048576
   pub short : length asked ≤ 1048576
 
 -- the same of the lines so far, with the number of threads beside them, and what the next line needs to know
-pub record IsReadSoFar (script : Lines) (entries : List (String Global × Named)) (declared : List Declaration) (asked : List Step) (threads : ℕ) : Type 0 where
+pub record IsReadSoFar (script : Lines) (entries : List (String Global × Named)) (declared : List Declaration) (laid : List Lane) (capacities : List (Ends × ℕ)) (asked : List Step) (threads : ℕ) : Type 0 where
   pub names : texts_of entries ≡ names_of script
   pub gives : GivesNames (names_of script) declared
   pub given : NamesAreGiven (names_of script) script.declarations script.steps
   pub declarations : All (ReadsDeclaration (names_of script)) declared
+  pub lanes : All (ReadsLane (names_of script)) laid
+  pub capacities_are : capacities ≡ capacities_of laid
   pub steps : All (ReadsStep (names_of script)) asked
   pub earlier : UsesEarlier script asked
   pub count : threads ≡ thread_count (names_of script)
   pub limit : threads ≤ 64
   pub seats : All (λ g. IsSeatedWithin (thread_count (names_of script)) g.1) (names_of script)
   pub started : (scope_of script).started ≡ not (length asked == 0)
+  pub ends : (scope_of script).lanes ≡ keys_of capacities
 
 -- how many threads a declaration adds
 abbrev pub threads_by : Declares → ℕ
@@ -193,6 +238,7 @@ with_words script k line =
     record {
       version = script.version;
       declarations = script.declarations ++ with_line (is_declaration form) (source k line) [];
+      lanes = script.lanes ++ with_line (is_lane form) (source k line) [];
       steps = script.steps ++ with_line (is_step form) (source k line) [];
     }
 

@@ -1,9 +1,9 @@
 -- Words that may stand in their places.
 use Rattle.std.specs.Prelude.{ℕ, ◌≡◌, true, false, List, [], ◌∷◌, slice_get, Some, ⊤}
 use Rattle.cml_grammar.specs.declared.forms.Place.{Place}
-use Rattle.cml_grammar.specs.declared.forms.Place.TheVariants.{Fresh, Number}
+use Rattle.cml_grammar.specs.declared.forms.Place.TheVariants.{Fresh, Number, Capacity}
 use Rattle.cml_grammar.specs.declared.names.Named.{Named}
-use Rattle.cml_grammar.specs.Names.{Given, is_name, is_number, is_given, position_of}
+use Rattle.cml_grammar.specs.Names.{Given, is_name, is_number, is_capacity, is_given, position_of}
 use Rattle.cml_grammar.specs.Forms.{suits}
 
 -- what is named at this position may stand in the place
@@ -18,6 +18,7 @@ IsUsed names place word = (at : ℕ) × (position_of names word ≡ Some at) × 
 abbrev pub Suits : List Given → Place → List ℕ → Type 0
 Suits names Fresh word = (is_name word ≡ true) × (is_given names word ≡ false)
 Suits names Number word = is_number word ≡ true
+Suits names Capacity word = is_capacity word ≡ true
 Suits names place word = IsUsed names place word
 
 -- as many words as places, each in its place

@@ -1,16 +1,18 @@
 //! The table of faults: its tests of a line's form, and of each word in its place.
 ghost use Rattle.std.specs.Prelude.{◌≡◌, ◌&&◌, nat_le, false};
+ghost use Rattle.std.specs.Map.{keys_of};
 ghost use Rattle.std.specs.Option.{option_map_or};
 ghost use Rattle.cml_grammar.specs.Names.{thread_count, named};
 ghost use Rattle.cml_grammar.specs.Forms.{suits, is_others};
-ghost use Rattle.cml_grammar.specs.Faults.{is_late, declares_thread, first_of, any_word, tests_of_form};
+ghost use Rattle.cml_grammar.specs.Faults.{is_late, is_bad_number, is_lane_taken, declares_thread, first_of, any_word, tests_of_form};
 ghost use Rattle.cml_grammar.specs.Flaws.{has_flaw};
 ghost use Rattle.cml_grammar.specs.Reading.{texts_of};
 ghost use Rattle.cml_grammar.specs.Shown.{shown};
 
 use crate::fault::What;
 use crate::forms::{Form, Place};
-use crate::names::{Named, find_named, is_given, is_name, number_of};
+use crate::meaning::ends_by;
+use crate::names::{Named, capacity_in, find_named, is_given, is_name, number_of};
 use indexmap::IndexMap;
 
 /// The most threads that a script may declare.
@@ -23,7 +25,7 @@ enum Flaw {
     Taken,
     UnknownName,
     WrongKind,
-    /// It names a port of another seat than this one.
+    /// It names a port or a feed of another seat than this one.
     NotYours(u64),
     BadNumber,
 }
@@ -37,7 +39,17 @@ fn has_flaw(names: &IndexMap<String, Named>, flaw: Flaw, place: Place, word: &st
         Flaw::UnknownName => place.is_used() && !is_given(names, word),
         Flaw::WrongKind => place.is_used() && !names_suiting(names, place, word),
         Flaw::NotYours(seat) => place.is_used() && names_others(names, seat, word),
-        Flaw::BadNumber => place.is_number_place() && number_of(word).is_none(),
+        Flaw::BadNumber => is_bad_number(place, word),
+    }
+}
+
+fn is_bad_number(place: Place, word: &str) -> bool
+    ensures { result ≡ is_bad_number place word.now }
+{
+    match place {
+        Place::Number => number_of(word).is_none(),
+        Place::Capacity => capacity_in(word).is_none(),
+        _ => false,
     }
 }
 
@@ -51,7 +63,7 @@ fn names_suiting(names: &IndexMap<String, Named>, place: Place, word: &str) -> b
     }
 }
 
-/// Whether the word names a port of another seat than this one.
+/// Whether the word names a port or a feed of another seat than this one.
 fn names_others(names: &IndexMap<String, Named>, seat: u64, word: &str) -> bool
     ensures { result ≡ option_map_or (is_others seat) (named (texts_of names.now.entries) word.now) false }
 {
@@ -78,6 +90,23 @@ fn is_late(started: bool, form: &Form) -> bool
     started && form.is_declaration()
 }
 
+/// Whether it is a lane line for a thread and an object that have one.
+fn is_lane_taken(
+    names: &IndexMap<String, Named>,
+    lanes: &IndexMap<(u64, usize), usize>,
+    form: &Form,
+) -> bool
+    ensures { result ≡ is_lane_taken (texts_of names.now.entries) (keys_of lanes.now.entries) (shown form.now) }
+{
+    let Form::Lane(rest) = form else {
+        return false;
+    };
+    match ends_by(names, rest) {
+        Some(ends) => lanes.contains_key(&ends),
+        None => false,
+    }
+}
+
 fn is_thread_too_many(threads: u64, form: &Form) -> bool
     ensures { result ≡ (declares_thread (shown form.now) && nat_le 64 threads) }
 {
@@ -96,15 +125,17 @@ fn first_of(tests: &[(bool, What)]) -> Option<What>
     None
 }
 
-/// What is wrong with a line of this form, where these names stand, so many of them threads', and a step was seen or not.
+/// What is wrong with a line of this form, where these names stand, so many of them threads', a step was seen or not, and
+/// there are lanes between these ends.
 pub(crate) fn fault_in_form(
     names: &IndexMap<String, Named>,
     threads: u64,
     started: bool,
+    lanes: &IndexMap<(u64, usize), usize>,
     form: &Form,
 ) -> Option<What>
     requires { threads ≡ thread_count (texts_of names.now.entries) }
-    ensures { result ≡ first_of (tests_of_form (record { names = texts_of names.now.entries; started = started }) (shown form.now)) }
+    ensures { result ≡ first_of (tests_of_form (record { names = texts_of names.now.entries; started = started; lanes = keys_of lanes.now.entries }) (shown form.now)) }
 {
     let seat = form.seat();
     let tests = [
@@ -118,6 +149,7 @@ pub(crate) fn fault_in_form(
         (any_word(names, form, Flaw::WrongKind), What::WrongKind),
         (any_word(names, form, Flaw::NotYours(seat)), What::NotYours),
         (any_word(names, form, Flaw::BadNumber), What::BadNumber),
+        (is_lane_taken(names, lanes, form), What::LaneTaken),
         (is_thread_too_many(threads, form), What::TooManyThreads),
     ];
     first_of(&tests)

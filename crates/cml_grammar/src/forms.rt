@@ -2,15 +2,18 @@
 ghost use Rattle.std.specs.Prelude.{◌≡◌, ◌==◌, not, map, length};
 ghost use Rattle.std.specs.Option.{option_map};
 ghost use Rattle.cml_grammar.specs.Names.{seat_of};
-ghost use Rattle.cml_grammar.specs.Forms.{declares_of, declared_places, verb_of, step_places, step_form, form_of, places_of, rest_of, seat_of_form, is_name_place, is_fresh, is_used, is_number_place, suits, fresh_word};
-ghost use Rattle.cml_grammar.specs.Faults.{is_unknown, is_no_step, is_declaration, declares_thread};
+ghost use Rattle.cml_grammar.specs.Forms.{declares_of, declared_places, is_lane_word, lane_places, verb_of, step_places, step_form, form_of, places_of, rest_of, seat_of_form, is_name_place, is_fresh, is_used, suits, fresh_word};
+ghost use Rattle.cml_grammar.specs.Faults.{is_unknown, is_declaring, is_no_step, declares_thread};
 ghost use Rattle.cml_grammar.specs.Reading.{texts_of};
 ghost use Rattle.cml_grammar.specs.Shown.{shown};
 
 use crate::names::{Named, seat_of};
 use indexmap::IndexMap;
 
-/// What a declaration line declares.
+/// What stands behind `lane`.
+const LANE_PLACES: &[Place] = &[Place::Thread, Place::Target, Place::Capacity];
+
+/// What a declaration line declares by a name of its own.
 #[derive(Clone, Copy, Debug, PartialEq, Eq)]
 pub enum Declares {
     Mailbox,
@@ -19,6 +22,7 @@ pub enum Declares {
     IVar,
     MVar,
     Thread,
+    Feed,
 }
 
 /// What a step line does, by its second word.
@@ -44,20 +48,36 @@ pub enum Verb {
 pub enum Place {
     /// A name that the line gives.
     Fresh,
+    /// A thread's name.
+    Thread,
     /// A mailbox's name.
     Mailbox,
     /// A channel's name.
     Channel,
+    /// The name of a mailbox or a channel.
+    Target,
     /// A port's name.
     Port,
     /// The name of a mailbox or a port.
     Receiver,
+    /// The name of a mailbox, a port or a feed.
+    Polled,
     /// The name of an i-variable or an m-variable.
     Variable,
     /// An m-variable's name.
     MVar,
     /// A message.
     Number,
+    /// A number from 1 to 1,024.
+    Capacity,
+}
+
+/// What a feed's line says: its thread's seat, its channel by its position in the script's list of names, and its capacity.
+#[derive(Clone, Copy, Debug, PartialEq, Eq)]
+pub struct FeedMaking {
+    pub seat: u64,
+    pub channel: usize,
+    pub capacity: usize,
 }
 
 /// What a declaration makes. A port's channel is a position in the script's list of names, and an m-variable may have a
@@ -71,6 +91,7 @@ pub enum Makes {
     IVar,
     MVar,
     MVarInit(u64),
+    Feed(FeedMaking),
 }
 
 /// What a step asks for. The name that it uses is a position in the script's list of names.
@@ -96,6 +117,7 @@ pub enum Action {
 pub(crate) enum Form<'a> {
     Unknown,
     Declaration(Declares, &'a [&'a str]),
+    Lane(&'a [&'a str]),
     NoStep(u64),
     Step(u64, Verb, &'a [&'a str]),
 }
@@ -111,6 +133,7 @@ impl Declares {
             "ivar" => Some(Declares::IVar),
             "mvar" => Some(Declares::MVar),
             "thread" => Some(Declares::Thread),
+            "feed" => Some(Declares::Feed),
             _ => None,
         }
     }
@@ -131,6 +154,7 @@ impl Declares {
                     &[Place::Fresh]
                 }
             }
+            Declares::Feed => &[Place::Thread, Place::Fresh, Place::Channel, Place::Capacity],
         }
     }
 }
@@ -163,7 +187,8 @@ impl Verb {
         match self {
             Verb::Send => &[Place::Mailbox, Place::Number],
             Verb::Multicast => &[Place::Channel, Place::Number],
-            Verb::Recv | Verb::Poll => &[Place::Receiver],
+            Verb::Recv => &[Place::Receiver],
+            Verb::Poll => &[Place::Polled],
             Verb::Port => &[Place::Channel, Place::Fresh],
             Verb::Copy => &[Place::Port, Place::Fresh],
             Verb::Close => &[Place::Port],
@@ -179,7 +204,7 @@ impl Place {
     pub(crate) fn is_name_place(self) -> bool
         ensures { result ≡ is_name_place self }
     {
-        self != Place::Number
+        self != Place::Number && self != Place::Capacity
     }
 
     pub(crate) fn is_fresh(self) -> bool
@@ -194,25 +219,28 @@ impl Place {
         self.is_name_place() && !self.is_fresh()
     }
 
-    pub(crate) fn is_number_place(self) -> bool
-        ensures { result ≡ is_number_place self }
-    {
-        self == Place::Number
-    }
-
     /// Whether what is named may stand here.
     pub(crate) fn suits(self, named: Named) -> bool
         ensures { result ≡ suits self named }
     {
         match (self, named) {
-            (Place::Mailbox | Place::Receiver, Named::Mailbox) => true,
-            (Place::Channel, Named::Channel) => true,
-            (Place::Port | Place::Receiver, Named::Port(_)) => true,
+            (Place::Thread, Named::Thread(_)) => true,
+            (Place::Mailbox | Place::Target | Place::Receiver | Place::Polled, Named::Mailbox) =>
+                true,
+            (Place::Channel | Place::Target, Named::Channel) => true,
+            (Place::Port | Place::Receiver | Place::Polled, Named::Port(_)) => true,
+            (Place::Polled, Named::Feed(_)) => true,
             (Place::Variable, Named::IVar) => true,
             (Place::Variable | Place::MVar, Named::MVar) => true,
             _ => false,
         }
     }
+}
+
+fn is_lane_word(word: &str) -> bool
+    ensures { result ≡ is_lane_word word.now }
+{
+    word == "lane"
 }
 
 /// The word that stands where the line gives a name, if it gives one.
@@ -235,6 +263,9 @@ impl<'a> Form<'a> {
         };
         if let Some(declares) = Declares::of_word(first) {
             return Form::Declaration(declares, rest);
+        }
+        if is_lane_word(first) {
+            return Form::Lane(rest);
         }
         match seat_of(names, first) {
             Some(seat) => Form::of_step(seat, rest),
@@ -260,6 +291,7 @@ impl<'a> Form<'a> {
         match self {
             Form::Unknown | Form::NoStep(_) => &[],
             Form::Declaration(declares, rest) => declares.places(rest),
+            Form::Lane(_) => LANE_PLACES,
             Form::Step(_, verb, _) => verb.places(),
         }
     }
@@ -269,16 +301,16 @@ impl<'a> Form<'a> {
     {
         match self {
             Form::Unknown | Form::NoStep(_) => &[],
-            Form::Declaration(_, rest) | Form::Step(_, _, rest) => rest,
+            Form::Declaration(_, rest) | Form::Lane(rest) | Form::Step(_, _, rest) => rest,
         }
     }
 
-    /// The seat of the thread whose line it is, and 0 for the other lines.
+    /// The seat of the thread whose step it is, and 0 for the other lines.
     pub(crate) fn seat(&self) -> u64
         ensures { result ≡ seat_of_form (shown self.now) }
     {
         match self {
-            Form::Unknown | Form::Declaration(_, _) => 0,
+            Form::Unknown | Form::Declaration(_, _) | Form::Lane(_) => 0,
             Form::NoStep(seat) | Form::Step(seat, _, _) => *seat,
         }
     }
@@ -290,9 +322,9 @@ impl<'a> Form<'a> {
     }
 
     pub(crate) fn is_declaration(&self) -> bool
-        ensures { result ≡ is_declaration (shown self.now) }
+        ensures { result ≡ is_declaring (shown self.now) }
     {
-        matches!(self, Form::Declaration(_, _))
+        matches!(self, Form::Declaration(_, _) | Form::Lane(_))
     }
 
     pub(crate) fn is_no_step(&self) -> bool

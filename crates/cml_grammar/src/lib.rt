@@ -13,11 +13,11 @@ mod script;
 mod words;
 
 pub use fault::{Fault, What};
-pub use forms::{Action, Declares, Makes, Place, Verb};
+pub use forms::{Action, Declares, FeedMaking, Makes, Place, Verb};
 pub use laws::{
     faultless_texts_are_scripts, numbers_are_as_printed, scripts_have_no_fault,
     texts_are_one_script, words_make_lines,
 };
 pub use names::{Named, Users};
 pub use read::read_script;
-pub use script::{Declaration, Line, Script, Step};
+pub use script::{Declaration, Lane, Line, Script, Step};

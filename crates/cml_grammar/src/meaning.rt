@@ -1,15 +1,18 @@
 //! What a line that is without fault asks for.
-ghost use Rattle.std.specs.Prelude.{◌≡◌, ◌+◌, ◌^◌, ◌<◌, [], ◌∷◌, length, map, Some, true};
+ghost use Rattle.std.specs.Prelude.{◌≡◌, ◌+◌, ◌^◌, ◌<◌, [], ◌∷◌, length, map, Some, true, is_some, All};
 ghost use Rattle.std.specs.Option.{option_map};
 ghost use Rattle.std.specs.Str.Parse.{digits_value};
-ghost use Rattle.cml_grammar.specs.Names.{is_number, is_given, position_of};
-ghost use Rattle.cml_grammar.specs.Forms.{declared_places, step_places, fresh_word, named_by};
-ghost use Rattle.cml_grammar.specs.Meaning.{makes_by, action_by};
-ghost use Rattle.cml_grammar.specs.Reading.{texts_of, UsesWell, IsMadeWell, threads_by};
+ghost use Rattle.cml_grammar.specs.Names.{is_number, is_capacity, is_given, position_of, seat_of, thread_count};
+ghost use Rattle.cml_grammar.specs.Forms.{declared_places, lane_places, step_places, fresh_word, owner_of, named_by};
+ghost use Rattle.cml_grammar.specs.Faults.{ends_by};
+ghost use Rattle.cml_grammar.specs.Meaning.{feed_by, makes_by, action_by};
+ghost use Rattle.cml_grammar.specs.Rings.{lane_by};
+ghost use Rattle.cml_grammar.specs.Reading.{texts_of, UsesWell, IsSeat, IsCapacity, IsTargetAt, IsMadeWell, IsSeatedWithin, threads_by};
 ghost use Rattle.cml_grammar.specs.Suiting.{AllSuit};
 
-use crate::forms::{Action, Declares, Makes, Verb, fresh_word};
-use crate::names::{Named, Users, number_of, position_of};
+use crate::forms::{Action, Declares, FeedMaking, Makes, Verb, fresh_word};
+use crate::names::{Named, Users, capacity_in, number_of, position_of, seat_of};
+use crate::script::{Lane, Line};
 use indexmap::IndexMap;
 
 /// The position of a name that was given.
@@ -32,9 +35,70 @@ fn message_in(words: &[&str]) -> u64
     number_of(word).unwrap()
 }
 
+/// The seat of a thread that was declared.
+fn given_seat(names: &IndexMap<String, Named>, word: &str) -> u64
+    requires { is_some (seat_of (texts_of names.now.entries) word.now) ≡ true }
+    ensures { seat_of (texts_of names.now.entries) word.now ≡ Some result }
+{
+    seat_of(names, word).unwrap()
+}
+
+/// The capacity that a word is.
+fn given_capacity(word: &str) -> usize
+    requires { is_capacity word.now ≡ true }
+    ensures value { digits_value 10 word.now ≡ result }
+    ensures fits { IsCapacity result }
+{
+    capacity_in(word).unwrap()
+}
+
+/// What a feed's line says whose words suit their places.
+fn feed_by(names: &IndexMap<String, Named>, rest: &[&str]) -> FeedMaking
+    requires suits { AllSuit (texts_of names.now.entries) (declared_places Declares.Feed (map (λ w. w.now) rest.now)) (map (λ w. w.now) rest.now) }
+    requires seats { All (λ g. IsSeatedWithin (thread_count (texts_of names.now.entries)) g.1) (texts_of names.now.entries) }
+    ensures feed { feed_by (texts_of names.now.entries) (map (λ w. w.now) rest.now) ≡ Some result }
+    ensures uses { IsMadeWell (texts_of names.now.entries) (length (texts_of names.now.entries)) (Makes.Feed result) }
+{
+    FeedMaking {
+        seat: given_seat(names, rest[0]),
+        channel: given_position(names, rest[2]),
+        capacity: given_capacity(rest[3]),
+    }
+}
+
+/// The lane of a lane line whose words suit their places.
+pub(crate) fn lane_by(names: &IndexMap<String, Named>, line: Line, rest: &[&str]) -> Lane
+    requires suits { AllSuit (texts_of names.now.entries) lane_places (map (λ w. w.now) rest.now) }
+    requires seats { All (λ g. IsSeatedWithin (thread_count (texts_of names.now.entries)) g.1) (texts_of names.now.entries) }
+    ensures line { result.line ≡ line }
+    ensures says { lane_by (texts_of names.now.entries) (map (λ w. w.now) rest.now) ≡ Some ((result.seat, result.target), result.capacity) }
+    ensures seated { IsSeat (texts_of names.now.entries) result.seat }
+    ensures target { IsTargetAt (texts_of names.now.entries) result.target }
+    ensures capacity { IsCapacity result.capacity }
+{
+    Lane {
+        line,
+        seat: given_seat(names, rest[0]),
+        target: given_position(names, rest[1]),
+        capacity: given_capacity(rest[2]),
+    }
+}
+
+/// The seat and the object's position that the words after `lane` say, where they name a thread and something.
+pub(crate) fn ends_by(names: &IndexMap<String, Named>, rest: &[&str]) -> Option<(u64, usize)>
+    ensures { result ≡ ends_by (texts_of names.now.entries) (map (λ w. w.now) rest.now) }
+{
+    let (thread, more) = rest.split_first()?;
+    let target = more.first()?;
+    let seat = seat_of(names, thread)?;
+    let at = position_of(names, target)?;
+    Some((seat, at))
+}
+
 /// What a declaration makes whose words suit their places.
 pub(crate) fn makes_by(names: &IndexMap<String, Named>, declares: Declares, rest: &[&str]) -> Makes
-    requires { AllSuit (texts_of names.now.entries) (declared_places declares (map (λ w. w.now) rest.now)) (map (λ w. w.now) rest.now) }
+    requires suits { AllSuit (texts_of names.now.entries) (declared_places declares (map (λ w. w.now) rest.now)) (map (λ w. w.now) rest.now) }
+    requires seats { All (λ g. IsSeatedWithin (thread_count (texts_of names.now.entries)) g.1) (texts_of names.now.entries) }
     ensures makes { makes_by (texts_of names.now.entries) declares (map (λ w. w.now) rest.now) ≡ Some result }
     ensures uses { IsMadeWell (texts_of names.now.entries) (length (texts_of names.now.entries)) result }
 {
@@ -51,6 +115,17 @@ pub(crate) fn makes_by(names: &IndexMap<String, Named>, declares: Declares, rest
             _ => Makes::MVar,
         },
         Declares::Thread => Makes::Thread,
+        Declares::Feed => Makes::Feed(feed_by(names, rest)),
+    }
+}
+
+/// The seat of the thread that stands first in a feed's line, and 0 where none does.
+pub(crate) fn owner_of(names: &IndexMap<String, Named>, rest: &[&str]) -> u64
+    ensures { result ≡ owner_of (texts_of names.now.entries) (map (λ w. w.now) rest.now) }
+{
+    match rest.first() {
+        Some(thread) => seat_of(names, thread).unwrap_or(0),
+        None => 0,
     }
 }
 
@@ -66,10 +141,10 @@ pub(crate) fn name_by<'a>(
     fresh_word(declares.places(rest), rest).unwrap()
 }
 
-/// What the name of a declaration names, where so many threads were declared before.
-pub(crate) fn named_by(declares: Declares, threads: u64) -> Named
+/// What the name of a declaration names, where so many threads were declared before. A feed is the owner's.
+pub(crate) fn named_by(declares: Declares, threads: u64, owner: u64) -> Named
     requires { threads < 2 ^ 32 }
-    ensures { result ≡ named_by declares threads }
+    ensures { result ≡ named_by declares threads owner }
 {
     match declares {
         Declares::Mailbox => Named::Mailbox,
@@ -78,6 +153,7 @@ pub(crate) fn named_by(declares: Declares, threads: u64) -> Named
         Declares::IVar => Named::IVar,
         Declares::MVar => Named::MVar,
         Declares::Thread => Named::Thread(threads + 1),
+        Declares::Feed => Named::Feed(owner),
     }
 }
 
@@ -94,8 +170,12 @@ pub(crate) fn threads_with(declares: Declares, threads: u64) -> u64
     ensures { result ≡ threads + threads_by declares }
 {
     match declares {
-        Declares::Mailbox | Declares::Channel | Declares::Port | Declares::IVar | Declares::MVar =>
-            threads,
+        Declares::Mailbox
+        | Declares::Channel
+        | Declares::Port
+        | Declares::IVar
+        | Declares::MVar
+        | Declares::Feed => threads,
         Declares::Thread => threads + 1,
     }
 }

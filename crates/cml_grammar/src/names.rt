@@ -1,11 +1,14 @@
 //! Names and numbers, and look-ups among the names that stand.
 ghost use Rattle.std.specs.Prelude.{◌≡◌, ◌^◌, ◌<◌, Some, None, if◌then◌else◌};
 ghost use Rattle.std.specs.Str.Parse.{digits_value};
-ghost use Rattle.cml_grammar.specs.Names.{is_letter, is_name_byte, is_reserved, is_name, is_number, named, seat_of, position_of, is_given};
+ghost use Rattle.cml_grammar.specs.Names.{is_letter, is_name_byte, is_reserved, is_name, is_number, is_capacity, named, seat_of, position_of, is_given};
 ghost use Rattle.cml_grammar.specs.Forms.{is_others};
 ghost use Rattle.cml_grammar.specs.Reading.{texts_of};
 
 use indexmap::IndexMap;
+
+/// The most messages that a lane or a feed may be given room for.
+const MAX_CAPACITY: u64 = 1_024;
 
 /// Who may use a port.
 #[derive(Clone, Copy, Debug, PartialEq, Eq)]
@@ -26,15 +29,17 @@ pub enum Named {
     Port(Users),
     IVar,
     MVar,
+    /// A feed, and the seat of its thread.
+    Feed(u64),
 }
 
 impl Named {
-    /// Whether it is a port of another seat than this one.
+    /// Whether it is a port or a feed of another seat than this one.
     pub(crate) fn is_others(self, seat: u64) -> bool
         ensures { result ≡ is_others seat self }
     {
         match self {
-            Named::Port(Users::One(owner)) => owner != seat,
+            Named::Port(Users::One(owner)) | Named::Feed(owner) => owner != seat,
             _ => false,
         }
     }
@@ -88,6 +93,17 @@ pub(crate) fn number_of(word: &str) -> Option<u64>
     word.parse().ok()
 }
 
+/// The capacity that a word is, if it is one.
+pub(crate) fn capacity_in(word: &str) -> Option<usize>
+    ensures { result ≡ (if is_capacity word.now then Some (digits_value 10 word.now) else None) }
+{
+    let number = number_of(word)?;
+    if number < 1 || number > MAX_CAPACITY {
+        return None;
+    }
+    Some(number as usize)
+}
+
 pub(crate) fn find_named(names: &IndexMap<String, Named>, word: &str) -> Option<Named>
     ensures { result ≡ named (texts_of names.now.entries) word.now }
 {
@@ -106,7 +122,12 @@ pub(crate) fn seat_of(names: &IndexMap<String, Named>, word: &str) -> Option<u64
 {
     match find_named(names, word)? {
         Named::Thread(seat) => Some(seat),
-        Named::Mailbox | Named::Channel | Named::Port(_) | Named::IVar | Named::MVar => None,
+        Named::Mailbox
+        | Named::Channel
+        | Named::Port(_)
+        | Named::IVar
+        | Named::MVar
+        | Named::Feed(_) => None,
     }
 }
 

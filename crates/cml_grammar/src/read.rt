@@ -29,6 +29,7 @@ fn read_lines(alloc: Global, text: &[u8]) -> Result<Reading, Fault>
     requires { length text.now ≤ 1048576 }
     ensures script { IfOk result (λ script. IsScript text.now script) }
     ensures few { IfOk result (λ script. length script.declarations ≤ 1048576) }
+    ensures narrow { IfOk result (λ script. length script.lanes ≤ 1048576) }
     ensures short { IfOk result (λ script. length script.steps ≤ 1048576) }
     ensures fault { IfErr result (λ fault. IsFaultOf text.now fault) }
 {

@@ -6,9 +6,11 @@ ghost use Rattle.cml_grammar.specs.Faults.{fault_in, fault_in_words, is_bad_head
 use crate::checks::fault_in_form;
 use crate::fault::What;
 use crate::forms::{Declares, Form, Verb};
-use crate::meaning::{action_by, makes_by, name_by, name_given, named_by, threads_with};
+use crate::meaning::{
+    action_by, lane_by, makes_by, name_by, name_given, named_by, owner_of, threads_with,
+};
 use crate::names::{Named, Users};
-use crate::script::{Declaration, Line, Script, Step};
+use crate::script::{Declaration, Lane, Line, Script, Step};
 use crate::words::{has_bad_byte, has_empty_word, is_skipped, split_words};
 use indexmap::IndexMap;
 use std::alloc::Global;
@@ -22,6 +24,8 @@ pub(crate) struct Reading {
     names: IndexMap<String, Named>,
     threads: u64,
     declarations: Vec<Declaration>,
+    lanes: Vec<Lane>,
+    capacities: IndexMap<(u64, usize), usize>,
     steps: Vec<Step>,
 }
 
@@ -32,9 +36,9 @@ impl Model for Reading {
 
     ghost use Rattle.cml_grammar.specs.Reading.{view_of, IsReadSoFar};
 
-    ghost view = { λ r. view_of 1 r.declarations.items r.steps.items };
+    ghost view = { λ r. view_of 1 r.declarations.items r.lanes.items r.steps.items };
 
-    ghost invariant = { λ r. IsReadSoFar (view_of 1 r.declarations.items r.steps.items) r.names.entries r.declarations.items r.steps.items r.threads };
+    ghost invariant = { λ r. IsReadSoFar (view_of 1 r.declarations.items r.lanes.items r.steps.items) r.names.entries r.declarations.items r.lanes.items r.capacities.entries r.steps.items r.threads };
 }
 
 fn is_bad_header(number: u64, line: &[u8]) -> bool
@@ -52,18 +56,20 @@ fn says(number: u64, line: &[u8]) -> bool
 
 impl Reading {
     ghost use Rattle.std.specs.Prelude.{string_bytes, Some};
-    ghost use Rattle.cml_grammar.specs.Forms.{declaration, step, form_of};
+    ghost use Rattle.cml_grammar.specs.Forms.{declaration, lane, step, form_of};
     ghost use Rattle.cml_grammar.specs.Faults.{start};
     ghost use Rattle.cml_grammar.specs.Meaning.{scope_of, names_of};
     ghost use Rattle.cml_grammar.specs.Reading.{with_words, with_next};
 
     pub(crate) fn new(alloc: Global) -> Reading
-        ensures { result ≡ record { version = 1; declarations = []; steps = [] } }
+        ensures { result ≡ record { version = 1; declarations = []; lanes = []; steps = [] } }
     {
         Reading {
             names: IndexMap::new(alloc),
             threads: 0,
             declarations: Vec::new(alloc),
+            lanes: Vec::new(alloc),
+            capacities: IndexMap::new(alloc),
             steps: Vec::new(alloc),
         }
     }
@@ -101,13 +107,20 @@ impl Reading {
         }
         let form = Form::of_words(&self.names, &words);
         let started = !self.steps.is_empty();
-        if let Some(what) = fault_in_form(&self.names, self.threads, started, &form) {
+        if let Some(what) = fault_in_form(
+            &self.names,
+            self.threads,
+            started,
+            &self.capacities,
+            &form,
+        ) {
             return Err(what);
         }
         let text = String::from_str(alloc, text)?;
         let line = Line { number, text };
         match form {
             Form::Declaration(declares, rest) => self.declare(alloc, line, declares, rest),
+            Form::Lane(rest) => self.lay(line, rest),
             Form::Step(seat, verb, rest) => self.step(alloc, line, seat, verb, rest),
             _ => unreachable!(),
         }
@@ -127,7 +140,8 @@ impl Reading {
         ensures scope { OnOk result (scope_of self.new ≡ after_words (scope_of self.old) (words_of (string_bytes line.text))) }
         ensures memory { IfErr result (λ what. what ≡ What.Memory) }
     {
-        let named = named_by(declares, self.threads);
+        let owner = owner_of(&self.names, rest);
+        let named = named_by(declares, self.threads, owner);
         let threads = threads_with(declares, self.threads);
         let makes = makes_by(&self.names, declares, rest);
         let name = String::from_str(alloc, name_by(&self.names, declares, rest))?;
@@ -135,6 +149,22 @@ impl Reading {
         self.names.insert(name, named)?;
         self.declarations.push_reserved(Declaration { line, makes });
         self.threads = threads;
+        Ok(())
+    }
+
+    /// Adds a lane that is without fault. An `Err` is for want of memory, and changes nothing.
+    fn lay(&mut self, line: Line, rest: &[&str]) -> Result<(), What>
+        requires fits { fault_in_words (scope_of self.old) (words_of (string_bytes line.text)) ≡ None }
+        requires form { form_of (names_of self.old) (words_of (string_bytes line.text)) ≡ lane (map (λ w. w.now) rest.now) }
+        ensures lines { OnOk result (self.new ≡ with_words self.old line.number (string_bytes line.text)) }
+        ensures scope { OnOk result (scope_of self.new ≡ after_words (scope_of self.old) (words_of (string_bytes line.text))) }
+        ensures memory { IfErr result (λ what. what ≡ What.Memory) }
+    {
+        let lane = lane_by(&self.names, line, rest);
+        self.lanes.reserve(1)?;
+        self.capacities
+            .insert((lane.seat, lane.target), lane.capacity)?;
+        self.lanes.push_reserved(lane);
         Ok(())
     }
 
@@ -173,6 +203,7 @@ impl Reading {
     /// The script of these lines.
     pub(crate) fn into_script(self) -> Script
         requires few { length self.declarations ≤ 1048576 }
+        requires narrow { length self.lanes ≤ 1048576 }
         requires short { length self.steps ≤ 1048576 }
         ensures { result ≡ self }
     {
@@ -180,8 +211,10 @@ impl Reading {
             names,
             threads: _,
             declarations,
+            lanes,
+            capacities,
             steps,
         } = self;
-        Script::new(1, names, declarations, steps)
+        Script::new(1, names, declarations, lanes, capacities, steps)
     }
 }

@@ -1,5 +1,5 @@
-//! A script that was read: its names, its declarations and its steps.
-ghost use Rattle.std.specs.Prelude.{◌≡◌, ◌≤◌, length, map, All};
+//! A script that was read: its names, its declarations, its lanes and its steps.
+ghost use Rattle.std.specs.Prelude.{◌≡◌, ◌≤◌, length, map, All, IfSome};
 
 use crate::forms::{Action, Makes};
 use crate::names::Named;
@@ -14,11 +14,21 @@ pub struct Line {
     pub text: String,
 }
 
-/// A declaration line, and what it makes.
+/// A declaration line that gives a name, and what it makes.
 #[derive(Debug, Drop)]
 pub struct Declaration {
     pub line: Line,
     pub makes: Makes,
+}
+
+/// A lane line, and what it says: the seat of its thread, its object by its position in the script's list of names, and the
+/// lane's capacity.
+#[derive(Debug, Drop)]
+pub struct Lane {
+    pub line: Line,
+    pub seat: u64,
+    pub target: usize,
+    pub capacity: usize,
 }
 
 /// A step line, the seat of its thread, and what it asks for.
@@ -29,12 +39,15 @@ pub struct Step {
     pub action: Action,
 }
 
-/// A script without fault. Contracts see it as its version and its declaration and step lines.
+/// A script without fault. Contracts see it as its version and its declaration, lane and step lines.
 #[derive(Drop)]
 pub struct Script {
     version: u64,
     names: IndexMap<String, Named>,
     declarations: Vec<Declaration>,
+    lanes: Vec<Lane>,
+    /// The capacity of each lane, by its seat and its object's position.
+    capacities: IndexMap<(u64, usize), usize>,
     steps: Vec<Step>,
 }
 
@@ -45,30 +58,45 @@ impl Model for Script {
 
     ghost use Rattle.cml_grammar.specs.Reading.{view_of, IsReading};
 
-    ghost view = { λ s. view_of s.version s.declarations.items s.steps.items };
+    ghost view = { λ s. view_of s.version s.declarations.items s.lanes.items s.steps.items };
 
-    ghost invariant = { λ s. IsReading (view_of s.version s.declarations.items s.steps.items) s.names.entries s.declarations.items s.steps.items };
+    ghost invariant = { λ s. IsReading (view_of s.version s.declarations.items s.lanes.items s.steps.items) s.names.entries s.declarations.items s.lanes.items s.capacities.entries s.steps.items };
+}
+
+impl Declaration {
+    ghost use Rattle.cml_grammar.specs.Rings.{makes_feed};
+
+    fn is_feed(&self) -> bool
+        ensures { result ≡ makes_feed self.now.makes }
+    {
+        matches!(self.makes, Makes::Feed(_))
+    }
 }
 
 impl Script {
     ghost use Rattle.cml_grammar.specs.Names.{thread_count};
     ghost use Rattle.cml_grammar.specs.Meaning.{names_of};
     ghost use Rattle.cml_grammar.specs.Giving.{NamesAreGiven};
-    ghost use Rattle.cml_grammar.specs.Reading.{source_of, view_of, texts_of, GivesNames, ReadsDeclaration, ReadsStep, UsesEarlier, IsReading};
+    ghost use Rattle.cml_grammar.specs.Rings.{capacity_of, first_lane, first_feed, first_ring};
+    ghost use Rattle.cml_grammar.specs.Reading.{source_of, view_of, texts_of, GivesNames, ReadsDeclaration, ReadsLane, ReadsStep, IsCapacity, UsesEarlier, IsReading};
 
     pub(crate) fn new(
         version: u64,
         names: IndexMap<String, Named>,
         declarations: Vec<Declaration>,
+        lanes: Vec<Lane>,
+        capacities: IndexMap<(u64, usize), usize>,
         steps: Vec<Step>,
     ) -> Script
-        requires { IsReading (view_of version declarations.items steps.items) names.entries declarations.items steps.items }
-        ensures { result ≡ view_of version declarations.items steps.items }
+        requires { IsReading (view_of version declarations.items lanes.items steps.items) names.entries declarations.items lanes.items capacities.entries steps.items }
+        ensures { result ≡ view_of version declarations.items lanes.items steps.items }
     {
         Script {
             version,
             names,
             declarations,
+            lanes,
+            capacities,
             steps,
         }
     }
@@ -89,7 +117,7 @@ impl Script {
         &self.names
     }
 
-    /// The declarations in text order. The i-th gives the i-th name.
+    /// The declarations that give names, in text order. The i-th gives the i-th name.
     pub fn declarations(&self) -> &[Declaration]
         ensures lines { map (λ d. source_of d.line) result.now ≡ self.now.declarations }
         ensures makes { All (ReadsDeclaration (names_of self.now)) result.now }
@@ -97,6 +125,52 @@ impl Script {
         ensures few { length result.now ≤ 1048576 }
     {
         &self.declarations
+    }
+
+    /// The lanes in text order.
+    pub fn lanes(&self) -> &[Lane]
+        ensures lines { map (λ l. source_of l.line) result.now ≡ self.now.lanes }
+        ensures said { All (ReadsLane (names_of self.now)) result.now }
+        ensures threads { thread_count (names_of self.now) ≤ 64 }
+        ensures few { length result.now ≤ 1048576 }
+    {
+        &self.lanes
+    }
+
+    /// The capacity of the lane by which this seat sends to the object at this position, if a line says one.
+    pub fn lane_of(&self, seat: u64, target: usize) -> Option<usize>
+        ensures capacity { result ≡ capacity_of (names_of self.now) self.now.lanes (seat, target) }
+        ensures fits { IfSome result IsCapacity }
+    {
+        self.capacities.get(&(seat, target)).copied()
+    }
+
+    /// The number of the first line that says a lane or a feed, if one does.
+    pub fn first_ring(&self) -> Option<u64>
+        ensures { result ≡ first_ring self.now }
+    {
+        match (self.first_lane(), self.first_feed()) {
+            (Some(lane), Some(feed)) => Some(lane.min(feed)),
+            (Some(lane), None) => Some(lane),
+            (None, feed) => feed,
+        }
+    }
+
+    fn first_lane(&self) -> Option<u64>
+        ensures { result ≡ first_lane self.now }
+    {
+        let lane = self.lanes.first()?;
+        Some(lane.line.number)
+    }
+
+    fn first_feed(&self) -> Option<u64>
+        ensures { result ≡ first_feed self.now }
+    {
+        let feed = self
+            .declarations
+            .iter()
+            .find(|declaration| declaration.is_feed())?;
+        Some(feed.line.number)
     }
 
     /// The steps in text order.

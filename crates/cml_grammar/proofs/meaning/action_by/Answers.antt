@@ -5,7 +5,7 @@ use Rattle.cml_grammar.specs.Forms.{step_places}
 use Rattle.cml_grammar.specs.Meaning.{action_by}
 use Rattle.cml_grammar.specs.Reading.{texts_of}
 use Rattle.cml_grammar.specs.Suiting.{AllSuit}
-use Rattle.cml_grammar.proofs.MeaningLemmas.{Words, bytes, number_alone, send_means, multicast_means, put_means, swap_means, receiver_found, port_found, variable_found, mvar_found}
+use Rattle.cml_grammar.proofs.MeaningLemmas.{Words, bytes, number_alone, send_means, multicast_means, put_means, swap_means, receiver_found, polled_found, port_found, variable_found, mvar_found}
 use Rattle.cml_grammar.proofs.meaning.action_by.Goals as goal
 
 pub message_in-requires : goal.message_in-requires
@@ -44,7 +44,7 @@ pub returns-in-Poll-clause-uses : goal.returns-in-Poll-clause-uses
 returns-in-Poll-clause-uses c =
     let names = texts_of c.args.names.now.entries in
     let suit = subst (λ (v : Verb). AllSuit names (step_places v) (bytes c.args.rest.now)) c.in-Poll.is c.requires in
-    receiver_found names c.in-Some.object.now.now _ (subst (λ (ws : Words). AllSuit names (step_places Poll) (bytes ws)) c.in-Some.ensures.cases.0 suit).0 c.given_position-at.ensures
+    polled_found names c.in-Some.object.now.now _ (subst (λ (ws : Words). AllSuit names (step_places Poll) (bytes ws)) c.in-Some.ensures.cases.0 suit).0 c.given_position-at.ensures
 
 pub returns-in-Copy-clause-uses : goal.returns-in-Copy-clause-uses
 returns-in-Copy-clause-uses c =

@@ -11,7 +11,7 @@ use Rattle.cml_grammar.proofs.meaning.makes_by.Goals as goal
 pub message_in-requires : goal.message_in-requires
 message_in-requires c =
     let names = texts_of c.args.names.now.entries in
-    let suit = subst (λ (d : Declares). AllSuit names (declared_places d (bytes c.args.rest.now)) (bytes c.args.rest.now)) c.in-MVar.is c.requires in
+    let suit = subst (λ (d : Declares). AllSuit names (declared_places d (bytes c.args.rest.now)) (bytes c.args.rest.now)) c.in-MVar.is c.requires.suits in
     first_message names c.in-Some-split_first.field-0-0.now c.in-Some-split_first.message.now (sym c.is_empty.ensures ∙ c.if-not-is_empty.true)
     (subst (λ (ws : Words). AllSuit names (declared_places MVar (bytes ws)) (bytes ws)) c.in-Some-split_first.ensures.cases.0 suit)
 

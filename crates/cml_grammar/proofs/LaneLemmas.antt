@@ -1,0 +1,155 @@
+-- What holds of the lines so far holds with one more lane.
+use Rattle.std.proofs.Common.{◌≡◌, ℕ, ◌==◌, Bool, true, false, not, cond, List, [], ◌∷◌, ◌++◌, length, map, Option, Some, None, String, string_bytes, All, refl, sym, ap, ◌∙◌, subst}
+use Rattle.std.specs.Global.{Global}
+use Rattle.std.specs.Map.{keys_of, lookup}
+use Rattle.std.specs.List.{list_any}
+use Rattle.std.specs.Option.{option_map, option_map_or}
+use Rattle.std.specs.Str.Parse.{digits_value}
+use Rattle.std.specs.declared.hash.FoldHasher.{FoldHasher}
+use Rattle.std.specs.declared.hash.BuildHasherDefault.{BuildHasherDefault}
+use Rattle.std.proofs.lemmas.Bool.{or_parts}
+use Rattle.std.proofs.lemmas.List.{length-map, map-append}
+use Rattle.std.proofs.lemmas.List.Elements.{All-push}
+use Rattle.std.proofs.lemmas.Option.{none-some}
+use Rattle.indexmap.specs.IndexMap.{IndexMap, insert_entry}
+use Rattle.indexmap.proofs.CallerLemmas.{insert_entry-new}
+use Rattle.cml_grammar.specs.declared.names.Named.{Named}
+use Rattle.cml_grammar.specs.declared.script.Declaration.{Declaration}
+use Rattle.cml_grammar.specs.declared.script.Lane.{Lane}
+use Rattle.cml_grammar.specs.declared.script.Step.{Step}
+use Rattle.cml_grammar.specs.Words.{words_of}
+use Rattle.cml_grammar.specs.Names.{Given}
+use Rattle.cml_grammar.specs.Forms.{lane, lane_places, form_of}
+use Rattle.cml_grammar.specs.Faults.{Ends, fault_in_words, after_words, ends_by, are_same}
+use Rattle.cml_grammar.specs.Script.{Lines}
+use Rattle.cml_grammar.specs.Meaning.{scope_of, names_of}
+use Rattle.cml_grammar.specs.Rings.{Laid, lane_by, lane_of}
+use Rattle.cml_grammar.specs.Reading.{source_of, view_of, texts_of, IsSeat, IsTargetAt, IsCapacity, ReadsLane, capacities_of, IsReadSoFar}
+use Rattle.cml_grammar.specs.Suiting.{AllSuit}
+use Rattle.cml_grammar.proofs.ListLemmas.{mapped_some}
+use Rattle.cml_grammar.proofs.TableLemmas.{Passes, words_pass, all_suit-passes}
+use Rattle.cml_grammar.proofs.FormLemmas.{IsLaneLine, lane_line}
+use Rattle.cml_grammar.proofs.GrowingLemmas.{ends_kept, ends_same}
+use Rattle.cml_grammar.proofs.ReadingLemmas.{scope_of-with_words, view-lane}
+
+-- the words after `lane` say its ends
+ends_said : (names : List Given) (rest : List (List ℕ)) (l : Laid) → lane_by names rest ≡ Some l → ends_by names rest ≡ Some l.0
+ends_said names [] l h = absurd (none-some l h)
+ends_said names (thread ∷ []) l h = absurd (none-some l h)
+ends_said names (thread ∷ target ∷ []) l h = absurd (none-some l h)
+ends_said names (thread ∷ target ∷ capacity ∷ word ∷ rest) l h = absurd (none-some l h)
+ends_said names (thread ∷ target ∷ capacity ∷ []) l h =
+    let said : Ends → Laid = (λ ends. (ends, digits_value 10 capacity)) in
+    let found = mapped_some said (ends_by names (thread ∷ target ∷ [])) l h in
+    found.1 ∙ ap Some (ap (λ (x : Laid). x.0) found.2)
+
+-- ends that no lane has are not among those kept
+absent_ends : (ends : Ends) (es : List (Ends × ℕ)) → list_any (are_same ends) (keys_of es) ≡ false → lookup (are_same ends) es ≡ None
+absent_ends ends [] h = refl
+absent_ends ends (e ∷ es) h =
+    let parts = or_parts (are_same ends e.0) (list_any (are_same ends) (keys_of es)) h in
+    ap (λ b. cond b (Some e.1) (lookup (are_same ends) es)) parts.0 ∙ absent_ends ends es parts.1
+
+-- what a lane was read from, and what its words say
+pub record Laying (names : List Given) (l : Lane) (rest : List (List ℕ)) : Type 0 where
+  pub says : lane_by names rest ≡ Some ((l.seat, l.target), l.capacity)
+  pub seated : IsSeat names l.seat
+  pub target : IsTargetAt names l.target
+  pub capacity : IsCapacity l.capacity
+
+module _ (v : ℕ) (es : List (String Global × Named)) (ds : List Declaration) (ls : List Lane) (cs : List (Ends × ℕ)) (ss : List Step) (threads : ℕ)
+    (l : Lane) (rest : List (List ℕ))
+    (so_far : IsReadSoFar (view_of v ds ls ss) es ds ls cs ss threads)
+    (none : fault_in_words (scope_of (view_of v ds ls ss)) (words_of (string_bytes l.line.text)) ≡ None)
+    (form : form_of (names_of (view_of v ds ls ss)) (words_of (string_bytes l.line.text)) ≡ lane rest)
+    (laying : Laying (names_of (view_of v ds ls ss)) l rest) where
+  pub laid_scope : scope_of (view_of v ds (ls ++ l ∷ []) ss) ≡ after_words (scope_of (view_of v ds ls ss)) (words_of (string_bytes l.line.text))
+  laid_scope =
+      ap scope_of (view-lane v ds ls ss l rest form)
+      ∙ scope_of-with_words (view_of v ds ls ss) l.line.number (string_bytes l.line.text)
+      (so_far.started ∙ ap (λ n. not (n == 0)) (sym (length-map ss _)))
+      (λ more. ends_same (names_of (view_of v ds ls ss)) more ls so_far.lanes) none
+
+  laid_line : IsLaneLine (words_of (string_bytes l.line.text)) rest
+  laid_line = lane_line (names_of (view_of v ds ls ss)) (words_of (string_bytes l.line.text)) rest form
+
+  laid_lanes : All (ReadsLane (names_of (view_of v ds ls ss))) (ls ++ l ∷ [])
+  laid_lanes = All-push (ReadsLane (names_of (view_of v ds ls ss))) ls l so_far.lanes (record {
+    says = ap (lane_of (names_of (view_of v ds ls ss))) laid_line.is ∙ laying.says;
+    seated = laying.seated;
+    target = laying.target;
+    capacity = laying.capacity;
+  })
+
+  pub laid_so_far : (cs' : List (Ends × ℕ)) → cs' ≡ cs ++ ((l.seat, l.target), l.capacity) ∷ [] → IsReadSoFar (view_of v ds (ls ++ l ∷ []) ss) es ds (ls ++ l ∷ []) cs' ss threads
+  laid_so_far cs' grown = record {
+    names = so_far.names;
+    gives = so_far.gives;
+    given = so_far.given;
+    declarations = so_far.declarations;
+    lanes = laid_lanes;
+    capacities_are = same;
+    steps = so_far.steps;
+    earlier = so_far.earlier;
+    count = so_far.count;
+    limit = so_far.limit;
+    seats = so_far.seats;
+    started = so_far.started;
+    ends = ends_kept (names_of (view_of v ds ls ss)) (ls ++ l ∷ []) laid_lanes ∙ ap keys_of (sym same);
+  }
+    where
+      same : cs' ≡ capacities_of (ls ++ l ∷ [])
+      same =
+          grown
+          ∙ ap (λ xs. xs ++ ((l.seat, l.target), l.capacity) ∷ []) so_far.capacities_are
+          ∙ sym (map-append (λ (x : Lane). ((x.seat, x.target), x.capacity)) ls (l ∷ []))
+
+  -- no lane had these ends
+  pub laid_is_new : lookup (are_same (l.seat, l.target)) cs ≡ None
+  laid_is_new =
+      let passes = subst (Passes (scope_of (view_of v ds ls ss))) form (words_pass (scope_of (view_of v ds ls ss)) (words_of (string_bytes l.line.text)) none).1 in
+      absent_ends (l.seat, l.target) cs (
+      ap (list_any (are_same (l.seat, l.target))) (sym so_far.ends)
+      ∙ ap (λ o. option_map_or (λ ends. list_any (are_same ends) (scope_of (view_of v ds ls ss)).lanes) o false) (sym (ends_said (names_of (view_of v ds ls ss)) rest ((l.seat, l.target), l.capacity) laying.says))
+      ∙ passes.unlaid)
+
+-- ---- the same, in the words of the code
+abbrev Names : Type 0
+Names = IndexMap (String Global) Named (BuildHasherDefault FoldHasher)
+
+abbrev Capacities : Type 0
+Capacities = IndexMap Ends ℕ (BuildHasherDefault FoldHasher)
+
+pub kept_lane_suits : (now script : Lines) (names : List Given) (words : List (List ℕ)) (rest : List (List ℕ)) → script ≡ now → names ≡ names_of script → fault_in_words (scope_of now) words ≡ None → form_of (names_of now) words ≡ lane rest → AllSuit names lane_places rest
+kept_lane_suits now script names words rest seen kept fits form =
+    subst (λ (gs : List Given). AllSuit gs lane_places rest) (sym (kept ∙ ap names_of seen))
+    (all_suit-passes (scope_of now) (lane rest) (subst (Passes (scope_of now)) form (words_pass (scope_of now) words fits).1))
+
+pub record IsLaid (now : Lines) (l : Lane) (rest : List (List ℕ)) : Type 0 where
+  pub fits : fault_in_words (scope_of now) (words_of (string_bytes l.line.text)) ≡ None
+  pub form : form_of (names_of now) (words_of (string_bytes l.line.text)) ≡ lane rest
+
+module _ (v : ℕ) (now : Lines) (m : Names) (capacities : Capacities) (ds : List Declaration) (ls ls' : List Lane) (ss : List Step) (threads : ℕ)
+    (l : Lane) (rest : List (List ℕ))
+    (seen : view_of v ds ls ss ≡ now)
+    (so_far : IsReadSoFar (view_of v ds ls ss) m.entries ds ls capacities.entries ss threads)
+    (read : IsLaid now l rest)
+    (laying : Laying (texts_of m.entries) l rest)
+    (pushed : ls' ≡ ls ++ l ∷ []) where
+  before : IsLaid (view_of v ds ls ss) l rest
+  before = subst (λ (s : Lines). IsLaid s l rest) (sym seen) read
+
+  laying_there : Laying (names_of (view_of v ds ls ss)) l rest
+  laying_there = subst (λ gs. Laying gs l rest) so_far.names laying
+
+  pub laid_closes : (cs' : List (Ends × ℕ)) → cs' ≡ insert_entry are_same capacities.entries (l.seat, l.target) l.capacity → IsReadSoFar (view_of v ds ls' ss) m.entries ds ls' cs' ss threads
+  laid_closes cs' inserted =
+      subst (λ (xs : List Lane). IsReadSoFar (view_of v ds xs ss) m.entries ds xs cs' ss threads) (sym pushed)
+      (laid_so_far v m.entries ds ls capacities.entries ss threads l rest so_far before.fits before.form laying_there cs'
+      (inserted ∙ insert_entry-new are_same capacities (l.seat, l.target) l.capacity (laid_is_new v m.entries ds ls capacities.entries ss threads l rest so_far before.fits before.form laying_there)))
+
+  pub laid_scopes : scope_of (view_of v ds ls' ss) ≡ after_words (scope_of now) (words_of (string_bytes l.line.text))
+  laid_scopes =
+      ap (λ (xs : List Lane). scope_of (view_of v ds xs ss)) pushed
+      ∙ laid_scope v m.entries ds ls capacities.entries ss threads l rest so_far before.fits before.form laying_there
+      ∙ ap (λ (s : Lines). after_words (scope_of s) (words_of (string_bytes l.line.text))) seen

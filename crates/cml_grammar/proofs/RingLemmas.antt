@@ -1,0 +1,141 @@
+-- The words of a lane line and of a feed's, and what is looked up of lanes and feeds.
+use Rattle.std.proofs.Common.{◌≡◌, ℕ, Bool, true, false, ◌||◌, cond, List, [], ◌∷◌, length, map, slice_get, slice_index_or, Option, Some, None, is_some, string_bytes, All, Bor, refl, sym, ap, ◌∙◌, subst}
+use Rattle.std.specs.Map.{keys_of, lookup}
+use Rattle.std.specs.List.{list_any, find}
+use Rattle.std.specs.Option.{option_map, option_map_or, option_and_then, IfSome}
+use Rattle.std.proofs.lemmas.List.Elements.{All-head, All-tail}
+use Rattle.std.proofs.lemmas.Option.{none-some, same_Some}
+use Rattle.cml_grammar.specs.declared.forms.Declares.{Declares}
+use Rattle.cml_grammar.specs.declared.forms.Declares.TheVariants as declares
+use Rattle.cml_grammar.specs.declared.forms.Makes.{Makes}
+use Rattle.cml_grammar.specs.declared.forms.Makes.TheVariants as makes
+use Rattle.cml_grammar.specs.declared.forms.Place.{Place}
+use Rattle.cml_grammar.specs.declared.forms.Place.TheVariants.{Thread, Channel, Target}
+use Rattle.cml_grammar.specs.declared.script.Declaration.{Declaration}
+use Rattle.cml_grammar.specs.declared.script.Lane.{Lane}
+use Rattle.cml_grammar.specs.Words.{words_of}
+use Rattle.cml_grammar.specs.Names.{Given, is_capacity, position_of, seat_of, is_given}
+use Rattle.cml_grammar.specs.Forms.{declares_of, declared_places, lane_places}
+use Rattle.cml_grammar.specs.Faults.{Ends, are_same}
+use Rattle.cml_grammar.specs.Script.{SourceLine}
+use Rattle.cml_grammar.specs.Meaning.{feed_by, makes_by, makes_of}
+use Rattle.cml_grammar.specs.Rings.{is_feed, declares_feed, makes_feed}
+use Rattle.cml_grammar.specs.Reading.{source_of, IsChannelAt, IsTargetAt, IsCapacity, ReadsDeclaration, ReadsLane, capacities_of}
+use Rattle.cml_grammar.specs.Suiting.{IsUsed, AllSuit}
+use Rattle.cml_grammar.proofs.ListLemmas.{mapped_some}
+use Rattle.cml_grammar.proofs.MeaningLemmas.{Words, bytes, found_used}
+use Rattle.cml_grammar.proofs.SeatLemmas.{used_seat}
+use Rattle.cml_grammar.proofs.SuitingLemmas.{is_channel_at, is_target_at}
+
+abbrev pub at : Words → ℕ → List ℕ
+at words i = (slice_index_or words i (record { ref_ptr = (0, 0); now = [] })).now
+
+-- ---- words that suit their places
+pub record FeedWords (names : List Given) (words : Words) : Type 0 where
+  pub long : length words ≡ 4
+  pub thread : IsUsed names Thread (at words 0)
+  pub channel : IsUsed names Channel (at words 2)
+  pub capacity : is_capacity (at words 3) ≡ true
+
+pub feed_words : (names : List Given) (words : Words) → AllSuit names (declared_places declares.Feed (bytes words)) (bytes words) → FeedWords names words
+feed_words names [] h = absurd h
+feed_words names (a ∷ []) h = absurd h.1
+feed_words names (a ∷ b ∷ []) h = absurd h.1.1
+feed_words names (a ∷ b ∷ x ∷ []) h = absurd h.1.1.1
+feed_words names (a ∷ b ∷ x ∷ d ∷ []) h = record { long = refl; thread = h.0; channel = h.1.1.0; capacity = h.1.1.1.0 }
+feed_words names (a ∷ b ∷ x ∷ d ∷ e ∷ words) h = absurd h.1.1.1.1
+
+pub record LaneWords (names : List Given) (words : Words) : Type 0 where
+  pub long : length words ≡ 3
+  pub thread : IsUsed names Thread (at words 0)
+  pub target : IsUsed names Target (at words 1)
+  pub capacity : is_capacity (at words 2) ≡ true
+
+pub lane_words : (names : List Given) (words : Words) → AllSuit names lane_places (bytes words) → LaneWords names words
+lane_words names [] h = absurd h
+lane_words names (a ∷ []) h = absurd h.1
+lane_words names (a ∷ b ∷ []) h = absurd h.1.1
+lane_words names (a ∷ b ∷ x ∷ []) h = record { long = refl; thread = h.0; target = h.1.0; capacity = h.1.1.0 }
+lane_words names (a ∷ b ∷ x ∷ d ∷ words) h = absurd h.1.1.1
+
+pub used_is_given : (names : List Given) (place : Place) (word : List ℕ) → IsUsed names place word → is_given names word ≡ true
+used_is_given names place word h = ap is_some h.1
+
+pub used_has_seat : (names : List Given) (word : List ℕ) → IsUsed names Thread word → is_some (seat_of names word) ≡ true
+used_has_seat names word h = ap is_some (used_seat names word h).1
+
+pub channel_found : (names : List Given) (word : List ℕ) (i : ℕ) → IsUsed names Channel word → position_of names word ≡ Some i → IsChannelAt names i
+channel_found names word i h found = is_channel_at names i (found_used names Channel word i h found)
+
+pub target_found : (names : List Given) (word : List ℕ) (i : ℕ) → IsUsed names Target word → position_of names word ≡ Some i → IsTargetAt names i
+target_found names word i h found = is_target_at names i (found_used names Target word i h found)
+
+-- ---- lanes by their ends
+pub has_ends : (ends : Ends) (es : List (Ends × ℕ)) → is_some (lookup (are_same ends) es) ≡ list_any (are_same ends) (keys_of es)
+has_ends ends [] = refl
+has_ends ends (e ∷ es) = by (are_same ends e.0) (has_ends ends es)
+  where
+    by : (b : Bool) → is_some (lookup (are_same ends) es) ≡ list_any (are_same ends) (keys_of es) → is_some (cond b (Some e.1) (lookup (are_same ends) es)) ≡ (b || list_any (are_same ends) (keys_of es))
+    by true later = refl
+    by false later = later
+
+pub kept_fits : (names : List Given) (ls : List Lane) (ends : Ends) → All (ReadsLane names) ls → IfSome (lookup (are_same ends) (capacities_of ls)) IsCapacity
+kept_fits names [] ends h = tt
+kept_fits names (l ∷ ls) ends h = by (are_same ends (l.seat, l.target)) (kept_fits names ls ends (All-tail (ReadsLane names) l ls h))
+  where
+    by : (b : Bool) → IfSome (lookup (are_same ends) (capacities_of ls)) IsCapacity → IfSome (cond b (Some l.capacity) (lookup (are_same ends) (capacities_of ls))) IsCapacity
+    by true later = (All-head (ReadsLane names) l ls h).capacity
+    by false later = later
+
+-- ---- the first feed
+made_as : (made given : Makes) → Some given ≡ Some made → makes_feed made ≡ makes_feed given
+made_as made given h = ap makes_feed (sym (same_Some _ _ h))
+
+feed_made : (names : List Given) (what : Declares) (rest : List (List ℕ)) (made : Makes) → makes_by names what rest ≡ Some made → makes_feed made ≡ is_feed what
+feed_made names declares.Mailbox rest made h = made_as made makes.Mailbox h
+feed_made names declares.Channel rest made h = made_as made makes.Channel h
+feed_made names declares.Port [] made h = absurd (none-some made h)
+feed_made names declares.Port (channel ∷ rest) made h = let found = mapped_some makes.Port (position_of names channel) made h in ap makes_feed (sym found.2)
+feed_made names declares.IVar rest made h = made_as made makes.IVar h
+feed_made names declares.MVar [] made h = made_as made makes.MVar h
+feed_made names declares.MVar (name ∷ []) made h = made_as made makes.MVar h
+feed_made names declares.MVar (name ∷ message ∷ []) made h = made_as made _ h
+feed_made names declares.MVar (name ∷ message ∷ word ∷ rest) made h = made_as made makes.MVar h
+feed_made names declares.Thread rest made h = made_as made makes.Thread h
+feed_made names declares.Feed rest made h = let found = mapped_some makes.Feed (feed_by names rest) made h in ap makes_feed (sym found.2)
+
+feed_line : (names : List Given) (words : List (List ℕ)) (made : Makes) → makes_of names words ≡ Some made → makes_feed made ≡ declares_feed words
+feed_line names [] made h = absurd (none-some made h)
+feed_line names (word ∷ rest) made h = by (declares_of word) h
+  where
+    by : (o : Option Declares) → option_and_then (λ d. makes_by names d rest) o ≡ Some made → makes_feed made ≡ option_map_or is_feed o false
+    by None e = absurd (none-some made e)
+    by (Some d) e = feed_made names d rest made e
+
+-- a line's number, looked up behind a reference
+pub behind : (o : Option (Bor Declaration)) → option_map (λ d. d.now.line.number) o ≡ option_map (λ (d : Declaration). d.line.number) (option_map (λ d. d.now) o)
+behind None = refl
+behind (Some d) = refl
+
+-- the number of the first declaration that makes a feed is that of the first line that declares one
+pub feed_number : (names : List Given) (ds : List Declaration) → All (ReadsDeclaration names) ds
+    → option_map (λ (d : Declaration). d.line.number) (find (λ (d : Declaration). makes_feed d.makes) ds)
+    ≡ option_map (λ (line : SourceLine). line.number) (find (λ (line : SourceLine). declares_feed line.words) (map (λ (d : Declaration). source_of d.line) ds))
+feed_number names [] h = refl
+feed_number names (d ∷ ds) h =
+    by (makes_feed d.makes) (declares_feed (words_of (string_bytes d.line.text))) (feed_line names (words_of (string_bytes d.line.text)) d.makes (All-head (ReadsDeclaration names) d ds h).makes) (feed_number names ds (All-tail (ReadsDeclaration names) d ds h))
+  where
+    by : (a b : Bool) → a ≡ b
+        → option_map (λ (x : Declaration). x.line.number) (find (λ (x : Declaration). makes_feed x.makes) ds)
+        ≡ option_map (λ (line : SourceLine). line.number) (find (λ (line : SourceLine). declares_feed line.words) (map (λ (x : Declaration). source_of x.line) ds))
+        → option_map (λ (x : Declaration). x.line.number) (cond a (Some d) (find (λ (x : Declaration). makes_feed x.makes) ds))
+        ≡ option_map (λ (line : SourceLine). line.number) (cond b (Some (source_of d.line)) (find (λ (line : SourceLine). declares_feed line.words) (map (λ (x : Declaration). source_of x.line) ds)))
+    by true true e later = refl
+    by true false e later = absurd (let f : true ≡ false = e in cc)
+    by false true e later = absurd (let f : false ≡ true = e in cc)
+    by false false e later = later
+
+-- and that of the first lane
+pub lane_number : (ls : List Lane) → option_map (λ (l : Lane). l.line.number) (slice_get ls 0) ≡ option_map (λ (line : SourceLine). line.number) (slice_get (map (λ (l : Lane). source_of l.line) ls) 0)
+lane_number [] = refl
+lane_number (l ∷ ls) = refl
