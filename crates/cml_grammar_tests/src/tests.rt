@@ -2,10 +2,11 @@
 mod good;
 
 use cml_grammar::{
-    Declaration, Fault, Script, Step, What, faultless_texts_are_scripts, numbers_are_as_printed,
-    read_script, scripts_have_no_fault, texts_are_one_script, words_make_lines,
+    Declaration, Fault, Lane, Script, Step, What, faultless_texts_are_scripts,
+    numbers_are_as_printed, read_script, scripts_have_no_fault, texts_are_one_script,
+    words_make_lines,
 };
-use good::{GOOD, INBOX, PORTS_OF_STEPS};
+use good::{GOOD, INBOX, PORTS_OF_STEPS, RINGS};
 use std::alloc::{AllocError, Global};
 use std::process::Abort;
 use std::test::Fail;
@@ -15,7 +16,12 @@ fn shown(alloc: Global, script: &Script) -> Result<String, AllocError> {
     let mut text = format!(in alloc; "version {}\n", script.version())?;
     add_names(alloc, &mut text, script)?;
     add_declarations(alloc, &mut text, script)?;
+    add_lanes(alloc, &mut text, script)?;
     add_steps(alloc, &mut text, script)?;
+    if let Some(line) = script.first_ring() {
+        let line = format!(in alloc; "rings from line {line}\n")?;
+        text.push_str(line.as_str())?;
+    }
     Ok(text)
 }
 
@@ -32,6 +38,25 @@ fn add_names(alloc: Global, text: &mut String, script: &Script) -> Result<(), Al
 fn add_declarations(alloc: Global, text: &mut String, script: &Script) -> Result<(), AllocError> {
     for Declaration { line, makes } in script.declarations() {
         let line = format!(in alloc; "{} {}: {makes:?}\n", line.number, line.text)?;
+        text.push_str(line.as_str())?;
+    }
+    Ok(())
+}
+
+fn add_lanes(alloc: Global, text: &mut String, script: &Script) -> Result<(), AllocError> {
+    for lane in script.lanes() {
+        let Lane {
+            line,
+            seat,
+            target,
+            capacity,
+        } = lane;
+        let told = script.lane_of(*seat, *target);
+        let other = script.lane_of(*seat + 1, *target);
+        let line = format!(in alloc;
+            "{} {}: from seat {seat} to {target}, {capacity}; told {told:?}, of the next seat {other:?}\n",
+            line.number, line.text
+        )?;
         text.push_str(line.as_str())?;
     }
     Ok(())
@@ -86,6 +111,11 @@ fn wants_memory(rt: HostRuntime) {
 #[test]
 fn wants_memory_for_names_of_steps(rt: HostRuntime) {
     wants_memory_or_reads(&rt, PORTS_OF_STEPS, 9);
+}
+
+#[test]
+fn wants_memory_for_lanes_and_feeds(rt: HostRuntime) {
+    wants_memory_or_reads(&rt, RINGS, 6);
 }
 
 const FAULTS: &[(What, &str)] = &[

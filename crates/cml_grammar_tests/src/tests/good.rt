@@ -141,6 +141,62 @@ w at Some(3): MVar
 12 A swap v 9: seat 1, Swap(1, 9)
 ";
 
+pub const RINGS: &str = "cml 1
+mailbox m
+channel c
+thread A
+lane A m 2
+thread B
+lane A c 1024
+# a feed
+feed B f c 1
+lane B m 7
+feed A g c 16
+A send m 5
+B poll f
+A poll g
+";
+
+const RINGS_SHOWN: &str = "version 1
+m at Some(0): Mailbox
+c at Some(1): Channel
+A at Some(2): Thread(1)
+B at Some(3): Thread(2)
+f at Some(4): Feed(2)
+g at Some(5): Feed(1)
+2 mailbox m: Mailbox
+3 channel c: Channel
+4 thread A: Thread
+6 thread B: Thread
+9 feed B f c 1: Feed(FeedMaking { seat: 2, channel: 1, capacity: 1 })
+11 feed A g c 16: Feed(FeedMaking { seat: 1, channel: 1, capacity: 16 })
+5 lane A m 2: from seat 1 to 0, 2; told Some(2), of the next seat Some(7)
+7 lane A c 1024: from seat 1 to 1, 1024; told Some(1024), of the next seat None
+10 lane B m 7: from seat 2 to 0, 7; told Some(7), of the next seat None
+12 A send m 5: seat 1, Send(0, 5)
+13 B poll f: seat 2, Poll(4)
+14 A poll g: seat 1, Poll(5)
+rings from line 5
+";
+
+const FEEDS: &str = "cml 1
+channel c
+thread A
+feed A f c 3
+lane A c 4
+";
+
+const FEEDS_SHOWN: &str = "version 1
+c at Some(0): Channel
+A at Some(1): Thread(1)
+f at Some(2): Feed(1)
+2 channel c: Channel
+3 thread A: Thread
+4 feed A f c 3: Feed(FeedMaking { seat: 1, channel: 0, capacity: 3 })
+5 lane A c 4: from seat 1 to 0, 4; told Some(4), of the next seat None
+rings from line 4
+";
+
 /// A case, the script, and what its readers say.
 pub const GOOD: &[(&str, &str, &str)] = &[
     ("a header alone", "cml 1\n", "version 1\n"),
@@ -152,4 +208,6 @@ pub const GOOD: &[(&str, &str, &str)] = &[
         CHANNELS_AND_PORTS_SHOWN,
     ),
     ("variables", VARIABLES, VARIABLES_SHOWN),
+    ("lanes and feeds", RINGS, RINGS_SHOWN),
+    ("a feed before a lane", FEEDS, FEEDS_SHOWN),
 ];
