@@ -21,7 +21,7 @@ use Rattle.cml_script.specs.Counting.{one_if, how_many}
 use Rattle.cml_script.specs.Schedule.{History, declared_count, is_object, makes_object, IsDeclaration}
 use Rattle.cml_script.specs.Audit.{IsOfScript, IsNextOfThread}
 use Rattle.cml_script.specs.Plan.{IsKnown}
-use Rattle.cml_script.specs.Stage.{Play, IsNext, IsNextObject}
+use Rattle.cml_script.specs.Stage.{Play, IsNext, IsNextPort, IsNextObject}
 use Rattle.cml_script.specs.Working.{Calls, entries_by, Declares, HasMadeNone, making}
 use Rattle.cml_script.proofs.ListLemmas.{count_taken, taken_count}
 use Rattle.cml_script.proofs.LineLemmas.{declaration_object}
@@ -47,6 +47,7 @@ unmade script makes.IVar e = absurd (none-some _ (sym e))
 unmade script makes.MVar e = absurd (none-some _ (sym e))
 unmade script (makes.MVarInit message) e = absurd (none-some _ (sym e))
 unmade script (makes.Port channel) e = absurd (none-some _ (sym e))
+unmade script (makes.Feed f) e = absurd (none-some _ (sym e))
 
 made_one : (script : Lines) (m : Makes) (asked : Call ℕ) → making script m ≡ Some asked → makes_object m ≡ true
 made_one script makes.Thread asked e = absurd (none-some asked e)
@@ -56,6 +57,15 @@ made_one script makes.IVar asked e = refl
 made_one script makes.MVar asked e = refl
 made_one script (makes.MVarInit message) asked e = refl
 made_one script (makes.Port channel) asked e = refl
+made_one script (makes.Feed f) asked e = refl
+
+-- the call that makes a port makes the next object, where that is a port
+next_port : (play : Play) (channel : ℕ) (asked : Call ℕ) → option_map (λ o. call.NewPort (record { 0 = o })) (Some (how_many (is_object play.script) (take channel play.script.declarations))) ≡ Some asked → IsNextPort play channel → IsNextObject play asked
+next_port play channel asked e (is_channel, within, o, object, next) =
+    let number = how_many (is_object play.script) (take channel play.script.declarations) in
+    let there = declared_is play.script play.history channel number refl (subst IsSome (sym object) refl) in
+    let same : o ≡ number = same_Some _ _ (sym object ∙ there) in
+    subst (IsNextObject play) (ap (λ n. call.NewPort (record { 0 = n })) same ∙ same_Some _ _ e) next
 
 -- the call that makes this makes the next object
 next_making : (play : Play) (m : Makes) (asked : Call ℕ) → making play.script m ≡ Some asked → IsNext play m → IsNextObject play asked
@@ -65,11 +75,8 @@ next_making play makes.Channel asked e next = subst (IsNextObject play) (same_So
 next_making play makes.IVar asked e next = subst (IsNextObject play) (same_Some _ _ e) next
 next_making play makes.MVar asked e next = subst (IsNextObject play) (same_Some _ _ e) next
 next_making play (makes.MVarInit message) asked e next = subst (IsNextObject play) (same_Some _ _ e) next.0
-next_making play (makes.Port channel) asked e (is_channel, within, o, object, next) =
-    let number = how_many (is_object play.script) (take channel play.script.declarations) in
-    let there = declared_is play.script play.history channel number refl (subst IsSome (sym object) refl) in
-    let same : o ≡ number = same_Some _ _ (sym object ∙ there) in
-    subst (IsNextObject play) (ap (λ n. call.NewPort (record { 0 = n })) same ∙ same_Some _ _ e) next
+next_making play (makes.Port channel) asked e next = next_port play channel asked e next
+next_making play (makes.Feed f) asked e next = next_port play f.channel asked e next
 
 module _ (script : Lines) (known : IsKnown script) {i : ℕ} {made : Option Calls} (so_far : IsDeclaring script i made) (d : Declaration) (line : slice_get script.declarations i ≡ Some (source_of d.line)) (reads : ReadsDeclaration (names_of script) d) where
   counted : how_many (is_object script) (take (i + 1) script.declarations) ≡ how_many (is_object script) (take i script.declarations) + one_if (makes_object d.makes)

@@ -17,9 +17,9 @@ use Rattle.cml_grammar.specs.declared.forms.Makes.TheVariants as makes
 use Rattle.cml_grammar.specs.Script.{SourceLine, Lines}
 use Rattle.cml_grammar.specs.Meaning.{names_of, makes_of}
 use Rattle.cml_grammar.specs.declared.script.Declaration.{Declaration}
-use Rattle.cml_grammar.specs.Reading.{source_of, ReadsDeclaration, IsMadeWell}
+use Rattle.cml_grammar.specs.Reading.{source_of, IsChannelAt, ReadsDeclaration, IsMadeWell}
 use Rattle.cml_script.specs.Plan.{NamesObjects, kind_made, kind_declared}
-use Rattle.cml_script.specs.Stage.{Play, IsNextObject, IsNext}
+use Rattle.cml_script.specs.Stage.{Play, IsNextObject, IsNextPort, IsNext}
 use Rattle.cml_script.specs.Counting.{one_if, how_many}
 use Rattle.cml_script.specs.Audit.{IsOfScript, IsNextOfThread}
 use Rattle.cml_script.specs.Schedule.{History, IsDeclaration, declared_count, objects_of, call_in, making_call, makes_object, is_object, declared_object}
@@ -41,6 +41,12 @@ makes_begun before entry c origin e begun reply = record {
   kind = refl;
 }
 
+makes_port : (before : History) (entry : Entry ℕ) (o : Option ℕ) → option_map (λ n. call.NewPort (record { 0 = n })) o ≡ Some entry.call → answer before entry.call ≡ Some entry.reply → MakesOne before entry (Some kind.Port)
+makes_port before entry None none answers = absurd (none-some entry.call none)
+makes_port before entry (Some n) some answers =
+    let same = same_Some _ _ some in
+    makes_begun before entry (call.NewPort (record { 0 = n })) (port n (length (sent before n))) same refl (reply_is before entry (call.NewPort (record { 0 = n })) same refl answers)
+
 -- a declared object is of its kind
 makes_one : (before : History) (entry : Entry ℕ) (object : ℕ → Option ℕ) (m : Makes) → making_call object m ≡ Some entry.call → answer before entry.call ≡ Some entry.reply → MakesOne before entry (kind_made m)
 makes_one before entry object makes.Thread e answers = absurd (none-some entry.call e)
@@ -54,13 +60,8 @@ makes_one before entry object makes.MVar e answers =
     let same = same_Some _ _ e in makes_begun before entry call.NewMVar mvar same refl (reply_is before entry call.NewMVar same refl answers)
 makes_one before entry object (makes.MVarInit message) e answers =
     let same = same_Some _ _ e in makes_begun before entry (call.MVarInit message) mvar same refl (reply_is before entry (call.MVarInit message) same refl answers)
-makes_one before entry object (makes.Port source) e answers = by_source (object source) e
-  where
-    by_source : (o : Option ℕ) → option_map (λ n. call.NewPort (record { 0 = n })) o ≡ Some entry.call → MakesOne before entry (Some kind.Port)
-    by_source None none = absurd (none-some entry.call none)
-    by_source (Some n) some =
-        let same = same_Some _ _ some in
-        makes_begun before entry (call.NewPort (record { 0 = n })) (port n (length (sent before n))) same refl (reply_is before entry (call.NewPort (record { 0 = n })) same refl answers)
+makes_one before entry object (makes.Port source) e answers = makes_port before entry (object source) e answers
+makes_one before entry object (makes.Feed f) e answers = makes_port before entry (object f.channel) e answers
 
 declared_one : (script : Lines) (before : History) (entry : Entry ℕ) (line : Option SourceLine) → option_and_then (call_in script before) line ≡ Some entry.call → answer before entry.call ≡ Some entry.reply
     → MakesOne before entry (option_and_then (kind_declared script) line)
@@ -159,6 +160,7 @@ object_kind (Some (makes.Port source)) k e = refl
 object_kind (Some makes.IVar) k e = refl
 object_kind (Some makes.MVar) k e = refl
 object_kind (Some (makes.MVarInit message)) k e = refl
+object_kind (Some (makes.Feed f)) k e = refl
 
 pub kind_object : (script : Lines) (line : SourceLine) (k : Kind) → kind_declared script line ≡ Some k → is_object script line ≡ true
 kind_object script line k e = object_kind (makes_of (names_of script) line.words) k e
@@ -204,6 +206,16 @@ next_object play names i d made found reads uses = by_makes d.makes refl uses
               ∙ ap (option_and_then (making_call (declared_object play.script play.history))) makes ∙ making;
         }
 
+    next_port : (source : ℕ) → IsChannelAt (names_of play.script) source → source < i → (m : Makes) → d.makes ≡ m → makes_object m ≡ true
+        → making_call (declared_object play.script play.history) m ≡ option_map (λ n. call.NewPort (record { 0 = n })) (declared_object play.script play.history source) → IsNextPort play source
+    next_port source is_channel earlier m e is_object_made making =
+        let within : source < length play.script.declarations = omega (arith, earlier, slice_get_within play.script.declarations i line found) in
+        let given = names source kind.Channel within (is_channel.0, called.Channel, is_channel.1, refl) in
+        let below = counted_mono (is_object play.script) play.script.declarations source i given.0 earlier given.1 (kind_object play.script given.0 kind.Channel given.2) in
+        let object = object_made play.script play.history source (omega (arith, below, made)) in
+        let o : ℕ = how_many (is_object play.script) (take source play.script.declarations) in
+        (is_channel, within, o, object, next m (call.NewPort (record { 0 = o })) e is_object_made (making ∙ ap (option_map (λ n. call.NewPort (record { 0 = n }))) object))
+
     by_makes : (m : Makes) → d.makes ≡ m → IsMadeWell (names_of play.script) i m → IsNext play m
     by_makes makes.Thread e uses = tt
     by_makes makes.Mailbox e uses = next makes.Mailbox call.NewMailbox e refl refl
@@ -211,10 +223,5 @@ next_object play names i d made found reads uses = by_makes d.makes refl uses
     by_makes makes.IVar e uses = next makes.IVar call.NewIVar e refl refl
     by_makes makes.MVar e uses = next makes.MVar call.NewMVar e refl refl
     by_makes (makes.MVarInit message) e small = (next (makes.MVarInit message) (call.MVarInit message) e refl refl, small)
-    by_makes (makes.Port source) e (is_channel, earlier) =
-        let within : source < length play.script.declarations = omega (arith, earlier, slice_get_within play.script.declarations i line found) in
-        let given = names source kind.Channel within (is_channel.0, called.Channel, is_channel.1, refl) in
-        let below = counted_mono (is_object play.script) play.script.declarations source i given.0 earlier given.1 (kind_object play.script given.0 kind.Channel given.2) in
-        let object = object_made play.script play.history source (omega (arith, below, made)) in
-        let o : ℕ = how_many (is_object play.script) (take source play.script.declarations) in
-        (is_channel, within, o, object, next (makes.Port source) (call.NewPort (record { 0 = o })) e refl (ap (option_map (λ n. call.NewPort (record { 0 = n }))) object))
+    by_makes (makes.Port source) e (is_channel, earlier) = next_port source is_channel earlier (makes.Port source) e refl refl
+    by_makes (makes.Feed f) e (is_channel, earlier, seated, fits) = next_port f.channel is_channel earlier (makes.Feed f) e refl refl

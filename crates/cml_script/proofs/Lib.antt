@@ -7,6 +7,7 @@ pub mod BindingLemmas
 pub mod ReadyLemmas
 pub mod StandLemmas
 pub mod ReportLemmas
+pub mod RingLemmas
 pub mod RefusalLemmas
 pub mod LimitTexts
 pub mod LimitLemmas

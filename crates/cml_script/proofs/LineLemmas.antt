@@ -58,6 +58,7 @@ gives_kind names at k d (word, n, found, kinded) gives = by_makes d.makes gives.
     by_makes makes.MVar g = same called.MVar g
     by_makes (makes.MVarInit message) g = same called.MVar g
     by_makes makes.Thread g = same (called.Thread g.0) g.1
+    by_makes (makes.Feed f) g = same (called.Feed f.seat) g
 
 pub names_objects : (script : Lines) (items : List Declaration) → map (λ d. source_of d.line) items ≡ script.declarations → GivesNames (names_of script) items → All (ReadsDeclaration (names_of script)) items → NamesObjects script
 names_objects script items lines gives reads = λ at k declared object.

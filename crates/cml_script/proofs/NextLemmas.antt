@@ -23,7 +23,7 @@ use Rattle.cml_grammar.proofs.ReadableLemmas.{CanBeRead}
 use Rattle.cml_script.specs.declared.binding.Binding.{Binding}
 use Rattle.cml_script.specs.Schedule.{History, Follows, NoneReady, makes_object, is_object, declared_count, performed, next_position, step_call, object_of, binding_of}
 use Rattle.cml_script.specs.Plan.{IsKnown}
-use Rattle.cml_script.specs.Stage.{Play, Stands, IsNextObject, IsNext, IsReadyOf, NoneReadyOf, IsLeast, IsLeastBelow, earlier_of, call_on}
+use Rattle.cml_script.specs.Stage.{Play, Stands, IsNextObject, IsNextPort, IsNext, IsReadyOf, NoneReadyOf, IsLeast, IsLeastBelow, earlier_of, call_on}
 use Rattle.cml_script.proofs.ListLemmas.{mapped_at, how_many-le, passes_there, listed}
 use Rattle.cml_script.proofs.LineLemmas.{all_at, stands, names_objects, has_seats, asks_for_ports, declaration_object}
 use Rattle.cml_script.proofs.KindLemmas.{next_object}
@@ -150,14 +150,8 @@ module _ (script : Lines) (read : CanBeRead script) (history : History) (lawful 
       let object = sym (declaration_object script d reads) ∙ ap (is_object script) (same_Some _ _ (sym line ∙ there.found)) ∙ there.passes in
       by_makes d.makes object (next_object play (known script read).named there.place d (sym there.before) line reads (read.reading.gives.made there.place d given.1))
     where
-      by_makes : (m : Makes) → makes_object m ≡ true → IsNext play m → IsMaking play
-      by_makes makes.Thread is next = absurd (false≢true is)
-      by_makes makes.Mailbox is next = record { asked = call.NewMailbox; next = next; fits = (tt, tt); answers = refl }
-      by_makes makes.Channel is next = record { asked = call.NewChannel; next = next; fits = (tt, tt); answers = refl }
-      by_makes makes.IVar is next = record { asked = call.NewIVar; next = next; fits = (tt, tt); answers = refl }
-      by_makes makes.MVar is next = record { asked = call.NewMVar; next = next; fits = (tt, tt); answers = refl }
-      by_makes (makes.MVarInit message) is next = record { asked = call.MVarInit message; next = next.0; fits = (tt, tt); answers = refl }
-      by_makes (makes.Port channel) is (is_channel, within, o, object, next) =
+      port_making : (channel : ℕ) → IsNextPort play channel → IsMaking play
+      port_making channel (is_channel, within, o, object, next) =
           let name : Name = record { 0 = o } in
           record {
             asked = call.NewPort name;
@@ -165,3 +159,13 @@ module _ (script : Lines) (read : CanBeRead script) (history : History) (lawful 
             fits = fits_kind history name kind.Channel (call.NewPort name) (declared_kind script history all_stands.known.named channel o kind.Channel (follows_own script history all_stands.follows) all_stands.lawful within object (channel_at (names_of script) channel is_channel)) refl refl;
             answers = refl;
           }
+
+      by_makes : (m : Makes) → makes_object m ≡ true → IsNext play m → IsMaking play
+      by_makes makes.Thread is next = absurd (false≢true is)
+      by_makes makes.Mailbox is next = record { asked = call.NewMailbox; next = next; fits = (tt, tt); answers = refl }
+      by_makes makes.Channel is next = record { asked = call.NewChannel; next = next; fits = (tt, tt); answers = refl }
+      by_makes makes.IVar is next = record { asked = call.NewIVar; next = next; fits = (tt, tt); answers = refl }
+      by_makes makes.MVar is next = record { asked = call.NewMVar; next = next; fits = (tt, tt); answers = refl }
+      by_makes (makes.MVarInit message) is next = record { asked = call.MVarInit message; next = next.0; fits = (tt, tt); answers = refl }
+      by_makes (makes.Port channel) is next = port_making channel next
+      by_makes (makes.Feed f) is next = port_making f.channel next

@@ -46,6 +46,7 @@ module _ (script : Lines) where
 
   pub declares_of_declared : (i : ℕ) (m : Makes) → i < length script.declarations → IsMadeWell (names_of script) i m → IsMadeOfDeclared script m
   declares_of_declared i (makes.Port channel) within well = omega (arith, well.1)
+  declares_of_declared i (makes.Feed f) within well = omega (arith, well.1)
   declares_of_declared i makes.Thread within well = tt
   declares_of_declared i makes.Mailbox within well = tt
   declares_of_declared i makes.Channel within well = tt

@@ -31,14 +31,14 @@ use Rattle.cml_script.proofs.LineLemmas.{all_at, step_seated}
 use Rattle.cml_script.proofs.QueueLemmas.{position_is}
 use Rattle.cml_script.proofs.GivingLemmas.{names_le, follows_own}
 use Rattle.cml_script.proofs.BindingLemmas.{AreSteps, bound_port, gave, script_steps}
-use Rattle.cml_script.proofs.FitLemmas.{mailbox_object, channel_object, port_object, receiver_object, mvar_object, variable_object}
+use Rattle.cml_script.proofs.FitLemmas.{mailbox_object, channel_object, port_object, receiver_object, polled_object, mvar_object, variable_object}
 use Rattle.cml_script.proofs.StandLemmas.{object_declared, object_given, made_declared, made_given, declared_stands, declared_kind}
 
 used_object : (names : List Given) (a : Action) → UsesWell names a → IsObject names (used_by a)
 used_object names (action.Send at message) uses = mailbox_object names at uses.0
 used_object names (action.Multicast at message) uses = channel_object names at uses.0
 used_object names (action.Recv at) uses = receiver_object names at uses
-used_object names (action.Poll at) uses = receiver_object names at uses
+used_object names (action.Poll at) uses = polled_object names at uses
 used_object names (action.Port at) uses = channel_object names at uses
 used_object names (action.Copy at) uses = port_object names at uses
 used_object names (action.Close at) uses = port_object names at uses

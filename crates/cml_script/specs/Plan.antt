@@ -25,6 +25,7 @@ kind_named called.Channel = Some kind.Channel
 kind_named (called.Port whose) = Some kind.Port
 kind_named called.IVar = Some kind.IVar
 kind_named called.MVar = Some kind.MVar
+kind_named (called.Feed owner) = Some kind.Port
 
 abbrev pub kind_made : Makes → Option Kind
 kind_made makes.Thread = None
@@ -34,6 +35,7 @@ kind_made (makes.Port channel) = Some kind.Port
 kind_made makes.IVar = Some kind.IVar
 kind_made makes.MVar = Some kind.MVar
 kind_made (makes.MVarInit message) = Some kind.MVar
+kind_made (makes.Feed f) = Some kind.Port
 
 abbrev pub kind_declared : Lines → SourceLine → Option Kind
 kind_declared script line = option_and_then kind_made (makes_of (names_of script) line.words)

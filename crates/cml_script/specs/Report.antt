@@ -12,7 +12,7 @@ use Rattle.cml_board.specs.History.{entries_in, origin_of, sent, got, owed, is_o
 use Rattle.cml_board.specs.Held.{held}
 use Rattle.cml_board.specs.Kept.{kept_from, kept_size}
 use Rattle.cml_grammar.specs.declared.names.Named.{Named}
-use Rattle.cml_grammar.specs.declared.names.Named.TheVariants.{Thread, Mailbox, Channel, Port, IVar, MVar}
+use Rattle.cml_grammar.specs.declared.names.Named.TheVariants.{Thread, Mailbox, Channel, Port, IVar, MVar, Feed}
 use Rattle.cml_grammar.specs.Names.{Given}
 use Rattle.cml_grammar.specs.Script.{SourceLine, Lines}
 use Rattle.cml_grammar.specs.Meaning.{names_of}
@@ -90,6 +90,7 @@ abbrev pub variable_line : Lines → History → ℕ → List ℕ → List ℕ �
 variable_line script history at word name =
     word ++ codes " " ++ name ++ counts_or_not_made (λ object. held_text (held history object)) (made_of script history at) ++ line_end
 
+-- a script with feeds is not reported yet: what was taken from their rings no history tells
 abbrev pub named_line : Lines → History → ℕ → List ℕ → Named → List ℕ
 named_line script history at name (Thread seat) = []
 named_line script history at name Mailbox =
@@ -99,6 +100,7 @@ named_line script history at name Channel =
 named_line script history at name (Port whose) = port_line script history at name
 named_line script history at name IVar = variable_line script history at (codes "ivar") name
 named_line script history at name MVar = variable_line script history at (codes "mvar") name
+named_line script history at name (Feed owner) = []
 
 -- the line of the name at this position
 abbrev pub object_line : Lines → History → ℕ → Given → List ℕ

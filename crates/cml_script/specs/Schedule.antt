@@ -58,6 +58,7 @@ making_call object makes.IVar = Some call.NewIVar
 making_call object makes.MVar = Some call.NewMVar
 making_call object (makes.MVarInit message) = Some (call.MVarInit message)
 making_call object (makes.Port channel) = option_map (λ o. call.NewPort (record { 0 = o })) (object channel)
+making_call object (makes.Feed f) = option_map (λ o. call.NewPort (record { 0 = o })) (object f.channel)
 
 abbrev pub call_in : Lines → History → SourceLine → Option (Call ℕ)
 call_in script history line = option_and_then (making_call (declared_object script history)) (makes_of (names_of script) line.words)

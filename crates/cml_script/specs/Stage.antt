@@ -111,6 +111,12 @@ pub record IsNextObject (play : Play) (making : Call ℕ) : Type 0 where
   pub left : entries_in play.history < declared_count play.script
   pub makes : option_and_then (call_in play.script play.history) (slice_get (objects_of play.script) (entries_in play.history)) ≡ Some making
 
+-- the next object is a port of this channel, which is made
+abbrev pub IsNextPort : Play → ℕ → Type 0
+IsNextPort play channel =
+    IsChannelAt (names_of play.script) channel
+    × (channel < length play.script.declarations) × (o : ℕ) × (declared_object play.script play.history channel ≡ Some o) × IsNextObject play (call.NewPort (record { 0 = o }))
+
 -- the next object is what this declaration makes, of objects that are made
 abbrev pub IsNext : Play → Makes → Type 0
 IsNext play makes.Thread = ⊤
@@ -119,6 +125,5 @@ IsNext play makes.Channel = IsNextObject play call.NewChannel
 IsNext play makes.IVar = IsNextObject play call.NewIVar
 IsNext play makes.MVar = IsNextObject play call.NewMVar
 IsNext play (makes.MVarInit message) = IsNextObject play (call.MVarInit message) × (message < 2 ^ 64)
-IsNext play (makes.Port channel) =
-    IsChannelAt (names_of play.script) channel
-    × (channel < length play.script.declarations) × (o : ℕ) × (declared_object play.script play.history channel ≡ Some o) × IsNextObject play (call.NewPort (record { 0 = o }))
+IsNext play (makes.Port channel) = IsNextPort play channel
+IsNext play (makes.Feed f) = IsNextPort play f.channel

@@ -13,6 +13,7 @@ mod plan;
 mod read;
 mod replaying;
 mod report;
+mod rings;
 mod running;
 mod scene;
 mod stage;

@@ -1,5 +1,6 @@
 //! A whole script, performed and reported.
-ghost use Rattle.std.specs.Prelude.{◌≡◌, ◌≤◌, ◌^◌, IfOk, string_bytes};
+ghost use Rattle.std.specs.Prelude.{◌≡◌, ◌≤◌, ◌^◌, None, IfOk, string_bytes};
+ghost use Rattle.cml_grammar.specs.Rings.{first_ring};
 ghost use Rattle.cml_board.specs.History.{no_entries, entries_in};
 ghost use Rattle.cml_script.specs.Schedule.{declared_count, Ends};
 ghost use Rattle.cml_script.specs.Play.{IsPlayed};
@@ -17,10 +18,11 @@ pub struct Played {
     pub stop: Stop,
 }
 
-/// Performs a script and reports it.
+/// Performs a script that has no lanes and no feeds, and reports it.
 pub fn play(alloc: Global, script: &Script, limit: u64) -> Result<Played, AllocError>
     requires least { 1 ≤ limit }
     requires most { limit ≤ 2 ^ 32 }
+    requires plain { first_ring script.now ≡ None }
     ensures { IfOk result (λ played. IsPlayed script.now limit played.stop (string_bytes played.report)) }
 {
     let mut stage = Stage::new(alloc, script, limit)?;

@@ -177,7 +177,7 @@ fn makes_object(makes: Makes) -> bool
 {
     match makes {
         Makes::Thread => false,
-        Makes::Mailbox | Makes::Channel | Makes::Port(_) => true,
+        Makes::Mailbox | Makes::Channel | Makes::Port(_) | Makes::Feed(_) => true,
         Makes::IVar | Makes::MVar | Makes::MVarInit(_) => true,
     }
 }

@@ -5,13 +5,15 @@ ghost use Rattle.cml_script.specs.Replay.{Replays, IsPlayedOf, EndsUnplayed};
 use crate::ending::Ending;
 use crate::perform::{Played, play};
 use crate::read::{Unread, read_all};
+use crate::rings::refuse_rings;
 use crate::writing::write_report;
 use cml_grammar::read_script;
 use std::alloc::{AllocError, Global};
 use std::io::{Read, Write};
 
 /// Replays a script on one thread: it reads the whole script, performs it, always the first step in
-/// text order that is its thread's next and wouldn't wait, and then writes the report.
+/// text order that is its thread's next and wouldn't wait, and then writes the report. A script with
+/// lanes or feeds isn't performed: what they bring depends on how threads are run.
 pub fn replay<R: Read, W: Write>(
     alloc: Global,
     reader: &mut R,
@@ -37,6 +39,7 @@ fn play_text<R: Read>(alloc: Global, reader: &mut R, limit: u64) -> Result<Playe
 {
     let text = read_all(alloc, reader)?;
     let script = read_script(alloc, &text)?;
+    refuse_rings(&script)?;
     let played = play(alloc, &script, limit)?;
     Ok(played)
 }

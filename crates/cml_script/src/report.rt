@@ -107,6 +107,8 @@ fn write_object(
 {
     match named {
         Named::Thread(_) => Ok(()),
+        // No script with feeds is reported yet.
+        Named::Feed(_) => Ok(()),
         Named::Mailbox => write_mailbox(report, scene, at, name),
         Named::Channel => write_channel(report, scene, at, name),
         Named::Port(_) => write_port(report, scene, at, name),

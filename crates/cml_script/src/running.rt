@@ -1,5 +1,6 @@
 //! A script whose threads are real threads, from the reader's bytes to the report's.
-ghost use Rattle.std.specs.Prelude.{◌≡◌, ◌≤◌, ◌^◌, IfOk, IfErr, string_bytes};
+ghost use Rattle.std.specs.Prelude.{◌≡◌, ◌≤◌, ◌^◌, None, IfOk, IfErr, string_bytes};
+ghost use Rattle.cml_grammar.specs.Rings.{first_ring};
 ghost use Rattle.cml_script.specs.Running.{IsReportOf, IsRunOf, IsRefused, IsUnsettled, EndsUntold, Runs};
 
 mod caller;
@@ -13,6 +14,7 @@ use crate::ending::Ending;
 use crate::perform::Played;
 use crate::read::{Unread, read_all};
 use crate::report::report;
+use crate::rings::refuse_rings;
 use crate::stop::Stop;
 use crate::verdict::Verdict;
 use crate::writing::write_report;
@@ -33,6 +35,7 @@ pub use worker::work;
 
 /// Runs a script: it reads the whole script, performs each of its threads on a thread of the operating system's, all on one
 /// switchboard, audits the journal, and then writes the report. The threads' order is theirs, and so differs from run to run.
+/// A script with lanes or feeds is not run yet.
 pub fn run<I: Read, W: Write, R: Threads + Wait + Sync, G: Gate + Sync>(
     rt: &R,
     alloc: Global,
@@ -66,6 +69,7 @@ fn run_text<I: Read, R: Threads + Wait + Sync, G: Gate + Sync>(
 {
     let text = read_all(alloc, reader)?;
     let script = read_script(alloc, &text)?;
+    refuse_rings(&script)?;
     let blank = Blank::new(PARTS);
     let (settled, stop) = settle_script::<Brand, R, G>(rt, alloc, &script, limit, gate, blank)?;
     conclude(alloc, &script, settled.board(), stop)
@@ -100,13 +104,14 @@ fn entries_of<Led: Ledger>(switchboard: Switchboard<u64, BoardLog<u64>, Led>) ->
     switchboard.into_hall().board().journal().len()
 }
 
-/// The report of a script's journal, once it is audited.
+/// The report of a script's journal, once it is audited. The script has no lanes and no feeds.
 pub fn conclude(
     alloc: Global,
     script: &Script,
     board: &Board<u64, BoardLog<u64>>,
     stop: Stop,
 ) -> Result<Played, Ending>
+    requires plain { first_ring script.now ≡ None }
     ensures stop { IfOk result (λ played. played.stop ≡ stop) }
     ensures report { IfOk result (λ played. IsReportOf script.now board.now.history stop (string_bytes played.report)) }
     ensures refused { IfErr result (λ ending. IsRefused script.now board.now.history ending) }

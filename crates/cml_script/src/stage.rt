@@ -119,6 +119,7 @@ impl<'a> Stage<'a> {
             Makes::MVar => self.make(Call::NewMVar),
             Makes::MVarInit(message) => self.make(Call::MVarInit(message)),
             Makes::Port(channel) => self.make(Call::NewPort(self.declared_object(channel))),
+            Makes::Feed(feed) => self.make(Call::NewPort(self.declared_object(feed.channel))),
         }
     }
 

@@ -140,6 +140,7 @@ impl<'a> Trail<'a> {
             Makes::MVar => Some(Call::NewMVar),
             Makes::MVarInit(message) => Some(Call::MVarInit(message)),
             Makes::Port(channel) => Some(Call::NewPort(self.declared_object(channel)?)),
+            Makes::Feed(feed) => Some(Call::NewPort(self.declared_object(feed.channel)?)),
         }
     }
 

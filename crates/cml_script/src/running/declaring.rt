@@ -38,5 +38,6 @@ fn making(plan: &Plan<'_>, makes: Makes) -> Option<Call<u64>>
         Makes::MVar => Some(Call::NewMVar),
         Makes::MVarInit(message) => Some(Call::MVarInit(message)),
         Makes::Port(channel) => Some(Call::NewPort(plan.number(channel))),
+        Makes::Feed(feed) => Some(Call::NewPort(plan.number(feed.channel))),
     }
 }
