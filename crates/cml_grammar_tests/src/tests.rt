@@ -2,8 +2,9 @@
 mod good;
 
 use cml_grammar::{
-    Declaration, Fault, Lane, Script, Step, What, faultless_texts_are_scripts, numbers_are_as_printed,
-    read_script, scripts_have_no_fault, texts_are_one_script, words_make_lines,
+    Declaration, Fault, Lane, Script, Step, What, faultless_texts_are_scripts,
+    numbers_are_as_printed, read_script, scripts_have_no_fault, texts_are_one_script,
+    words_make_lines,
 };
 use good::{GOOD, INBOX, PORTS_OF_STEPS, RINGS};
 use std::alloc::{AllocError, Global};
@@ -52,7 +53,10 @@ fn add_lanes(alloc: Global, text: &mut String, script: &Script) -> Result<(), Al
         } = lane;
         let told = script.lane_of(*seat, *target);
         let other = script.lane_of(*seat + 1, *target);
-        let line = format!(in alloc; "{} {}: from seat {seat} to {target}, {capacity}; told {told:?}, of the next seat {other:?}\n", line.number, line.text)?;
+        let line = format!(in alloc;
+            "{} {}: from seat {seat} to {target}, {capacity}; told {told:?}, of the next seat {other:?}\n",
+            line.number, line.text
+        )?;
         text.push_str(line.as_str())?;
     }
     Ok(())
