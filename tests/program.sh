@@ -51,7 +51,11 @@ script() { printf '%s\n' "$1" | sed 's| / |\n|g'; }
 
 examples() {
     for example in examples/*.cml; do
-        reported "$example" "$example" "${example%.cml}.report" replay
+        if has_rings "$example"; then
+            needs_run "$example" "$example"
+        else
+            reported "$example" "$example" "${example%.cml}.report" replay
+        fi
     done
 }
 

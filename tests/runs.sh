@@ -47,8 +47,12 @@ impossible() {
     fi
 }
 
+# The examples in any order of their threads; and the reports beside those that only `run` takes are of some order.
 run_examples() {
     for example in examples/*.cml; do
+        if has_rings "$example"; then
+            possible "the report beside $example" 65536 "$example" "${example%.cml}.report"
+        fi
         case " $either_end " in
             *" $(basename "$example" .cml) "*) ran "$example" 65536 "$example" ;;
             *) ran "$example" 65536 "$example" "$(meant_by "${example%.cml}.report")" ;;
@@ -59,12 +63,12 @@ run_examples() {
 # The example with the most threads.
 busiest() { grep -c '^thread ' examples/*.cml | sort -t : -k 2 -n | tail -n 1 | sed 's|:.*||'; }
 
-# many_runs EXAMPLE: 200 runs of it, looked at together.
+# many_runs SCRIPT COUNT: so many runs of it, looked at together.
 many_runs() {
     mkdir "$work/many"
     number=0
     others=0
-    while [ "$number" -lt 200 ]; do
+    while [ "$number" -lt "$2" ]; do
         number=$((number + 1))
         run run < "$1"
         mv "$work/out" "$work/many/$number"
@@ -73,7 +77,7 @@ many_runs() {
     done
     if in_some_order 65536 "$1" "$work"/many/* && [ "$others" -eq 0 ]; then
         pass
-        echo "$1: 200 runs, $(cksum "$work"/many/* | cut -d ' ' -f 1 | sort -u | wc -l) different reports," \
+        echo "$1: $2 runs, $(cksum "$work"/many/* | cut -d ' ' -f 1 | sort -u | wc -l) different reports," \
             "$(grep -c '^end: stalled' "$work/got") stalled"
     else
         fail "$1: a report that no order gives, or another status than it means ($others times)"
@@ -170,7 +174,7 @@ little_memory() {
 some_runs() {
     : > "$work/statuses"
     : > "$work/bad"
-    awk -v scripts=400 -v one_in=0 -f tests/some_scripts.awk | octal | while read -r limit text; do
+    awk -v scripts=400 -v one_in=2 -f tests/some_scripts.awk | octal | while read -r limit text; do
         # shellcheck disable=SC2059
         printf "$text" > "$work/in"
         run run --limit "$limit" < "$work/in"
@@ -194,9 +198,10 @@ some_runs() {
 runs() {
     order_tables
     run_examples
-    many_runs "$(busiest)"
-    many_runs examples/philosophers.cml
-    many_runs examples/philosophers_without_stall.cml
+    many_runs "$(busiest)" 200
+    many_runs examples/philosophers.cml 200
+    many_runs examples/philosophers_without_stall.cml 200
+    many_runs tests/lanes_and_feeds.cml 1000
     crowds
     run_orders
     run_faults

@@ -58,17 +58,31 @@ told() {
     fi
 }
 
-# report_tables: each report is what `replay` writes, and `run` too where no thread could go before another.
+# report_tables: each report is what `replay` writes, but for scripts with lanes or feeds, which it refuses; and `run` writes
+# it too where no thread could go before another.
 report_tables() { each_block report_block tests/reports/*.txt; }
 
 # report_block CASE LIMIT SCRIPT REPORT
 report_block() {
-    reported "$1" "$3" "$4" replay --limit "$2"
+    if has_rings "$3"; then
+        needs_run "$1, by replay" "$3"
+    else
+        reported "$1" "$3" "$4" replay --limit "$2"
+    fi
     if [ "$(grep -c '^thread ' "$3")" -le 1 ]; then
         reported "$1, by run" "$3" "$4" run --limit "$2"
     else
         ran "$1" "$2" "$3"
     fi
+}
+
+# has_rings SCRIPT: whether a line of it says a lane or a feed.
+has_rings() { grep -q '^\(lane\|feed\) ' "$1"; }
+
+# needs_run CASE SCRIPT: `replay` refuses it for its first lane or feed.
+needs_run() {
+    cp "$2" "$work/in"
+    told "$1" "line $(grep -n '^\(lane\|feed\) ' "$2" | head -n 1 | cut -d : -f 1): needs run"
 }
 
 # each_block ACT TABLE..: calls the function with each block's name, its limit, and the files of its script and report.

@@ -1,9 +1,9 @@
 -- What the steps of a history gave the names: each step that was performed and gives a name gave it a port.
-use Rattle.std.proofs.Common.{◌≡◌, ◌≢◌, ℕ, ◌+◌, ◌<◌, Bool, true, false, cond, eqb, ltb, [], ◌∷◌, ◌++◌, length, slice_get, Option, Some, None, MatchBool, IsTrue, IsSome, IfSome, ◌⊎◌, refl, sym, ap, subst, ◌∙◌, arith, inl, inr}
-use Rattle.std.specs.Prelude.{⊤}
+use Rattle.std.proofs.Common.{◌≡◌, ◌≢◌, ℕ, ◌+◌, ◌<◌, ◌≤◌, Bool, true, false, cond, eqb, ltb, [], ◌∷◌, ◌++◌, length, take, slice_get, Option, Some, None, MatchBool, IsTrue, IsSome, IfSome, ◌⊎◌, refl, sym, ap, subst, ◌∙◌, arith, inl, inr}
+use Rattle.std.specs.Prelude.{⊤, not}
 use Rattle.std.specs.Option.{option_map, option_map_or, option_and_then}
 use Rattle.std.proofs.lemmas.Option.{same_Some, none-some}
-use Rattle.std.proofs.lemmas.Bool.{cases_lt, cases_eq, eq-eqb, ne_eqb, false≢true}
+use Rattle.std.proofs.lemmas.Bool.{cases_lt, cases_eq, eq-eqb, ne_eqb, false≢true, true≢false}
 use Rattle.cml_board.specs.declared.call.Call.{Call}
 use Rattle.cml_board.specs.declared.call.Call.TheVariants as call
 use Rattle.cml_board.specs.declared.call.Kind.TheVariants as kind
@@ -22,12 +22,14 @@ use Rattle.cml_grammar.specs.Script.{SourceLine, Lines}
 use Rattle.cml_grammar.specs.Meaning.{names_of, action_of}
 use Rattle.cml_grammar.specs.Giving.{is_giving, names_before}
 use Rattle.cml_grammar.specs.Reading.{gives_name}
-use Rattle.cml_script.specs.Counting.{one_if}
-use Rattle.cml_script.specs.Audit.{IsOfScript, IsNextOfThread}
-use Rattle.cml_script.specs.Schedule.{History, IsDeclaration, is_seated, is_seat, earlier, performed, declared_count, object_of, call_of, step_call, next_position, given_by, gives_next, bound_by, binding_of, port_bound}
+use Rattle.cml_script.specs.Counting.{one_if, how_many}
+use Rattle.cml_script.specs.Audit.{IsOfScript, IsNextOfThread, IsOfCaller}
+use Rattle.cml_script.specs.Schedule.{History, IsDeclaration, maker, is_feed, objects_of, is_called, is_seat, earlier, performed, declared_count, object_of, call_of, step_call, next_position, given_by, gives_next, bound_by, binding_of, port_bound}
+use Rattle.cml_script.specs.Report.{is_of_thread}
 use Rattle.cml_script.specs.Plan.{HasSeats, AsksForPorts}
 use Rattle.cml_script.proofs.ListLemmas.{slice_get_pushed}
-use Rattle.cml_script.proofs.GivingLemmas.{giver, given_at, given_once, next_at, none_first, gives_as, gives_that}
+use Rattle.cml_script.proofs.GivingLemmas.{giver, given_at, given_once, next_at, none_other, gives_as, gives_that}
+use Rattle.cml_script.proofs.LineLemmas.{called_seated}
 
 -- a call that asks for a port
 abbrev pub asks_port : Call ℕ → Bool
@@ -135,10 +137,18 @@ binds before (call.Swap name message) r asks fits answers = absurd (false≢true
 abbrev pub GivesPort : Entry ℕ → Type 0
 GivesPort entry = asks_port entry.call ≡ true → IsSome (port_bound (bound_by entry.call entry.reply))
 
--- each entry is the first seat's, or the next step of its thread
+-- each entry is no thread's, or the next step of its thread
 abbrev pub AreSteps : Lines → History → Type 0
 AreSteps script [] = ⊤
-AreSteps script (entry ∷ before) = ((entry.who ≡ Seat 0) ⊎ (IsNextOfThread script before entry × GivesPort entry)) × AreSteps script before
+AreSteps script (entry ∷ before) = ((is_of_thread entry.who ≡ false) ⊎ (IsNextOfThread script before entry × GivesPort entry)) × AreSteps script before
+
+-- a declared object is made by no thread
+pub maker_is_none : (script : Lines) (k : ℕ) → is_of_thread (maker script k) ≡ false
+maker_is_none script k = by_test (option_map_or (is_feed script) (slice_get (objects_of script) k) false)
+  where
+    by_test : (t : Bool) → is_of_thread (cond t (Feed (how_many (is_feed script) (take k (objects_of script)))) (Seat 0)) ≡ false
+    by_test true = refl
+    by_test false = refl
 
 pub lawful_gives : (before : History) (entry : Entry ℕ) → Fits before entry.call → answer before entry.call ≡ Some entry.reply → GivesPort entry
 lawful_gives before entry fits answers = λ asks. subst IsSome (sym (binds before entry.call entry.reply asks fits answers).bound) refl
@@ -147,9 +157,20 @@ pub script_steps : (script : Lines) (history : History) → IsOfScript script hi
 script_steps script [] own lawful = tt
 script_steps script (entry ∷ before) own lawful = (by_bool (ltb (length before) (declared_count script)) own.0, script_steps script before own.1 lawful.2)
   where
-    by_bool : (t : Bool) → MatchBool t (IsDeclaration script before entry) (IsNextOfThread script before entry) → (entry.who ≡ Seat 0) ⊎ (IsNextOfThread script before entry × GivesPort entry)
-    by_bool true declares = inl declares.by
-    by_bool false next = inr (next, lawful_gives before entry lawful.0 lawful.1)
+    by_caller : (w : Who) → entry.who ≡ w → IsOfCaller script before entry w → (is_of_thread entry.who ≡ false) ⊎ (IsNextOfThread script before entry × GivesPort entry)
+    by_caller (Seat s) e next = inr (next, lawful_gives before entry lawful.0 lawful.1)
+    by_caller (Lane l) e laid = inl (ap is_of_thread e)
+    by_caller (Feed f) e fed = inl (ap is_of_thread e)
+
+    by_bool : (t : Bool) → MatchBool t (IsDeclaration script before entry) (IsOfCaller script before entry entry.who) → (is_of_thread entry.who ≡ false) ⊎ (IsNextOfThread script before entry × GivesPort entry)
+    by_bool true declares = inl (ap is_of_thread declares.by ∙ maker_is_none script (length before))
+    by_bool false own = by_caller entry.who refl own
+
+-- what no thread made was not made by a seat from 1 on
+pub none_seated : (seat : ℕ) → 1 ≤ seat → (who : Who) → is_of_thread who ≡ false → is_seat seat who ≡ false
+none_seated seat low (Lane l) other = refl
+none_seated seat low (Feed f) other = refl
+none_seated seat low (Seat s) other = ne_eqb s seat (λ same. true≢false (ap not (sym (ne_eqb s 0 (λ first. omega (arith, low, same, first)))) ∙ other))
 
 -- the next step is of some thread
 next_seat : (script : Lines) (before : History) (who : Who) (i : ℕ) → next_position script before who ≡ Some i → (s : ℕ) × (who ≡ Seat s)
@@ -175,9 +196,8 @@ module _ (script : Lines) (asks : AsksForPorts script) (seats : HasSeats script)
           absurd (none-some at (sym (ap (λ (l : Option SourceLine). cond (option_map_or is_giving l false) (Some (names_before script.declarations script.steps n.step)) None) e) ∙ given))
       by_line (Some line) e = by_gives line (is_giving line) e refl
 
-  first_gives_nothing : (before : History) (entry : Entry ℕ) → entry.who ≡ Seat 0 → giver script before entry.who ≡ None
-  first_gives_nothing before entry by =
-      ap (option_and_then (given_by script)) (ap (next_position script before) by ∙ none_first script before seats)
+  other_gives_nothing : (before : History) (entry : Entry ℕ) → is_of_thread entry.who ≡ false → giver script before entry.who ≡ None
+  other_gives_nothing before entry by = ap (option_and_then (given_by script)) (none_other script before seats entry.who by)
 
   -- one entry more
   pub bound_more : (before : History) (entry : Entry ℕ) (at : ℕ) (g : Option ℕ) → giver script before entry.who ≡ g → binding_of script (entry ∷ before) at ≡ cond (option_map_or (λ n. eqb n at) g false) (bound_by entry.call entry.reply) (binding_of script before at)
@@ -190,7 +210,7 @@ module _ (script : Lines) (asks : AsksForPorts script) (seats : HasSeats script)
     where
       now : giver script before entry.who ≡ Some at → port_bound (bound_by entry.call entry.reply) ≡ Some n → kind_of (entry ∷ before) n ≡ Some kind.Port
       now gives is = elim (script_steps script (entry ∷ before) own lawful).0 [
-        | inl first ↦ absurd (none-some at (sym (first_gives_nothing before entry first) ∙ gives))
+        | inl first ↦ absurd (none-some at (sym (other_gives_nothing before entry first) ∙ gives))
         | inr next ↦
             let b = binds before entry.call entry.reply (next_asks before entry at next.0 gives) lawful.0 lawful.1 in
             ap (kind_of (entry ∷ before)) (same_Some _ _ (sym is ∙ b.bound)) ∙ b.kind entry refl refl
@@ -200,7 +220,7 @@ module _ (script : Lines) (asks : AsksForPorts script) (seats : HasSeats script)
       by_gives true e is earlier_one = now (gives_that script before entry.who at e) is
       by_gives false e is earlier_one = kind_kept entry before n kind.Port (earlier_one is)
 
-  gave_more : (before : History) (entry : Entry ℕ) (i seat : ℕ) (line : SourceLine) → (entry.who ≡ Seat 0) ⊎ (IsNextOfThread script before entry × GivesPort entry) → slice_get script.steps i ≡ Some line → is_seated script seat line ≡ true → is_giving line ≡ true
+  gave_more : (before : History) (entry : Entry ℕ) (i seat : ℕ) (line : SourceLine) → (is_of_thread entry.who ≡ false) ⊎ (IsNextOfThread script before entry × GivesPort entry) → slice_get script.steps i ≡ Some line → is_called script seat line ≡ true → is_giving line ≡ true
       → (earlier script seat i < performed before seat → IsSome (port_bound (binding_of script before (names_before script.declarations script.steps i)))) → earlier script seat i < performed (entry ∷ before) seat
       → IsSome (port_bound (binding_of script (entry ∷ before) (names_before script.declarations script.steps i)))
   gave_more before entry i seat line either found seated gives ih done = elim either [ inl first ↦ declared first | inr next ↦ stepped next.0 next.1 ]
@@ -217,12 +237,11 @@ module _ (script : Lines) (asks : AsksForPorts script) (seats : HasSeats script)
       counted : (by : ℕ) → entry.who ≡ Seat by → performed (entry ∷ before) seat ≡ one_if (eqb by seat) + performed before seat
       counted by e = ap (λ w. one_if (is_seat seat w) + performed before seat) e
 
-      declared : entry.who ≡ Seat 0 → IsSome (port_bound (binding_of script (entry ∷ before) at))
-      declared first =
-          let low = (seats i line seat found seated).0 in
-          let other : eqb 0 seat ≡ false = ne_eqb 0 seat (λ z. omega (arith, low, z)) in
-          same None (first_gives_nothing before entry first) refl
-          (ih (omega (arith, done, counted 0 first, ap one_if other)))
+      declared : is_of_thread entry.who ≡ false → IsSome (port_bound (binding_of script (entry ∷ before) at))
+      declared other =
+          let low = (seats i line seat found (called_seated script seat line seated)).0 in
+          same None (other_gives_nothing before entry other) refl
+          (ih (omega (arith, done, ap one_if (none_seated seat low entry.who other))))
 
       stepped : IsNextOfThread script before entry → GivesPort entry → IsSome (port_bound (binding_of script (entry ∷ before) at))
       stepped next gives_port = elim (cases_eq next.step i) [
@@ -261,7 +280,7 @@ module _ (script : Lines) (asks : AsksForPorts script) (seats : HasSeats script)
               ]
 
   -- each step that was performed and gives a name gave it a port
-  pub gave : (history : History) (i seat : ℕ) (line : SourceLine) → AreSteps script history → slice_get script.steps i ≡ Some line → is_seated script seat line ≡ true → is_giving line ≡ true → earlier script seat i < performed history seat
+  pub gave : (history : History) (i seat : ℕ) (line : SourceLine) → AreSteps script history → slice_get script.steps i ≡ Some line → is_called script seat line ≡ true → is_giving line ≡ true → earlier script seat i < performed history seat
       → IsSome (port_bound (binding_of script history (names_before script.declarations script.steps i)))
   gave [] i seat line steps found seated gives done = absurd (omega (arith, done))
   gave (entry ∷ before) i seat line steps found seated gives done =

@@ -1,71 +1,71 @@
 -- How the declared objects are made one after the other.
-use Rattle.std.proofs.Common.{◌≡◌, ℕ, ◌+◌, ◌≤◌, true, false, [], ◌∷◌, length, take, slice_get, Option, Some, None, Ok, Err, Result, MatchBool, IfSome, IsSome, refl, sym, ap, subst, ◌∙◌, arith}
+use Rattle.std.proofs.Common.{◌≡◌, ℕ, zero, suc, ◌+◌, ◌<◌, ◌≤◌, Bool, true, false, cond, List, [], ◌∷◌, length, take, filter, slice_get, Option, Some, None, Ok, Err, Result, MatchBool, IfSome, IsSome, refl, sym, ap, ap₂, subst, ◌∙◌, arith, one-add, zero-add}
 use Rattle.std.specs.Prelude.{OnOk, IsErr}
-use Rattle.std.specs.Option.{option_map}
+use Rattle.std.specs.Option.{option_map, option_map_or}
 use Rattle.std.proofs.lemmas.Option.{same_Some, none-some}
-use Rattle.std.proofs.lemmas.List.{take_all, length-map}
+use Rattle.std.proofs.lemmas.List.{take_all}
 use Rattle.std.proofs.lemmas.Bool.{lt-ltb, true≢false}
+use Rattle.cml_board.specs.declared.call.Name.{Name}
 use Rattle.cml_board.specs.declared.call.Call.{Call}
 use Rattle.cml_board.specs.declared.call.Call.TheVariants as call
-use Rattle.cml_board.specs.declared.entry.Who.TheVariants.{Seat}
+use Rattle.cml_board.specs.declared.entry.Who.{Who}
+use Rattle.cml_board.specs.declared.entry.Who.TheVariants.{Seat, Feed}
 use Rattle.cml_board.specs.declared.entry.Reply.{Reply}
+use Rattle.cml_board.specs.declared.entry.Reply.TheVariants as reply
 use Rattle.cml_board.specs.declared.entry.Entry.{Entry}
 use Rattle.cml_board.specs.declared.outcome.Refusal.{Refusal}
 use Rattle.cml_grammar.specs.declared.forms.Makes.{Makes}
 use Rattle.cml_grammar.specs.declared.forms.Makes.TheVariants as makes
 use Rattle.cml_grammar.specs.declared.script.Declaration.{Declaration}
+use Rattle.cml_grammar.specs.Names.{Given}
+use Rattle.cml_grammar.specs.Rings.{makes_feed}
 use Rattle.cml_grammar.specs.Script.{Lines}
 use Rattle.cml_grammar.specs.Meaning.{names_of}
 use Rattle.cml_grammar.specs.Reading.{source_of, ReadsDeclaration, IsMadeWell}
 use Rattle.cml_script.specs.Counting.{one_if, how_many}
-use Rattle.cml_script.specs.Schedule.{History, declared_count, is_object, makes_object, IsDeclaration}
-use Rattle.cml_script.specs.Audit.{IsOfScript, IsNextOfThread}
+use Rattle.cml_script.specs.Schedule.{History, declared_count, objects_of, number_of, maker, is_object, is_feed, makes_object, IsDeclaration}
+use Rattle.cml_script.specs.Audit.{IsOfCaller, IsOfScript}
 use Rattle.cml_script.specs.Plan.{IsKnown}
-use Rattle.cml_script.specs.Stage.{Play, IsNext, IsNextPort, IsNextObject}
-use Rattle.cml_script.specs.Working.{Calls, entries_by, Declares, HasMadeNone, making}
-use Rattle.cml_script.proofs.ListLemmas.{count_taken, taken_count}
-use Rattle.cml_script.proofs.LineLemmas.{declaration_object}
+use Rattle.cml_script.specs.Makes.{IsMadeOfDeclared}
+use Rattle.cml_script.specs.Stage.{Play, IsNext, IsNextObject, IsNextPort}
+use Rattle.cml_script.specs.Working.{Made, with_call, with_feed, is_of_feed, BeginsAt, Declares, HasCapacity, HasMade, making}
+use Rattle.cml_script.proofs.ListLemmas.{count_taken, filter_at, taken_count}
+use Rattle.cml_script.proofs.LineLemmas.{declaration_object, declaration_feed, feed_object}
 use Rattle.cml_script.proofs.KindLemmas.{next_object}
 use Rattle.cml_script.proofs.StandLemmas.{declared_is}
 
--- what is kept is so of the calls that were made
-pub record IsDeclaring (script : Lines) (i : ℕ) (made : Option Calls) : Type 0 where
-  pub calls : Calls
-  pub told : IfSome made (λ tells. tells ≡ calls)
-  pub count : length calls ≡ how_many (is_object script) (take i script.declarations)
-  pub own : IsOfScript script (entries_by 0 calls)
+-- what is kept is so of what was made
+pub record IsDeclaring (script : Lines) (i : ℕ) (made : Option Made) : Type 0 where
+  pub entries : History
+  pub told : IfSome made (λ tells. tells ≡ record { seat = 0; entries = entries })
+  pub count : length entries ≡ how_many (is_object script) (take i script.declarations)
+  pub fed : how_many is_of_feed entries ≡ how_many (is_feed script) (take i script.declarations)
+  pub own : IsOfScript script entries
 
-pub nothing_declared : (script : Lines) (made : Option Calls) → HasMadeNone made → IsDeclaring script 0 made
-nothing_declared script made none = record { calls = []; told = none; count = refl; own = tt }
+pub nothing_declared : (script : Lines) (made : Option Made) → BeginsAt 0 made → IsDeclaring script 0 made
+nothing_declared script made none = record { entries = []; told = none; count = refl; fed = refl; own = tt }
 
--- what makes nothing is no object, and all else is
-unmade : (script : Lines) (m : Makes) → making script m ≡ None → makes_object m ≡ false
-unmade script makes.Thread e = refl
-unmade script makes.Mailbox e = absurd (none-some _ (sym e))
-unmade script makes.Channel e = absurd (none-some _ (sym e))
-unmade script makes.IVar e = absurd (none-some _ (sym e))
-unmade script makes.MVar e = absurd (none-some _ (sym e))
-unmade script (makes.MVarInit message) e = absurd (none-some _ (sym e))
-unmade script (makes.Port channel) e = absurd (none-some _ (sym e))
-unmade script (makes.Feed f) e = absurd (none-some _ (sym e))
+-- of the first of those that pass, as many pass a narrower test as of all up to there
+taken_of_filter : {X : Type 0} (p q : X → Bool) (xs : List X) (i : ℕ) → ((x : X) → q x ≡ true → p x ≡ true) → how_many q (take (how_many p (take i xs)) (filter p xs)) ≡ how_many q (take i xs)
+taken_of_filter p q [] zero implied = refl
+taken_of_filter p q [] (suc i) implied = refl
+taken_of_filter p q (x ∷ xs) zero implied = refl
+taken_of_filter p q (x ∷ xs) (suc i) implied = by_tests (p x) refl (taken_of_filter p q xs i implied)
+  where
+    by_tests : (s : Bool) → p x ≡ s → how_many q (take (how_many p (take i xs)) (filter p xs)) ≡ how_many q (take i xs)
+        → how_many q (take (one_if s + how_many p (take i xs)) (cond s (x ∷ filter p xs) (filter p xs))) ≡ one_if (q x) + how_many q (take i xs)
+    by_tests true is ih = rw (one-add (how_many p (take i xs))) (ap (λ n. one_if (q x) + n) ih)
+    by_tests false is ih = rw (zero-add (how_many p (take i xs))) (ih ∙ none (q x) refl)
+      where
+        none : (t : Bool) → q x ≡ t → how_many q (take i xs) ≡ one_if t + how_many q (take i xs)
+        none true passes = absurd (true≢false (sym (implied x passes) ∙ is))
+        none false passes = sym (zero-add (how_many q (take i xs)))
 
-made_one : (script : Lines) (m : Makes) (asked : Call ℕ) → making script m ≡ Some asked → makes_object m ≡ true
-made_one script makes.Thread asked e = absurd (none-some asked e)
-made_one script makes.Mailbox asked e = refl
-made_one script makes.Channel asked e = refl
-made_one script makes.IVar asked e = refl
-made_one script makes.MVar asked e = refl
-made_one script (makes.MVarInit message) asked e = refl
-made_one script (makes.Port channel) asked e = refl
-made_one script (makes.Feed f) asked e = refl
-
--- the call that makes a port makes the next object, where that is a port
-next_port : (play : Play) (channel : ℕ) (asked : Call ℕ) → option_map (λ o. call.NewPort (record { 0 = o })) (Some (how_many (is_object play.script) (take channel play.script.declarations))) ≡ Some asked → IsNextPort play channel → IsNextObject play asked
-next_port play channel asked e (is_channel, within, o, object, next) =
-    let number = how_many (is_object play.script) (take channel play.script.declarations) in
-    let there = declared_is play.script play.history channel number refl (subst IsSome (sym object) refl) in
-    let same : o ≡ number = same_Some _ _ (sym object ∙ there) in
-    subst (IsNextObject play) (ap (λ n. call.NewPort (record { 0 = n })) same ∙ same_Some _ _ e) next
+next_port : (play : Play) (channel : ℕ) → IsNextPort play channel → IsNextObject play (call.NewPort (record { 0 = number_of play.script channel }))
+next_port play channel (is_channel, within, o, object, next) =
+    let there = declared_is play.script play.history channel (number_of play.script channel) refl (subst IsSome (sym object) refl) in
+    let same : o ≡ number_of play.script channel = same_Some _ _ (sym object ∙ there) in
+    subst (IsNextObject play) (ap (λ n. call.NewPort (record { 0 = n })) same) next
 
 -- the call that makes this makes the next object
 next_making : (play : Play) (m : Makes) (asked : Call ℕ) → making play.script m ≡ Some asked → IsNext play m → IsNextObject play asked
@@ -75,65 +75,148 @@ next_making play makes.Channel asked e next = subst (IsNextObject play) (same_So
 next_making play makes.IVar asked e next = subst (IsNextObject play) (same_Some _ _ e) next
 next_making play makes.MVar asked e next = subst (IsNextObject play) (same_Some _ _ e) next
 next_making play (makes.MVarInit message) asked e next = subst (IsNextObject play) (same_Some _ _ e) next.0
-next_making play (makes.Port channel) asked e next = next_port play channel asked e next
-next_making play (makes.Feed f) asked e next = next_port play f.channel asked e next
+next_making play (makes.Port channel) asked e next = subst (IsNextObject play) (same_Some _ _ e) (next_port play channel next)
+next_making play (makes.Feed feed) asked e next = subst (IsNextObject play) (same_Some _ _ e) (next_port play feed.channel next)
 
-module _ (script : Lines) (known : IsKnown script) {i : ℕ} {made : Option Calls} (so_far : IsDeclaring script i made) (d : Declaration) (line : slice_get script.declarations i ≡ Some (source_of d.line)) (reads : ReadsDeclaration (names_of script) d) where
+-- what it makes is an object, but for a thread
+made_one : (script : Lines) (m : Makes) (asked : Call ℕ) → making script m ≡ Some asked → makes_object m ≡ true
+made_one script makes.Thread asked e = absurd (none-some asked e)
+made_one script makes.Mailbox asked e = refl
+made_one script makes.Channel asked e = refl
+made_one script makes.IVar asked e = refl
+made_one script makes.MVar asked e = refl
+made_one script (makes.MVarInit message) asked e = refl
+made_one script (makes.Port channel) asked e = refl
+made_one script (makes.Feed feed) asked e = refl
+
+-- who makes it, where so many feeds were declared before
+by_feed : Bool → ℕ → Who
+by_feed feed feeds = cond feed (Feed feeds) (Seat 0)
+
+module _ (script : Lines) (known : IsKnown script) {i : ℕ} {made : Option Made} (so_far : IsDeclaring script i made) (d : Declaration) (line : slice_get script.declarations i ≡ Some (source_of d.line)) (reads : ReadsDeclaration (names_of script) d) where
   counted : how_many (is_object script) (take (i + 1) script.declarations) ≡ how_many (is_object script) (take i script.declarations) + one_if (makes_object d.makes)
   counted = count_taken (is_object script) script.declarations i (source_of d.line) line ∙ ap (λ t. how_many (is_object script) (take i script.declarations) + one_if t) (declaration_object script d reads)
 
-  pub none_more : making script d.makes ≡ None → IsDeclaring script (i + 1) made
-  none_more none = record {
-    calls = so_far.calls;
-    told = so_far.told;
-    count = let no : one_if (makes_object d.makes) ≡ 0 = ap one_if (unmade script d.makes none) in omega (arith, so_far.count, counted, no);
+  fed : how_many (is_feed script) (take (i + 1) script.declarations) ≡ how_many (is_feed script) (take i script.declarations) + one_if (makes_feed d.makes)
+  fed = count_taken (is_feed script) script.declarations i (source_of d.line) line ∙ ap (λ t. how_many (is_feed script) (take i script.declarations) + one_if t) (declaration_feed script d reads)
+
+  -- who makes it
+  maker_is : makes_object d.makes ≡ true → by_feed (makes_feed d.makes) (how_many is_of_feed so_far.entries) ≡ maker script (length so_far.entries)
+  unfolding by_feed
+  maker_is object =
+      let k = how_many (is_object script) (take i script.declarations) in
+      let there : slice_get (objects_of script) k ≡ Some (source_of d.line) = filter_at (is_object script) script.declarations i (source_of d.line) line (declaration_object script d reads ∙ object) in
+      let feeds : how_many (is_feed script) (take k (objects_of script)) ≡ how_many (is_feed script) (take i script.declarations) = taken_of_filter (is_object script) (is_feed script) script.declarations i (feed_object script) in
+      sym (ap (maker script) so_far.count
+      ∙ ap₂ (λ t n. cond t (Feed n) (Seat 0)) (ap (λ o. option_map_or (is_feed script) o false) there ∙ declaration_feed script d reads) (feeds ∙ sym so_far.fed))
+
+  pub none_more : (later : Option Made) → d.makes ≡ makes.Thread → later ≡ made → IsDeclaring script (i + 1) later
+  none_more later thread same = record {
+    entries = so_far.entries;
+    told = subst (λ (o : Option Made). IfSome o (λ tells. tells ≡ record { seat = 0; entries = so_far.entries })) (sym same) so_far.told;
+    count = let no : one_if (makes_object d.makes) ≡ 0 = ap (λ m. one_if (makes_object m)) thread in omega (arith, so_far.count, counted, no);
+    fed = let no : one_if (makes_feed d.makes) ≡ 0 = ap (λ m. one_if (makes_feed m)) thread in omega (arith, so_far.fed, fed, no);
     own = so_far.own;
   }
 
-  pub one_more : (asked : Call ℕ) (r : Reply ℕ) (later : Option Calls) → IsMadeWell (names_of script) i d.makes → making script d.makes ≡ Some asked → later ≡ option_map (λ calls. (asked, r) ∷ calls) made → IsDeclaring script (i + 1) later
-  one_more asked r later well is told = record {
-    calls = (asked, r) ∷ so_far.calls;
-    told = subst (λ (o : Option Calls). IfSome o (λ tells. tells ≡ ((asked, r) ∷ so_far.calls))) (sym told) (by_made made so_far.told);
-    count = let yes : one_if (makes_object d.makes) ≡ 1 = ap one_if (made_one script d.makes asked is) in omega (arith, so_far.count, counted, yes);
+  -- an entry more, by who makes the next object
+  one_more : (asked : Call ℕ) (entry : Entry ℕ) (later : Option Made) → IsMadeWell (names_of script) i d.makes → making script d.makes ≡ Some asked → entry.call ≡ asked → entry.who ≡ by_feed (makes_feed d.makes) (how_many is_of_feed so_far.entries)
+      → one_if (is_of_feed entry) ≡ one_if (makes_feed d.makes) → IfSome later (λ tells. tells ≡ record { seat = 0; entries = entry ∷ so_far.entries }) → IsDeclaring script (i + 1) later
+  one_more asked entry later well is called by feeds told = record {
+    entries = entry ∷ so_far.entries;
+    told = told;
+    count = let yes : one_if (makes_object d.makes) ≡ 1 = ap one_if object in omega (arith, so_far.count, counted, yes);
+    fed = omega (arith, so_far.fed, fed, feeds);
     own = (
-      subst (λ t. MatchBool t (IsDeclaration script history entry) (IsNextOfThread script history entry)) (sym (lt-ltb (length history) (declared_count script) next.left)) (record { by = refl; makes = next.makes }),
+      subst (λ t. MatchBool t (IsDeclaration script so_far.entries entry) (IsOfCaller script so_far.entries entry entry.who)) (sym (lt-ltb (length so_far.entries) (declared_count script) next.left))
+          (record { by = by ∙ maker_is object; makes = next.makes ∙ ap Some (sym called) }),
       so_far.own,
     );
   }
     where
-      history : History
-      history = entries_by 0 so_far.calls
-
-      entry : Entry ℕ
-      entry = record { who = Seat 0; call = asked; reply = r }
+      object : makes_object d.makes ≡ true
+      object = made_one script d.makes asked is
 
       play : Play
-      play = record { script = script; history = history; limit = 0 }
+      play = record { script = script; history = so_far.entries; limit = 0 }
 
       next : IsNextObject play asked
-      next = next_making play d.makes asked is (next_object play known.named i d (length-map so_far.calls _ ∙ so_far.count) line reads well)
+      next = next_making play d.makes asked is (next_object play known.named i d so_far.count line reads well)
 
-      by_made : (o : Option Calls) → IfSome o (λ tells. tells ≡ so_far.calls) → IfSome (option_map (λ calls. (asked, r) ∷ calls) o) (λ tells. tells ≡ ((asked, r) ∷ so_far.calls))
-      by_made None told = tt
-      by_made (Some tells) told = ap (λ calls. (asked, r) ∷ calls) told
+  -- what a caller made later has it besides
+  pub made_more : (later : Option Made) → IsMadeWell (names_of script) i d.makes → HasMade script d.makes made later → IsDeclaring script (i + 1) later
+  unfolding by_feed
+  made_more later well has = by_makes d.makes refl has
+    where
+      told_by : (entry : Entry ℕ) (adds : Made → Made) → adds (record { seat = 0; entries = so_far.entries }) ≡ record { seat = 0; entries = entry ∷ so_far.entries } → later ≡ option_map adds made → IfSome later (λ tells. tells ≡ record { seat = 0; entries = entry ∷ so_far.entries })
+      told_by entry adds one more = subst (λ (o : Option Made). IfSome o (λ tells. tells ≡ record { seat = 0; entries = entry ∷ so_far.entries })) (sym more) (by_made made so_far.told)
+        where
+          by_made : (o : Option Made) → IfSome o (λ tells. tells ≡ record { seat = 0; entries = so_far.entries }) → IfSome (option_map adds o) (λ tells. tells ≡ record { seat = 0; entries = entry ∷ so_far.entries })
+          by_made None told = tt
+          by_made (Some tells) told = ap adds told ∙ one
 
-module _ (script : Lines) {i : ℕ} {made : Option Calls} (so_far : IsDeclaring script i made) where
-  few : length so_far.calls ≤ declared_count script
+      called : (m : Makes) → d.makes ≡ m → makes_feed m ≡ false → (asked : Call ℕ) × (answered : Reply ℕ) × (making script m ≡ Some asked) × (later ≡ option_map (with_call asked answered) made) → IsDeclaring script (i + 1) later
+      called m e unfed (asked, answered, is, more) =
+          let plain : makes_feed d.makes ≡ false = ap makes_feed e ∙ unfed in
+          let entry : Entry ℕ = record { who = Seat 0; call = asked; reply = answered } in
+          one_more asked entry later well (ap (making script) e ∙ is) refl (sym (ap (λ t. by_feed t (how_many is_of_feed so_far.entries)) plain)) (sym (ap one_if plain))
+          (told_by entry (with_call asked answered) refl more)
+
+      by_makes : (m : Makes) → d.makes ≡ m → HasMade script m made later → IsDeclaring script (i + 1) later
+      by_makes makes.Thread e has = none_more later e has
+      by_makes (makes.Feed feed) e (port, more) =
+          let is_feed_one : makes_feed d.makes ≡ true = ap makes_feed e in
+          let channel : Name = record { 0 = number_of script feed.channel } in
+          let asked : Call ℕ = call.NewPort channel in
+          let entry : Entry ℕ = record { who = Feed (how_many is_of_feed so_far.entries); call = asked; reply = reply.Made port } in
+          one_more asked entry later well (ap (making script) e) refl (sym (ap (λ t. by_feed t (how_many is_of_feed so_far.entries)) is_feed_one)) (sym (ap one_if is_feed_one))
+          (told_by entry (with_feed channel port) refl more)
+      by_makes makes.Mailbox e has = called makes.Mailbox e refl has
+      by_makes makes.Channel e has = called makes.Channel e refl has
+      by_makes (makes.Port channel) e has = called (makes.Port channel) e refl has
+      by_makes makes.IVar e has = called makes.IVar e refl has
+      by_makes makes.MVar e has = called makes.MVar e refl has
+      by_makes (makes.MVarInit message) e has = called (makes.MVarInit message) e refl has
+
+module _ (script : Lines) {i : ℕ} {made : Option Made} (so_far : IsDeclaring script i made) where
+  few : length so_far.entries ≤ declared_count script
   few =
       let all = take_all (i + length script.declarations) script.declarations (omega arith) in
       omega (arith, so_far.count, taken_count (is_object script) script.declarations i (i + length script.declarations) (omega arith), ap (how_many (is_object script)) all)
 
-  pub declares : (ended : Result (Unit {0}) Refusal) → OnOk ended (length script.declarations ≤ i) → IfSome made (λ calls. Declares script calls ended)
-  declares ended ends = by_made made so_far.told
+  pub declares : (later : Option Made) (ended : Result (Unit {0}) Refusal) → later ≡ made → OnOk ended (length script.declarations ≤ i) → IfSome later (λ m. Declares script m.entries ended)
+  declares later ended same ends = subst (λ (o : Option Made). IfSome o (λ m. Declares script m.entries ended)) (sym same) (by_made made so_far.told)
     where
-      on_ok : (e : Result (Unit {0}) Refusal) → OnOk e (length script.declarations ≤ i) → OnOk e (length so_far.calls ≡ declared_count script)
+      on_ok : (e : Result (Unit {0}) Refusal) → OnOk e (length script.declarations ≤ i) → OnOk e (length so_far.entries ≡ declared_count script)
       on_ok (Ok done) all = so_far.count ∙ ap (how_many (is_object script)) (take_all i script.declarations all)
       on_ok (Err refusal) all = tt
 
-      by_made : (o : Option Calls) → IfSome o (λ tells. tells ≡ so_far.calls) → IfSome o (λ calls. Declares script calls ended)
+      by_made : (o : Option Made) → IfSome o (λ tells. tells ≡ record { seat = 0; entries = so_far.entries }) → IfSome o (λ m. Declares script m.entries ended)
       by_made None told = tt
-      by_made (Some tells) told = subst (λ calls. Declares script calls ended) (sym told) (record { own = so_far.own; within = few; all = on_ok ended ends })
+      by_made (Some tells) told = subst (λ (m : Made). Declares script m.entries ended) (sym told) (record { own = so_far.own; within = few; all = on_ok ended ends })
 
 pub err_ends : (X : Type 0) (e : Result (Unit {0}) Refusal) → IsErr e → OnOk e X
 err_ends X (Ok done) err = absurd (true≢false (sym err))
 err_ends X (Err refusal) err = tt
+
+-- what is made well is made of declared names
+pub well_declared : (script : Lines) (i : ℕ) (m : Makes) → i < length script.declarations → IsMadeWell (names_of script) i m → IsMadeOfDeclared script m
+well_declared script i makes.Thread lt well = tt
+well_declared script i makes.Mailbox lt well = tt
+well_declared script i makes.Channel lt well = tt
+well_declared script i makes.IVar lt well = tt
+well_declared script i makes.MVar lt well = tt
+well_declared script i (makes.MVarInit message) lt well = tt
+well_declared script i (makes.Port channel) lt well = omega (arith, lt, well.1)
+well_declared script i (makes.Feed feed) lt well = omega (arith, lt, well.1)
+
+-- and a feed has room
+pub well_fitted : (names : List Given) (i : ℕ) (m : Makes) → IsMadeWell names i m → HasCapacity m
+well_fitted names i makes.Thread well = tt
+well_fitted names i makes.Mailbox well = tt
+well_fitted names i makes.Channel well = tt
+well_fitted names i makes.IVar well = tt
+well_fitted names i makes.MVar well = tt
+well_fitted names i (makes.MVarInit message) well = tt
+well_fitted names i (makes.Port channel) well = tt
+well_fitted names i (makes.Feed feed) well = well.3

@@ -16,7 +16,7 @@ use Rattle.cml_grammar.specs.declared.script.Step.{Step}
 use Rattle.cml_grammar.specs.Names.{Given}
 use Rattle.cml_grammar.specs.Meaning.{names_of, action_of}
 use Rattle.cml_grammar.specs.Script.{Lines}
-use Rattle.cml_grammar.specs.Reading.{IsMailboxAt, IsChannelAt, IsPortAt, IsReceiverAt, IsPolledAt, IsMVarAt, IsVariableAt, UsesWell, used_by, source_of, ReadsStep}
+use Rattle.cml_grammar.specs.Reading.{IsMailboxAt, IsChannelAt, IsPortAt, IsFeedAt, IsReceiverAt, IsPolledAt, IsMVarAt, IsVariableAt, UsesWell, used_by, source_of, ReadsStep}
 use Rattle.cml_script.specs.Schedule.{History, call_of, object_of, step_call}
 use Rattle.cml_script.specs.Plan.{IsObject, IsObjectAt}
 use Rattle.cml_script.specs.Stage.{call_on}
@@ -32,6 +32,12 @@ module _ (names : List Given) (at : ℕ) where
 
   pub port_at : IsPortAt names at → IsObjectAt names at kind.Port
   port_at (word, whose, found) = (word, called.Port whose, found, refl)
+
+  pub feed_port : IsFeedAt names at → IsObjectAt names at kind.Port
+  feed_port (word, owner, found) = (word, called.Feed owner, found, refl)
+
+  pub feed_object : IsFeedAt names at → IsObject names at
+  feed_object (word, owner, found) = (kind.Port, (word, called.Feed owner, found, refl))
 
   pub mvar_at : IsMVarAt names at → IsObjectAt names at kind.MVar
   mvar_at (word, found) = (word, called.MVar, found, refl)
@@ -64,18 +70,13 @@ module _ (names : List Given) (at : ℕ) where
 pub fits_kind : (history : History) (name : Name) (k : Kind) (c : Call ℕ) → kind_of history name.0 ≡ Some k → object_in c ≡ Some name → takes k c ≡ true → Fits history c
 fits_kind history name k c is on taken = rw (on, is) (refl, taken)
 
--- a call on a mailbox or a port
+-- a receive or a poll on a mailbox or a port
 pub fits_receiver : (names : List Given) (at : ℕ) (history : History) (name : Name) (c : Call ℕ) → IsReceiverAt names at → ((k : Kind) → IsObjectAt names at k → kind_of history name.0 ≡ Some k)
     → object_in c ≡ Some name → takes kind.Mailbox c ≡ true → takes kind.Port c ≡ true → Fits history c
 fits_receiver names at history name c (inl (word, found)) kinds on by_mailbox by_port =
     fits_kind history name kind.Mailbox c (kinds kind.Mailbox (word, called.Mailbox, found, refl)) on by_mailbox
 fits_receiver names at history name c (inr (word, whose, found)) kinds on by_mailbox by_port =
     fits_kind history name kind.Port c (kinds kind.Port (word, called.Port whose, found, refl)) on by_port
-
--- a poll, which a feed takes too
-fits_polled : (names : List Given) (at : ℕ) (history : History) (name : Name) → IsPolledAt names at → ((k : Kind) → IsObjectAt names at k → kind_of history name.0 ≡ Some k) → Fits history (call.Poll name)
-fits_polled names at history name (inl receiver) kinds = fits_receiver names at history name (call.Poll name) receiver kinds refl refl refl
-fits_polled names at history name (inr (word, owner, found)) kinds = fits_kind history name kind.Port (call.Poll name) (kinds kind.Port (word, called.Feed owner, found, refl)) refl refl
 
 -- a put or a get on a variable
 pub fits_variable : (names : List Given) (at : ℕ) (history : History) (name : Name) (c : Call ℕ) → IsVariableAt names at → ((k : Kind) → IsObjectAt names at k → kind_of history name.0 ≡ Some k)
@@ -114,7 +115,8 @@ pub fits_use : (names : List Given) (a : Action) (history : History) (name : Nam
 fits_use names (action.Send at message) history name uses kinds = fits_kind history name kind.Mailbox (call.Send name message) (kinds kind.Mailbox (mailbox_at names at uses.0)) refl refl
 fits_use names (action.Multicast at message) history name uses kinds = fits_kind history name kind.Channel (call.Cast name message) (kinds kind.Channel (channel_at names at uses.0)) refl refl
 fits_use names (action.Recv at) history name uses kinds = fits_receiver names at history name (call.Recv name) uses kinds refl refl refl
-fits_use names (action.Poll at) history name uses kinds = fits_polled names at history name uses kinds
+fits_use names (action.Poll at) history name (inl uses) kinds = fits_receiver names at history name (call.Poll name) uses kinds refl refl refl
+fits_use names (action.Poll at) history name (inr (word, owner, found)) kinds = fits_kind history name kind.Port (call.Poll name) (kinds kind.Port (word, called.Feed owner, found, refl)) refl refl
 fits_use names (action.Port at) history name uses kinds = fits_kind history name kind.Channel (call.NewPort name) (kinds kind.Channel (channel_at names at uses)) refl refl
 fits_use names (action.Copy at) history name uses kinds = fits_kind history name kind.Port (call.CopyPort name) (kinds kind.Port (port_at names at uses)) refl refl
 fits_use names (action.Close at) history name uses kinds = fits_kind history name kind.Port (call.ClosePort name) (kinds kind.Port (port_at names at uses)) refl refl

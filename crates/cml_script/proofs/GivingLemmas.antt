@@ -1,19 +1,22 @@
 -- Which names the steps give, and which step is a thread's next.
-use Rattle.std.proofs.Common.{◌≡◌, ℕ, ◌+◌, ◌<◌, ◌≤◌, Bool, true, false, cond, eqb, ltb, List, [], ◌∷◌, length, take, slice_get, Option, Some, None, MatchBool, count_by, refl, sym, ap, ◌∙◌, arith, inl, inr, zero-add}
+use Rattle.std.proofs.Common.{◌≡◌, ℕ, ◌+◌, ◌<◌, ◌≤◌, Bool, true, false, cond, eqb, ltb, List, [], ◌∷◌, length, take, slice_get, Option, Some, None, MatchBool, count_by, refl, sym, ap, subst, ◌∙◌, arith, inl, inr, zero-add}
+use Rattle.std.specs.Prelude.{not}
 use Rattle.std.specs.Option.{option_map_or, option_and_then}
 use Rattle.std.proofs.lemmas.Option.{same_Some, none-some}
 use Rattle.std.proofs.lemmas.List.Sums.{sum_by-cons}
-use Rattle.std.proofs.lemmas.Bool.{cases_lt, eqb-true, true≢false}
+use Rattle.std.proofs.lemmas.Bool.{cases_lt, cases_eq, eqb-true, ne_eqb, true≢false}
 use Rattle.cml_board.specs.declared.call.Call.{Call}
 use Rattle.cml_board.specs.declared.entry.Who.{Who}
-use Rattle.cml_board.specs.declared.entry.Who.TheVariants.{Seat}
+use Rattle.cml_board.specs.declared.entry.Who.TheVariants.{Seat, Lane, Feed}
 use Rattle.cml_grammar.specs.Script.{SourceLine, Lines}
 use Rattle.cml_grammar.specs.Giving.{is_giving, names_before}
 use Rattle.cml_script.specs.Counting.{one_if, how_many}
-use Rattle.cml_script.specs.Audit.{IsOfScript, IsNextOfThread}
-use Rattle.cml_script.specs.Schedule.{History, IsReady, IsStep, IsDeclaration, Follows, declared_count, is_seated, earlier, performed, positions_from, next_position, given_by, gives_next}
+use Rattle.cml_script.specs.Audit.{IsOfScript, IsOfCaller}
+use Rattle.cml_script.specs.Schedule.{History, IsReady, IsStep, IsDeclaration, Follows, declared_count, is_called, earlier, performed, positions_from, next_position, given_by, gives_next}
+use Rattle.cml_script.specs.Report.{is_of_thread}
 use Rattle.cml_script.specs.Plan.{HasSeats}
 use Rattle.cml_script.proofs.ListLemmas.{counted_mono, taken_count, count_taken}
+use Rattle.cml_script.proofs.LineLemmas.{called_seated}
 use Rattle.cml_script.proofs.QueueLemmas.{position_is, position_of_step}
 
 pub counted_same : {X : Type 0} (p : X → Bool) (xs : List X) → count_by p xs ≡ how_many p xs
@@ -72,12 +75,12 @@ module _ (script : Lines) where
     -- the step that is ready is its thread's next
     pub next_is : (seat i : ℕ) (asked : Call ℕ) → IsReady script history i seat asked → next_position script history (Seat seat) ≡ Some i
     next_is seat i asked ready =
-        ap (slice_get (positions_from script seat 0 script.steps)) (sym ready.next) ∙ position_of_step script seat 0 script.steps i ready.line ready.found ready.seated ∙ ap Some (zero-add i)
+        ap (slice_get (positions_from script seat 0 script.steps)) (sym ready.next) ∙ position_of_step (is_called script seat) 0 script.steps i ready.line ready.found ready.seated ∙ ap Some (zero-add i)
 
     -- a step of a thread, behind those that it performed, is its next
-    pub next_at : (seat i : ℕ) (line : SourceLine) → slice_get script.steps i ≡ Some line → is_seated script seat line ≡ true → earlier script seat i ≡ performed history seat → next_position script history (Seat seat) ≡ Some i
+    pub next_at : (seat i : ℕ) (line : SourceLine) → slice_get script.steps i ≡ Some line → is_called script seat line ≡ true → earlier script seat i ≡ performed history seat → next_position script history (Seat seat) ≡ Some i
     next_at seat i line found seated same =
-        ap (slice_get (positions_from script seat 0 script.steps)) (sym same) ∙ position_of_step script seat 0 script.steps i line found seated ∙ ap Some (zero-add i)
+        ap (slice_get (positions_from script seat 0 script.steps)) (sym same) ∙ position_of_step (is_called script seat) 0 script.steps i line found seated ∙ ap Some (zero-add i)
 
     -- no step is the first seat's
     pub none_first : HasSeats script → next_position script history (Seat 0) ≡ None
@@ -86,8 +89,17 @@ module _ (script : Lines) where
         by_next : (o : Option ℕ) → next_position script history (Seat 0) ≡ o → o ≡ None
         by_next None e = refl
         by_next (Some i) e =
-            let there = position_is script 0 0 script.steps (performed history 0) i e in
-            absurd (omega (arith, (seats there.place there.line 0 there.found there.seated).0))
+            let there = position_is (is_called script 0) 0 script.steps (performed history 0) i e in
+            absurd (omega (arith, (seats there.place there.line 0 there.found (called_seated script 0 there.line there.seated)).0))
+
+    -- nor another's that is no thread's
+    pub none_other : HasSeats script → (who : Who) → is_of_thread who ≡ false → next_position script history who ≡ None
+    none_other seats (Lane l) other = refl
+    none_other seats (Feed f) other = refl
+    none_other seats (Seat s) other = elim (cases_eq s 0) [
+      | inl first ↦ ap (λ n. next_position script history (Seat n)) first ∙ none_first seats
+      | inr differs ↦ absurd (true≢false (ap not (sym (ne_eqb s 0 differs)) ∙ other))
+    ]
 
     pub gives_as : (who : Who) (at : ℕ) (g : Option ℕ) → giver script history who ≡ g → gives_next script history who at ≡ option_map_or (λ n. eqb n at) g false
     gives_as who at g e = ap (λ o. option_map_or (λ n. eqb n at) o false) e
@@ -105,10 +117,10 @@ pub follows_own : (script : Lines) (history : History) → Follows script histor
 follows_own script [] follows = tt
 follows_own script (entry ∷ before) follows = (by_bool (ltb (length before) (declared_count script)) follows.0, follows_own script before follows.1)
   where
-    by_bool : (t : Bool) → MatchBool t (IsDeclaration script before entry) (IsStep script before entry) → MatchBool t (IsDeclaration script before entry) (IsNextOfThread script before entry)
+    by_bool : (t : Bool) → MatchBool t (IsDeclaration script before entry) (IsStep script before entry) → MatchBool t (IsDeclaration script before entry) (IsOfCaller script before entry entry.who)
     by_bool true declares = declares
-    by_bool false step = record {
+    by_bool false step = subst (IsOfCaller script before entry) (sym step.by) (record {
       step = step.step;
       next = ap (next_position script before) step.by ∙ next_is script before step.seat step.step entry.call step.ready;
       calls = step.ready.calls;
-    }
+    })

@@ -11,10 +11,12 @@ use Rattle.cml_grammar.specs.Script.{Lines}
 use Rattle.cml_grammar.proofs.ReadableLemmas.{CanBeRead, can_be_read}
 use Rattle.cml_script.specs.declared.stop.Stop.{Stop}
 use Rattle.cml_script.specs.declared.stop.Stop.TheVariants.{Done, Stalled, Full}
-use Rattle.cml_script.specs.Schedule.{History, Schedule, Follows, Ends, NoneReady, declared_count, left, performed, positions_from, step_call}
+use Rattle.cml_script.specs.Schedule.{History, Schedule, Follows, Ends, NoneReady, declared_count, left, is_called, performed, positions_from, step_call}
 use Rattle.cml_script.specs.Stage.{IsLeast}
 use Rattle.cml_script.specs.Laws.{ScriptsHaveASchedule, StalledThreadsWait, SomeThreadWaits, WaitsAtNext, steps_of_seat}
+use Rattle.cml_grammar.specs.Rings.{first_ring}
 use Rattle.cml_script.proofs.LineLemmas.{stands}
+use Rattle.cml_script.proofs.PlainLemmas.{plain_maker, plain_count}
 use Rattle.cml_script.proofs.QueueLemmas.{positions_count}
 use Rattle.cml_script.proofs.GivingLemmas.{next_is}
 use Rattle.cml_script.proofs.ReadyLemmas.{ready_there}
@@ -28,15 +30,15 @@ record GoesOn (script : Lines) (history : History) : Type 0 where
   lawful : Lawful (entry ∷ history)
   follows : Follows script (entry ∷ history)
 
-module _ (script : Lines) (read : CanBeRead script) where
+module _ (script : Lines) (read : CanBeRead script) (plain : first_ring script ≡ None) where
   declares : (history : History) → Lawful history → Follows script history → length history < declared_count script → GoesOn script history
   declares history lawful follows lt =
-      let making = next_making script read history lawful follows lt in
+      let making = next_making script read plain history lawful follows lt in
       let entry : Entry ℕ = record { who = Seat 0; call = making.asked; reply = new_name history } in
       record {
         entry = entry;
         lawful = (making.fits, making.answers, lawful);
-        follows = follows_declaration script history entry lt (record { by = refl; makes = making.next.makes }) follows;
+        follows = follows_declaration script history entry lt (record { by = sym (plain_maker script plain (length history)); makes = making.next.makes }) follows;
       }
 
   performs : (history : History) → Lawful history → Follows script history → declared_count script ≤ length history → (i : ℕ) → IsLeast script history i → GoesOn script history
@@ -44,7 +46,7 @@ module _ (script : Lines) (read : CanBeRead script) where
     where
       fits : Fits history l.asked
       fits =
-          let c = next_call script read history lawful follows l.seat i all (next_is script history l.seat i l.asked l.ready) in
+          let c = next_call script read plain history lawful follows l.seat i all (next_is script history l.seat i l.asked l.ready) in
           subst (Fits history) (same_Some _ _ (sym c.calls ∙ l.ready.calls)) c.fits
 
       by_answer : (r : Option (Reply ℕ)) → answer history l.asked ≡ r → GoesOn script history
@@ -72,7 +74,7 @@ module _ (script : Lines) (read : CanBeRead script) where
     ]
     | inr all ↦ elim (cases_lt 0 (left script history)) [
       | inl more ↦ elim (cases_lt (length history) limit) [
-        | inl room ↦ let least = least_ready script read history lawful follows all in by_least all more room least.0 least.1
+        | inl room ↦ let least = least_ready script read plain history lawful follows all in by_least all more room least.0 least.1
         | inr full ↦ inl (Full, (omega (arith, full, within), inl more))
       ]
       | inr none ↦ inl (Done, (all, omega (arith, none)))
@@ -87,18 +89,18 @@ module _ (script : Lines) (read : CanBeRead script) where
   -- with room for so many entries more
   schedule_from : (room limit : ℕ) (history : History) → Lawful history → Follows script history → length history + room ≡ limit → (later : History) × (stop : Stop) × Schedule script limit later stop
   schedule_from zero limit history lawful follows all = elim (ends_or_goes_on limit history lawful follows (omega (arith, all))) [
-    | inl (stop, ends) ↦ (history, stop, record { lawful = lawful; room = omega (arith, all); follows = follows; ends = ends })
+    | inl (stop, ends) ↦ (history, stop, record { plain = plain; lawful = lawful; room = omega (arith, all); follows = follows; ends = ends })
     | inr (less, on) ↦ absurd (omega (arith, less, all))
   ]
   schedule_from (suc room) limit history lawful follows all = elim (ends_or_goes_on limit history lawful follows (omega (arith, all))) [
-    | inl (stop, ends) ↦ (history, stop, record { lawful = lawful; room = omega (arith, all); follows = follows; ends = ends })
+    | inl (stop, ends) ↦ (history, stop, record { plain = plain; lawful = lawful; room = omega (arith, all); follows = follows; ends = ends })
     | inr (less, on) ↦ schedule_from room limit (on.entry ∷ history) on.lawful on.follows (omega (arith, all))
   ]
 
   waits_at_next : (limit : ℕ) (history : History) (seat : ℕ) → Schedule script limit history Stalled → performed history seat < steps_of_seat script seat → WaitsAtNext script history seat
   waits_at_next limit history seat s behind =
-      let next = stands (positions_from script seat 0 script.steps) (performed history seat) (omega (arith, behind, positions_count script seat 0 script.steps)) in
-      let c = next_call script read history s.lawful s.follows seat next.0 s.ends.1 next.1 in
+      let next = stands (positions_from script seat 0 script.steps) (performed history seat) (omega (arith, behind, positions_count (is_called script seat) 0 script.steps, plain_count script plain seat script.steps)) in
+      let c = next_call script read plain history s.lawful s.follows seat next.0 s.ends.1 next.1 in
       record {
         step = next.0;
         asked = c.asked;
@@ -115,13 +117,13 @@ module _ (script : Lines) (read : CanBeRead script) where
           absurd (s.ends.3 i seat ready.0 ready.1)
 
 pub has_schedule : ScriptsHaveASchedule
-has_schedule text script limit is = schedule_from script (can_be_read text script is) limit limit [] tt tt (omega arith)
+has_schedule text script limit is plain = schedule_from script (can_be_read text script is) plain limit limit [] tt tt (omega arith)
 
 pub stalled_wait : StalledThreadsWait
-stalled_wait text script limit history seat is = waits_at_next script (can_be_read text script is) limit history seat
+stalled_wait text script limit history seat is s = waits_at_next script (can_be_read text script is) s.plain limit history seat s
 
 pub some_waits : SomeThreadWaits
 some_waits text script limit history is s =
     let read = can_be_read text script is in
     let behind = some_behind script read history s.follows s.ends.2 in
-    (behind.0, waits_at_next script read limit history behind.0 s behind.1)
+    (behind.0, waits_at_next script read s.plain limit history behind.0 s behind.1)

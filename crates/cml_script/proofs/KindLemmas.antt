@@ -17,11 +17,11 @@ use Rattle.cml_grammar.specs.declared.forms.Makes.TheVariants as makes
 use Rattle.cml_grammar.specs.Script.{SourceLine, Lines}
 use Rattle.cml_grammar.specs.Meaning.{names_of, makes_of}
 use Rattle.cml_grammar.specs.declared.script.Declaration.{Declaration}
-use Rattle.cml_grammar.specs.Reading.{source_of, IsChannelAt, ReadsDeclaration, IsMadeWell}
+use Rattle.cml_grammar.specs.Reading.{source_of, ReadsDeclaration, IsMadeWell, IsChannelAt}
 use Rattle.cml_script.specs.Plan.{NamesObjects, kind_made, kind_declared}
 use Rattle.cml_script.specs.Stage.{Play, IsNextObject, IsNextPort, IsNext}
 use Rattle.cml_script.specs.Counting.{one_if, how_many}
-use Rattle.cml_script.specs.Audit.{IsOfScript, IsNextOfThread}
+use Rattle.cml_script.specs.Audit.{IsOfScript, IsOfCaller}
 use Rattle.cml_script.specs.Schedule.{History, IsDeclaration, declared_count, objects_of, call_in, making_call, makes_object, is_object, declared_object}
 use Rattle.cml_script.proofs.ListLemmas.{slice_get-append_left, slice_get_pushed, filter_at, counted_mono}
 
@@ -41,7 +41,7 @@ makes_begun before entry c origin e begun reply = record {
   kind = refl;
 }
 
-makes_port : (before : History) (entry : Entry ℕ) (o : Option ℕ) → option_map (λ n. call.NewPort (record { 0 = n })) o ≡ Some entry.call → answer before entry.call ≡ Some entry.reply → MakesOne before entry (Some kind.Port)
+makes_port : (before : History) (entry : Entry ℕ) (source : Option ℕ) → option_map (λ n. call.NewPort (record { 0 = n })) source ≡ Some entry.call → answer before entry.call ≡ Some entry.reply → MakesOne before entry (Some kind.Port)
 makes_port before entry None none answers = absurd (none-some entry.call none)
 makes_port before entry (Some n) some answers =
     let same = same_Some _ _ some in
@@ -61,7 +61,7 @@ makes_one before entry object makes.MVar e answers =
 makes_one before entry object (makes.MVarInit message) e answers =
     let same = same_Some _ _ e in makes_begun before entry (call.MVarInit message) mvar same refl (reply_is before entry (call.MVarInit message) same refl answers)
 makes_one before entry object (makes.Port source) e answers = makes_port before entry (object source) e answers
-makes_one before entry object (makes.Feed f) e answers = makes_port before entry (object f.channel) e answers
+makes_one before entry object (makes.Feed feed) e answers = makes_port before entry (object feed.channel) e answers
 
 declared_one : (script : Lines) (before : History) (entry : Entry ℕ) (line : Option SourceLine) → option_and_then (call_in script before) line ≡ Some entry.call → answer before entry.call ≡ Some entry.reply
     → MakesOne before entry (option_and_then (kind_declared script) line)
@@ -116,7 +116,7 @@ many_made script (entry ∷ before) own lawful = elim (many_made script before o
     | inr ge ↦ inr (omega (arith, few, ge, length-append (made before) (if_made entry.reply (begun_by (made before) before entry.call))))
     | inl lt ↦
         let test : ltb (length before) (declared_count script) ≡ true = lt-ltb (length before) (declared_count script) lt in
-        let declares = subst (λ t. MatchBool t (IsDeclaration script before entry) (IsNextOfThread script before entry)) test own.0 in
+        let declares = subst (λ t. MatchBool t (IsDeclaration script before entry) (IsOfCaller script before entry entry.who)) test own.0 in
         let one = declared_one script before entry (slice_get (objects_of script) (length before)) declares.makes lawful.1 in
         inl (omega (arith, few, length-append (made before) (if_made entry.reply (begun_by (made before) before entry.call)), ap length one.made))
   ]
@@ -129,7 +129,7 @@ makes_declared script (entry ∷ before) own lawful =
     elim (cases_lt (length before) (declared_count script)) [
       | inl lt ↦
           let test : ltb (length before) (declared_count script) ≡ true = lt-ltb (length before) (declared_count script) lt in
-          declared_next script before entry lt (subst (λ t. MatchBool t (IsDeclaration script before entry) (IsNextOfThread script before entry)) test own.0) lawful.1 earlier
+          declared_next script before entry lt (subst (λ t. MatchBool t (IsDeclaration script before entry) (IsOfCaller script before entry entry.who)) test own.0) lawful.1 earlier
       | inr ge ↦ kept_next script before entry ge (elim (many_made script before own.1 lawful.2) [ inl few ↦ omega (arith, few) | inr many ↦ many ]) earlier
     ]
 
@@ -157,10 +157,10 @@ object_kind (Some makes.Thread) k e = absurd (none-some k e)
 object_kind (Some makes.Mailbox) k e = refl
 object_kind (Some makes.Channel) k e = refl
 object_kind (Some (makes.Port source)) k e = refl
+object_kind (Some (makes.Feed feed)) k e = refl
 object_kind (Some makes.IVar) k e = refl
 object_kind (Some makes.MVar) k e = refl
 object_kind (Some (makes.MVarInit message)) k e = refl
-object_kind (Some (makes.Feed f)) k e = refl
 
 pub kind_object : (script : Lines) (line : SourceLine) (k : Kind) → kind_declared script line ≡ Some k → is_object script line ≡ true
 kind_object script line k e = object_kind (makes_of (names_of script) line.words) k e
@@ -206,15 +206,15 @@ next_object play names i d made found reads uses = by_makes d.makes refl uses
               ∙ ap (option_and_then (making_call (declared_object play.script play.history))) makes ∙ making;
         }
 
-    next_port : (source : ℕ) → IsChannelAt (names_of play.script) source → source < i → (m : Makes) → d.makes ≡ m → makes_object m ≡ true
-        → making_call (declared_object play.script play.history) m ≡ option_map (λ n. call.NewPort (record { 0 = n })) (declared_object play.script play.history source) → IsNextPort play source
-    next_port source is_channel earlier m e is_object_made making =
+    port_next : (source : ℕ) (m : Makes) → d.makes ≡ m → makes_object m ≡ true → making_call (declared_object play.script play.history) m ≡ option_map (λ n. call.NewPort (record { 0 = n })) (declared_object play.script play.history source)
+        → IsChannelAt (names_of play.script) source → source < i → IsNextPort play source
+    port_next source m e object making is_channel earlier =
         let within : source < length play.script.declarations = omega (arith, earlier, slice_get_within play.script.declarations i line found) in
         let given = names source kind.Channel within (is_channel.0, called.Channel, is_channel.1, refl) in
         let below = counted_mono (is_object play.script) play.script.declarations source i given.0 earlier given.1 (kind_object play.script given.0 kind.Channel given.2) in
-        let object = object_made play.script play.history source (omega (arith, below, made)) in
+        let there = object_made play.script play.history source (omega (arith, below, made)) in
         let o : ℕ = how_many (is_object play.script) (take source play.script.declarations) in
-        (is_channel, within, o, object, next m (call.NewPort (record { 0 = o })) e is_object_made (making ∙ ap (option_map (λ n. call.NewPort (record { 0 = n }))) object))
+        (is_channel, within, o, there, next m (call.NewPort (record { 0 = o })) e object (making ∙ ap (option_map (λ n. call.NewPort (record { 0 = n }))) there))
 
     by_makes : (m : Makes) → d.makes ≡ m → IsMadeWell (names_of play.script) i m → IsNext play m
     by_makes makes.Thread e uses = tt
@@ -223,5 +223,5 @@ next_object play names i d made found reads uses = by_makes d.makes refl uses
     by_makes makes.IVar e uses = next makes.IVar call.NewIVar e refl refl
     by_makes makes.MVar e uses = next makes.MVar call.NewMVar e refl refl
     by_makes (makes.MVarInit message) e small = (next (makes.MVarInit message) (call.MVarInit message) e refl refl, small)
-    by_makes (makes.Port source) e (is_channel, earlier) = next_port source is_channel earlier (makes.Port source) e refl refl
-    by_makes (makes.Feed f) e (is_channel, earlier, seated, fits) = next_port f.channel is_channel earlier (makes.Feed f) e refl refl
+    by_makes (makes.Port source) e (is_channel, earlier) = port_next source (makes.Port source) e refl refl is_channel earlier
+    by_makes (makes.Feed feed) e (is_channel, earlier, seat, capacity) = port_next feed.channel (makes.Feed feed) e refl refl is_channel earlier

@@ -1,5 +1,6 @@
 pub mod ListLemmas
 pub mod LineLemmas
+pub mod PlainLemmas
 pub mod QueueLemmas
 pub mod KindLemmas
 pub mod GivingLemmas
@@ -7,7 +8,6 @@ pub mod BindingLemmas
 pub mod ReadyLemmas
 pub mod StandLemmas
 pub mod ReportLemmas
-pub mod RingLemmas
 pub mod RefusalLemmas
 pub mod LimitTexts
 pub mod LimitLemmas
@@ -17,11 +17,15 @@ pub mod CommandLineLemmas
 pub mod FitLemmas
 pub mod UseLemmas
 pub mod CountLemmas
+pub mod ObjectLemmas
 pub mod ScheduleLemmas
 pub mod JournalLemmas
 pub mod TrailLemmas
 pub mod NextLemmas
 pub mod WaitingLemmas
+pub mod LeftLemmas
+pub mod ReplayLemmas
 pub mod GoingOnLemmas
+pub mod SendLemmas
 pub mod WorkLemmas
 pub mod DeclareLemmas

@@ -1,17 +1,17 @@
 -- What the lines of a script were read as.
-use Rattle.std.proofs.Common.{◌≡◌, ℕ, zero, suc, ◌<◌, ◌≤◌, Bool, true, false, eqb, [], ◌∷◌, arith, List, length, map, slice_get, Some, None, cond, refl, sym, ap, subst, ◌∙◌}
-use Rattle.std.specs.Prelude.{All}
+use Rattle.std.proofs.Common.{◌≡◌, ℕ, zero, suc, ◌<◌, ◌≤◌, Bool, true, false, ◌&&◌, eqb, [], ◌∷◌, arith, List, length, map, slice_get, Option, Some, None, cond, refl, sym, ap, subst, ◌∙◌}
+use Rattle.std.specs.Prelude.{All, not}
 use Rattle.std.specs.Option.{option_and_then, option_map_or}
 use Rattle.std.specs.Bool.{then_some}
 use Rattle.std.proofs.lemmas.List.{length-map}
-use Rattle.std.proofs.lemmas.Bool.{eqb-true}
+use Rattle.std.proofs.lemmas.Bool.{eqb-true, false≢true}
 use Rattle.cml_grammar.specs.declared.forms.Makes.{Makes}
 use Rattle.cml_grammar.specs.declared.forms.Makes.TheVariants as makes
 use Rattle.cml_grammar.specs.declared.names.Named.{Named}
 use Rattle.cml_grammar.specs.declared.names.Named.TheVariants as called
 use Rattle.cml_grammar.specs.declared.names.Users.TheVariants as users
 use Rattle.cml_board.specs.declared.call.Kind.{Kind}
-use Rattle.cml_grammar.specs.Meaning.{names_of, action_of}
+use Rattle.cml_grammar.specs.Meaning.{names_of, makes_of, action_of, seat_of_step}
 use Rattle.cml_script.specs.Plan.{NamesObjects, HasSeats, AsksForPorts, IsObjectAt, kind_made, kind_named}
 use Rattle.std.proofs.lemmas.List.Elements.{All-get_or}
 use Rattle.std.proofs.lemmas.Option.{slice_get_within, get_or_from_slice_get, same_Some, some_pair_parts}
@@ -22,13 +22,43 @@ use Rattle.cml_grammar.specs.declared.script.Step.{Step}
 use Rattle.cml_grammar.specs.Names.{Given, thread_count}
 use Rattle.cml_grammar.specs.Script.{SourceLine, Lines}
 use Rattle.cml_grammar.specs.Giving.{is_giving}
+use Rattle.cml_grammar.specs.Rings.{makes_feed}
 use Rattle.cml_grammar.specs.Reading.{source_of, ReadsDeclaration, ReadsStep, Gives, GivesAt, GivesNames, gives_name}
-use Rattle.cml_script.specs.Schedule.{makes_object, is_object, is_seated}
+use Rattle.cml_script.specs.declared.way.Way.TheVariants as way
+use Rattle.cml_grammar.specs.declared.forms.Action.{Action}
+use Rattle.cml_grammar.specs.declared.forms.Action.TheVariants as action
+use Rattle.cml_script.specs.Schedule.{makes_object, is_object, is_feed, is_seated, is_called, is_apart, is_by_ring, way_of, way_of_line}
 use Rattle.cml_script.proofs.ListLemmas.{mapped_at}
 
 pub all_at : {X : Type 0} (P : X → Type 0) (xs : List X) (i : ℕ) (x : X) → All P xs → slice_get xs i ≡ Some x → P x
 all_at P xs i x all found =
     subst P (get_or_from_slice_get xs i x x found) (All-get_or P xs i x (slice_get_within xs i x found) all)
+
+and_true : (t : Bool) → (t && true) ≡ t
+and_true true = refl
+and_true false = refl
+
+and_false : (t : Bool) → (t && false) ≡ false
+and_false true = refl
+and_false false = refl
+
+pub declaration_feed : (script : Lines) (d : Declaration) → ReadsDeclaration (names_of script) d → is_feed script (source_of d.line) ≡ makes_feed d.makes
+declaration_feed script d reads = ap (λ o. option_map_or makes_feed o false) reads.makes
+
+-- a feed's port is an object
+pub feed_object : (script : Lines) (line : SourceLine) → is_feed script line ≡ true → is_object script line ≡ true
+feed_object script line = by_makes (makes_of (names_of script) line.words)
+  where
+    by_makes : (m : Option Makes) → option_map_or makes_feed m false ≡ true → option_map_or makes_object m false ≡ true
+    by_makes (Some (makes.Feed feed)) e = refl
+    by_makes None e = absurd (false≢true e)
+    by_makes (Some makes.Thread) e = absurd (false≢true e)
+    by_makes (Some makes.Mailbox) e = absurd (false≢true e)
+    by_makes (Some makes.Channel) e = absurd (false≢true e)
+    by_makes (Some (makes.Port channel)) e = absurd (false≢true e)
+    by_makes (Some makes.IVar) e = absurd (false≢true e)
+    by_makes (Some makes.MVar) e = absurd (false≢true e)
+    by_makes (Some (makes.MVarInit message)) e = absurd (false≢true e)
 
 pub declaration_object : (script : Lines) (d : Declaration) → ReadsDeclaration (names_of script) d → is_object script (source_of d.line) ≡ makes_object d.makes
 declaration_object script d reads = ap (λ o. option_map_or makes_object o false) reads.makes
@@ -36,6 +66,57 @@ declaration_object script d reads = ap (λ o. option_map_or makes_object o false
 -- the thread of a step
 pub step_seated : (script : Lines) (s : Step) (seat : ℕ) → ReadsStep (names_of script) s → is_seated script seat (source_of s.line) ≡ eqb s.seat seat
 step_seated script s seat reads = ap (λ o. option_map_or (λ t. eqb t seat) o false) reads.seat
+
+-- and how it goes
+pub step_way : (script : Lines) (s : Step) → ReadsStep (names_of script) s → way_of_line script (source_of s.line) ≡ way_of script (Some s.seat) s.action
+step_way script s reads =
+    ap (λ o. option_map_or (way_of script o) (action_of (names_of script) (source_of s.line).words) way.Seat) reads.seat
+    ∙ ap (λ o. option_map_or (way_of script (Some s.seat)) o way.Seat) reads.action
+
+pub step_called : (script : Lines) (s : Step) (seat : ℕ) → ReadsStep (names_of script) s → is_by_ring (way_of script (Some s.seat) s.action) ≡ false → is_called script seat (source_of s.line) ≡ eqb s.seat seat
+step_called script s seat reads apart =
+    ap (λ t. is_seated script seat (source_of s.line) && not t) (ap is_by_ring (step_way script s reads) ∙ apart)
+    ∙ and_true (is_seated script seat (source_of s.line)) ∙ step_seated script s seat reads
+
+pub step_apart : (script : Lines) (s : Step) (seat : ℕ) → ReadsStep (names_of script) s → is_by_ring (way_of script (Some s.seat) s.action) ≡ true → is_called script seat (source_of s.line) ≡ false
+step_apart script s seat reads apart =
+    ap (λ t. is_seated script seat (source_of s.line) && not t) (ap is_by_ring (step_way script s reads) ∙ apart)
+    ∙ and_false (is_seated script seat (source_of s.line))
+
+-- a step that a seat performs is that seat's
+pub called_seated : (script : Lines) (seat : ℕ) (line : SourceLine) → is_called script seat line ≡ true → is_seated script seat line ≡ true
+called_seated script seat line called = by_test (is_seated script seat line) (is_apart script line) called
+  where
+    by_test : (t a : Bool) → (t && not a) ≡ true → t ≡ true
+    by_test true a e = refl
+    by_test false a e = absurd (false≢true e)
+
+-- a step that gives a name is performed by its thread's seat
+pub giving_called : (script : Lines) (i seat : ℕ) (line : SourceLine) → AsksForPorts script → slice_get script.steps i ≡ Some line → is_giving line ≡ true → is_seated script seat line ≡ true → is_called script seat line ≡ true
+giving_called script i seat line asks found gives seated =
+    ap (λ t. t && not (is_apart script line)) seated ∙ ap not (by_action (action_of (names_of script) line.words) refl)
+  where
+    seat_of : Option ℕ
+    seat_of = seat_of_step (names_of script) line.words
+
+    not_apart : (a : Action) → gives_name a ≡ true → is_by_ring (way_of script seat_of a) ≡ false
+    not_apart (action.Port at) e = refl
+    not_apart (action.Copy at) e = refl
+    not_apart (action.Send at message) e = absurd (false≢true e)
+    not_apart (action.Multicast at message) e = absurd (false≢true e)
+    not_apart (action.Recv at) e = absurd (false≢true e)
+    not_apart (action.Poll at) e = absurd (false≢true e)
+    not_apart (action.Close at) e = absurd (false≢true e)
+    not_apart (action.Put at message) e = absurd (false≢true e)
+    not_apart (action.Get at) e = absurd (false≢true e)
+    not_apart (action.GetPoll at) e = absurd (false≢true e)
+    not_apart (action.Take at) e = absurd (false≢true e)
+    not_apart (action.TakePoll at) e = absurd (false≢true e)
+    not_apart (action.Swap at message) e = absurd (false≢true e)
+
+    by_action : (o : Option Action) → action_of (names_of script) line.words ≡ o → is_apart script line ≡ false
+    by_action None e = ap (λ o. is_by_ring (option_map_or (way_of script seat_of) o way.Seat)) e
+    by_action (Some a) e = ap (λ o. is_by_ring (option_map_or (way_of script seat_of) o way.Seat)) e ∙ not_apart a (asks i line a found e ∙ gives)
 
 -- an element stands at each place of a list
 pub stands : {X : Type 0} (xs : List X) (i : ℕ) → i < length xs → (x : X) × (slice_get xs i ≡ Some x)

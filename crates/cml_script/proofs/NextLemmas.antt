@@ -18,6 +18,7 @@ use Rattle.cml_grammar.specs.declared.script.Declaration.{Declaration}
 use Rattle.cml_grammar.specs.declared.script.Step.{Step}
 use Rattle.cml_grammar.specs.Script.{Lines}
 use Rattle.cml_grammar.specs.Meaning.{names_of}
+use Rattle.cml_grammar.specs.Rings.{first_ring}
 use Rattle.cml_grammar.specs.Reading.{source_of, ReadsDeclaration, ReadsStep}
 use Rattle.cml_grammar.proofs.ReadableLemmas.{CanBeRead}
 use Rattle.cml_script.specs.declared.binding.Binding.{Binding}
@@ -59,7 +60,7 @@ pub record IsMaking (play : Play) : Type 0 where
 abbrev Candidate : Lines → History → ℕ → Type 0
 Candidate script history seat = (o : Option ℕ) × MatchOption o (NoneReadyOf script history seat) (λ i. IsReadyOf script history seat i)
 
-module _ (script : Lines) (read : CanBeRead script) (history : History) (lawful : Lawful history) (follows : Follows script history) where
+module _ (script : Lines) (read : CanBeRead script) (plain : first_ring script ≡ None) (history : History) (lawful : Lawful history) (follows : Follows script history) where
   -- the limit isn't looked at, and is as high as a stage's may be
   abbrev play : Play
   play = record { script = script; history = history; limit = 2 ^ 32 }
@@ -91,6 +92,7 @@ module _ (script : Lines) (read : CanBeRead script) (history : History) (lawful 
     room = room;
     bounded = omega arith;
     follows = follows;
+    plain = plain;
     known = known script read;
     counted = record { seats = counts.1; each = λ thread lt. counts.2 thread (omega (arith, lt, counts.1)) };
     bound = record { all = bindings.1; each = bindings.2 };
@@ -150,8 +152,8 @@ module _ (script : Lines) (read : CanBeRead script) (history : History) (lawful 
       let object = sym (declaration_object script d reads) ∙ ap (is_object script) (same_Some _ _ (sym line ∙ there.found)) ∙ there.passes in
       by_makes d.makes object (next_object play (known script read).named there.place d (sym there.before) line reads (read.reading.gives.made there.place d given.1))
     where
-      port_making : (channel : ℕ) → IsNextPort play channel → IsMaking play
-      port_making channel (is_channel, within, o, object, next) =
+      by_port : (channel : ℕ) → IsNextPort play channel → IsMaking play
+      by_port channel (is_channel, within, o, object, next) =
           let name : Name = record { 0 = o } in
           record {
             asked = call.NewPort name;
@@ -167,5 +169,5 @@ module _ (script : Lines) (read : CanBeRead script) (history : History) (lawful 
       by_makes makes.IVar is next = record { asked = call.NewIVar; next = next; fits = (tt, tt); answers = refl }
       by_makes makes.MVar is next = record { asked = call.NewMVar; next = next; fits = (tt, tt); answers = refl }
       by_makes (makes.MVarInit message) is next = record { asked = call.MVarInit message; next = next.0; fits = (tt, tt); answers = refl }
-      by_makes (makes.Port channel) is next = port_making channel next
-      by_makes (makes.Feed f) is next = port_making f.channel next
+      by_makes (makes.Port channel) is next = by_port channel next
+      by_makes (makes.Feed feed) is next = by_port feed.channel next

@@ -1,57 +1,58 @@
--- The positions of a thread's steps.
-use Rattle.std.proofs.Common.{◌≡◌, ℕ, zero, suc, ◌+◌, ◌-◌, ◌<◌, ◌≤◌, inl, inr, None, Option, slice_set, get_or, map, Bool, true, false, cond, List, [], ◌∷◌, ◌++◌, length, take, slice_get, Some, refl, sym, ap, ◌∙◌, arith, add-zero, one-add, zero-add}
-use Rattle.std.specs.Prelude.{Vec, All}
+-- The positions of the lines that pass a test, and of a thread's steps.
+use Rattle.std.proofs.Common.{◌≡◌, ℕ, zero, suc, ◌+◌, ◌-◌, ◌<◌, ◌≤◌, inl, inr, None, Option, slice_set, get_or, map, Bool, true, false, cond, eqb, List, [], ◌∷◌, ◌++◌, length, take, slice_get, Some, refl, sym, ap, ◌∙◌, arith, add-zero, one-add, zero-add}
+use Rattle.std.specs.Prelude.{Vec, All, MatchOption, IfSome}
+use Rattle.std.specs.Borrow.{Bor}
 use Rattle.std.specs.Global.{Global}
 use Rattle.std.specs.Option.{option_map}
 use Rattle.std.proofs.lemmas.List.{append-nil, length-map, length-set, map-set, length-take-le}
 use Rattle.std.proofs.lemmas.Bool.{eq-eqb, ne_eqb, cases_eq}
-use Rattle.std.proofs.lemmas.Option.{same_Some, none-some, slice_get-map, slice_get_read, slice_get_within}
+use Rattle.std.proofs.lemmas.Option.{same_Some, none-some, slice_get-map, slice_get_read, slice_get_within, slice_get_past}
 use Rattle.cml_grammar.specs.declared.script.Step.{Step}
 use Rattle.cml_grammar.specs.Names.{thread_count}
 use Rattle.cml_grammar.specs.Meaning.{names_of}
 use Rattle.cml_grammar.specs.Reading.{source_of, ReadsStep}
-use Rattle.cml_script.proofs.LineLemmas.{all_at, step_seated}
+use Rattle.cml_script.proofs.LineLemmas.{all_at}
 use Rattle.cml_grammar.specs.Script.{SourceLine, Lines}
 use Rattle.cml_script.specs.Counting.{one_if, how_many}
-use Rattle.cml_script.specs.Schedule.{is_seated, positions_from}
+use Rattle.cml_script.specs.Schedule.{positions_where}
 use Rattle.cml_script.specs.Plan.{AreQueues, items_of}
 use Rattle.cml_script.proofs.ListLemmas.{taken_more, mapped_at, set_at, set_off}
 
-module _ (script : Lines) (seat : ℕ) where
+module _ (test : SourceLine → Bool) where
   -- one more step at the end
-  pub positions_pushed : (k : ℕ) (lines : List SourceLine) (line : SourceLine) → positions_from script seat k (lines ++ line ∷ []) ≡ positions_from script seat k lines ++ cond (is_seated script seat line) ((k + length lines) ∷ []) []
+  pub positions_pushed : (k : ℕ) (lines : List SourceLine) (line : SourceLine) → positions_where test k (lines ++ line ∷ []) ≡ positions_where test k lines ++ cond (test line) ((k + length lines) ∷ []) []
   positions_pushed k [] line = rw (add-zero k) refl
-  positions_pushed k (first ∷ lines) line = by_test (is_seated script seat first) (positions_pushed (suc k) lines line)
+  positions_pushed k (first ∷ lines) line = by_test (test first) (positions_pushed (suc k) lines line)
     where
-      moved : positions_from script seat (suc k) lines ++ cond (is_seated script seat line) ((suc k + length lines) ∷ []) [] ≡ positions_from script seat (suc k) lines ++ cond (is_seated script seat line) ((k + suc (length lines)) ∷ []) []
+      moved : positions_where test (suc k) lines ++ cond (test line) ((suc k + length lines) ∷ []) [] ≡ positions_where test (suc k) lines ++ cond (test line) ((k + suc (length lines)) ∷ []) []
       moved =
           let same : suc k + length lines ≡ k + suc (length lines) = omega arith in
-          ap (λ n. positions_from script seat (suc k) lines ++ cond (is_seated script seat line) (n ∷ []) []) same
+          ap (λ n. positions_where test (suc k) lines ++ cond (test line) (n ∷ []) []) same
 
-      by_test : (t : Bool) → positions_from script seat (suc k) (lines ++ line ∷ []) ≡ positions_from script seat (suc k) lines ++ cond (is_seated script seat line) ((suc k + length lines) ∷ []) []
-          → cond t (k ∷ positions_from script seat (suc k) (lines ++ line ∷ [])) (positions_from script seat (suc k) (lines ++ line ∷ [])) ≡ cond t (k ∷ positions_from script seat (suc k) lines) (positions_from script seat (suc k) lines) ++ cond (is_seated script seat line) ((k + suc (length lines)) ∷ []) []
+      by_test : (t : Bool) → positions_where test (suc k) (lines ++ line ∷ []) ≡ positions_where test (suc k) lines ++ cond (test line) ((suc k + length lines) ∷ []) []
+          → cond t (k ∷ positions_where test (suc k) (lines ++ line ∷ [])) (positions_where test (suc k) (lines ++ line ∷ [])) ≡ cond t (k ∷ positions_where test (suc k) lines) (positions_where test (suc k) lines) ++ cond (test line) ((k + suc (length lines)) ∷ []) []
       by_test true there = ap (λ l. k ∷ l) (there ∙ moved)
       by_test false there = there ∙ moved
 
-  -- as many as the thread has steps
-  pub positions_count : (k : ℕ) (lines : List SourceLine) → length (positions_from script seat k lines) ≡ how_many (is_seated script seat) lines
+  -- as many as pass
+  pub positions_count : (k : ℕ) (lines : List SourceLine) → length (positions_where test k lines) ≡ how_many (test) lines
   positions_count k [] = refl
-  positions_count k (line ∷ lines) = by_test (is_seated script seat line) (positions_count (suc k) lines)
+  positions_count k (line ∷ lines) = by_test (test line) (positions_count (suc k) lines)
     where
-      by_test : (t : Bool) → length (positions_from script seat (suc k) lines) ≡ how_many (is_seated script seat) lines → length (cond t (k ∷ positions_from script seat (suc k) lines) (positions_from script seat (suc k) lines)) ≡ one_if t + how_many (is_seated script seat) lines
+      by_test : (t : Bool) → length (positions_where test (suc k) lines) ≡ how_many (test) lines → length (cond t (k ∷ positions_where test (suc k) lines) (positions_where test (suc k) lines)) ≡ one_if t + how_many (test) lines
       by_test true ih = omega (arith, ih)
       by_test false ih = omega (arith, ih)
 
-  -- what stands at a place of the queue: a step of the thread, behind as many of its steps
+  -- what stands at a place of the list: a line that passes, behind as many that do
   pub record StandsThere (k : ℕ) (lines : List SourceLine) (n i : ℕ) : Type 0 where
     pub place : ℕ
     pub line : SourceLine
     pub at : i ≡ k + place
     pub found : slice_get lines place ≡ Some line
-    pub seated : is_seated script seat line ≡ true
-    pub behind : how_many (is_seated script seat) (take place lines) ≡ n
+    pub seated : test line ≡ true
+    pub behind : how_many (test) (take place lines) ≡ n
 
-  later : (k : ℕ) (first : SourceLine) (lines : List SourceLine) (m i : ℕ) (t : Bool) → is_seated script seat first ≡ t → StandsThere (suc k) lines m i → StandsThere k (first ∷ lines) (one_if t + m) i
+  later : (k : ℕ) (first : SourceLine) (lines : List SourceLine) (m i : ℕ) (t : Bool) → test first ≡ t → StandsThere (suc k) lines m i → StandsThere k (first ∷ lines) (one_if t + m) i
   later k first lines m i t e s = record {
     place = suc s.place;
     line = s.line;
@@ -61,7 +62,7 @@ module _ (script : Lines) (seat : ℕ) where
     behind = rw e (ap (λ n. one_if t + n) s.behind);
   }
 
-  here : (k : ℕ) (first : SourceLine) (lines : List SourceLine) (i : ℕ) → is_seated script seat first ≡ true → Some k ≡ Some i → StandsThere k (first ∷ lines) 0 i
+  here : (k : ℕ) (first : SourceLine) (lines : List SourceLine) (i : ℕ) → test first ≡ true → Some k ≡ Some i → StandsThere k (first ∷ lines) 0 i
   here k first lines i e same = record {
     place = 0;
     line = first;
@@ -71,38 +72,38 @@ module _ (script : Lines) (seat : ℕ) where
     behind = refl;
   }
 
-  at_first : (k : ℕ) (first : SourceLine) (lines : List SourceLine) (n i : ℕ) → is_seated script seat first ≡ true → slice_get (k ∷ positions_from script seat (suc k) lines) n ≡ Some i → ((m : ℕ) → slice_get (positions_from script seat (suc k) lines) m ≡ Some i → StandsThere (suc k) lines m i) → StandsThere k (first ∷ lines) n i
+  at_first : (k : ℕ) (first : SourceLine) (lines : List SourceLine) (n i : ℕ) → test first ≡ true → slice_get (k ∷ positions_where test (suc k) lines) n ≡ Some i → ((m : ℕ) → slice_get (positions_where test (suc k) lines) m ≡ Some i → StandsThere (suc k) lines m i) → StandsThere k (first ∷ lines) n i
   at_first k first lines zero i e found ih = here k first lines i e found
   at_first k first lines (suc n) i e found ih = rw (← one-add n) (later k first lines n i true e (ih n found))
 
-  by_first : (k : ℕ) (first : SourceLine) (lines : List SourceLine) (n i : ℕ) (t : Bool) → is_seated script seat first ≡ t → slice_get (cond t (k ∷ positions_from script seat (suc k) lines) (positions_from script seat (suc k) lines)) n ≡ Some i → ((m : ℕ) → slice_get (positions_from script seat (suc k) lines) m ≡ Some i → StandsThere (suc k) lines m i) → StandsThere k (first ∷ lines) n i
+  by_first : (k : ℕ) (first : SourceLine) (lines : List SourceLine) (n i : ℕ) (t : Bool) → test first ≡ t → slice_get (cond t (k ∷ positions_where test (suc k) lines) (positions_where test (suc k) lines)) n ≡ Some i → ((m : ℕ) → slice_get (positions_where test (suc k) lines) m ≡ Some i → StandsThere (suc k) lines m i) → StandsThere k (first ∷ lines) n i
   by_first k first lines n i true e found ih = at_first k first lines n i e found ih
   by_first k first lines n i false e found ih = rw (← zero-add n) (later k first lines n i false e (ih n found))
 
-  -- a position in the queue is a step's of the thread, and as many of its steps stand before it
-  pub position_is : (k : ℕ) (lines : List SourceLine) (n i : ℕ) → slice_get (positions_from script seat k lines) n ≡ Some i → StandsThere k lines n i
+  -- a position of the list is that of a line that passes, and as many that do stand before it
+  pub position_is : (k : ℕ) (lines : List SourceLine) (n i : ℕ) → slice_get (positions_where test k lines) n ≡ Some i → StandsThere k lines n i
   position_is k [] n i found = absurd (none-some i found)
   position_is k (first ∷ lines) n i found =
-      by_first k first lines n i (is_seated script seat first) refl found (λ m. position_is (suc k) lines m i)
+      by_first k first lines n i (test first) refl found (λ m. position_is (suc k) lines m i)
 
-  -- and each step of the thread is there
-  pub position_of_step : (k : ℕ) (lines : List SourceLine) (j : ℕ) (line : SourceLine) → slice_get lines j ≡ Some line → is_seated script seat line ≡ true → slice_get (positions_from script seat k lines) (how_many (is_seated script seat) (take j lines)) ≡ Some (k + j)
+  -- and each line that passes is there
+  pub position_of_step : (k : ℕ) (lines : List SourceLine) (j : ℕ) (line : SourceLine) → slice_get lines j ≡ Some line → test line ≡ true → slice_get (positions_where test k lines) (how_many (test) (take j lines)) ≡ Some (k + j)
   position_of_step k [] j line found seated = absurd (none-some line found)
   position_of_step k (first ∷ lines) zero line found seated =
-      let first_seated : is_seated script seat first ≡ true = ap (is_seated script seat) (same_Some first line found) ∙ seated in
-      rw (first_seated, add-zero k) refl
-  position_of_step k (first ∷ lines) (suc j) line found seated = by_test (is_seated script seat first) (position_of_step (suc k) lines j line found seated)
+      let first_passes : test first ≡ true = ap (test) (same_Some first line found) ∙ seated in
+      rw (first_passes, add-zero k) refl
+  position_of_step k (first ∷ lines) (suc j) line found seated = by_test (test first) (position_of_step (suc k) lines j line found seated)
     where
-      by_test : (t : Bool) → slice_get (positions_from script seat (suc k) lines) (how_many (is_seated script seat) (take j lines)) ≡ Some (suc k + j) → slice_get (cond t (k ∷ positions_from script seat (suc k) lines) (positions_from script seat (suc k) lines)) (one_if t + how_many (is_seated script seat) (take j lines)) ≡ Some (k + suc j)
-      by_test true there = rw (one-add (how_many (is_seated script seat) (take j lines))) (there ∙ ap Some (omega arith))
-      by_test false there = rw (zero-add (how_many (is_seated script seat) (take j lines))) (there ∙ ap Some (omega arith))
+      by_test : (t : Bool) → slice_get (positions_where test (suc k) lines) (how_many (test) (take j lines)) ≡ Some (suc k + j) → slice_get (cond t (k ∷ positions_where test (suc k) lines) (positions_where test (suc k) lines)) (one_if t + how_many (test) (take j lines)) ≡ Some (k + suc j)
+      by_test true there = rw (one-add (how_many (test) (take j lines))) (there ∙ ap Some (omega arith))
+      by_test false there = rw (zero-add (how_many (test) (take j lines))) (there ∙ ap Some (omega arith))
 
 empty_found : (xs : List (Vec ℕ Global)) (thread : ℕ) (queue : List ℕ) (o : Option (Vec ℕ Global)) → All (λ q. q.items ≡ []) xs → slice_get xs thread ≡ o → option_map (λ (q : Vec ℕ Global). q.items) o ≡ Some queue → queue ≡ []
 empty_found xs thread queue None none e f = absurd (none-some queue f)
 empty_found xs thread queue (Some q) none e f = sym (same_Some _ _ f) ∙ all_at (λ (v : Vec ℕ Global). v.items ≡ []) xs thread q none e
 
-module _ (script : Lines) where
-  pub queues_empty : (vecs : List (Vec ℕ Global)) → length vecs ≡ 64 → All (λ q. q.items ≡ []) vecs → AreQueues script [] (items_of vecs)
+module _ (script : Lines) (test : ℕ → SourceLine → Bool) where
+  pub queues_empty : (vecs : List (Vec ℕ Global)) → length vecs ≡ 64 → All (λ q. q.items ≡ []) vecs → AreQueues test [] (items_of vecs)
   queues_empty vecs seats none = record {
     seats = length-map vecs (λ (q : Vec ℕ Global). q.items) ∙ seats;
     each = λ thread queue found.
@@ -110,9 +111,21 @@ module _ (script : Lines) where
         empty_found vecs thread queue (slice_get vecs thread) none refl (sym there ∙ found);
   }
 
+  -- one more step, in no queue
+  pub queues_kept : (queues : List (List ℕ)) (items : List Step) (i : ℕ) (s : Step) → map (λ x. source_of x.line) items ≡ script.steps → slice_get items i ≡ Some s → ((seat : ℕ) → test seat (source_of s.line) ≡ false) → AreQueues test (take i script.steps) queues → AreQueues test (take (i + 1) script.steps) queues
+  queues_kept queues items i s lines found fails so_far =
+      let line = mapped_at (λ (x : Step). source_of x.line) items script.steps i s lines found in
+      let more = taken_more script.steps i (source_of s.line) line in
+      record {
+        seats = so_far.seats;
+        each = λ thread queue at.
+            so_far.each thread queue at
+            ∙ sym (ap (positions_where (test (thread + 1)) 0) more ∙ positions_pushed (test (thread + 1)) 0 (take i script.steps) (source_of s.line) ∙ ap (λ t. positions_where (test (thread + 1)) 0 (take i script.steps) ++ cond t ((0 + length (take i script.steps)) ∷ []) []) (fails (thread + 1)) ∙ append-nil (positions_where (test (thread + 1)) 0 (take i script.steps)));
+      }
+
   -- one more step, in its thread's queue
-  pub queues_pushed : (vecs : List (Vec ℕ Global)) (items : List Step) (i : ℕ) (s : Step) (was now : Vec ℕ Global) → map (λ x. source_of x.line) items ≡ script.steps → All (ReadsStep (names_of script)) items → slice_get items i ≡ Some s → thread_count (names_of script) ≤ 64 → was ≡ get_or vecs (s.seat - 1) was → now.items ≡ was.items ++ i ∷ [] → AreQueues script (take i script.steps) (items_of vecs) → AreQueues script (take (i + 1) script.steps) (items_of (slice_set vecs (s.seat - 1) now))
-  queues_pushed vecs items i s was now lines reads found few read pushed queues =
+  pub queues_pushed : (vecs : List (Vec ℕ Global)) (items : List Step) (i : ℕ) (s : Step) (was now : Vec ℕ Global) → map (λ x. source_of x.line) items ≡ script.steps → All (ReadsStep (names_of script)) items → slice_get items i ≡ Some s → thread_count (names_of script) ≤ 64 → was ≡ get_or vecs (s.seat - 1) was → now.items ≡ was.items ++ i ∷ [] → ((seat : ℕ) → test seat (source_of s.line) ≡ eqb s.seat seat) → AreQueues test (take i script.steps) (items_of vecs) → AreQueues test (take (i + 1) script.steps) (items_of (slice_set vecs (s.seat - 1) now))
+  queues_pushed vecs items i s was now lines reads found few read pushed passes queues =
       let items_at = λ (q : Vec ℕ Global). q.items in
       let reading = all_at (ReadsStep (names_of script)) items i s reads found in
       let seat : s.seat - 1 + 1 ≡ s.seat = omega (arith, reading.seated.0) in
@@ -127,13 +140,24 @@ module _ (script : Lines) where
         each = λ thread queue at. elim (cases_eq thread (s.seat - 1)) [
           | inl same ↦
               let here : slice_get (slice_set (items_of vecs) (s.seat - 1) now.items) thread ≡ Some now.items = ap (slice_get (slice_set (items_of vecs) (s.seat - 1) now.items)) same ∙ set_at (items_of vecs) (s.seat - 1) now.items (omega (arith, within, length-map vecs items_at)) in
-              let own : is_seated script (thread + 1) (source_of s.line) ≡ true = step_seated script s (thread + 1) reading ∙ eq-eqb s.seat (thread + 1) (omega (arith, seat)) in
+              let own : test (thread + 1) (source_of s.line) ≡ true = passes (thread + 1) ∙ eq-eqb s.seat (thread + 1) (omega (arith, seat)) in
               sym (same_Some _ _ (sym here ∙ at)) ∙ pushed
-              ∙ ap (λ l. l ++ i ∷ []) (queues.each (s.seat - 1) was.items was_at ∙ ap (λ t. positions_from script (t + 1) 0 (take i script.steps)) (sym same))
-              ∙ sym (ap (positions_from script (thread + 1) 0) more ∙ positions_pushed script (thread + 1) 0 (take i script.steps) (source_of s.line) ∙ ap (λ t. positions_from script (thread + 1) 0 (take i script.steps) ++ cond t ((0 + length (take i script.steps)) ∷ []) []) own ∙ ap (λ n. positions_from script (thread + 1) 0 (take i script.steps) ++ n ∷ []) (zero-add (length (take i script.steps)) ∙ long))
+              ∙ ap (λ l. l ++ i ∷ []) (queues.each (s.seat - 1) was.items was_at ∙ ap (λ t. positions_where (test (t + 1)) 0 (take i script.steps)) (sym same))
+              ∙ sym (ap (positions_where (test (thread + 1)) 0) more ∙ positions_pushed (test (thread + 1)) 0 (take i script.steps) (source_of s.line) ∙ ap (λ t. positions_where (test (thread + 1)) 0 (take i script.steps) ++ cond t ((0 + length (take i script.steps)) ∷ []) []) own ∙ ap (λ n. positions_where (test (thread + 1)) 0 (take i script.steps) ++ n ∷ []) (zero-add (length (take i script.steps)) ∙ long))
           | inr other ↦
-              let no : is_seated script (thread + 1) (source_of s.line) ≡ false = step_seated script s (thread + 1) reading ∙ ne_eqb s.seat (thread + 1) (λ e. other (omega (arith, e))) in
+              let no : test (thread + 1) (source_of s.line) ≡ false = passes (thread + 1) ∙ ne_eqb s.seat (thread + 1) (λ e. other (omega (arith, e))) in
               queues.each thread queue (sym (set_off (items_of vecs) (s.seat - 1) thread now.items other) ∙ at)
-              ∙ sym (ap (positions_from script (thread + 1) 0) more ∙ positions_pushed script (thread + 1) 0 (take i script.steps) (source_of s.line) ∙ ap (λ t. positions_from script (thread + 1) 0 (take i script.steps) ++ cond t ((0 + length (take i script.steps)) ∷ []) []) no ∙ append-nil (positions_from script (thread + 1) 0 (take i script.steps)))
+              ∙ sym (ap (positions_where (test (thread + 1)) 0) more ∙ positions_pushed (test (thread + 1)) 0 (take i script.steps) (source_of s.line) ∙ ap (λ t. positions_where (test (thread + 1)) 0 (take i script.steps) ++ cond t ((0 + length (take i script.steps)) ∷ []) []) no ∙ append-nil (positions_where (test (thread + 1)) 0 (take i script.steps)))
         ];
       })
+
+-- the queue of a thread
+pub queue_is : (test : ℕ → SourceLine → Bool) (steps : List SourceLine) (vecs : List (Vec ℕ Global)) (queue : Vec ℕ Global) (thread : ℕ) → AreQueues test steps (items_of vecs) → thread < 64 → queue ≡ get_or vecs thread queue → queue.items ≡ positions_where (test (thread + 1)) 0 steps
+queue_is test steps vecs queue thread queues lt read =
+    let long : thread < length vecs = omega (arith, queues.seats, length-map vecs (λ (q : Vec ℕ Global). q.items)) in
+    queues.each thread queue.items (slice_get-map (λ q. q.items) vecs thread ∙ ap (option_map (λ q. q.items)) (slice_get_read vecs (length vecs) thread queue refl long read))
+
+-- what `get` finds
+pub get_is : {X : Type 0} (xs : List X) (i : ℕ) (r : Option (Bor X)) (Q : Bor X → Type 0) → IfSome r (λ x. x.now ≡ get_or xs i x.now) → MatchOption r (length xs ≤ i) (λ x. (i < length xs) × Q x) → option_map (λ x. x.now) r ≡ slice_get xs i
+get_is xs i None Q reads past = sym (slice_get_past xs i past)
+get_is xs i (Some x) Q reads within = sym (slice_get_read xs (length xs) i x.now refl within.0 reads)

@@ -6,27 +6,28 @@ use Rattle.cml_board.specs.declared.call.Call.{Call}
 use Rattle.cml_board.specs.History.{answer}
 use Rattle.cml_grammar.specs.Script.{Lines}
 use Rattle.cml_script.specs.Counting.{how_many}
-use Rattle.cml_script.specs.Schedule.{History, IsReady, NoneReady, is_seated, performed, positions_from, step_call}
+use Rattle.cml_script.specs.Schedule.{History, IsReady, NoneReady, is_called, performed, positions_from, step_call}
 use Rattle.cml_script.specs.Plan.{HasSeats}
 use Rattle.cml_script.specs.Stage.{earlier_of, IsReadyOf, NoneReadyOf, IsLeast, IsLeastBelow}
+use Rattle.cml_script.proofs.LineLemmas.{called_seated}
 use Rattle.cml_script.proofs.QueueLemmas.{position_is, position_of_step}
 
 module _ (script : Lines) (history : History) where
   -- what stands in a thread's queue behind the steps that it performed is its next step, and the only one that may be ready
   pub ready_is : (seat i j : ℕ) (asked : Call ℕ) → slice_get (positions_from script seat 0 script.steps) (performed history seat) ≡ Some i → IsReady script history j seat asked → j ≡ i
   ready_is seat i j asked at ready =
-      let there = position_of_step script seat 0 script.steps j ready.line ready.found ready.seated in
+      let there = position_of_step (is_called script seat) 0 script.steps j ready.line ready.found ready.seated in
       let same : Some (0 + j) ≡ Some i = sym there ∙ ap (slice_get (positions_from script seat 0 script.steps)) ready.next ∙ at in
       omega (arith, same_Some (0 + j) i same)
 
   pub none_queued : (seat : ℕ) → slice_get (positions_from script seat 0 script.steps) (performed history seat) ≡ None → NoneReadyOf script history seat
   none_queued seat at j asked ready =
-      let there = position_of_step script seat 0 script.steps j ready.line ready.found ready.seated in
+      let there = position_of_step (is_called script seat) 0 script.steps j ready.line ready.found ready.seated in
       none-some (0 + j) (sym at ∙ ap (slice_get (positions_from script seat 0 script.steps)) (sym ready.next) ∙ there)
 
   pub queued_within : (seat i : ℕ) → slice_get (positions_from script seat 0 script.steps) (performed history seat) ≡ Some i → i < length script.steps
   queued_within seat i at =
-      let s = position_is script seat 0 script.steps (performed history seat) i at in
+      let s = position_is (is_called script seat) 0 script.steps (performed history seat) i at in
       omega (arith, slice_get_within script.steps s.place s.line s.found, s.at)
 
   pub waits_there : (seat i : ℕ) (call : Call ℕ) → slice_get (positions_from script seat 0 script.steps) (performed history seat) ≡ Some i → step_call script history i ≡ Some call → answer history call ≡ None → NoneReadyOf script history seat
@@ -37,21 +38,21 @@ module _ (script : Lines) (history : History) where
 
   pub ready_there : (seat i : ℕ) (call : Call ℕ) → slice_get (positions_from script seat 0 script.steps) (performed history seat) ≡ Some i → step_call script history i ≡ Some call → answer history call ≢ None → IsReadyOf script history seat i
   ready_there seat i call at calls answers =
-      let s = position_is script seat 0 script.steps (performed history seat) i at in
+      let s = position_is (is_called script seat) 0 script.steps (performed history seat) i at in
       let here : s.place ≡ i = omega (arith, s.at) in (
         call,
         record {
           line = s.line;
           found = ap (slice_get script.steps) (sym here) ∙ s.found;
           seated = s.seated;
-          next = ap (λ n. how_many (is_seated script seat) (take n script.steps)) (sym here) ∙ s.behind;
+          next = ap (λ n. how_many (is_called script seat) (take n script.steps)) (sym here) ∙ s.behind;
           calls = calls;
           answered = answers;
         },
       )
 
   none_before : HasSeats script → (seat i : ℕ) (asked : Call ℕ) → seat ≤ 0 → IsReady script history i seat asked → ⊥
-  none_before seats seat i asked le ready = absurd (omega (arith, (seats i ready.line seat ready.found ready.seated).0))
+  none_before seats seat i asked le ready = absurd (omega (arith, (seats i ready.line seat ready.found (called_seated script seat ready.line ready.seated)).0))
 
   pub least_at_first : HasSeats script → IsLeastBelow script history 0 None
   least_at_first seats = λ seat i asked le ready. none_before seats seat i asked le ready
@@ -59,7 +60,7 @@ module _ (script : Lines) (history : History) where
   -- one thread has one step at most that is ready
   same_step : (seat j other : ℕ) (asked call : Call ℕ) → IsReady script history j seat asked → IsReady script history other seat call → other ≡ j
   same_step seat j other asked call one two =
-      let there = position_of_step script seat 0 script.steps j one.line one.found one.seated in
+      let there = position_of_step (is_called script seat) 0 script.steps j one.line one.found one.seated in
       let here : 0 + j ≡ j = omega arith in
       ready_is seat j other call (ap (slice_get (positions_from script seat 0 script.steps)) (sym one.next) ∙ there ∙ ap Some here) two
 
@@ -118,10 +119,10 @@ module _ (script : Lines) (history : History) where
 
   -- of all threads
   pub least_of_all : HasSeats script → (least : Option ℕ) → IsLeastBelow script history 64 least → MatchOption least (NoneReady script history) (IsLeast script history)
-  least_of_all seats None below = λ i seat asked ready. below seat i asked (seats i ready.line seat ready.found ready.seated).1 ready
+  least_of_all seats None below = λ i seat asked ready. below seat i asked (seats i ready.line seat ready.found (called_seated script seat ready.line ready.seated)).1 ready
   least_of_all seats (Some i) (seat, asked, ready, least) = record {
     seat = seat;
     asked = asked;
     ready = ready;
-    least = λ other by call r. least by other call (seats other r.line by r.found r.seated).1 r;
+    least = λ other by call r. least by other call (seats other r.line by r.found (called_seated script by r.line r.seated)).1 r;
   }

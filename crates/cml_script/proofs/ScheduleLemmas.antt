@@ -17,8 +17,9 @@ use Rattle.cml_grammar.specs.Meaning.{names_of, seat_of_step}
 use Rattle.cml_script.specs.declared.stop.Stop.{Stop}
 use Rattle.cml_script.specs.declared.stop.Stop.TheVariants.{Done, Stalled, Full, Held}
 use Rattle.cml_script.specs.Counting.{one_if}
-use Rattle.cml_script.specs.Schedule.{History, IsStep, IsDeclaration, Follows, Ends, is_seated, is_seat, earlier, performed, declared_count, next_position, step_call, left}
+use Rattle.cml_script.specs.Schedule.{History, IsStep, IsDeclaration, Follows, Ends, is_seated, is_called, is_seat, earlier, performed, declared_count, next_position, step_call, left}
 use Rattle.cml_script.specs.Laws.{SchedulesAreOne}
+use Rattle.cml_script.proofs.LineLemmas.{called_seated}
 use Rattle.cml_script.proofs.GivingLemmas.{next_is}
 
 entry_equal : (e f : Entry ℕ) → e.who ≡ f.who → e.call ≡ f.call → e.reply ≡ f.reply → e ≡ f
@@ -81,7 +82,7 @@ module _ (script : Lines) where
     seat : ℕ
     line : SourceLine
     found : slice_get script.steps i ≡ Some line
-    seated : is_seated script seat line ≡ true
+    seated : is_called script seat line ≡ true
     behind : earlier script seat i < performed history seat
 
   later : (before : History) (entry : Entry ℕ) (i : ℕ) → IsPast before i → IsPast (entry ∷ before) i
@@ -132,7 +133,7 @@ module _ (script : Lines) where
       new_step : (before : History) (entry : Entry ℕ) (s : IsStep script before entry) (q : ℕ) → IsPast before q → s.step ≡ q → ⊥
       new_step before entry s q past same =
           let line : s.ready.line ≡ past.line = same_Some _ _ (sym s.ready.found ∙ ap (slice_get script.steps) same ∙ past.found) in
-          let seat : s.seat ≡ past.seat = one_seat s.ready.line past.line s.seat past.seat line s.ready.seated past.seated in
+          let seat : s.seat ≡ past.seat = one_seat s.ready.line past.line s.seat past.seat line (called_seated script s.seat s.ready.line s.ready.seated) (called_seated script past.seat past.line past.seated) in
           let before_it : earlier script s.seat s.step ≡ earlier script past.seat q = ap (λ n. earlier script n s.step) seat ∙ ap (earlier script past.seat) same in
           absurd (omega (arith, before_it, s.ready.next, past.behind, ap (performed before) seat))
 
@@ -175,7 +176,7 @@ module _ (script : Lines) where
         let b = steps before f second ge in
         let same : a.step ≡ b.step = omega (arith, a.least b.step b.seat f.call b.ready, b.least a.step a.seat e.call a.ready) in
         let line : a.ready.line ≡ b.ready.line = same_Some _ _ (sym a.ready.found ∙ ap (slice_get script.steps) same ∙ b.ready.found) in
-        let seat : a.seat ≡ b.seat = one_seat a.ready.line b.ready.line a.seat b.seat line a.ready.seated b.ready.seated in
+        let seat : a.seat ≡ b.seat = one_seat a.ready.line b.ready.line a.seat b.seat line (called_seated script a.seat a.ready.line a.ready.seated) (called_seated script b.seat b.ready.line b.ready.seated) in
         with_calls (a.by ∙ ap Seat seat ∙ sym b.by) (same_Some _ _ (sym a.ready.calls ∙ ap (step_call script before) same ∙ b.ready.calls))
   ]
     where

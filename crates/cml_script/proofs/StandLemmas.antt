@@ -4,7 +4,8 @@ use Rattle.std.specs.Prelude.{map, All}
 use Rattle.cml_board.specs.declared.entry.Reply.{Reply}
 use Rattle.cml_grammar.specs.declared.script.Step.{Step}
 use Rattle.cml_grammar.specs.Names.{thread_count}
-use Rattle.cml_script.proofs.LineLemmas.{all_at, step_seated}
+use Rattle.cml_script.proofs.LineLemmas.{all_at, step_seated, called_seated}
+use Rattle.cml_script.proofs.PlainLemmas.{plain_maker}
 use Rattle.std.specs.Option.{option_map_or, option_and_then}
 use Rattle.std.proofs.lemmas.Option.{same_Some, none-some, slice_get_within, slice_get_read, slice_get-get_or}
 use Rattle.std.proofs.lemmas.List.{length-set, length-map, length-replicate, get_or-replicate}
@@ -171,6 +172,7 @@ stands_more play new counts later bindings g entry e s fits room answers follows
   room = room;
   bounded = s.bounded;
   follows = follows;
+  plain = s.plain;
   known = s.known;
   counted = counted;
   bound = bindings_more play.script play.history entry bindings g s.known.asks s.known.seats gives s.bound;
@@ -187,7 +189,7 @@ stands_declared p old counts bindings later same asked r view s next grown kept 
     let here = subst (λ (q : Play). IsNextObject q asked) (sym view) next in
     stands_more p (record { script = p.script; history = later; limit = same }) counts counts bindings None entry (new_play p.script p.history later p.limit same entry grown kept) s fits room answers
     (follows_declaration p.script p.history entry here.left (record {
-      by = refl;
+      by = sym (plain_maker p.script s.plain (length p.history));
       makes = here.makes;
     }) s.follows)
     (counts_declared p.history entry counts refl s.counted)
@@ -207,7 +209,7 @@ pub seat_is : (script : Lines) (history : History) (items : List Step) (i : ℕ)
 seat_is script history items i s lines reads found l =
     let read = all_at (ReadsStep (names_of script)) items i s reads found in
     let same : source_of s.line ≡ l.ready.line = same_Some _ _ (sym (mapped_at (λ x. source_of x.line) items script.steps i s lines found) ∙ l.ready.found) in
-    eqb-true s.seat l.seat (sym (step_seated script s l.seat read) ∙ ap (is_seated script l.seat) same ∙ l.ready.seated)
+    eqb-true s.seat l.seat (sym (step_seated script s l.seat read) ∙ ap (is_seated script l.seat) same ∙ called_seated script l.seat l.ready.line l.ready.seated)
 
 pub seat_low : (script : Lines) (items : List Step) (i : ℕ) (s : Step) → All (ReadsStep (names_of script)) items → slice_get items i ≡ Some s → 1 ≤ s.seat
 seat_low script items i s reads found = (all_at (ReadsStep (names_of script)) items i s reads found).seated.0

@@ -1,11 +1,11 @@
 -- What a trail keeps of a journal, and how it goes on behind one more entry.
-use Rattle.std.proofs.Common.{◌≡◌, ℕ, ◌+◌, ◌-◌, ◌<◌, ◌≤◌, Bool, true, false, cond, List, [], ◌∷◌, ◌++◌, length, map, filter, slice_get, Option, Some, None, IfSome, refl, sym, ap, subst, ◌∙◌, arith}
+use Rattle.std.proofs.Common.{◌≡◌, ℕ, ◌+◌, ◌-◌, ◌<◌, ◌≤◌, Bool, true, false, cond, List, [], ◌∷◌, ◌++◌, length, take, map, filter, slice_get, Option, Some, None, MatchBool, IfSome, refl, sym, ap, subst, ◌∙◌, arith, inl, inr}
 use Rattle.std.specs.Prelude.{All}
-use Rattle.std.specs.Option.{option_map, option_and_then}
+use Rattle.std.specs.Option.{option_map, option_map_or, option_and_then}
 use Rattle.std.proofs.lemmas.Option.{same_Some, none-some, slice_get-map, slice_get_within}
 use Rattle.std.proofs.lemmas.List.{length-map, map-append, append-nil}
 use Rattle.std.proofs.lemmas.List.Elements.{All-push, filter-append}
-use Rattle.std.proofs.lemmas.Bool.{le-ltb, lt-ltb}
+use Rattle.std.proofs.lemmas.Bool.{le-ltb, lt-ltb, cases_lt, false≢true}
 use Rattle.cml_board.specs.declared.entry.Who.{Who}
 use Rattle.cml_board.specs.declared.entry.Who.TheVariants.{Seat, Lane, Feed}
 use Rattle.cml_board.specs.declared.entry.Entry.{Entry}
@@ -19,24 +19,29 @@ use Rattle.cml_grammar.specs.Meaning.{names_of, makes_of, action_of}
 use Rattle.cml_grammar.specs.Giving.{NamesAreGiven}
 use Rattle.cml_grammar.specs.Reading.{source_of, IsMadeWell, ReadsStep, used_by}
 use Rattle.cml_board.specs.Positions.{before}
-use Rattle.cml_script.specs.Audit.{IsOwn}
+use Rattle.cml_script.specs.Audit.{IsOwn, IsOfCaller, IsNextOfThread, IsOfFeed, sent_to}
+use Rattle.cml_board.specs.declared.call.Call.{Call}
+use Rattle.cml_board.specs.declared.call.Call.TheVariants as call
+use Rattle.cml_script.specs.Counting.{how_many}
+use Rattle.cml_script.specs.declared.objects.Objects.{Objects}
 use Rattle.cml_script.specs.declared.binding.Binding.{Binding}
-use Rattle.cml_script.specs.Schedule.{History, objects_of, declared_count, declared_object, is_object, is_seat, making_call, call_in, performed, next_position, given_by, step_call, call_of, object_of, bound_by}
+use Rattle.cml_script.specs.Schedule.{History, IsDeclaration, objects_of, declared_count, declared_object, number_of, maker, is_object, is_feed, is_called, positions_where, making_call, call_in, performed, next_position, given_by, step_call, call_of, object_of, bound_by}
 use Rattle.cml_script.specs.Plan.{HasSeats}
 use Rattle.cml_script.specs.Bindings.{AreBindings, with_binding}
 use Rattle.cml_script.specs.Stage.{AreCounts, call_on}
 use Rattle.cml_script.specs.Makes.{AreMakes, IsMadeOfDeclared}
-use Rattle.cml_script.specs.Trail.{HasNoLine, IsNextLine, Progress, history_of, with_next, IsFollowed, IsNoThread, CountsOneMore, next_given, declared_call, next_call, own_call}
-use Rattle.cml_script.proofs.ListLemmas.{mapped_at}
-use Rattle.cml_script.proofs.KindLemmas.{length_filter}
-use Rattle.cml_script.proofs.QueueLemmas.{position_is}
+use Rattle.cml_script.specs.Trail.{Progress, history_of, with_next, IsFollowed, IsNoThread, CountsOneMore, next_given, next_call}
+use Rattle.cml_script.proofs.ListLemmas.{mapped_at, counted_mono}
+use Rattle.cml_script.proofs.KindLemmas.{length_filter, counted_below}
+use Rattle.cml_script.proofs.QueueLemmas.{position_is, positions_count}
 use Rattle.cml_script.proofs.StandLemmas.{given_within, bindings_more}
-use Rattle.cml_script.proofs.LineLemmas.{all_at}
+use Rattle.cml_script.proofs.LineLemmas.{all_at, called_seated, feed_object, stands}
+use Rattle.cml_script.proofs.ObjectLemmas.{maker_is, counted_filter}
 use Rattle.cml_script.proofs.FitLemmas.{call_is}
 use Rattle.cml_script.proofs.JournalLemmas.{before_more}
 
-pub followed_at : {p q : Progress} {list : List Makes} {counts : List ℕ} {bindings : List Binding} → p ≡ q → IsFollowed p list counts bindings → IsFollowed q list counts bindings
-followed_at {list = list} {counts = counts} {bindings = bindings} e f = subst (λ (r : Progress). IsFollowed r list counts bindings) e f
+pub followed_at : {p q : Progress} {kept : Objects} {counts : List ℕ} {bindings : List Binding} → p ≡ q → IsFollowed p kept counts bindings → IsFollowed q kept counts bindings
+followed_at {kept = kept} {counts = counts} {bindings = bindings} e f = subst (λ (r : Progress). IsFollowed r kept counts bindings) e f
 
 -- What the declarations make.
 
@@ -46,7 +51,7 @@ module _ (script : Lines) where
 
   pub declares_of_declared : (i : ℕ) (m : Makes) → i < length script.declarations → IsMadeWell (names_of script) i m → IsMadeOfDeclared script m
   declares_of_declared i (makes.Port channel) within well = omega (arith, well.1)
-  declares_of_declared i (makes.Feed f) within well = omega (arith, well.1)
+  declares_of_declared i (makes.Feed feed) within well = omega (arith, well.1)
   declares_of_declared i makes.Thread within well = tt
   declares_of_declared i makes.Mailbox within well = tt
   declares_of_declared i makes.Channel within well = tt
@@ -94,8 +99,8 @@ pub thread_seat : (script : Lines) (history : History) (who : Who) (i : ℕ) →
 thread_seat script history (Lane l) i seats e = absurd (none-some i e)
 thread_seat script history (Feed f) i seats e = absurd (none-some i e)
 thread_seat script history (Seat s) i seats e =
-    let there = position_is script s 0 script.steps (performed history s) i e in
-    let bounds = seats there.place there.line s there.found there.seated in
+    let there = position_is (is_called script s) 0 script.steps (performed history s) i e in
+    let bounds = seats there.place there.line s there.found (called_seated script s there.line there.seated) in
     let within = slice_get_within script.steps there.place there.line there.found in
     let same : s ≡ s - 1 + 1 = omega (arith, bounds.0) in
     (s - 1, omega (arith, bounds.0, bounds.1), ap Seat same, omega (arith, within, there.at))
@@ -114,14 +119,14 @@ next_given_within script None (Some at) given e = absurd (none-some at (sym e))
 next_given_within script (Some i) (Some at) given e = given_within script i at given (sym e)
 
 -- one entry more
-pub follows_more : (p q : Progress) (list : List Makes) (counts later : List ℕ) (bindings after : List Binding) (entry : Entry ℕ) (g : Option ℕ) → p ≡ q → IsFollowed p list counts bindings
-    → slice_get p.journal p.followed ≡ Some entry → g ≡ next_given q.script (history_of q) entry.who → CountsOneMore counts entry.who later → after ≡ with_binding bindings g (bound_by entry.call entry.reply) → IsFollowed (with_next p) list later after
-follows_more p q list counts later bindings after entry g e f found gives counted bound =
+pub follows_more : (p q : Progress) (kept : Objects) (counts later : List ℕ) (bindings after : List Binding) (entry : Entry ℕ) (g : Option ℕ) → p ≡ q → IsFollowed p kept counts bindings
+    → slice_get p.journal p.followed ≡ Some entry → g ≡ next_given q.script (history_of q) entry.who → CountsOneMore counts entry.who later → after ≡ with_binding bindings g (bound_by entry.call entry.reply) → IsFollowed (with_next p) kept later after
+follows_more p q kept counts later bindings after entry g e f found gives counted bound =
     let more = sym (before_more p.journal p.followed entry found) in
     record {
       within = omega (arith, slice_get_within p.journal p.followed entry found);
       known = f.known;
-      made = f.made;
+      objects = f.objects;
       counted = subst (λ (h : History). AreCounts h later) more (counted (history_of p) entry refl f.counted);
       bound =
           subst (λ (h : History). AreBindings p.script h after) more
@@ -156,20 +161,9 @@ pub next_calls : (script : Lines) (history : History) (who : Who) (items : List 
 next_calls script history who items i used s r next lines reads found uses is =
     ap (option_and_then (step_call script history)) next ∙ step_calls script history items i used s r lines reads found uses is
 
--- The call that the script has next.
-
-module _ (script : Lines) (history : History) (who : Who) where
-  pub own_late : declared_count script ≤ length history → own_call script history who ≡ next_call script history who
-  own_late ge = ap (λ t. cond t (cond (is_seat 0 who) (declared_call script history) None) (next_call script history who)) (le-ltb (length history) (declared_count script) ge)
-
-  pub own_early : (t : Bool) → length history < declared_count script → is_seat 0 who ≡ t → own_call script history who ≡ cond t (declared_call script history) None
-  own_early t lt seat =
-      ap (λ b. cond b (cond (is_seat 0 who) (declared_call script history) None) (next_call script history who)) (lt-ltb (length history) (declared_count script) lt)
-      ∙ ap (λ b. cond b (declared_call script history) None) seat
-
-pub step_within : (p q : Progress) (list : List Makes) (counts : List ℕ) (bindings : List Binding) → p ≡ q → IsFollowed p list counts bindings
+pub step_within : (p q : Progress) (kept : Objects) (counts : List ℕ) (bindings : List Binding) → p ≡ q → IsFollowed p kept counts bindings
     → (items : List Step) (who : Who) (i : ℕ) → map (λ x. source_of x.line) items ≡ p.script.steps → next_position q.script (history_of q) who ≡ Some i → i < length items
-step_within p q list counts bindings e f items who i lines next =
+step_within p q kept counts bindings e f items who i lines next =
     let there = thread_seat p.script (history_of p) who i f.known.seats (ap (λ (r : Progress). next_position r.script (history_of r) who) e ∙ next) in
     omega (arith, there.3, ap length lines, length-map items (λ (x : Step). source_of x.line))
 
@@ -186,9 +180,122 @@ called_at p q who items i used s r e next lines reads found uses is =
 pub own_at : (p : Progress) (script : Lines) (journal : List (Entry ℕ)) (k : ℕ) (entry : Entry ℕ) → p.script ≡ script → p.journal ≡ journal → p.followed ≡ k → IsOwn script (before journal k) entry → IsOwn p.script (history_of p) entry
 own_at p script journal k entry s j f own = rw (s, j, f) own
 
--- the same of the line of what comes next, or that there is none
-pub line_at : (p : Progress) (script : Lines) (journal : List (Entry ℕ)) (k : ℕ) (who : Who) (text : List ℕ) → p.script ≡ script → p.journal ≡ journal → p.followed ≡ k → IsNextLine p.script (history_of p) who text → IsNextLine script (before journal k) who text
-line_at p script journal k who text s j f line = rw (sym s, sym j, sym f) line
+-- Which entries are the script's.
 
-pub no_line_at : (p : Progress) (script : Lines) (journal : List (Entry ℕ)) (k : ℕ) (who : Who) → p.script ≡ script → p.journal ≡ journal → p.followed ≡ k → HasNoLine p.script (history_of p) who → HasNoLine script (before journal k) who
-no_line_at p script journal k who s j f none = rw (sym s, sym j, sym f) none
+module _ (script : Lines) (history : History) where
+  -- the caller's next call is the next of its thread's steps
+  pub next_of_thread : (entry : Entry ℕ) → next_call script history entry.who ≡ Some entry.call → IsNextOfThread script history entry
+  next_of_thread entry = by_next (next_position script history entry.who) refl
+    where
+      by_next : (o : Option ℕ) → next_position script history entry.who ≡ o → option_and_then (step_call script history) o ≡ Some entry.call → IsNextOfThread script history entry
+      by_next None e calls = absurd (none-some entry.call calls)
+      by_next (Some i) e calls = record { step = i; next = e; calls = calls }
+
+  pub of_thread_next : (entry : Entry ℕ) → IsNextOfThread script history entry → next_call script history entry.who ≡ Some entry.call
+  of_thread_next entry next = ap (option_and_then (step_call script history)) next.next ∙ next.calls
+
+  -- behind the declared objects and before
+  pub late_own : (entry : Entry ℕ) → declared_count script ≤ length history → IsOfCaller script history entry entry.who → IsOwn script history entry
+  late_own entry ge = subst (λ t. MatchBool t (IsDeclaration script history entry) (IsOfCaller script history entry entry.who)) (sym (le-ltb (length history) (declared_count script) ge))
+
+  pub own_late : (entry : Entry ℕ) → declared_count script ≤ length history → IsOwn script history entry → IsOfCaller script history entry entry.who
+  own_late entry ge = subst (λ t. MatchBool t (IsDeclaration script history entry) (IsOfCaller script history entry entry.who)) (le-ltb (length history) (declared_count script) ge)
+
+  pub early_own : (entry : Entry ℕ) → length history < declared_count script → IsDeclaration script history entry → IsOwn script history entry
+  early_own entry lt = subst (λ t. MatchBool t (IsDeclaration script history entry) (IsOfCaller script history entry entry.who)) (sym (lt-ltb (length history) (declared_count script) lt))
+
+  pub own_early : (entry : Entry ℕ) → length history < declared_count script → IsOwn script history entry → IsDeclaration script history entry
+  own_early entry lt = subst (λ t. MatchBool t (IsDeclaration script history entry) (IsOfCaller script history entry entry.who)) (lt-ltb (length history) (declared_count script) lt)
+
+-- what a send or a multicast goes to
+pub sent_name : (asked : Call ℕ) (name : Name) → Some name ≡ named (sent_to asked) → sent_to asked ≡ Some name.0
+sent_name asked name e = by_sent (sent_to asked) e
+  where
+    by_sent : (o : Option ℕ) → Some name ≡ named o → o ≡ Some name.0
+    by_sent None e = absurd (none-some name (sym e))
+    by_sent (Some n) e = ap (λ (x : Name). Some x.0) (sym (same_Some _ _ e))
+
+pub not_sent : (asked : Call ℕ) → None ≡ named (sent_to asked) → sent_to asked ≡ None
+not_sent asked e = by_sent (sent_to asked) e
+  where
+    by_sent : (o : Option ℕ) → None ≡ named o → o ≡ None
+    by_sent None e = refl
+    by_sent (Some n) e = absurd (none-some (record { 0 = n }) e)
+
+is_fed : Who → Bool
+is_fed (Feed f) = true
+is_fed (Seat s) = false
+is_fed (Lane l) = false
+
+feed_in : Who → ℕ
+feed_in (Feed f) = f
+feed_in (Seat s) = s
+feed_in (Lane l) = l
+
+feed_number : {n m : ℕ} → Feed n ≡ Feed m → n ≡ m
+unfolding feed_in
+feed_number same = ap feed_in same
+
+not_feed : {s f : ℕ} → Seat s ≡ Feed f → ⊥
+unfolding is_fed
+not_feed same = false≢true (ap is_fed same)
+
+-- the port of a feed is the object that the feed makes
+module _ (script : Lines) where
+  feed_there : (feed at : ℕ) → slice_get (positions_where (is_feed script) 0 script.declarations) feed ≡ Some at → (at < length script.declarations) × (maker script (number_of script at) ≡ Feed feed)
+  feed_there feed at found =
+      let there = position_is (is_feed script) 0 script.declarations feed at found in
+      let same : there.place ≡ at = omega (arith, there.at) in
+      let line : slice_get script.declarations at ≡ Some there.line = ap (slice_get script.declarations) (sym same) ∙ there.found in
+      let count : how_many (is_feed script) (take at script.declarations) ≡ feed = ap (λ n. how_many (is_feed script) (take n script.declarations)) (sym same) ∙ there.behind in (
+        slice_get_within script.declarations at there.line line,
+        maker_is script at there.line line (feed_object script there.line there.seated) ∙ ap (λ t. cond t (Feed (how_many (is_feed script) (take at script.declarations))) (Seat 0)) there.seated ∙ ap Feed count,
+      )
+
+  -- what stands there is made by that feed
+  made_by : (k feed : ℕ) → maker script k ≡ Feed feed → (line : SourceLine) × (slice_get (objects_of script) k ≡ Some line) × (is_feed script line ≡ true) × (how_many (is_feed script) (take k (objects_of script)) ≡ feed)
+  made_by k feed made = by_line (slice_get (objects_of script) k) refl made
+    where
+      count : ℕ
+      count = how_many (is_feed script) (take k (objects_of script))
+
+      by_test : (line : SourceLine) (t : Bool) → slice_get (objects_of script) k ≡ Some line → is_feed script line ≡ t → cond t (Feed count) (Seat 0) ≡ Feed feed → (line : SourceLine) × (slice_get (objects_of script) k ≡ Some line) × (is_feed script line ≡ true) × (count ≡ feed)
+      by_test line true e f same = (line, e, f, feed_number same)
+      by_test line false e f same = absurd (not_feed same)
+
+      by_line : (o : Option SourceLine) → slice_get (objects_of script) k ≡ o → cond (option_map_or (is_feed script) o false) (Feed count) (Seat 0) ≡ Feed feed → (line : SourceLine) × (slice_get (objects_of script) k ≡ Some line) × (is_feed script line ≡ true) × (count ≡ feed)
+      by_line None e same = absurd (not_feed same)
+      by_line (Some line) e same = by_test line (is_feed script line) e refl same
+
+  one_maker : (j k feed : ℕ) → maker script j ≡ Feed feed → maker script k ≡ Feed feed → j ≡ k
+  one_maker j k feed one other =
+      let a = made_by j feed one in
+      let b = made_by k feed other in
+      elim (cases_lt j k) [
+        | inl lt ↦ absurd (omega (arith, counted_mono (is_feed script) (objects_of script) j k a.0 lt a.1 a.2, a.3, b.3))
+        | inr ge ↦ elim (cases_lt k j) [
+          | inl lt ↦ absurd (omega (arith, counted_mono (is_feed script) (objects_of script) k j b.0 lt b.1 b.2, a.3, b.3))
+          | inr le ↦ omega (arith, ge, le)
+        ]
+      ]
+
+  -- there are as many feeds as lines that declare one
+  feed_counted : (k feed : ℕ) → maker script k ≡ Feed feed → feed < how_many (is_feed script) script.declarations
+  feed_counted k feed made =
+      let a = made_by k feed made in
+      omega (arith, counted_below (is_feed script) (objects_of script) k a.0 a.1 a.2, a.3, counted_filter (is_object script) (is_feed script) (feed_object script) script.declarations)
+
+  pub of_feed : (feed at : ℕ) (asked : Call ℕ) → slice_get (positions_where (is_feed script) 0 script.declarations) feed ≡ Some at → asked ≡ call.Recv (record { 0 = number_of script at }) → IsOfFeed script feed asked
+  of_feed feed at asked found is = record { object = number_of script at; made = (feed_there feed at found).1; receives = is }
+
+  pub feed_of : (feed at : ℕ) (asked : Call ℕ) → slice_get (positions_where (is_feed script) 0 script.declarations) feed ≡ Some at → IsOfFeed script feed asked → asked ≡ call.Recv (record { 0 = number_of script at })
+  feed_of feed at asked found own = own.receives ∙ ap (λ n. call.Recv (record { 0 = n })) (one_maker own.object (number_of script at) feed own.made (feed_there feed at found).1)
+
+  pub feed_within : (feed at : ℕ) → slice_get (positions_where (is_feed script) 0 script.declarations) feed ≡ Some at → at < length script.declarations
+  feed_within feed at found = (feed_there feed at found).0
+
+  pub no_feed_there : (feed : ℕ) (asked : Call ℕ) → slice_get (positions_where (is_feed script) 0 script.declarations) feed ≡ None → IsOfFeed script feed asked → ⊥
+  no_feed_there feed asked none own =
+      let lt : feed < length (positions_where (is_feed script) 0 script.declarations) = omega (arith, feed_counted own.object feed own.made, positions_count (is_feed script) 0 script.declarations) in
+      let there = stands (positions_where (is_feed script) 0 script.declarations) feed lt in
+      absurd (none-some there.0 (sym none ∙ there.1))

@@ -22,12 +22,12 @@ use Rattle.cml_grammar.specs.Reading.{source_of, ReadsStep, UsesWell, UsesEarlie
 use Rattle.cml_script.specs.declared.binding.Binding.{Binding}
 use Rattle.cml_script.specs.declared.binding.Binding.TheVariants as binding
 use Rattle.cml_script.specs.Audit.{IsOfScript}
-use Rattle.cml_script.specs.Schedule.{History, is_seated, earlier, performed, next_position, declared_count, object_of, made_of, binding_of, port_bound, port_made}
+use Rattle.cml_script.specs.Schedule.{History, is_seated, is_called, earlier, performed, next_position, declared_count, object_of, made_of, binding_of, port_bound, port_made}
 use Rattle.cml_script.specs.Plan.{IsKnown, IsObject, IsObjectAt, kind_named}
 use Rattle.cml_script.specs.Bindings.{AreBindings}
 use Rattle.cml_script.specs.Stage.{Play, Stands, IsNextStep, IsBound}
 use Rattle.cml_script.proofs.ListLemmas.{mapped_at, counted_mono}
-use Rattle.cml_script.proofs.LineLemmas.{all_at, step_seated}
+use Rattle.cml_script.proofs.LineLemmas.{all_at, step_seated, called_seated, giving_called}
 use Rattle.cml_script.proofs.QueueLemmas.{position_is}
 use Rattle.cml_script.proofs.GivingLemmas.{names_le, follows_own}
 use Rattle.cml_script.proofs.BindingLemmas.{AreSteps, bound_port, gave, script_steps}
@@ -62,10 +62,11 @@ module _ (script : Lines) (history : History) (known : IsKnown script) where
   own_name : (seat i k at : ℕ) (line : SourceLine) → AreSteps script history → next_position script history (Seat seat) ≡ Some i → k < i → slice_get script.steps k ≡ Some line → is_seated script seat line ≡ true → is_giving line ≡ true
       → at ≡ names_before script.declarations script.steps k → length script.declarations ≤ at → (n : ℕ) × (object_of script history at ≡ Some n)
   own_name seat i k at line steps next lt found seated gives same ge =
-      let there = position_is script seat 0 script.steps (performed history seat) i next in
-      let counted = counted_mono (is_seated script seat) script.steps k there.place line (omega (arith, lt, there.at)) found seated in
+      let there = position_is (is_called script seat) 0 script.steps (performed history seat) i next in
+      let called = giving_called script k seat line known.asks found gives seated in
+      let counted = counted_mono (is_called script seat) script.steps k there.place line (omega (arith, lt, there.at)) found called in
       let done : earlier script seat k < performed history seat = omega (arith, counted, there.behind) in
-      let bound = gave script known.asks known.seats history k seat line steps found seated gives done in
+      let bound = gave script known.asks known.seats history k seat line steps found called gives done in
       let object = the_some (port_bound (binding_of script history at)) (subst (λ n. IsSome (port_bound (binding_of script history n))) (sym same) bound) in
       (object.0, object_given script history at ge ∙ object.1)
 
@@ -87,10 +88,10 @@ module _ (script : Lines) (history : History) (known : IsKnown script) where
 
       mine : s.seat ≡ seat
       mine =
-          let there = position_is script seat 0 script.steps (performed history seat) i next in
+          let there = position_is (is_called script seat) 0 script.steps (performed history seat) i next in
           let here : i ≡ there.place = omega (arith, there.at) in
           let same : there.line ≡ source_of s.line = same_Some _ _ (sym there.found ∙ ap (slice_get script.steps) (sym here) ∙ mapped_at (λ (x : Step). source_of x.line) items script.steps i s lines item) in
-          eqb-true s.seat seat (sym (step_seated script s seat read) ∙ ap (is_seated script seat) (sym same) ∙ there.seated)
+          eqb-true s.seat seat (sym (step_seated script s seat read) ∙ ap (is_seated script seat) (sym same) ∙ called_seated script seat there.line there.seated)
 
       by_step : length script.declarations ≤ used_by s.action → IsGivenAt script.declarations script.steps (used_by s.action) → (n : ℕ) × (object_of script history (used_by s.action) ≡ Some n)
       by_step ge (k, line, found, gives, same) =
@@ -105,7 +106,7 @@ module _ (script : Lines) (history : History) (known : IsKnown script) where
           own_name seat i k (used_by s.action) line steps next lt found seated gives same ge
 
   -- a name that a step gives is a port's
-  given_port : (at : ℕ) (k : Kind) → length script.declarations ≤ at → IsObjectAt (names_of script) at k → Some kind.Port ≡ Some k
+  pub given_port : (at : ℕ) (k : Kind) → length script.declarations ≤ at → IsObjectAt (names_of script) at k → Some kind.Port ≡ Some k
   given_port at k ge is = elim (known.given.each at (is.0, is.1) is.2) [
     | inl lt ↦ absurd (omega (arith, lt, ge))
     | inr given ↦

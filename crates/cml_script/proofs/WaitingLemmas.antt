@@ -1,5 +1,5 @@
 -- Where a script's history ends stalled, some thread has steps left.
-use Rattle.std.proofs.Common.{◌≡◌, ℕ, zero, suc, ◌+◌, ◌-◌, ◌<◌, ◌≤◌, ◌⊎◌, eqb, List, [], ◌∷◌, length, map, refl, ap, arith, inl, inr}
+use Rattle.std.proofs.Common.{◌≡◌, ℕ, zero, suc, ◌+◌, ◌-◌, ◌<◌, ◌≤◌, ◌⊎◌, false, eqb, List, [], ◌∷◌, length, map, refl, ap, ◌∙◌, arith, inl, inr}
 use Rattle.std.specs.Prelude.{All}
 use Rattle.std.proofs.lemmas.List.{length-map}
 use Rattle.std.proofs.lemmas.List.Elements.{All-head, All-tail}
@@ -15,7 +15,9 @@ use Rattle.cml_grammar.proofs.ReadableLemmas.{CanBeRead}
 use Rattle.cml_script.specs.Counting.{one_if, how_many}
 use Rattle.cml_script.specs.Schedule.{History, Follows, is_seated, is_seat, performed, declared_count, left}
 use Rattle.cml_script.specs.Laws.{steps_of_seat}
+use Rattle.cml_script.specs.Report.{is_of_thread}
 use Rattle.cml_script.proofs.LineLemmas.{step_seated}
+use Rattle.cml_script.proofs.BindingLemmas.{none_seated, maker_is_none}
 use Rattle.cml_script.proofs.ScheduleLemmas.{declares, steps}
 
 -- what the seats from 1 to n come to
@@ -85,10 +87,10 @@ module _ (script : Lines) where
         total_most seat threads,
       )
 
-  performed_first : (before : History) (entry : Entry ℕ) → entry.who ≡ Seat 0 → (n : ℕ) → total (performed (entry ∷ before)) n ≡ total (performed before) n
+  performed_first : (before : History) (entry : Entry ℕ) → is_of_thread entry.who ≡ false → (n : ℕ) → total (performed (entry ∷ before)) n ≡ total (performed before) n
   performed_first before entry by zero = refl
   performed_first before entry by (suc n) =
-      omega (arith, performed_first before entry by n, ap (λ w. one_if (is_seat (suc n) w)) by, ap one_if (ne_eqb 0 (suc n) (λ e. omega (arith, e))))
+      omega (arith, performed_first before entry by n, ap one_if (none_seated (suc n) (omega arith) entry.who by))
 
   none_performed : (n : ℕ) → total (performed []) n ≡ 0
   none_performed zero = refl
@@ -98,7 +100,7 @@ module _ (script : Lines) where
   all_performed : (history : History) → Follows script history → total (performed history) threads ≤ length history - declared_count script
   all_performed [] follows = omega (arith, none_performed threads)
   all_performed (entry ∷ before) follows = elim (cases_lt (length before) (declared_count script)) [
-    | inl lt ↦ omega (arith, all_performed before follows.1, performed_first before entry (declares script before entry follows lt).by threads)
+    | inl lt ↦ omega (arith, all_performed before follows.1, performed_first before entry (ap is_of_thread (declares script before entry follows lt).by ∙ maker_is_none script (length before)) threads)
     | inr ge ↦ let step = steps script before entry follows ge in omega (arith, ge, all_performed before follows.1, performed_by before entry step.seat step.by)
   ]
 

@@ -4,10 +4,12 @@ use Rattle.cml_board.specs.declared.call.Call.{Call}
 use Rattle.cml_board.specs.declared.entry.Who.TheVariants.{Seat}
 use Rattle.cml_board.specs.History.{Fits, answer}
 use Rattle.cml_grammar.specs.Script.{Lines, IsScript}
+use Rattle.cml_grammar.specs.Rings.{first_ring}
 use Rattle.cml_script.specs.declared.stop.Stop.{Stop}
 use Rattle.cml_script.specs.declared.stop.Stop.TheVariants.{Stalled}
 use Rattle.cml_script.specs.Counting.{how_many}
-use Rattle.cml_script.specs.Schedule.{History, Schedule, is_seated, performed, next_position, step_call}
+use Rattle.cml_script.specs.Schedule.{History, Schedule, is_seated, performed, next_position, step_call, left}
+use Rattle.cml_script.specs.Report.{no_rings, unperformed}
 
 -- under a limit a script has one history at most, and it ends in one way
 abbrev pub SchedulesAreOne : Type 0
@@ -15,11 +17,11 @@ SchedulesAreOne =
     (script : Lines) (limit : ℕ) (one other : History) (first second : Stop)
     → Schedule script limit one first → Schedule script limit other second → (one ≡ other) × (first ≡ second)
 
--- under each limit a script has a history, and it ends in some way
+-- under each limit a script without rings has a history, and it ends in some way
 abbrev pub ScriptsHaveASchedule : Type 0
 ScriptsHaveASchedule =
     (text : List ℕ) (script : Lines) (limit : ℕ)
-    → IsScript text script → (history : History) × (stop : Stop) × Schedule script limit history stop
+    → IsScript text script → first_ring script ≡ None → (history : History) × (stop : Stop) × Schedule script limit history stop
 
 -- how many steps the thread with this seat has
 abbrev pub steps_of_seat : Lines → ℕ → ℕ
@@ -46,3 +48,9 @@ abbrev pub SomeThreadWaits : Type 0
 SomeThreadWaits =
     (text : List ℕ) (script : Lines) (limit : ℕ) (history : History)
     → IsScript text script → Schedule script limit history Stalled → (seat : ℕ) × WaitsAtNext script history seat
+
+-- what a replay's report tells as left is what its schedule has left
+abbrev pub ReportsTellWhatIsLeft : Type 0
+ReportsTellWhatIsLeft =
+    (text : List ℕ) (script : Lines) (limit : ℕ) (history : History) (stop : Stop)
+    → IsScript text script → Schedule script limit history stop → unperformed script history no_rings ≡ left script history

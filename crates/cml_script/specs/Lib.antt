@@ -1,6 +1,7 @@
 pub use Rattle.cml_grammar.specs.Script
 pub use Rattle.cml_grammar.specs.Meaning
 pub use Rattle.cml_grammar.specs.Faults
+pub use Rattle.cml_grammar.specs.Rings
 pub use Rattle.cml_board.specs.History
 pub use Rattle.cml_board.specs.Kept
 pub use Rattle.cml_board.specs.Positions
@@ -12,11 +13,13 @@ pub mod Play
 pub mod Plan
 pub mod Bindings
 pub mod Makes
+pub mod Objects
 pub mod Stage
 pub mod Audit
 pub mod Trail
 pub mod Scene
 pub mod Working
+pub mod Course
 pub mod Endings
 pub mod Replay
 pub mod Running

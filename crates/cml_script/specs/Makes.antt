@@ -9,7 +9,7 @@ use Rattle.cml_script.specs.Schedule.{is_object}
 -- what is made is made of declared names
 abbrev pub IsMadeOfDeclared : Lines → Makes → Type 0
 IsMadeOfDeclared script (makes.Port channel) = channel < length script.declarations
-IsMadeOfDeclared script (makes.Feed f) = f.channel < length script.declarations
+IsMadeOfDeclared script (makes.Feed feed) = feed.channel < length script.declarations
 IsMadeOfDeclared script _ = ⊤
 
 -- what these declarations make that make an object, in order, where what is used was declared

@@ -1,7 +1,7 @@
 -- What is known of a script before any of it is performed.
-use Rattle.std.specs.Prelude.{ℕ, ◌≡◌, ◌+◌, ◌<◌, ◌≤◌, List, true, nat_lt, length, take, map, slice_get, Option, Some, None, if◌then◌else◌, Vec}
+use Rattle.std.specs.Prelude.{ℕ, ◌≡◌, ◌+◌, ◌<◌, ◌≤◌, Bool, List, true, nat_lt, length, take, map, slice_get, Option, Some, None, if◌then◌else◌, Vec, ⊤}
 use Rattle.std.specs.Global.{Global}
-use Rattle.std.specs.Option.{option_and_then}
+use Rattle.std.specs.Option.{option_map_or, option_and_then}
 use Rattle.cml_board.specs.declared.call.Kind.{Kind}
 use Rattle.cml_board.specs.declared.call.Kind.TheVariants as kind
 use Rattle.cml_grammar.specs.Script.{SourceLine, Lines}
@@ -12,12 +12,14 @@ use Rattle.cml_grammar.specs.declared.names.Named.TheVariants as called
 use Rattle.cml_grammar.specs.declared.forms.Makes.{Makes}
 use Rattle.cml_grammar.specs.declared.forms.Makes.TheVariants as makes
 use Rattle.cml_grammar.specs.declared.forms.Action.{Action}
-use Rattle.cml_grammar.specs.Reading.{gives_name}
+use Rattle.cml_grammar.specs.Reading.{gives_name, IsCapacity}
 use Rattle.cml_grammar.specs.Giving.{is_giving, NamesAreGiven}
 use Rattle.cml_script.specs.Counting.{how_many}
-use Rattle.cml_script.specs.Schedule.{is_object, is_seated, positions_from, given_by}
+use Rattle.cml_script.specs.Schedule.{is_object, is_feed, number_of, is_seated, is_called, positions_where, way_of_line, given_by}
+use Rattle.cml_script.specs.declared.way.Way.{Way}
+use Rattle.cml_script.specs.declared.way.Way.TheVariants as way
 
--- the kind of object that a name names, and that a declaration makes
+-- the kind of object that a name names, and that a declaration makes: a feed's is its port
 abbrev pub kind_named : Named → Option Kind
 kind_named (called.Thread seat) = None
 kind_named called.Mailbox = Some kind.Mailbox
@@ -35,7 +37,7 @@ kind_made (makes.Port channel) = Some kind.Port
 kind_made makes.IVar = Some kind.IVar
 kind_made makes.MVar = Some kind.MVar
 kind_made (makes.MVarInit message) = Some kind.MVar
-kind_made (makes.Feed f) = Some kind.Port
+kind_made (makes.Feed feed) = Some kind.Port
 
 abbrev pub kind_declared : Lines → SourceLine → Option Kind
 kind_declared script line = option_and_then kind_made (makes_of (names_of script) line.words)
@@ -55,6 +57,15 @@ NamesObjects script = (at : ℕ) (k : Kind) → at < length script.declarations 
 abbrev pub HasSeats : Lines → Type 0
 HasSeats script = (i : ℕ) (line : SourceLine) (seat : ℕ) → slice_get script.steps i ≡ Some line → is_seated script seat line ≡ true → (1 ≤ seat) × (seat ≤ 64)
 
+-- how the i-th step goes
+abbrev pub way_at : Lines → ℕ → Way
+way_at script i = option_map_or (way_of_line script) (slice_get script.steps i) way.Seat
+
+-- a lane has room for 1 to 1,024 messages
+abbrev pub HasRoom : Way → Type 0
+HasRoom (way.Lane capacity) = IsCapacity capacity
+HasRoom other = ⊤
+
 -- just the steps that ask for a port give a name
 abbrev pub AsksForPorts : Lines → Type 0
 AsksForPorts script = (i : ℕ) (line : SourceLine) (asked : Action) → slice_get script.steps i ≡ Some line → action_of (names_of script) line.words ≡ Some asked → gives_name asked ≡ is_giving line
@@ -69,12 +80,17 @@ pub record IsKnown (script : Lines) : Type 0 where
 -- by name, how many objects are declared before it
 pub record AreNumbers (script : Lines) (numbers : List ℕ) : Type 0 where
   pub all : length numbers ≡ length script.declarations
-  pub each : (at : ℕ) → at < length numbers → slice_get numbers at ≡ Some (how_many (is_object script) (take at script.declarations))
+  pub each : (at : ℕ) → at < length numbers → slice_get numbers at ≡ Some (number_of script at)
 
--- by thread, the positions of its steps among these
-pub record AreQueues (script : Lines) (steps : List SourceLine) (queues : List (List ℕ)) : Type 0 where
+-- by name, how many feeds are declared before it
+pub record AreFeedNumbers (script : Lines) (numbers : List ℕ) : Type 0 where
+  pub all : length numbers ≡ length script.declarations
+  pub each : (at : ℕ) → at < length numbers → slice_get numbers at ≡ Some (how_many (is_feed script) (take at script.declarations))
+
+-- by thread, the positions of those of these steps that pass the test for its seat
+pub record AreQueues (test : ℕ → SourceLine → Bool) (steps : List SourceLine) (queues : List (List ℕ)) : Type 0 where
   pub seats : length queues ≡ 64
-  pub each : (thread : ℕ) (queue : List ℕ) → slice_get queues thread ≡ Some queue → queue ≡ positions_from script (thread + 1) 0 steps
+  pub each : (thread : ℕ) (queue : List ℕ) → slice_get queues thread ≡ Some queue → queue ≡ positions_where (test (thread + 1)) 0 steps
 
 -- by step, the position of the name that it gives
 pub record AreGivings (script : Lines) (givings : List (Option ℕ)) : Type 0 where
@@ -82,11 +98,13 @@ pub record AreGivings (script : Lines) (givings : List (Option ℕ)) : Type 0 wh
   pub each : (i : ℕ) → i < length givings → slice_get givings i ≡ Some (given_by script i)
 
 -- what a plan keeps is so of its script
-pub record IsPlanned (script : Lines) (names : ℕ) (numbers : List ℕ) (queues : List (List ℕ)) (givings : List (Option ℕ)) : Type 0 where
+pub record IsPlanned (script : Lines) (names : ℕ) (numbers feeds : List ℕ) (queues turns : List (List ℕ)) (givings : List (Option ℕ)) : Type 0 where
   pub known : IsKnown script
   pub total : names ≡ length (names_of script)
   pub numbered : AreNumbers script numbers
-  pub queued : AreQueues script script.steps queues
+  pub fed : AreFeedNumbers script feeds
+  pub queued : AreQueues (is_called script) script.steps queues
+  pub turned : AreQueues (is_seated script) script.steps turns
   pub giving : AreGivings script givings
 
 abbrev pub items_of : List (Vec ℕ Global) → List (List ℕ)
@@ -95,5 +113,5 @@ items_of queues = map (λ queue. queue.items) queues
 -- the object that a declared name stands for, where so many objects are made
 abbrev pub object_among : Lines → ℕ → ℕ → Option ℕ
 object_among script made at =
-    let object = how_many (is_object script) (take at script.declarations) in
+    let object = number_of script at in
     if nat_lt object made then Some object else None

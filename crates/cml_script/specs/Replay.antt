@@ -1,11 +1,10 @@
 -- What a replay reads and writes, by how it ends.
-use Rattle.std.specs.Prelude.{ℕ, ◌≡◌, ◌≤◌, ◌⊎◌, List, length, Option, Some, None, ⊤}
-use Rattle.std.specs.Option.{option_map}
+use Rattle.std.specs.Prelude.{ℕ, ◌≡◌, ◌≤◌, ◌⊎◌, List, length, Option, Some, ⊤}
 use Rattle.std.specs.Io.KnownBytes.{Consumes, IsAtEnd, Appends, Keeps}
 use Rattle.cml_grammar.specs.declared.fault.Fault.{Fault}
-use Rattle.cml_grammar.specs.declared.fault.What.TheVariants.{NeedsRun}
 use Rattle.cml_grammar.specs.Script.{Lines, IsScript}
-use Rattle.cml_grammar.specs.Faults.{at_line, fault_of}
+use Rattle.cml_grammar.specs.declared.fault.What.TheVariants.{NeedsRun}
+use Rattle.cml_grammar.specs.Faults.{fault_of, at_line}
 use Rattle.cml_grammar.specs.Rings.{first_ring}
 use Rattle.cml_script.specs.declared.stop.Stop.{Stop}
 use Rattle.cml_script.specs.declared.stop.Stop.TheVariants as stop
@@ -19,14 +18,13 @@ use Rattle.cml_script.specs.Play.{IsPlayed}
 abbrev pub IsRead : Option (List ℕ) → Option (List ℕ) → List ℕ → Type 0
 IsRead old new text = Consumes old new text × (IsAtEnd new ⊎ (1048577 ≤ length text))
 
--- all of the reader's bytes were read, they are a script without lanes and feeds, and this was played of it
+-- all of the reader's bytes were read, they are a script without rings, and this was played of it
 pub record IsPlayedOf (limit : ℕ) (old new : Option (List ℕ)) (stop : Stop) (report : List ℕ) : Type 0 where
   pub text : List ℕ
   pub read : Consumes old new text
   pub whole : IsAtEnd new
   pub script : Lines
   pub says : IsScript text script
-  pub plain : first_ring script ≡ None
   pub played : IsPlayed script limit stop report
 
 -- the same, and the report was written
@@ -37,28 +35,26 @@ IsReplayed limit old new held holds stop = (report : List ℕ) × IsPlayedOf lim
 abbrev pub IsFaulty : Option (List ℕ) → Option (List ℕ) → Fault → Type 0
 IsFaulty old new fault = (text : List ℕ) × IsRead old new text × (fault_of text ≡ Some fault)
 
--- the first line of a script that declares a lane or a feed, told as a fault
-abbrev pub ring_fault : Lines → Option Fault
-ring_fault script = option_map (λ k. at_line k NeedsRun) (first_ring script)
-
--- all of the reader's bytes were read, they are a script, and this is its first such line
-pub record HasRings (old new : Option (List ℕ)) (fault : Fault) : Type 0 where
+-- all of the reader's bytes were read, they are a script, and its first lane or feed is what this fault tells
+pub record IsForRun (old new : Option (List ℕ)) (fault : Fault) : Type 0 where
   pub text : List ℕ
   pub read : Consumes old new text
   pub whole : IsAtEnd new
   pub script : Lines
   pub says : IsScript text script
-  pub first : ring_fault script ≡ Some fault
+  pub line : ℕ
+  pub first : first_ring script ≡ Some line
+  pub tells : fault ≡ at_line line NeedsRun
 
--- what keeps a script from being performed
-abbrev pub IsUnfit : Option (List ℕ) → Option (List ℕ) → Fault → Type 0
-IsUnfit old new fault = IsFaulty old new fault ⊎ HasRings old new fault
+-- the text has a fault, or it is a script that is not replayed
+abbrev pub IsUnplayable : Option (List ℕ) → Option (List ℕ) → Fault → Type 0
+IsUnplayable old new fault = IsFaulty old new fault ⊎ IsForRun old new fault
 
 abbrev pub Replays : ℕ → Option (List ℕ) → Option (List ℕ) → Option (List ℕ) → Option (List ℕ) → Ending → Type 0
 Replays limit old new held holds ending.Done = IsReplayed limit old new held holds stop.Done
 Replays limit old new held holds ending.Stalled = IsReplayed limit old new held holds stop.Stalled
 Replays limit old new held holds ending.Full = IsReplayed limit old new held holds stop.Full
-Replays limit old new held holds (ending.Fault fault) = IsUnfit old new fault × Keeps held holds
+Replays limit old new held holds (ending.Fault fault) = IsUnplayable old new fault × Keeps held holds
 Replays limit old new held holds ending.ReadFault = Keeps held holds
 Replays limit old new held holds ending.NoMemory = Keeps held holds
 Replays limit old new held holds ending.WriteFault = ⊤
@@ -67,7 +63,7 @@ Replays limit old new held holds ending.Held = ⊥
 
 -- how it ends where nothing was played
 abbrev pub EndsUnplayed : Option (List ℕ) → Option (List ℕ) → Ending → Type 0
-EndsUnplayed old new (ending.Fault fault) = IsUnfit old new fault
+EndsUnplayed old new (ending.Fault fault) = IsUnplayable old new fault
 EndsUnplayed old new ending.ReadFault = ⊤
 EndsUnplayed old new ending.NoMemory = ⊤
 EndsUnplayed old new ending.Done = ⊥

@@ -1,9 +1,12 @@
 -- What a report says of a script and its history.
-use Rattle.std.specs.Prelude.{ℕ, suc, ◌-◌, nat_lt, List, [], ◌∷◌, ◌++◌, length, slice_get, Option, Some, None, if◌then◌else◌, codes}
+use Rattle.std.specs.Prelude.{ℕ, suc, ◌+◌, ◌-◌, ◌==◌, ◌&&◌, not, Bool, true, false, nat_lt, List, [], ◌∷◌, ◌++◌, length, filter, slice_get, Option, Some, None, if◌then◌else◌, codes}
 use Rattle.std.specs.Option.{option_map_or, option_and_then}
 use Rattle.std.specs.List.{join_with_byte}
 use Rattle.std.specs.Fmt.{decimal}
+use Rattle.cml_board.specs.declared.call.Call.{Call}
+use Rattle.cml_board.specs.declared.call.Call.TheVariants as call
 use Rattle.cml_board.specs.declared.entry.Who.{Who}
+use Rattle.cml_board.specs.declared.entry.Who.TheVariants as who
 use Rattle.cml_board.specs.declared.entry.Reply.{Reply}
 use Rattle.cml_board.specs.declared.entry.Reply.TheVariants as reply
 use Rattle.cml_board.specs.declared.entry.Entry.{Entry}
@@ -16,9 +19,21 @@ use Rattle.cml_grammar.specs.declared.names.Named.TheVariants.{Thread, Mailbox, 
 use Rattle.cml_grammar.specs.Names.{Given}
 use Rattle.cml_grammar.specs.Script.{SourceLine, Lines}
 use Rattle.cml_grammar.specs.Meaning.{names_of}
+use Rattle.cml_grammar.specs.Giving.{declared_word}
+use Rattle.cml_script.specs.Counting.{how_many}
 use Rattle.cml_script.specs.declared.stop.Stop.{Stop}
 use Rattle.cml_script.specs.declared.stop.Stop.TheVariants.{Done, Stalled, Full, Held}
-use Rattle.cml_script.specs.Schedule.{History, declared_count, next_position, made_of, left}
+use Rattle.cml_script.specs.Schedule.{History, objects_of, is_feed, declared_count, next_position, made_of, feed_at}
+
+-- what a run tells beside its journal: how many steps went by lanes and feeds, and by feed, in text order, how many messages
+-- its thread took
+pub record Tallied : Type 0 where
+  pub apart : ℕ
+  pub taken : List ℕ
+
+-- the tally of a script without lanes and feeds
+abbrev pub no_rings : Tallied
+no_rings = record { apart = 0; taken = [] }
 
 -- a line's end
 abbrev pub line_end : List ℕ
@@ -42,9 +57,25 @@ line_text line = join_with_byte 32 line.words
 abbrev pub next_step : Lines → History → Who → Option SourceLine
 next_step script history who = option_and_then (slice_get script.steps) (next_position script history who)
 
+-- the name that a declaration gives, where there is one
+abbrev pub given_word : Option SourceLine → List ℕ
+given_word line = option_map_or (λ word. word) (option_and_then (λ (l : SourceLine). declared_word l.words) line) []
+
+-- what a lane made: its object is told by its declared name
+abbrev pub sent_text : Lines → Call ℕ → List ℕ
+sent_text script (call.Send name message) = codes " send " ++ given_word (slice_get (objects_of script) name.0) ++ codes " " ++ decimal message
+sent_text script (call.Cast name message) = codes " multicast " ++ given_word (slice_get (objects_of script) name.0) ++ codes " " ++ decimal message
+sent_text script _ = []
+
+-- what its caller made: a step is told as it stands in the script
+abbrev pub made_text : Lines → History → Call ℕ → Who → List ℕ
+made_text script before asked (who.Seat seat) = option_map_or line_text (next_step script before (who.Seat seat)) []
+made_text script before asked (who.Lane lane) = codes "lane " ++ decimal lane ++ sent_text script asked
+made_text script before asked (who.Feed feed) =
+    codes "feed " ++ decimal feed ++ codes " recv " ++ given_word (slice_get (filter (is_feed script) script.declarations) feed)
+
 abbrev pub entry_line : Lines → History → Entry ℕ → List ℕ
-entry_line script before entry =
-    option_map_or line_text (next_step script before entry.who) [] ++ codes ": " ++ reply_word entry.reply ++ line_end
+entry_line script before entry = made_text script before entry.call entry.who ++ codes ": " ++ reply_word entry.reply ++ line_end
 
 abbrev pub entry_lines : Lines → History → List ℕ
 entry_lines script [] = []
@@ -82,6 +113,18 @@ abbrev pub port_line : Lines → History → ℕ → List ℕ → List ℕ
 port_line script history at name =
     codes "port " ++ name ++ counts_or_not_made (port_counts history) (made_of script history at) ++ line_end
 
+-- how many messages the thread of the feed with this name took
+abbrev pub taken_by : Lines → Tallied → ℕ → ℕ
+taken_by script tally at = option_map_or (λ taken. taken) (option_and_then (slice_get tally.taken) (feed_at script at)) 0
+
+-- a feed's line is that of its port, with what was taken
+abbrev pub feed_counts : Lines → History → Tallied → ℕ → ℕ → List ℕ
+feed_counts script history tally at object = port_counts history object ++ codes " taken " ++ decimal (taken_by script tally at)
+
+abbrev pub feed_line : Lines → History → Tallied → ℕ → List ℕ → List ℕ
+feed_line script history tally at name =
+    codes "feed " ++ name ++ counts_or_not_made (feed_counts script history tally at) (made_of script history at) ++ line_end
+
 abbrev pub held_text : Option ℕ → List ℕ
 held_text None = codes ": empty"
 held_text (Some message) = codes ": full " ++ decimal message
@@ -90,41 +133,53 @@ abbrev pub variable_line : Lines → History → ℕ → List ℕ → List ℕ �
 variable_line script history at word name =
     word ++ codes " " ++ name ++ counts_or_not_made (λ object. held_text (held history object)) (made_of script history at) ++ line_end
 
--- a script with feeds is not reported yet: what was taken from their rings no history tells
-abbrev pub named_line : Lines → History → ℕ → List ℕ → Named → List ℕ
-named_line script history at name (Thread seat) = []
-named_line script history at name Mailbox =
+abbrev pub named_line : Lines → History → Tallied → ℕ → List ℕ → Named → List ℕ
+named_line script history tally at name (Thread seat) = []
+named_line script history tally at name Mailbox =
     codes "mailbox " ++ name ++ counts_or_not_made (mailbox_counts history) (made_of script history at) ++ line_end
-named_line script history at name Channel =
+named_line script history tally at name Channel =
     codes "channel " ++ name ++ counts_or_not_made (channel_counts history) (made_of script history at) ++ line_end
-named_line script history at name (Port whose) = port_line script history at name
-named_line script history at name IVar = variable_line script history at (codes "ivar") name
-named_line script history at name MVar = variable_line script history at (codes "mvar") name
-named_line script history at name (Feed owner) = []
+named_line script history tally at name (Port whose) = port_line script history at name
+named_line script history tally at name IVar = variable_line script history at (codes "ivar") name
+named_line script history tally at name MVar = variable_line script history at (codes "mvar") name
+named_line script history tally at name (Feed owner) = feed_line script history tally at name
 
 -- the line of the name at this position
-abbrev pub object_line : Lines → History → ℕ → Given → List ℕ
-object_line script history at given = named_line script history at given.0 given.1
+abbrev pub object_line : Lines → History → Tallied → ℕ → Given → List ℕ
+object_line script history tally at given = named_line script history tally at given.0 given.1
 
-abbrev pub object_lines_from : Lines → History → ℕ → List Given → List ℕ
-object_lines_from script history at [] = []
-object_lines_from script history at (given ∷ names) =
-    object_line script history at given ++ object_lines_from script history (suc at) names
+abbrev pub object_lines_from : Lines → History → Tallied → ℕ → List Given → List ℕ
+object_lines_from script history tally at [] = []
+object_lines_from script history tally at (given ∷ names) =
+    object_line script history tally at given ++ object_lines_from script history tally (suc at) names
 
 -- Third part: how it ended.
 
 abbrev pub performed_count : Lines → History → ℕ
 performed_count script history = entries_in history - declared_count script
 
-abbrev pub end_line : Lines → History → Stop → List ℕ
-end_line script history Done = codes "end: done " ++ decimal (performed_count script history) ++ line_end
-end_line script history Stalled =
-    codes "end: stalled " ++ decimal (performed_count script history) ++ codes " left " ++ decimal (left script history) ++ line_end
-end_line script history Full =
-    codes "end: full " ++ decimal (performed_count script history) ++ codes " left " ++ decimal (left script history) ++ line_end
-end_line script history Held =
-    codes "end: held " ++ decimal (performed_count script history) ++ codes " left " ++ decimal (left script history) ++ line_end
+-- a thread's seat made the entry: seat 0 makes only declared objects
+abbrev pub is_of_thread : Who → Bool
+is_of_thread (who.Seat seat) = not (seat == 0)
+is_of_thread (who.Lane lane) = false
+is_of_thread (who.Feed feed) = false
 
-abbrev pub report : Lines → History → Stop → List ℕ
-report script history stop =
-    entry_lines script history ++ object_lines_from script history 0 (names_of script) ++ end_line script history stop
+abbrev pub is_step_entry : Entry ℕ → Bool
+is_step_entry entry = is_of_thread entry.who
+
+-- how many steps were not performed, by the threads' seats or by their lanes and feeds
+abbrev pub unperformed : Lines → History → Tallied → ℕ
+unperformed script history tally = length script.steps - (how_many is_step_entry history + tally.apart)
+
+abbrev pub end_line : Lines → History → Tallied → Stop → List ℕ
+end_line script history tally Done = codes "end: done " ++ decimal (performed_count script history) ++ line_end
+end_line script history tally Stalled =
+    codes "end: stalled " ++ decimal (performed_count script history) ++ codes " left " ++ decimal (unperformed script history tally) ++ line_end
+end_line script history tally Full =
+    codes "end: full " ++ decimal (performed_count script history) ++ codes " left " ++ decimal (unperformed script history tally) ++ line_end
+end_line script history tally Held =
+    codes "end: held " ++ decimal (performed_count script history) ++ codes " left " ++ decimal (unperformed script history tally) ++ line_end
+
+abbrev pub report : Lines → History → Tallied → Stop → List ℕ
+report script history tally stop =
+    entry_lines script history ++ object_lines_from script history tally 0 (names_of script) ++ end_line script history tally stop

@@ -3,13 +3,15 @@ use Rattle.std.specs.Prelude.{◌≡◌}
 use Rattle.cml_board.specs.History.{Lawful}
 use Rattle.cml_grammar.specs.Script.{Lines}
 use Rattle.cml_script.specs.Schedule.{History}
+use Rattle.cml_script.specs.Report.{Tallied}
 use Rattle.cml_script.specs.Audit.{IsOfScript}
 use Rattle.cml_script.specs.Trail.{Progress, history_of}
 
--- a script, and what was performed of it, newest first
+-- a script, what was performed of it, newest first, and what went by lanes and feeds
 pub record Told : Type 0 where
   pub script : Lines
   pub history : History
+  pub tally : Tallied
 
 -- all of the history was followed; it is lawful, and the script's
 pub record IsTold (progress : Progress) (history : History) : Type 0 where

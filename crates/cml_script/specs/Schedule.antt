@@ -1,5 +1,5 @@
 -- In which order a script's calls are made. A history is a list of entries, the newest first.
-use Rattle.std.specs.Prelude.{ℕ, suc, ◌≡◌, ◌≢◌, ◌-◌, ◌<◌, ◌≤◌, ◌==◌, ◌⊎◌, Bool, true, false, nat_lt, List, [], ◌∷◌, length, take, filter, slice_get, Option, Some, None, MatchBool, if◌then◌else◌, ⊤}
+use Rattle.std.specs.Prelude.{ℕ, suc, ◌≡◌, ◌≢◌, ◌-◌, ◌<◌, ◌≤◌, ◌==◌, ◌&&◌, not, ◌⊎◌, Bool, true, false, nat_lt, List, [], ◌∷◌, length, take, filter, slice_get, Option, Some, None, MatchBool, if◌then◌else◌, ⊤}
 use Rattle.std.specs.Option.{option_map, option_map_or, option_and_then}
 use Rattle.cml_script.specs.Counting.{how_many}
 use Rattle.cml_board.specs.declared.call.Call.{Call}
@@ -17,8 +17,11 @@ use Rattle.cml_grammar.specs.declared.forms.Action.TheVariants as action
 use Rattle.cml_grammar.specs.Script.{SourceLine, Lines}
 use Rattle.cml_grammar.specs.Meaning.{names_of, makes_of, action_of, seat_of_step}
 use Rattle.cml_grammar.specs.Giving.{is_giving, names_before}
+use Rattle.cml_grammar.specs.Rings.{makes_feed, capacity_of, first_ring}
 use Rattle.cml_script.specs.declared.binding.Binding.{Binding}
 use Rattle.cml_script.specs.declared.binding.Binding.TheVariants as binding
+use Rattle.cml_script.specs.declared.way.Way.{Way}
+use Rattle.cml_script.specs.declared.way.Way.TheVariants as way
 use Rattle.cml_script.specs.declared.stop.Stop.{Stop}
 use Rattle.cml_script.specs.declared.stop.Stop.TheVariants.{Done, Stalled, Full, Held}
 
@@ -36,6 +39,10 @@ makes_object _ = true
 abbrev pub is_object : Lines → SourceLine → Bool
 is_object script line = option_map_or makes_object (makes_of (names_of script) line.words) false
 
+-- and that of a feed its port
+abbrev pub is_feed : Lines → SourceLine → Bool
+is_feed script line = option_map_or makes_feed (makes_of (names_of script) line.words) false
+
 -- the declarations of objects, and how many they are
 abbrev pub objects_of : Lines → List SourceLine
 objects_of script = filter (is_object script) script.declarations
@@ -43,10 +50,19 @@ objects_of script = filter (is_object script) script.declarations
 abbrev pub declared_count : Lines → ℕ
 declared_count script = how_many (is_object script) script.declarations
 
--- the object that a declaration's name stands for, by the name's position: the k-th declared object is the k-th made
+-- who makes the k-th declared object: the feed whose port it is, by its place among the feeds in text order, or else seat 0
+abbrev pub maker : Lines → ℕ → Who
+maker script k =
+    if option_map_or (is_feed script) (slice_get (objects_of script) k) false then Feed (how_many (is_feed script) (take k (objects_of script))) else Seat 0
+
+-- the number of the object that the declaration at this position makes: the k-th declared object is the k-th made
+abbrev pub number_of : Lines → ℕ → ℕ
+number_of script at = how_many (is_object script) (take at script.declarations)
+
+-- the object that a declaration's name stands for, by the name's position, once it is made
 abbrev pub declared_object : Lines → History → ℕ → Option ℕ
 declared_object script history at =
-    let object = how_many (is_object script) (take at script.declarations) in
+    let object = number_of script at in
     if nat_lt object (entries_in history) then Some object else None
 
 -- the call that makes what a declaration makes, of the objects that its names stand for
@@ -58,7 +74,7 @@ making_call object makes.IVar = Some call.NewIVar
 making_call object makes.MVar = Some call.NewMVar
 making_call object (makes.MVarInit message) = Some (call.MVarInit message)
 making_call object (makes.Port channel) = option_map (λ o. call.NewPort (record { 0 = o })) (object channel)
-making_call object (makes.Feed f) = option_map (λ o. call.NewPort (record { 0 = o })) (object f.channel)
+making_call object (makes.Feed feed) = option_map (λ o. call.NewPort (record { 0 = o })) (object feed.channel)
 
 abbrev pub call_in : Lines → History → SourceLine → Option (Call ℕ)
 call_in script history line = option_and_then (making_call (declared_object script history)) (makes_of (names_of script) line.words)
@@ -69,9 +85,47 @@ call_in script history line = option_and_then (making_call (declared_object scri
 abbrev pub is_seated : Lines → ℕ → SourceLine → Bool
 is_seated script seat line = option_map_or (λ s. s == seat) (seat_of_step (names_of script) line.words) false
 
--- how many steps of that thread stand before the i-th step of the script
+-- the feed, by its place among the feeds in text order, that the name at this position is
+abbrev pub feed_at : Lines → ℕ → Option ℕ
+feed_at script at =
+    if option_map_or (is_feed script) (slice_get script.declarations at) false then Some (how_many (is_feed script) (take at script.declarations)) else None
+
+abbrev pub lane_way : Option ℕ → Way
+lane_way None = way.Seat
+lane_way (Some capacity) = way.Lane capacity
+
+abbrev pub feed_way : Option ℕ → Way
+feed_way None = way.Seat
+feed_way (Some feed) = way.Feed feed
+
+-- how a step of this seat goes: a send or a multicast by the seat's lane to the object, where a line lays one, a poll of a
+-- feed by that feed, and all else by the seat
+abbrev pub way_of : Lines → Option ℕ → Action → Way
+way_of script seat (action.Send at message) = lane_way (option_and_then (λ s. capacity_of (names_of script) script.lanes (s, at)) seat)
+way_of script seat (action.Multicast at message) = lane_way (option_and_then (λ s. capacity_of (names_of script) script.lanes (s, at)) seat)
+way_of script seat (action.Poll at) = feed_way (feed_at script at)
+way_of script seat _ = way.Seat
+
+abbrev pub way_of_line : Lines → SourceLine → Way
+way_of_line script line =
+    option_map_or (way_of script (seat_of_step (names_of script) line.words)) (action_of (names_of script) line.words) way.Seat
+
+abbrev pub is_by_ring : Way → Bool
+is_by_ring way.Seat = false
+is_by_ring (way.Lane capacity) = true
+is_by_ring (way.Feed feed) = true
+
+-- a step that goes by a ring of its thread, a lane or a feed
+abbrev pub is_apart : Lines → SourceLine → Bool
+is_apart script line = is_by_ring (way_of_line script line)
+
+-- a step that the seat of its thread performs
+abbrev pub is_called : Lines → ℕ → SourceLine → Bool
+is_called script seat line = is_seated script seat line && not (is_apart script line)
+
+-- how many such steps of that thread stand before the i-th step of the script
 abbrev pub earlier : Lines → ℕ → ℕ → ℕ
-earlier script seat i = how_many (is_seated script seat) (take i script.steps)
+earlier script seat i = how_many (is_called script seat) (take i script.steps)
 
 abbrev pub is_seat : ℕ → Who → Bool
 is_seat seat (Seat s) = s == seat
@@ -85,11 +139,15 @@ is_by seat entry = is_seat seat entry.who
 abbrev pub performed : History → ℕ → ℕ
 performed history seat = how_many (is_by seat) history
 
--- the positions from k on of the steps of the thread with this seat
+-- the positions from k on of the lines that pass a test
+abbrev pub positions_where : (SourceLine → Bool) → ℕ → List SourceLine → List ℕ
+positions_where test k [] = []
+positions_where test k (line ∷ lines) =
+    if test line then k ∷ positions_where test (suc k) lines else positions_where test (suc k) lines
+
+-- the positions from k on of the steps that this seat performs
 abbrev pub positions_from : Lines → ℕ → ℕ → List SourceLine → List ℕ
-positions_from script seat k [] = []
-positions_from script seat k (line ∷ lines) =
-    if is_seated script seat line then k ∷ positions_from script seat (suc k) lines else positions_from script seat (suc k) lines
+positions_from script seat k lines = positions_where (is_called script seat) k lines
 
 -- the position of the step that the caller's next call performs
 abbrev pub next_position : Lines → History → Who → Option ℕ
@@ -173,7 +231,7 @@ step_call script history i =
 pub record IsReady (script : Lines) (history : History) (i seat : ℕ) (asked : Call ℕ) : Type 0 where
   pub line : SourceLine
   pub found : slice_get script.steps i ≡ Some line
-  pub seated : is_seated script seat line ≡ true
+  pub seated : is_called script seat line ≡ true
   pub next : earlier script seat i ≡ performed history seat
   pub calls : step_call script history i ≡ Some asked
   pub answered : answer history asked ≢ None
@@ -190,9 +248,9 @@ pub record IsStep (script : Lines) (before : History) (entry : Entry ℕ) : Type
   pub ready : IsReady script before step seat entry.call
   pub least : (i other : ℕ) (asked : Call ℕ) → IsReady script before i other asked → step ≤ i
 
--- the entry makes the next declared object, by seat 0
+-- the entry makes the next declared object, by seat 0 or by its feed
 pub record IsDeclaration (script : Lines) (before : History) (entry : Entry ℕ) : Type 0 where
-  pub by : entry.who ≡ Seat 0
+  pub by : entry.who ≡ maker script (entries_in before)
   pub makes : option_and_then (call_in script before) (slice_get (objects_of script) (entries_in before)) ≡ Some entry.call
 
 -- each entry is the one that comes next: the declared objects first, and then always the least step that is ready
@@ -214,8 +272,9 @@ Ends script limit history Stalled =
 Ends script limit history Done = (declared_count script ≤ entries_in history) × (left script history ≡ 0)
 Ends script limit history Held = ⊥
 
--- the history is that of the script under this limit, and ends so
+-- the history is that of the script, which has no rings, under this limit, and ends so
 pub record Schedule (script : Lines) (limit : ℕ) (history : History) (stop : Stop) : Type 0 where
+  pub plain : first_ring script ≡ None
   pub lawful : Lawful history
   pub room : entries_in history ≤ limit
   pub follows : Follows script history

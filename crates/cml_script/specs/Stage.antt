@@ -15,6 +15,7 @@ use Rattle.cml_grammar.specs.declared.forms.Makes.TheVariants as makes
 use Rattle.cml_grammar.specs.declared.forms.Action.{Action}
 use Rattle.cml_grammar.specs.declared.forms.Action.TheVariants as action
 use Rattle.cml_grammar.specs.Reading.{IsChannelAt}
+use Rattle.cml_grammar.specs.Rings.{first_ring}
 use Rattle.cml_script.specs.declared.binding.Binding.{Binding}
 use Rattle.cml_script.specs.Schedule.{objects_of, object_of, declared_object, declared_count, call_in, History, next_position, performed, Follows, IsReady}
 use Rattle.cml_script.specs.Bindings.{AreBindings}
@@ -31,12 +32,13 @@ pub record AreCounts (history : History) (counts : List ℕ) : Type 0 where
   pub seats : length counts ≡ 64
   pub each : (thread : ℕ) → thread < 64 → slice_get counts thread ≡ Some (performed history (thread + 1))
 
--- what a stage keeps is so of what was performed
+-- what a stage keeps is so of what was performed of a script without rings
 pub record Stands (play : Play) (counts : List ℕ) (bindings : List Binding) : Type 0 where
   pub lawful : Lawful play.history
   pub room : entries_in play.history ≤ play.limit
   pub bounded : play.limit ≤ 2 ^ 32
   pub follows : Follows play.script play.history
+  pub plain : first_ring play.script ≡ None
   pub known : IsKnown play.script
   pub counted : AreCounts play.history counts
   pub bound : AreBindings play.script play.history bindings
@@ -126,4 +128,4 @@ IsNext play makes.IVar = IsNextObject play call.NewIVar
 IsNext play makes.MVar = IsNextObject play call.NewMVar
 IsNext play (makes.MVarInit message) = IsNextObject play (call.MVarInit message) × (message < 2 ^ 64)
 IsNext play (makes.Port channel) = IsNextPort play channel
-IsNext play (makes.Feed f) = IsNextPort play f.channel
+IsNext play (makes.Feed feed) = IsNextPort play feed.channel

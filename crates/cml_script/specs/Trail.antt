@@ -1,5 +1,5 @@
 -- A journal that is followed entry by entry beside a script, and what is kept of it.
-use Rattle.std.specs.Prelude.{ℕ, ◌≡◌, ◌≢◌, ◌+◌, ◌^◌, ◌<◌, ◌≤◌, ◌⊎◌, List, [], ◌∷◌, length, slice_get, nat_lt, Option, None, if◌then◌else◌}
+use Rattle.std.specs.Prelude.{ℕ, ◌≡◌, ◌≢◌, ◌+◌, ◌^◌, ◌<◌, ◌≤◌, List, [], ◌∷◌, length, slice_get, Option}
 use Rattle.std.specs.Option.{option_map_or, option_and_then}
 use Rattle.cml_board.specs.declared.call.Call.{Call}
 use Rattle.cml_board.specs.declared.entry.Who.{Who}
@@ -7,13 +7,13 @@ use Rattle.cml_board.specs.declared.entry.Who.TheVariants.{Seat}
 use Rattle.cml_board.specs.declared.entry.Entry.{Entry}
 use Rattle.cml_board.specs.History.{entries_in}
 use Rattle.cml_board.specs.Positions.{before}
-use Rattle.cml_grammar.specs.declared.forms.Makes.{Makes}
 use Rattle.cml_grammar.specs.Script.{Lines}
 use Rattle.cml_script.specs.declared.binding.Binding.{Binding}
-use Rattle.cml_script.specs.Schedule.{History, objects_of, declared_count, is_seat, call_in, step_call, next_position, given_by}
+use Rattle.cml_script.specs.Schedule.{History, objects_of, call_in, step_call, next_position, given_by}
 use Rattle.cml_script.specs.Plan.{IsKnown}
 use Rattle.cml_script.specs.Bindings.{AreBindings}
-use Rattle.cml_script.specs.Makes.{AreMakes}
+use Rattle.cml_script.specs.declared.objects.Objects.{Objects}
+use Rattle.cml_script.specs.Objects.{AreObjects}
 use Rattle.cml_script.specs.Report.{next_step, line_text}
 use Rattle.cml_script.specs.Stage.{AreCounts}
 
@@ -59,26 +59,14 @@ next_call script history who = option_and_then (step_call script history) (next_
 abbrev pub declared_call : Lines → History → Option (Call ℕ)
 declared_call script history = option_and_then (call_in script history) (slice_get (objects_of script) (entries_in history))
 
--- the call that the script has next for the caller, if it has one
-abbrev pub own_call : Lines → History → Who → Option (Call ℕ)
-own_call script history who =
-    if nat_lt (entries_in history) (declared_count script)
-    then (if is_seat 0 who then declared_call script history else None)
-    else next_call script history who
-
--- the caller's next entry makes a declared object, or the caller has no step left
-abbrev pub HasNoLine : Lines → History → Who → Type 0
-HasNoLine script history who = (entries_in history < declared_count script) ⊎ (next_position script history who ≡ None)
-
--- this is the line of the step that the caller's next entry performs
-pub record IsNextLine (script : Lines) (history : History) (who : Who) (text : List ℕ) : Type 0 where
-  pub declared : declared_count script ≤ entries_in history
-  pub is : option_map_or line_text (next_step script history who) [] ≡ text
+-- the line of the caller's next step, if it has one
+abbrev pub next_text : Lines → History → Who → List ℕ
+next_text script history who = option_map_or line_text (next_step script history who) []
 
 -- what a trail keeps is so of the entries that were followed
-pub record IsFollowed (progress : Progress) (list : List Makes) (counts : List ℕ) (bindings : List Binding) : Type 0 where
+pub record IsFollowed (progress : Progress) (kept : Objects) (counts : List ℕ) (bindings : List Binding) : Type 0 where
   pub within : progress.followed ≤ length progress.journal
   pub known : IsKnown progress.script
-  pub made : AreMakes progress.script progress.script.declarations list
+  pub objects : AreObjects progress.script kept
   pub counted : AreCounts (history_of progress) counts
   pub bound : AreBindings progress.script (history_of progress) bindings

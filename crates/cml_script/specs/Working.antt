@@ -1,75 +1,137 @@
 -- What one thread performs of a script, whoever makes its calls.
-use Rattle.std.specs.Prelude.{ℕ, ◌≡◌, List, [], ◌∷◌, ◌++◌, ◌≤◌, length, map, take, Option, Some, None, Result, Ok, Err, IfSome, IsSome, OnOk, ⊤}
+use Rattle.std.specs.Prelude.{ℕ, ◌≡◌, ◌+◌, ◌<◌, ◌≤◌, ◌⊎◌, Bool, true, false, List, [], ◌∷◌, ◌++◌, length, slice_get, Option, Some, None, Result, Ok, Err, IfSome, IsSome, OnOk, ⊤}
+use Rattle.std.specs.Option.{option_map}
 use Rattle.std.specs.declared.alloc.AllocError.{AllocError}
+use Rattle.cml_board.specs.declared.call.Name.{Name}
 use Rattle.cml_board.specs.declared.call.Call.{Call}
-use Rattle.cml_board.specs.declared.entry.Who.TheVariants.{Seat}
+use Rattle.cml_board.specs.declared.call.Call.TheVariants.{NewPort}
+use Rattle.cml_board.specs.declared.entry.Who.{Who}
+use Rattle.cml_board.specs.declared.entry.Who.TheVariants.{Seat, Lane, Feed}
 use Rattle.cml_board.specs.declared.entry.Reply.{Reply}
+use Rattle.cml_board.specs.declared.entry.Reply.TheVariants as reply
 use Rattle.cml_board.specs.declared.entry.Entry.{Entry}
 use Rattle.cml_board.specs.declared.outcome.Refusal.{Refusal}
 use Rattle.cml_board.specs.declared.outcome.Refusal.TheVariants.{JournalFull, NoMemory}
 use Rattle.cml_board.specs.History.{entries_in}
-use Rattle.cml_grammar.specs.Script.{Lines}
+use Rattle.cml_grammar.specs.Script.{SourceLine, Lines}
+use Rattle.cml_grammar.specs.declared.forms.Action.{Action}
+use Rattle.cml_grammar.specs.declared.forms.Action.TheVariants as action
+use Rattle.cml_grammar.specs.declared.forms.Makes.{Makes}
+use Rattle.cml_grammar.specs.declared.forms.Makes.TheVariants as makes
+use Rattle.cml_grammar.specs.Reading.{IsCapacity}
 use Rattle.cml_script.specs.declared.stop.Stop.{Stop}
 use Rattle.cml_script.specs.declared.stop.Stop.TheVariants.{Done, Stalled, Full, Held}
-use Rattle.cml_grammar.specs.declared.forms.Makes.{Makes}
 use Rattle.cml_script.specs.Counting.{how_many}
-use Rattle.cml_script.specs.Schedule.{History, declared_count, next_position, making_call, is_object}
+use Rattle.cml_script.specs.Schedule.{History, declared_count, number_of, maker, is_seated, is_apart, next_position, making_call}
 use Rattle.cml_script.specs.Audit.{IsNextOfThread, IsOfScript}
 
--- calls that were answered, with their replies, newest first
-abbrev pub Calls : Type 0
-Calls = List (Call ℕ × Reply ℕ)
+-- What a caller made.
 
--- as entries of this seat
-abbrev pub entries_by : ℕ → Calls → History
-entries_by seat calls = map (λ (made : Call ℕ × Reply ℕ). let entry : Entry ℕ = record { who = Seat seat; call = made.0; reply = made.1 } in entry) calls
+-- its seat, and the entries that it made, newest first
+pub record Made : Type 0 where
+  pub seat : ℕ
+  pub entries : History
+
+-- with a call that its seat was answered
+abbrev pub with_call : Call ℕ → Reply ℕ → Made → Made
+with_call asked answered made = record made { entries = (record { who = Seat made.seat; call = asked; reply = answered }) ∷ made.entries }
+
+abbrev pub is_of_feed : Entry ℕ → Bool
+is_of_feed entry = is_feed_of entry.who
+  where
+    is_feed_of : Who → Bool
+    is_feed_of (Seat seat) = false
+    is_feed_of (Lane lane) = false
+    is_feed_of (Feed feed) = true
+
+-- with the port of a feed, whose number is how many it opened before
+abbrev pub with_feed : Name → Name → Made → Made
+with_feed channel port made = record made { entries = (record { who = Feed (how_many is_of_feed made.entries); call = NewPort channel; reply = reply.Made port }) ∷ made.entries }
+
+-- it has this seat, and made nothing yet, where it tells what it makes
+abbrev pub BeginsAt : ℕ → Option Made → Type 0
+BeginsAt seat made = IfSome made (λ made. made ≡ record { seat = seat; entries = [] })
+
+-- What declares.
+
+-- the call that makes this, where each declared object has the number of its declaration among them
+abbrev pub making : Lines → Makes → Option (Call ℕ)
+making script makes = making_call (λ at. Some (number_of script at)) makes
+
+-- a feed has room for 1 to 1,024 messages
+abbrev pub HasCapacity : Makes → Type 0
+HasCapacity (makes.Feed feed) = IsCapacity feed.capacity
+HasCapacity m = ⊤
+
+-- what a caller made later has this besides: nothing for a thread, the port of a feed, or what its seat was answered
+abbrev pub HasMade : Lines → Makes → Option Made → Option Made → Type 0
+HasMade script makes.Thread before after = after ≡ before
+HasMade script (makes.Feed feed) before after = (port : Name) × (after ≡ option_map (with_feed (record { 0 = number_of script feed.channel }) port) before)
+HasMade script m before after = (asked : Call ℕ) × (answered : Reply ℕ) × (making script m ≡ Some asked) × (after ≡ option_map (with_call asked answered) before)
+
+-- these are the declared objects, in text order, each made by seat 0 or by its feed; all of them, where none was refused
+pub record Declares (script : Lines) (made : History) (ended : Result (Unit {0}) Refusal) : Type 0 where
+  pub own : IsOfScript script made
+  pub within : entries_in made ≤ declared_count script
+  pub all : OnOk ended (entries_in made ≡ declared_count script)
+
+-- What a thread performs.
 
 -- each entry is of this seat
 abbrev pub AreBySeat : ℕ → History → Type 0
 AreBySeat seat [] = ⊤
 AreBySeat seat (entry ∷ before) = (entry.who ≡ Seat seat) × AreBySeat seat before
 
--- a history of the declared objects alone, each made by seat 0
+-- each entry is by who makes the declared object of its place
+abbrev pub AreByMakers : Lines → History → Type 0
+AreByMakers script [] = ⊤
+AreByMakers script (entry ∷ before) = (entry.who ≡ maker script (entries_in before)) × AreByMakers script before
+
+-- a history of the declared objects alone, each by who makes it
 pub record IsOpening (script : Lines) (first : History) : Type 0 where
   pub all : entries_in first ≡ declared_count script
-  pub by : AreBySeat 0 first
+  pub by : AreByMakers script first
 
 -- behind the first entries each is the next step of its thread
 abbrev pub AreNextSteps : Lines → History → History → Type 0
 AreNextSteps script first [] = ⊤
 AreNextSteps script first (entry ∷ done) = IsNextOfThread script (done ++ first) entry × AreNextSteps script first done
 
--- a thread that is done has no step left, and one that stopped otherwise has
-abbrev pub IsStop : Option ℕ → Result Stop AllocError → Type 0
-IsStop next (Ok Done) = next ≡ None
-IsStop next (Ok stop) = IsSome next
-IsStop next (Err error) = ⊤
+-- the thread with this seat has a step that goes by a lane or a feed
+pub record GoesApart (script : Lines) (seat : ℕ) : Type 0 where
+  pub step : ℕ
+  pub line : SourceLine
+  pub found : slice_get script.steps step ≡ Some line
+  pub seated : is_seated script seat line ≡ true
+  pub apart : is_apart script line ≡ true
 
--- whatever made the declared objects: the calls of the thread with this seat are its steps, from the first one on, in
--- order, each on the objects that its names stand for; and this is why it stopped
-pub record Works (script : Lines) (seat : ℕ) (calls : Calls) (stop : Result Stop AllocError) (first : History) : Type 0 where
-  pub steps : AreNextSteps script first (entries_by seat calls)
-  pub stops : IsStop (next_position script (entries_by seat calls ++ first) (Seat seat)) stop
+-- a thread that is done has no step left for its seat, and one that stopped otherwise has, unless it may have stopped at a
+-- step that goes by a lane or a feed, or since a lane could not be closed
+abbrev pub IsStop : Lines → ℕ → Option ℕ → Result Stop AllocError → Type 0
+IsStop script seat next (Ok Done) = next ≡ None
+IsStop script seat next (Ok stop) = IsSome next ⊎ GoesApart script seat
+IsStop script seat next (Err error) = ⊤
 
--- nothing was called yet
-abbrev pub HasMadeNone : Option Calls → Type 0
-HasMadeNone made = IfSome made (λ calls. calls ≡ [])
+-- whatever made the declared objects: the entries of the thread with this seat are the steps that its seat performs, from
+-- the first one on, in order, each on the objects that its names stand for; and this is why it stopped
+pub record Works (script : Lines) (seat : ℕ) (made : History) (stop : Result Stop AllocError) (first : History) : Type 0 where
+  pub by : AreBySeat seat made
+  pub steps : AreNextSteps script first made
+  pub stops : IsStop script seat (next_position script (made ++ first) (Seat seat)) stop
+
+-- a step that waits where it can't be answered
+abbrev pub may_wait : Action → Bool
+may_wait (action.Recv at) = true
+may_wait (action.Get at) = true
+may_wait (action.Take at) = true
+may_wait (action.Swap at message) = true
+may_wait _ = false
 
 -- what a refusal stops a thread with: what isn't want of room or of memory leaves it waiting for good
 abbrev pub stop_of : Refusal → Result Stop AllocError
 stop_of JournalFull = Ok Full
 stop_of NoMemory = Err (record {})
 stop_of refusal = Ok Stalled
-
--- the call that makes this, where each declared object has the number of its declaration among them
-abbrev pub making : Lines → Makes → Option (Call ℕ)
-making script makes = making_call (λ at. Some (how_many (is_object script) (take at script.declarations))) makes
-
--- these are the declared objects, in text order, each made by seat 0; all of them, where none was refused
-pub record Declares (script : Lines) (calls : Calls) (ended : Result (Unit {0}) Refusal) : Type 0 where
-  pub own : IsOfScript script (entries_by 0 calls)
-  pub within : length calls ≤ declared_count script
-  pub all : OnOk ended (length calls ≡ declared_count script)
 
 -- how threads ended that ended differently: the first of no memory, full, held, stalled, done
 abbrev pub first_stop : Stop → Stop → Stop
@@ -85,3 +147,7 @@ abbrev pub first_of : Result Stop AllocError → Result Stop AllocError → Resu
 first_of (Err error) other = Err error
 first_of (Ok one) (Err error) = Err error
 first_of (Ok one) (Ok other) = Ok (first_stop one other)
+
+-- how a thread ends that would end so but for a lane that this refusal kept from closing
+abbrev pub ending_with : Stop → Refusal → Result Stop AllocError
+ending_with stop refusal = first_of (Ok stop) (stop_of refusal)

@@ -32,6 +32,8 @@ const REPLAY_LONG_ABOUT: &str =
 It is replayed on one thread, always with the first step in text order that is its thread's next
 and needn't wait. So the same script gives the same report each time.
 
+A script with lanes or feeds needs threads: it is not replayed, but run.
+
 The whole script is read and performed before anything is written.";
 
 const RUN_ABOUT: &str =

@@ -8,18 +8,20 @@ mod calls;
 mod command_line;
 mod ending;
 mod laws;
+mod objects;
 mod perform;
 mod plan;
 mod read;
 mod replaying;
 mod report;
-mod rings;
 mod running;
 mod scene;
 mod stage;
 mod stop;
+mod tally;
 mod trail;
 mod verdict;
+mod way;
 mod writing;
 
 pub use asked::Order;
@@ -27,7 +29,9 @@ pub use auditing::audit;
 pub use cml_grammar::{Fault, Script, What, read_script};
 pub use command_line::{order, status_of_error};
 pub use ending::{Ending, status_of};
-pub use laws::{schedules_are_one, scripts_have_a_schedule, stalled_threads_wait};
+pub use laws::{
+    reports_tell_what_is_left, schedules_are_one, scripts_have_a_schedule, stalled_threads_wait,
+};
 pub use perform::{Played, play};
 pub use plan::Plan;
 pub use replaying::replay;
@@ -35,4 +39,6 @@ pub use running::{
     Caller, Ended, Gate, OpenGate, Seated, conclude, declare, perform_in_threads, run, work,
 };
 pub use stop::Stop;
+pub use tally::Tally;
 pub use verdict::Verdict;
+pub use way::Way;

@@ -1,13 +1,14 @@
 //! A whole script, performed and reported.
 ghost use Rattle.std.specs.Prelude.{◌≡◌, ◌≤◌, ◌^◌, None, IfOk, string_bytes};
-ghost use Rattle.cml_grammar.specs.Rings.{first_ring};
 ghost use Rattle.cml_board.specs.History.{no_entries, entries_in};
+ghost use Rattle.cml_grammar.specs.Rings.{first_ring};
 ghost use Rattle.cml_script.specs.Schedule.{declared_count, Ends};
 ghost use Rattle.cml_script.specs.Play.{IsPlayed};
 
 use crate::report::report;
 use crate::stage::Stage;
 use crate::stop::Stop;
+use crate::tally::Tally;
 use cml_grammar::Script;
 use std::alloc::{AllocError, Global};
 
@@ -18,7 +19,7 @@ pub struct Played {
     pub stop: Stop,
 }
 
-/// Performs a script that has no lanes and no feeds, and reports it.
+/// Performs a script without rings and reports it.
 pub fn play(alloc: Global, script: &Script, limit: u64) -> Result<Played, AllocError>
     requires least { 1 ≤ limit }
     requires most { limit ≤ 2 ^ 32 }
@@ -27,7 +28,8 @@ pub fn play(alloc: Global, script: &Script, limit: u64) -> Result<Played, AllocE
 {
     let mut stage = Stage::new(alloc, script, limit)?;
     let stop = perform(&mut stage)?;
-    let report = report(alloc, script, stage.board(), stop)?;
+    let tally = Tally::no_rings(alloc);
+    let report = report(alloc, script, stage.board(), &tally, stop)?;
     Ok(Played { report, stop })
 }
 

@@ -1,17 +1,18 @@
 //! What is known of a script before any of it is performed.
-ghost use Rattle.std.specs.Prelude.{◌≡◌, ◌+◌, ◌<◌, ◌^◌, [], length, take, slice_get, All, IfOk};
+ghost use Rattle.std.specs.Prelude.{◌≡◌, ◌+◌, ◌<◌, ◌^◌, [], length, take, slice_get, Some, All, IfOk, IfSome};
 ghost use Rattle.std.specs.Option.{option_map};
 ghost use Rattle.cml_board.specs.History.{no_entries, entries_in};
+ghost use Rattle.cml_grammar.specs.Rings.{makes_feed};
 ghost use Rattle.cml_script.specs.Counting.{how_many};
-ghost use Rattle.cml_script.specs.Schedule.{History, makes_object, is_object, declared_count, positions_from, given_by, object_of};
-ghost use Rattle.cml_grammar.specs.Reading.{gives_name};
-ghost use Rattle.cml_script.specs.Plan.{IsKnown, AreNumbers, AreQueues, AreGivings, NamesObjects, HasSeats, AsksForPorts, items_of, object_among};
+ghost use Rattle.cml_script.specs.Schedule.{History, makes_object, is_object, is_feed, is_seated, is_called, number_of, feed_at, declared_count, positions_where, positions_from, lane_way, feed_way, way_of, given_by, object_of};
+ghost use Rattle.cml_grammar.specs.Reading.{gives_name, IsCapacity};
+ghost use Rattle.cml_script.specs.Plan.{IsKnown, AreNumbers, AreFeedNumbers, AreQueues, AreGivings, NamesObjects, HasSeats, AsksForPorts, items_of, object_among, way_at, HasRoom};
 ghost use Rattle.cml_script.specs.Bindings.{AreBindings};
-ghost use Rattle.cml_script.specs.Makes.{AreMakes};
 
 use crate::binding::Binding;
+use crate::way::Way;
 use cml_board::Name;
-use cml_grammar::{Action, Makes, Script};
+use cml_grammar::{Action, Makes, Script, Step};
 use std::alloc::{AllocError, Global};
 use std::marker::Model;
 
@@ -26,8 +27,12 @@ pub struct Plan<'a> {
     names: usize,
     // By name, how many objects are declared before it.
     numbers: Vec<u64>,
-    // By thread, the positions of its steps in the script.
+    // By name, how many feeds are declared before it.
+    feeds: Vec<usize>,
+    // By thread, the positions in the script of the steps that its seat performs.
     queues: Vec<Vec<usize>>,
+    // By thread, the positions of all its steps.
+    turns: Vec<Vec<usize>>,
     // By step, the position of the name that it gives.
     givings: Vec<Option<usize>>,
 }
@@ -40,7 +45,7 @@ impl<'a> Model for Plan<'a> {
 
     ghost view = { λ p. p.script.now };
 
-    ghost invariant = { λ p. IsPlanned p.script.now p.names p.numbers.items (items_of p.queues.items) p.givings.items };
+    ghost invariant = { λ p. IsPlanned p.script.now p.names p.numbers.items p.feeds.items (items_of p.queues.items) (items_of p.turns.items) p.givings.items };
 }
 
 impl<'a> Plan<'a> {
@@ -49,13 +54,17 @@ impl<'a> Plan<'a> {
         ensures known { IfOk result (λ plan. IsKnown plan) }
     {
         let numbers = number_objects(alloc, script)?;
-        let queues = queue_steps(alloc, script)?;
+        let feeds = number_feeds(alloc, script)?;
+        let queues = queue_calls(alloc, script, &feeds)?;
+        let turns = queue_turns(alloc, script)?;
         let givings = number_givings(alloc, script)?;
         Ok(Plan {
             script,
             names: script.names().len(),
             numbers,
+            feeds,
             queues,
+            turns,
             givings,
         })
     }
@@ -77,13 +86,38 @@ impl<'a> Plan<'a> {
         count_objects(self.script)
     }
 
-    /// The position of the thread's nth step.
+    /// The position of the nth of the steps that the thread's seat performs.
     pub fn step(&self, thread: usize, nth: usize) -> Option<usize>
         requires { thread < 64 }
         ensures { result ≡ slice_get (positions_from self.now (thread + 1) 0 self.now.steps) nth }
     {
         let queue = &self.queues[thread];
         queue.get(nth).copied()
+    }
+
+    /// The position of the thread's nth step, however it goes.
+    pub fn turn(&self, thread: usize, nth: usize) -> Option<usize>
+        requires { thread < 64 }
+        ensures { result ≡ slice_get (positions_where (is_seated self.now (thread + 1)) 0 self.now.steps) nth }
+    {
+        let queue = &self.turns[thread];
+        queue.get(nth).copied()
+    }
+
+    /// How a step goes.
+    pub fn way(&self, step: usize) -> Way
+        requires { step < length self.now.steps }
+        ensures way { result ≡ way_at self.now step }
+        ensures fits { HasRoom result }
+    {
+        way_of(self.script, &self.feeds, &self.script.steps()[step])
+    }
+
+    /// The number of the feed that the name at this position is, if it is one: feeds are counted from 0 in text order.
+    pub fn feed(&self, at: usize) -> Option<usize>
+        ensures { result ≡ feed_at self.now at }
+    {
+        feed_at(self.script, &self.feeds, at)
     }
 
     /// The position of the name that the step gives.
@@ -97,7 +131,7 @@ impl<'a> Plan<'a> {
     /// The object that a declared name stands for, once it is made.
     pub fn number(&self, at: usize) -> Name
         requires { at < length self.now.declarations }
-        ensures { result.0 ≡ how_many (is_object self.now) (take at self.now.declarations) }
+        ensures { result.0 ≡ number_of self.now at }
     {
         Name(self.numbers[at])
     }
@@ -159,26 +193,84 @@ pub fn count_objects(script: &Script) -> usize
     objects
 }
 
-/// By declared object, what its declaration makes.
-pub fn list_makes(alloc: Global, script: &Script) -> Result<Vec<Makes>, AllocError>
-    ensures { IfOk result (λ list. AreMakes script.now script.now.declarations list.items) }
-{
-    let mut list = Vec::new(alloc);
-    for declaration in script.declarations() {
-        if makes_object(declaration.makes) {
-            list.push(declaration.makes)?;
-        }
-    }
-    Ok(list)
-}
-
-fn makes_object(makes: Makes) -> bool
+pub fn makes_object(makes: Makes) -> bool
     ensures { result ≡ makes_object makes }
 {
     match makes {
         Makes::Thread => false,
         Makes::Mailbox | Makes::Channel | Makes::Port(_) | Makes::Feed(_) => true,
         Makes::IVar | Makes::MVar | Makes::MVarInit(_) => true,
+    }
+}
+
+pub fn makes_feed(makes: Makes) -> bool
+    ensures { result ≡ makes_feed makes }
+{
+    matches!(makes, Makes::Feed(_))
+}
+
+/// By name, how many feeds are declared before it.
+fn number_feeds(alloc: Global, script: &Script) -> Result<Vec<usize>, AllocError>
+    ensures { IfOk result (λ numbers. AreFeedNumbers script.now numbers.items) }
+{
+    let mut numbers = Vec::new(alloc);
+    let mut feeds = 0;
+    for declaration in script.declarations() {
+        numbers.push(feeds)?;
+        feeds += usize::from(makes_feed(declaration.makes));
+    }
+    Ok(numbers)
+}
+
+/// The number of the feed that the name at this position is, where by name so many feeds are declared before it.
+fn feed_at(script: &Script, feeds: &[usize], at: usize) -> Option<usize>
+    requires { AreFeedNumbers script.now feeds.now }
+    ensures { result ≡ feed_at script.now at }
+{
+    let declaration = script.declarations().get(at)?;
+    makes_feed(declaration.makes).then_some(feeds[at])
+}
+
+/// How a step of the script goes, where by name so many feeds are declared before it.
+fn way_of(script: &Script, feeds: &[usize], step: &Step) -> Way
+    requires { AreFeedNumbers script.now feeds.now }
+    ensures way { result ≡ way_of script.now (Some step.now.seat) step.now.action }
+    ensures fits { HasRoom result }
+{
+    match step.action {
+        Action::Send(at, _) | Action::Multicast(at, _) => lane_way(script.lane_of(step.seat, at)),
+        Action::Poll(at) => feed_way(feed_at(script, feeds, at)),
+        Action::Recv(_)
+        | Action::Port(_)
+        | Action::Copy(_)
+        | Action::Close(_)
+        | Action::Put(_, _)
+        | Action::Get(_)
+        | Action::GetPoll(_)
+        | Action::Take(_)
+        | Action::TakePoll(_)
+        | Action::Swap(_, _) => Way::Seat,
+    }
+}
+
+fn lane_way(capacity: Option<usize>) -> Way
+    requires { IfSome capacity IsCapacity }
+    ensures way { result ≡ lane_way capacity }
+    ensures fits { HasRoom result }
+{
+    match capacity {
+        Some(capacity) => Way::Lane(capacity),
+        None => Way::Seat,
+    }
+}
+
+fn feed_way(feed: Option<usize>) -> Way
+    ensures way { result ≡ feed_way feed }
+    ensures fits { HasRoom result }
+{
+    match feed {
+        Some(feed) => Way::Feed(feed),
+        None => Way::Seat,
     }
 }
 
@@ -203,9 +295,28 @@ fn gives_name(action: Action) -> bool
     matches!(action, Action::Port(_) | Action::Copy(_))
 }
 
-/// By thread, the positions of its steps.
-fn queue_steps(alloc: Global, script: &Script) -> Result<Vec<Vec<usize>>, AllocError>
-    ensures queues { IfOk result (λ queues. AreQueues script.now script.now.steps (items_of queues.items)) }
+/// By thread, the positions of the steps that its seat performs.
+fn queue_calls(
+    alloc: Global,
+    script: &Script,
+    feeds: &[usize],
+) -> Result<Vec<Vec<usize>>, AllocError>
+    requires { AreFeedNumbers script.now feeds.now }
+    ensures { IfOk result (λ queues. AreQueues (is_called script.now) script.now.steps (items_of queues.items)) }
+{
+    let steps = script.steps();
+    let mut queues = empty_queues(alloc)?;
+    for (i, step) in steps.iter().enumerate() {
+        if !way_of(script, feeds, step).is_by_ring() {
+            queues[step.seat as usize - 1].push(i)?;
+        }
+    }
+    Ok(queues)
+}
+
+/// By thread, the positions of all its steps.
+fn queue_turns(alloc: Global, script: &Script) -> Result<Vec<Vec<usize>>, AllocError>
+    ensures queues { IfOk result (λ queues. AreQueues (is_seated script.now) script.now.steps (items_of queues.items)) }
     ensures seats { IfOk result (λ _. HasSeats script.now) }
 {
     let steps = script.steps();

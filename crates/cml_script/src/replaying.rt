@@ -1,19 +1,20 @@
 //! A script, from the reader's bytes to the report's.
-ghost use Rattle.std.specs.Prelude.{◌≤◌, ◌^◌, IfOk, IfErr, string_bytes};
+ghost use Rattle.std.specs.Prelude.{◌≡◌, ◌≤◌, ◌^◌, IfOk, IfErr, string_bytes};
+ghost use Rattle.cml_grammar.specs.declared.fault.What.TheVariants.{NeedsRun};
+ghost use Rattle.cml_grammar.specs.Faults.{at_line};
 ghost use Rattle.cml_script.specs.Replay.{Replays, IsPlayedOf, EndsUnplayed};
 
 use crate::ending::Ending;
 use crate::perform::{Played, play};
 use crate::read::{Unread, read_all};
-use crate::rings::refuse_rings;
 use crate::writing::write_report;
-use cml_grammar::read_script;
+use cml_grammar::{Fault, What, read_script};
 use std::alloc::{AllocError, Global};
 use std::io::{Read, Write};
 
 /// Replays a script on one thread: it reads the whole script, performs it, always the first step in
-/// text order that is its thread's next and wouldn't wait, and then writes the report. A script with
-/// lanes or feeds isn't performed: what they bring depends on how threads are run.
+/// text order that is its thread's next and wouldn't wait, and then writes the report. Lanes and feeds need threads, so a
+/// script that has one is not performed.
 pub fn replay<R: Read, W: Write>(
     alloc: Global,
     reader: &mut R,
@@ -30,7 +31,18 @@ pub fn replay<R: Read, W: Write>(
     }
 }
 
+/// How it ends where a script has a lane or a feed, the first on this line.
+pub fn needs_run(line: u64) -> Ending
+    ensures { result ≡ Ending.Fault (at_line line NeedsRun) }
+{
+    Ending::Fault(Fault {
+        line,
+        what: What::NeedsRun,
+    })
+}
+
 /// Reads a script and performs it.
+#[tactic(auto, using(crate::proofs::ReplayLemmas::unplayed))]
 fn play_text<R: Read>(alloc: Global, reader: &mut R, limit: u64) -> Result<Played, Ending>
     requires least { 1 ≤ limit }
     requires most { limit ≤ 2 ^ 32 }
@@ -39,7 +51,9 @@ fn play_text<R: Read>(alloc: Global, reader: &mut R, limit: u64) -> Result<Playe
 {
     let text = read_all(alloc, reader)?;
     let script = read_script(alloc, &text)?;
-    refuse_rings(&script)?;
+    if let Some(line) = script.first_ring() {
+        return Err(needs_run(line));
+    }
     let played = play(alloc, &script, limit)?;
     Ok(played)
 }

@@ -1,41 +1,46 @@
 //! The report's lines.
-ghost use Rattle.std.specs.Prelude.{◌≡◌, ◌<◌, ◌++◌, List, [], length, reverse, slice_get, Some, IfOk, OnOk, string_bytes, codes};
+ghost use Rattle.std.specs.Prelude.{◌≡◌, ◌++◌, [], reverse, slice_get, Some, IfOk, OnOk, string_bytes, codes};
+ghost use Rattle.std.specs.Fmt.{decimal};
+ghost use Rattle.cml_board.specs.declared.call.Kind.TheVariants as kind;
+ghost use Rattle.cml_board.specs.History.{kind_of};
 ghost use Rattle.cml_grammar.specs.declared.names.Named.TheVariants as called;
 ghost use Rattle.cml_grammar.specs.Meaning.{names_of};
-ghost use Rattle.cml_grammar.specs.Reading.{IsPortAt, IsVariableAt};
+ghost use Rattle.cml_grammar.specs.Reading.{IsPortAt, IsFeedAt, IsVariableAt};
 ghost use Rattle.cml_script.specs.Audit.{IsOfScript};
 ghost use Rattle.cml_script.specs.Trail.{history_of};
-ghost use Rattle.cml_script.specs.Report.{report, entry_lines, reply_word, line_end, port_line, variable_line, named_line, object_lines_from, end_line};
+ghost use Rattle.cml_script.specs.Report.{report, entry_lines, entry_line, sent_text, reply_word, line_end, port_line, feed_line, owed_or_closed, variable_line, named_line, object_lines_from, end_line};
 
 use crate::scene::Scene;
 use crate::stop::Stop;
+use crate::tally::Tally;
 use crate::trail::Trail;
-use cml_board::{Board, BoardLog, Entry, Reply};
+use cml_board::{Board, BoardLog, Call, Entry, Name, Reply, Who};
 use cml_grammar::{Named, Script};
 use std::alloc::{AllocError, Global};
 
-/// What a report says of a script, its board and how it ended: a line for each step that was performed, in the journal's
-/// order, a line for each object, and the end.
+/// What a report says of a script, its board, what went by lanes and feeds, and how it ended: a line for each entry behind the
+/// declared objects, in the journal's order, a line for each object, and the end.
 pub fn report(
     alloc: Global,
     script: &Script,
     board: &Board<u64, BoardLog<u64>>,
+    tally: &Tally,
     stop: Stop,
 ) -> Result<String, AllocError>
     requires { IsOfScript script.now board.now.history }
-    ensures { IfOk result (λ text. string_bytes text ≡ report script.now board.now.history stop) }
+    ensures { IfOk result (λ text. string_bytes text ≡ report script.now board.now.history tally.now stop) }
 {
     let journal = board.journal();
     let mut report = String::new(alloc);
     let mut trail = Trail::new(alloc, script, journal)?;
     write_entries(&mut report, &mut trail, journal)?;
-    let scene = Scene::new(trail, board);
+    let scene = Scene::new(trail, board, tally);
     write_objects(&mut report, &scene)?;
     write_end(&mut report, &scene, stop)?;
     Ok(report)
 }
 
-/// Follows a script's journal, and adds a line for each entry that performs a step.
+/// Follows a script's journal, and adds a line for each entry behind the declared objects.
 fn write_entries(
     report: &mut String,
     trail: &mut Trail<'_>,
@@ -44,28 +49,56 @@ fn write_entries(
     requires empty { string_bytes report.old ≡ [] }
     requires begins { trail.old.followed ≡ 0 }
     requires journal { trail.old.journal ≡ journal.now }
-    requires own { IsOfScript trail.old.script (reverse journal.now) }
     ensures report { OnOk result (string_bytes report.new ≡ entry_lines trail.old.script (reverse journal.now)) }
     ensures script { OnOk result (trail.new.script ≡ trail.old.script) }
     ensures followed { OnOk result (history_of trail.new ≡ reverse journal.now) }
 {
     for entry in journal {
-        if let Some(line) = trail.line(entry.who) {
-            write_entry(report, line, &entry.reply)?;
+        if trail.has_begun() {
+            write_entry(report, trail, entry)?;
         }
         trail.follow();
     }
     Ok(())
 }
 
-/// Adds the line of a step and its reply.
-fn write_entry(report: &mut String, line: &str, reply: &Reply<u64>) -> Result<(), AllocError>
-    ensures { OnOk result (string_bytes report.new ≡ string_bytes report.old ++ (line.now ++ codes ": " ++ reply_word reply.now ++ line_end)) }
+/// Adds the line of the next entry, what its caller made and the reply.
+fn write_entry(report: &mut String, trail: &Trail<'_>, entry: &Entry<u64>) -> Result<(), AllocError>
+    ensures { OnOk result (string_bytes report.new ≡ string_bytes report.old ++ entry_line trail.now.script (history_of trail.now) entry.now) }
 {
-    report.push_str(line)?;
+    match entry.who {
+        Who::Seat(_) => report.push_str(trail.next_text(entry.who))?,
+        Who::Lane(lane) => write_sent(report, trail, lane, &entry.call)?,
+        Who::Feed(feed) => {
+            let name = trail.feed_name(feed);
+            write!(report, "feed {feed} recv {name}")?;
+        }
+    }
     report.push_str(": ")?;
-    write_reply(report, reply)?;
+    write_reply(report, &entry.reply)?;
     report.push_str("\n")
+}
+
+/// Adds what a lane made.
+fn write_sent(
+    report: &mut String,
+    trail: &Trail<'_>,
+    lane: u64,
+    call: &Call<u64>,
+) -> Result<(), AllocError>
+    ensures { OnOk result (string_bytes report.new ≡ string_bytes report.old ++ (codes "lane " ++ decimal lane ++ sent_text trail.now.script call.now)) }
+{
+    match call {
+        Call::Send(target, message) => {
+            let name = trail.object_name(*target);
+            write!(report, "lane {lane} send {name} {message}")
+        }
+        Call::Cast(target, message) => {
+            let name = trail.object_name(*target);
+            write!(report, "lane {lane} multicast {name} {message}")
+        }
+        _ => write!(report, "lane {lane}"),
+    }
 }
 
 fn write_reply(report: &mut String, reply: &Reply<u64>) -> Result<(), AllocError>
@@ -84,7 +117,7 @@ fn write_reply(report: &mut String, reply: &Reply<u64>) -> Result<(), AllocError
 /// Adds a line for each object, in text order.
 fn write_objects(report: &mut String, scene: &Scene<'_>) -> Result<(), AllocError>
     ensures { OnOk result (string_bytes report.new
-        ≡ string_bytes report.old ++ object_lines_from scene.now.script scene.now.history 0 (names_of scene.now.script)) }
+        ≡ string_bytes report.old ++ object_lines_from scene.now.script scene.now.history scene.now.tally 0 (names_of scene.now.script)) }
 {
     let names = scene.script().names();
     for at in 0..names.len() {
@@ -103,17 +136,16 @@ fn write_object(
 ) -> Result<(), AllocError>
     requires { slice_get (names_of scene.now.script) at ≡ Some (name.now, named) }
     ensures { OnOk result (string_bytes report.new
-        ≡ string_bytes report.old ++ named_line scene.now.script scene.now.history at name.now named) }
+        ≡ string_bytes report.old ++ named_line scene.now.script scene.now.history scene.now.tally at name.now named) }
 {
     match named {
         Named::Thread(_) => Ok(()),
-        // No script with feeds is reported yet.
-        Named::Feed(_) => Ok(()),
         Named::Mailbox => write_mailbox(report, scene, at, name),
         Named::Channel => write_channel(report, scene, at, name),
         Named::Port(_) => write_port(report, scene, at, name),
         Named::IVar => write_variable(report, scene, at, "ivar", name),
         Named::MVar => write_variable(report, scene, at, "mvar", name),
+        Named::Feed(_) => write_feed(report, scene, at, name),
     }
 }
 
@@ -125,7 +157,7 @@ fn write_mailbox(
 ) -> Result<(), AllocError>
     requires { slice_get (names_of scene.now.script) at ≡ Some (name.now, called.Mailbox) }
     ensures { OnOk result (string_bytes report.new
-        ≡ string_bytes report.old ++ named_line scene.now.script scene.now.history at name.now called.Mailbox) }
+        ≡ string_bytes report.old ++ named_line scene.now.script scene.now.history scene.now.tally at name.now called.Mailbox) }
 {
     let Some(object) = scene.object(at) else {
         return writeln!(report, "mailbox {name}: not made");
@@ -148,7 +180,7 @@ fn write_channel(
 ) -> Result<(), AllocError>
     requires { slice_get (names_of scene.now.script) at ≡ Some (name.now, called.Channel) }
     ensures { OnOk result (string_bytes report.new
-        ≡ string_bytes report.old ++ named_line scene.now.script scene.now.history at name.now called.Channel) }
+        ≡ string_bytes report.old ++ named_line scene.now.script scene.now.history scene.now.tally at name.now called.Channel) }
 {
     let Some(object) = scene.object(at) else {
         return writeln!(report, "channel {name}: not made");
@@ -185,6 +217,39 @@ fn write_port(
     }
 }
 
+fn write_feed(
+    report: &mut String,
+    scene: &Scene<'_>,
+    at: usize,
+    name: &str,
+) -> Result<(), AllocError>
+    requires { IsFeedAt (names_of scene.now.script) at }
+    ensures { OnOk result (string_bytes report.new
+        ≡ string_bytes report.old ++ feed_line scene.now.script scene.now.history scene.now.tally at name.now) }
+{
+    let Some(object) = scene.object(at) else {
+        return writeln!(report, "feed {name}: not made");
+    };
+    let board = scene.board();
+    let start = board.start_of(object).unwrap();
+    let got = board.got_count(object).unwrap();
+    let taken = scene.taken(at);
+    write!(report, "feed {name}: start {start} got {got}")?;
+    write_owed(report, scene, object)?;
+    writeln!(report, " taken {taken}")
+}
+
+/// Adds what a port is owed, or that it is closed.
+fn write_owed(report: &mut String, scene: &Scene<'_>, port: Name) -> Result<(), AllocError>
+    requires { kind_of scene.now.history port.0 ≡ Some kind.Port }
+    ensures { OnOk result (string_bytes report.new ≡ string_bytes report.old ++ owed_or_closed scene.now.history port.0) }
+{
+    match scene.board().owed_count(port) {
+        Some(owed) => write!(report, " owed {owed}"),
+        None => report.push_str(" closed"),
+    }
+}
+
 fn write_variable(
     report: &mut String,
     scene: &Scene<'_>,
@@ -207,10 +272,10 @@ fn write_variable(
 
 /// Adds the last line.
 fn write_end(report: &mut String, scene: &Scene<'_>, stop: Stop) -> Result<(), AllocError>
-    ensures { OnOk result (string_bytes report.new ≡ string_bytes report.old ++ end_line scene.now.script scene.now.history stop) }
+    ensures { OnOk result (string_bytes report.new ≡ string_bytes report.old ++ end_line scene.now.script scene.now.history scene.now.tally stop) }
 {
     let performed = scene.performed();
-    let left = scene.left();
+    let left = scene.unperformed();
     match stop {
         Stop::Done => writeln!(report, "end: done {performed}"),
         Stop::Stalled => writeln!(report, "end: stalled {performed} left {left}"),

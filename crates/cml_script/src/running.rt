@@ -1,12 +1,12 @@
 //! A script whose threads are real threads, from the reader's bytes to the report's.
-ghost use Rattle.std.specs.Prelude.{◌≡◌, ◌≤◌, ◌^◌, None, IfOk, IfErr, string_bytes};
-ghost use Rattle.cml_grammar.specs.Rings.{first_ring};
+ghost use Rattle.std.specs.Prelude.{◌≡◌, ◌≤◌, ◌^◌, IfOk, IfErr, string_bytes};
 ghost use Rattle.cml_script.specs.Running.{IsReportOf, IsRunOf, IsRefused, IsUnsettled, EndsUntold, Runs};
 
 mod caller;
 mod crew;
 mod declaring;
 mod gate;
+mod rings;
 mod worker;
 
 use crate::auditing::audit;
@@ -14,8 +14,8 @@ use crate::ending::Ending;
 use crate::perform::Played;
 use crate::read::{Unread, read_all};
 use crate::report::report;
-use crate::rings::refuse_rings;
 use crate::stop::Stop;
+use crate::tally::Tally;
 use crate::verdict::Verdict;
 use crate::writing::write_report;
 pub use caller::{Caller, Seated};
@@ -35,7 +35,6 @@ pub use worker::work;
 
 /// Runs a script: it reads the whole script, performs each of its threads on a thread of the operating system's, all on one
 /// switchboard, audits the journal, and then writes the report. The threads' order is theirs, and so differs from run to run.
-/// A script with lanes or feeds is not run yet.
 pub fn run<I: Read, W: Write, R: Threads + Wait + Sync, G: Gate + Sync>(
     rt: &R,
     alloc: Global,
@@ -69,10 +68,17 @@ fn run_text<I: Read, R: Threads + Wait + Sync, G: Gate + Sync>(
 {
     let text = read_all(alloc, reader)?;
     let script = read_script(alloc, &text)?;
-    refuse_rings(&script)?;
     let blank = Blank::new(PARTS);
-    let (settled, stop) = settle_script::<Brand, R, G>(rt, alloc, &script, limit, gate, blank)?;
-    conclude(alloc, &script, settled.board(), stop)
+    let ran = settle_script::<Brand, R, G>(rt, alloc, &script, limit, gate, blank)?;
+    conclude(alloc, &script, ran.settled.board(), &ran.tally, ran.stop)
+}
+
+/// What a run leaves.
+#[derive(Drop)]
+struct Ran {
+    settled: Settled<u64, BoardLog<u64>>,
+    tally: Tally,
+    stop: Stop,
 }
 
 /// Performs a script on a switchboard of its own, and settles that.
@@ -83,7 +89,7 @@ fn settle_script<Led: Ledger + Send + Sync, R: Threads + Wait + Sync, G: Gate + 
     limit: u64,
     gate: &G,
     blank: Blank,
-) -> Result<(Settled<u64, BoardLog<u64>>, Stop), Ending>
+) -> Result<Ran, Ending>
     requires least { 1 ≤ limit }
     requires most { limit ≤ 2 ^ 32 }
     requires name { blank.name ≡ Led.name }
@@ -94,7 +100,11 @@ fn settle_script<Led: Ledger + Send + Sync, R: Threads + Wait + Sync, G: Gate + 
     let switchboard = Switchboard::<u64, BoardLog<u64>, Led>::new(alloc, limit, blank)?;
     let ended = perform_in_threads(rt, alloc, script, &switchboard, gate)?;
     match switchboard.settle(ended.lefts) {
-        Ok(settled) => Ok((settled, ended.stop)),
+        Ok(settled) => Ok(Ran {
+            settled,
+            tally: ended.tally,
+            stop: ended.stop,
+        }),
         Err((switchboard, _)) => Err(Ending::NotLawful(entries_of(switchboard))),
     }
 }
@@ -104,23 +114,23 @@ fn entries_of<Led: Ledger>(switchboard: Switchboard<u64, BoardLog<u64>, Led>) ->
     switchboard.into_hall().board().journal().len()
 }
 
-/// The report of a script's journal, once it is audited. The script has no lanes and no feeds.
+/// The report of a script's journal, once it is audited.
 pub fn conclude(
     alloc: Global,
     script: &Script,
     board: &Board<u64, BoardLog<u64>>,
+    tally: &Tally,
     stop: Stop,
 ) -> Result<Played, Ending>
-    requires plain { first_ring script.now ≡ None }
     ensures stop { IfOk result (λ played. played.stop ≡ stop) }
-    ensures report { IfOk result (λ played. IsReportOf script.now board.now.history stop (string_bytes played.report)) }
+    ensures report { IfOk result (λ played. IsReportOf script.now board.now.history tally.now stop (string_bytes played.report)) }
     ensures refused { IfErr result (λ ending. IsRefused script.now board.now.history ending) }
 {
     // That no journal has more entries than an audit takes is what the limit's reader tells.
     let _limit = board.limit();
     match audit(alloc, script, board.journal())? {
         Verdict::Lawful => {
-            let report = report(alloc, script, board, stop)?;
+            let report = report(alloc, script, board, tally, stop)?;
             Ok(Played { report, stop })
         }
         Verdict::Unlawful(k) | Verdict::Foreign(k) => Err(Ending::NotLawful(k)),

@@ -1,25 +1,28 @@
 //! What a report tells of.
-ghost use Rattle.std.specs.Prelude.{◌≡◌, Some, None, MatchOption, IfSome};
+ghost use Rattle.std.specs.Prelude.{◌≡◌, Some, None, reverse, MatchOption, IfSome};
 ghost use Rattle.cml_board.specs.declared.call.Kind.{Kind};
 ghost use Rattle.cml_board.specs.History.{Lawful, kind_of};
 ghost use Rattle.cml_grammar.specs.Meaning.{names_of};
-ghost use Rattle.cml_script.specs.Schedule.{left, made_of};
-ghost use Rattle.cml_script.specs.Report.{performed_count};
+ghost use Rattle.cml_script.specs.Counting.{how_many};
+ghost use Rattle.cml_script.specs.Schedule.{made_of};
+ghost use Rattle.cml_script.specs.Report.{performed_count, unperformed, taken_by, is_of_thread, is_step_entry};
 ghost use Rattle.cml_script.specs.Plan.{IsObject, IsObjectAt};
 ghost use Rattle.cml_script.specs.Audit.{IsOfScript};
 ghost use Rattle.cml_script.specs.Trail.{history_of};
 
 use crate::plan::count_objects;
+use crate::tally::Tally;
 use crate::trail::Trail;
-use cml_board::{Board, BoardLog, Name};
+use cml_board::{Board, BoardLog, Entry, Name, Who};
 use cml_grammar::Script;
 use std::marker::Model;
 
-/// A script whose journal was followed to its end, and the board that keeps it.
+/// A script whose journal was followed to its end, the board that keeps it, and what went by lanes and feeds.
 #[derive(Drop)]
 pub struct Scene<'a> {
     trail: Trail<'a>,
     board: &'a Board<u64, BoardLog<u64>>,
+    tally: &'a Tally,
 }
 
 impl<'a> Model for Scene<'a> {
@@ -27,21 +30,30 @@ impl<'a> Model for Scene<'a> {
 
     ghost Value = { Told };
 
-    ghost view = { λ s. record { script = s.trail.script; history = s.board.now.history } };
+    ghost view = { λ s. record { script = s.trail.script; history = s.board.now.history; tally = s.tally.now } };
 
     ghost invariant = { λ s. IsTold s.trail s.board.now.history };
 }
 
 impl<'a> Scene<'a> {
-    pub fn new(trail: Trail<'a>, board: &'a Board<u64, BoardLog<u64>>) -> Scene<'a>
+    pub fn new(
+        trail: Trail<'a>,
+        board: &'a Board<u64, BoardLog<u64>>,
+        tally: &'a Tally,
+    ) -> Scene<'a>
         requires followed { history_of trail ≡ board.now.history }
         requires own { IsOfScript trail.script board.now.history }
         ensures script { result.script ≡ trail.entry.script }
         ensures history { result.history ≡ board.now.history }
+        ensures tally { result.tally ≡ tally.now }
     {
         // That the history is lawful is what the journal's reader tells.
         let _journal = board.journal();
-        Scene { trail, board }
+        Scene {
+            trail,
+            board,
+            tally,
+        }
     }
 
     pub fn board(&self) -> &'a Board<u64, BoardLog<u64>>
@@ -67,11 +79,25 @@ impl<'a> Scene<'a> {
             .saturating_sub(count_objects(self.script()))
     }
 
-    /// How many steps are left.
-    pub fn left(&self) -> usize
-        ensures { result ≡ left self.now.script self.now.history }
+    /// How many steps were not performed.
+    pub fn unperformed(&self) -> usize
+        ensures { result ≡ unperformed self.now.script self.now.history self.now.tally }
     {
-        self.script().steps().len().saturating_sub(self.performed())
+        let called = count_calls(self.board.journal());
+        let tally = self.tally;
+        let rest = self.script().steps().len().saturating_sub(called);
+        rest.saturating_sub(tally.apart)
+    }
+
+    /// How many messages the thread of the feed with this name took.
+    pub fn taken(&self, at: usize) -> u64
+        ensures { result ≡ taken_by self.now.script self.now.tally at }
+    {
+        let tally = self.tally;
+        match self.trail.feed(at) {
+            Some(feed) => tally.taken.get(feed).copied().unwrap_or(0),
+            None => 0,
+        }
     }
 
     /// The object that was made for a name.
@@ -81,5 +107,26 @@ impl<'a> Scene<'a> {
         ensures kind { IfSome result (λ name. (k : Kind) → IsObjectAt (names_of self.now.script) at k → kind_of self.now.history name.0 ≡ Some k) }
     {
         self.trail.made(at)
+    }
+}
+
+/// How many entries are steps that threads' seats made.
+fn count_calls(journal: &[Entry<u64>]) -> usize
+    ensures { result ≡ how_many is_step_entry (reverse journal.now) }
+{
+    let mut calls = 0;
+    for entry in journal {
+        calls += usize::from(is_of_thread(entry.who));
+    }
+    calls
+}
+
+/// Whether it is the seat of a thread: seat 0 makes only declared objects.
+fn is_of_thread(who: Who) -> bool
+    ensures { result ≡ is_of_thread who }
+{
+    match who {
+        Who::Seat(seat) => seat != 0,
+        Who::Lane(_) | Who::Feed(_) => false,
     }
 }

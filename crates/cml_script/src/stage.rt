@@ -1,11 +1,12 @@
 //! A script under way on a board.
-ghost use Rattle.std.specs.Prelude.{◌≡◌, ◌≢◌, ◌↔◌, ℕ, ◌+◌, ◌-◌, ◌<◌, ◌≤◌, ◌^◌, List, [], ◌∷◌, length, slice_get, Some, None, IfOk, OnOk, OnErr, MatchOption, MatchBool, IsTrue, IfSome, IsSome};
+ghost use Rattle.std.specs.Prelude.{◌≡◌, ◌≢◌, ◌↔◌, ℕ, ◌+◌, ◌-◌, ◌<◌, ◌≤◌, ◌^◌, List, [], ◌∷◌, length, slice_get, false, Some, None, IfOk, OnOk, OnErr, MatchOption, MatchBool, IsTrue, IfSome, IsSome};
 ghost use Rattle.cml_board.specs.History.{no_entries, entries_in, Fits, Lawful, kind_of};
 ghost use Rattle.cml_board.specs.declared.call.Kind.{Kind};
 ghost use Rattle.cml_board.specs.declared.entry.Reply.{Reply};
 ghost use Rattle.cml_board.specs.declared.entry.Entry.{Entry};
 ghost use Rattle.cml_grammar.specs.Meaning.{names_of};
 ghost use Rattle.cml_grammar.specs.Reading.{UsesWell, used_by};
+ghost use Rattle.cml_grammar.specs.Rings.{first_ring, makes_feed};
 ghost use Rattle.cml_script.specs.Schedule.{NoneReady, Follows, left, declared_count, makes_object, declared_object, object_of, made_of, next_position, call_of, step_call};
 ghost use Rattle.cml_script.specs.Report.{performed_count};
 ghost use Rattle.cml_script.specs.Counting.{one_if};
@@ -20,7 +21,7 @@ use cml_grammar::{Action, Makes, Script};
 use std::alloc::{AllocError, Global};
 use std::marker::Model;
 
-/// A script under way: its board, and how far each of its threads is.
+/// A script without rings under way: its board, and how far each of its threads is.
 #[derive(Drop)]
 pub struct Stage<'a> {
     plan: Plan<'a>,
@@ -46,6 +47,7 @@ impl<'a> Stage<'a> {
     pub fn new(alloc: Global, script: &'a Script, limit: u64) -> Result<Stage<'a>, AllocError>
         requires least { 1 ≤ limit }
         requires most { limit ≤ 2 ^ 32 }
+        requires plain { first_ring script.now ≡ None }
         ensures { IfOk result (λ stage. stage ≡ record { script = script.now; history = no_entries; limit = limit }) }
     {
         let plan = Plan::new(alloc, script)?;
@@ -104,7 +106,8 @@ impl<'a> Stage<'a> {
 
     /// Makes what the next declaration makes, and answers false where the journal is full.
     fn declare_next(&mut self, makes: Makes) -> Result<bool, AllocError>
-        requires { IsNext self.old makes }
+        requires next { IsNext self.old makes }
+        requires plain { makes_feed makes ≡ false }
         ensures script { self.new.script ≡ self.old.script }
         ensures limit { self.new.limit ≡ self.old.limit }
         ensures made { IfOk result (λ made. MatchBool made
@@ -119,7 +122,8 @@ impl<'a> Stage<'a> {
             Makes::MVar => self.make(Call::NewMVar),
             Makes::MVarInit(message) => self.make(Call::MVarInit(message)),
             Makes::Port(channel) => self.make(Call::NewPort(self.declared_object(channel))),
-            Makes::Feed(feed) => self.make(Call::NewPort(self.declared_object(feed.channel))),
+            // The script has no rings.
+            Makes::Feed(_) => unreachable!(),
         }
     }
 

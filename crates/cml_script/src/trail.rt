@@ -1,16 +1,19 @@
 //! How far the threads of a script are in a journal.
-ghost use Rattle.std.specs.Prelude.{◌≡◌, ◌↔◌, ℕ, ◌<◌, ◌≤◌, Some, None, length, IfOk, IsTrue, MatchOption};
-ghost use Rattle.std.specs.Option.{option_map};
+ghost use Rattle.std.specs.Prelude.{◌≡◌, ◌↔◌, ℕ, ◌<◌, ◌≤◌, Some, None, length, filter, slice_get, IfOk, IfSome, IsTrue, MatchOption};
+ghost use Rattle.std.specs.Option.{option_map, option_and_then};
+ghost use Rattle.cml_board.specs.History.{entries_in};
 ghost use Rattle.cml_grammar.specs.Meaning.{names_of};
-ghost use Rattle.cml_script.specs.Schedule.{is_seat, declared_object, object_of, made_of, making_call, next_position};
+ghost use Rattle.cml_script.specs.Schedule.{declared_count, declared_object, object_of, made_of, making_call, maker, next_position, objects_of, is_feed, feed_at, IsDeclaration};
 ghost use Rattle.cml_script.specs.Plan.{IsKnown, IsObject};
-ghost use Rattle.cml_script.specs.Audit.{IsOwn};
+ghost use Rattle.cml_script.specs.Audit.{IsOwn, IsOfCaller, IsOfLane, IsOfFeed, sent_to};
 ghost use Rattle.cml_script.specs.Makes.{IsMadeOfDeclared};
-ghost use Rattle.cml_script.specs.Trail.{history_of, with_next, HasNoLine, IsNextLine, IsThread, IsNoThread, AreSmallCounts, CountsOneMore, next_given, next_call, own_call};
+ghost use Rattle.cml_script.specs.Report.{given_word};
+ghost use Rattle.cml_script.specs.Trail.{history_of, with_next, next_text, IsThread, IsNoThread, AreSmallCounts, CountsOneMore, next_given, next_call, declared_call};
 
 use crate::binding::{Binding, bind};
 use crate::calls::{call_on, used_by};
-use crate::plan::{Plan, THREADS, list_makes};
+use crate::objects::Objects;
+use crate::plan::{Plan, THREADS};
 use cml_board::{Call, Entry, Name, Who};
 use cml_grammar::{Makes, Script};
 use std::alloc::{AllocError, Global};
@@ -22,8 +25,7 @@ pub struct Trail<'a> {
     plan: Plan<'a>,
     journal: &'a [Entry<u64>],
     followed: usize,
-    // By object, what its declaration makes.
-    makes: Vec<Makes>,
+    objects: Objects,
     // By thread, how many calls it made.
     counts: Vec<usize>,
     // By name, what a step gave it.
@@ -37,7 +39,7 @@ impl<'a> Model for Trail<'a> {
 
     ghost view = { λ t. record { script = t.plan; journal = t.journal.now; followed = t.followed } };
 
-    ghost invariant = { λ t. IsFollowed (record { script = t.plan; journal = t.journal.now; followed = t.followed }) t.makes.items t.counts.items t.bindings.items };
+    ghost invariant = { λ t. IsFollowed (record { script = t.plan; journal = t.journal.now; followed = t.followed }) t.objects t.counts.items t.bindings.items };
 }
 
 impl<'a> Trail<'a> {
@@ -50,14 +52,14 @@ impl<'a> Trail<'a> {
         ensures { IfOk result (λ trail. trail ≡ record { script = script.now; journal = journal.now; followed = 0 }) }
     {
         let plan = Plan::new(alloc, script)?;
-        let makes = list_makes(alloc, script)?;
+        let objects = Objects::new(alloc, &plan)?;
         let counts = vec![in alloc; 0; THREADS]?;
         let bindings = plan.unbound(alloc)?;
         Ok(Trail {
             plan,
             journal,
             followed: 0,
-            makes,
+            objects,
             counts,
             bindings,
         })
@@ -69,15 +71,42 @@ impl<'a> Trail<'a> {
         self.plan.script()
     }
 
-    /// The line of the step that the caller's next entry performs, once all declared objects are made.
-    pub fn line(&self, who: Who) -> Option<&'a str>
-        ensures { MatchOption result (HasNoLine self.now.script (history_of self.now) who) (λ line. IsNextLine self.now.script (history_of self.now) who line.now) }
+    /// Whether all declared objects are made.
+    pub fn has_begun(&self) -> bool
+        ensures { IsTrue result ↔ (declared_count self.now.script ≤ entries_in (history_of self.now)) }
     {
-        if self.followed < self.makes.len() {
-            return None;
+        self.followed >= self.objects.makes.len()
+    }
+
+    /// The line of the step that the caller's next entry performs, or nothing where no step is left.
+    pub fn next_text(&self, who: Who) -> &'a str
+        ensures { result.now ≡ next_text self.now.script (history_of self.now) who }
+    {
+        match self.next_step(who) {
+            Some(step) => self.plan.script().steps()[step].line.text.as_str(),
+            None => "",
         }
-        let step = self.next_step(who)?;
-        Some(self.plan.script().steps()[step].line.text.as_str())
+    }
+
+    /// The name of a declared object, or nothing where none has this number.
+    pub fn object_name(&self, object: Name) -> &'a str
+        ensures { result.now ≡ given_word (slice_get (objects_of self.now.script) object.0) }
+    {
+        declared_name(self.plan.script(), self.objects.place(object.0))
+    }
+
+    /// The name of a feed, or nothing where none has this number.
+    pub fn feed_name(&self, feed: u64) -> &'a str
+        ensures { result.now ≡ given_word (slice_get (filter (is_feed self.now.script) self.now.script.declarations) feed) }
+    {
+        declared_name(self.plan.script(), self.objects.feed_place(feed))
+    }
+
+    /// The number of the feed that the name at this position is, if it is one.
+    pub fn feed(&self, at: usize) -> Option<usize>
+        ensures { result ≡ feed_at self.now.script at }
+    {
+        self.plan.feed(at)
     }
 
     /// The object that was made for a name.
@@ -96,8 +125,58 @@ impl<'a> Trail<'a> {
     pub fn is_own(&self, entry: &Entry<u64>) -> bool
         ensures { IsTrue result ↔ IsOwn self.now.script (history_of self.now) entry.now }
     {
-        match self.own_call(entry.who) {
-            Some(call) => call.same(&entry.call),
+        if self.has_begun() {
+            return self.is_of_caller(entry);
+        }
+        self.is_declaration(entry)
+    }
+
+    /// Whether the entry makes the next declared object.
+    fn is_declaration(&self, entry: &Entry<u64>) -> bool
+        requires { entries_in (history_of self.now) < declared_count self.now.script }
+        ensures { IsTrue result ↔ IsDeclaration self.now.script (history_of self.now) entry.now }
+    {
+        if !self.is_maker(entry.who) {
+            return false;
+        }
+        is_call(self.declared_call(), &entry.call)
+    }
+
+    /// Whether this caller makes the next declared object.
+    fn is_maker(&self, who: Who) -> bool
+        requires { entries_in (history_of self.now) < declared_count self.now.script }
+        ensures { IsTrue result ↔ (who ≡ maker self.now.script (entries_in (history_of self.now))) }
+    {
+        who == self.objects.makers[self.followed]
+    }
+
+    /// Whether its caller may have this entry behind the declared objects.
+    fn is_of_caller(&self, entry: &Entry<u64>) -> bool
+        ensures { IsTrue result ↔ IsOfCaller self.now.script (history_of self.now) entry.now entry.now.who }
+    {
+        match entry.who {
+            Who::Seat(_) => is_call(self.next_call(entry.who), &entry.call),
+            Who::Lane(_) => self.is_of_lane(&entry.call),
+            Who::Feed(feed) => self.is_of_feed(feed, &entry.call),
+        }
+    }
+
+    /// Whether a lane may make this call.
+    fn is_of_lane(&self, call: &Call<u64>) -> bool
+        ensures { IsTrue result ↔ IsOfLane self.now.script call.now }
+    {
+        match sent_to(call) {
+            Some(object) => self.objects.is_laid(object.0),
+            None => false,
+        }
+    }
+
+    /// Whether this feed may make this call.
+    fn is_of_feed(&self, feed: u64, call: &Call<u64>) -> bool
+        ensures { IsTrue result ↔ IsOfFeed self.now.script feed call.now }
+    {
+        match self.objects.feed_place(feed) {
+            Some(at) => call.same(&Call::Recv(self.plan.number(at))),
             None => false,
         }
     }
@@ -114,17 +193,12 @@ impl<'a> Trail<'a> {
         self.followed += 1;
     }
 
-    /// The call that the script has next for the caller.
-    fn own_call(&self, who: Who) -> Option<Call<u64>>
-        ensures { result ≡ own_call self.now.script (history_of self.now) who }
+    /// The call that makes the next declared object.
+    fn declared_call(&self) -> Option<Call<u64>>
+        requires { entries_in (history_of self.now) < declared_count self.now.script }
+        ensures { result ≡ declared_call self.now.script (history_of self.now) }
     {
-        if self.followed >= self.makes.len() {
-            return self.next_call(who);
-        }
-        if !is_first(who) {
-            return None;
-        }
-        self.making_call(self.makes[self.followed])
+        self.making_call(self.objects.makes[self.followed])
     }
 
     /// The call that makes this.
@@ -186,13 +260,37 @@ impl<'a> Trail<'a> {
     }
 }
 
-/// Whether it is seat 0, which makes the declared objects.
-fn is_first(who: Who) -> bool
-    ensures { result ≡ is_seat 0 who }
+/// Whether the call is the one that is wanted.
+fn is_call(wanted: Option<Call<u64>>, call: &Call<u64>) -> bool
+    ensures { IsTrue result ↔ (wanted ≡ Some call.now) }
 {
-    match who {
-        Who::Seat(seat) => seat == 0,
-        Who::Lane(_) | Who::Feed(_) => false,
+    match wanted {
+        Some(wanted) => wanted.same(call),
+        None => false,
+    }
+}
+
+/// The object that a send or a multicast goes to.
+fn sent_to(call: &Call<u64>) -> Option<Name>
+    ensures { result ≡ option_map (λ o. record { 0 = o }) (sent_to call.now) }
+{
+    match call {
+        Call::Send(target, _) | Call::Cast(target, _) => Some(*target),
+        _ => None,
+    }
+}
+
+/// The name that the declaration at this position gives, or nothing for no position.
+fn declared_name(script: &Script, at: Option<usize>) -> &str
+    requires { IfSome at (λ at. at < length script.now.declarations) }
+    ensures { result.now ≡ given_word (option_and_then (slice_get script.now.declarations) at) }
+{
+    match at {
+        Some(at) => {
+            let (name, _) = script.names().get_index(at).unwrap();
+            name.as_str()
+        }
+        None => "",
     }
 }
 

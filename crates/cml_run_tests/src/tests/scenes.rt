@@ -5,7 +5,7 @@ use super::hold::Hold;
 use super::{LIMIT, TWO_SEND};
 use cml_board::{Board, BoardLog, Call, Entry, Name, Refusal, Who};
 use cml_script::{
-    Ended, Ending, Fault, OpenGate, Plan, Script, Seated, Stop, conclude, declare,
+    Ended, Ending, Fault, OpenGate, Plan, Script, Seated, Stop, Tally, conclude, declare,
     perform_in_threads, read_script, work,
 };
 use cml_threads::{Left, PARTS, Seat, Switchboard};
@@ -91,9 +91,9 @@ fn one_after_the_other<Led: Ledger, R: Wait>(
 ) -> Result<&'static str, Trouble> {
     let plan = Plan::new(alloc, script)?;
     let gate = Hold::new(Some(0));
-    let mut maker = Seated::new(rt, board, board.seat(rt)?);
+    let mut maker = Seated::new(alloc, rt, board, board.seat(rt)?);
     declare(&plan, &mut maker)?;
-    let mut first = Seated::new(rt, board, board.seat(rt)?);
+    let mut first = Seated::new(alloc, rt, board, board.seat(rt)?);
     let stop = work(alloc, &plan, 0, &gate, &mut first)?;
     if stop == Stop::Held {
         Ok("held")
@@ -144,14 +144,11 @@ fn entries_of(journal: &[Entry<u64>], seat: u64) -> u64 {
 }
 
 fn foreign(alloc: Global, script: &Script) -> Result<&'static str, Trouble> {
-    if script.first_ring().is_some() {
-        return Ok("needs a run");
-    }
     let mut board: Board<u64, BoardLog<u64>> = Board::new(alloc, LIMIT)?;
     board.apply(Who::Seat(0), Call::NewMailbox);
     board.apply(Who::Seat(1), Call::Send(Name(0), 5));
     board.apply(Who::Seat(1), Call::Send(Name(0), 5));
-    match conclude(alloc, script, &board, Stop::Done) {
+    match conclude(alloc, script, &board, &Tally::no_rings(alloc), Stop::Done) {
         Err(Ending::NotLawful(2)) => Ok("not lawful at 2"),
         Err(_) => Ok("another ending"),
         Ok(_) => Ok("told"),

@@ -1,41 +1,75 @@
 //! Who makes a thread's calls.
-ghost use Rattle.std.specs.Prelude.{◌≡◌, ◌∷◌, Bool, true, Option, Some, None, IfOk, OnErr};
+ghost use Rattle.std.specs.Prelude.{◌≡◌, Bool, true, Option, Some, None, IfOk, OnOk, OnErr};
 ghost use Rattle.std.specs.Option.{option_map};
 ghost use Rattle.cml_threads.specs.Telling.{suits};
-ghost use Rattle.cml_script.specs.Working.{Calls};
+ghost use Rattle.cml_grammar.specs.Reading.{IsCapacity};
+ghost use Rattle.cml_script.specs.Working.{Made, with_call, with_feed};
 
-use cml_board::{Answer, BoardLog, Call, Refusal};
+use super::rings::{Rings, Subscription};
+use cml_board::{Answer, BoardLog, Call, Name, Refusal};
 use cml_threads::{Left, Seat, Switchboard};
+use std::alloc::{AllocError, Global};
 use std::sync::Wait;
 use std::sync::ledger::Ledger;
 
-/// Who makes the calls of one thread, and is asked no more once a call was refused.
+/// Who makes the calls of one thread, and is asked no more once one was refused.
 pub trait Caller {
-    /// The calls that were answered, with their replies, newest first, where it tells them.
-    ghost made: { Self → Option Calls };
+    /// Its seat, and the entries that it made in the journal, newest first, where it tells them. What goes by its lanes, and
+    /// what its feeds receive, are no entries of its own.
+    ghost made: { Self → Option Made };
 
-    /// Whether no call was refused.
+    /// Whether nothing was refused.
     ghost goes_on: { Self → Bool };
 
+    /// Makes a call of its seat.
     fn call(&mut self, call: Call<u64>) -> Result<Answer<u64>, Refusal>
         requires { goes_on self.old ≡ true }
         ensures goes_on { IfOk result (λ _. goes_on self.new ≡ true) }
         ensures call { IfOk result (λ answer. answer.call ≡ call) }
         ensures reply { IfOk result (λ answer. suits call answer.reply ≡ true) }
-        ensures made { IfOk result (λ answer. made self.new ≡ option_map (λ calls. (call, answer.reply) ∷ calls) (made self.old)) }
+        ensures made { IfOk result (λ answer. made self.new ≡ option_map (with_call call answer.reply) (made self.old)) }
         ensures refused { OnErr result (made self.new ≡ made self.old) };
+
+    /// Opens a feed from a channel, and tells its port.
+    fn open_feed(&mut self, channel: Name, capacity: usize) -> Result<Name, Refusal>
+        requires goes_on { goes_on self.old ≡ true }
+        requires capacity { IsCapacity capacity }
+        ensures goes_on { IfOk result (λ _. goes_on self.new ≡ true) }
+        ensures made { IfOk result (λ port. made self.new ≡ option_map (with_feed channel port) (made self.old)) }
+        ensures refused { OnErr result (made self.new ≡ made self.old) };
+
+    /// Sends a message by a lane to this object, which has room for so many.
+    fn send_apart(&mut self, target: Name, capacity: usize, message: u64) -> Result<(), Refusal>
+        requires goes_on { goes_on self.old ≡ true }
+        requires capacity { IsCapacity capacity }
+        ensures goes_on { OnOk result (goes_on self.new ≡ true) }
+        ensures made { made self.new ≡ made self.old };
+
+    /// Polls its feed of this number.
+    fn poll_apart(&mut self, feed: usize) -> Result<(), Refusal>
+        requires { goes_on self.old ≡ true }
+        ensures goes_on { OnOk result (goes_on self.new ≡ true) }
+        ensures made { made self.new ≡ made self.old };
+
+    /// Closes all lanes that it has open.
+    fn close_lanes(&mut self) -> Result<(), Refusal>
+        requires { goes_on self.old ≡ true }
+        ensures goes_on { OnOk result (goes_on self.new ≡ true) }
+        ensures made { made self.new ≡ made self.old };
 }
 
-/// A thread of a switchboard: what it was answered stands in the journal, and only there.
+/// A thread of a switchboard, with its lanes and feeds: what it was answered stands in the journal, and only there.
 #[derive(Drop)]
 pub struct Seated<'a, Led: Ledger, R: Wait> {
     rt: &'a R,
     switchboard: &'a Switchboard<u64, BoardLog<u64>, Led>,
     seat: Seat<Led>,
+    rings: Rings,
 }
 
 impl<'a, Led: Ledger, R: Wait> Seated<'a, Led, R> {
     pub fn new(
+        alloc: Global,
         rt: &'a R,
         switchboard: &'a Switchboard<u64, BoardLog<u64>, Led>,
         seat: Seat<Led>,
@@ -44,14 +78,33 @@ impl<'a, Led: Ledger, R: Wait> Seated<'a, Led, R> {
             rt,
             switchboard,
             seat,
+            rings: Rings::new(alloc),
         }
     }
 
-    /// Leaves the seat, so that nobody waits for it.
-    pub fn leave(self) -> Left<Led>
-        ensures { result ≡ self.entry.seat }
+    /// Leaves the seat, so that nobody waits for it. Before that its lanes that are open are abandoned and its feeds ended:
+    /// what is left in the feeds' rings it takes.
+    pub fn leave(self) -> (Left<Led>, Rings)
+        ensures { result.0 ≡ self.entry.seat }
     {
-        self.switchboard.leave(self.rt, self.seat)
+        let Seated {
+            rt,
+            switchboard,
+            seat,
+            rings,
+        } = self;
+        let rings = rings.end(rt, switchboard);
+        (switchboard.leave(rt, seat), rings)
+    }
+
+    /// Hands out the feeds that it opened, in that order.
+    pub(super) fn hand_feeds(&mut self, alloc: Global) -> Vec<Subscription> {
+        self.rings.hand_feeds(alloc)
+    }
+
+    /// Takes over a feed that another opened.
+    pub(super) fn take_feed(&mut self, feed: Subscription) -> Result<(), AllocError> {
+        self.rings.take_feed(feed)
     }
 }
 
@@ -65,5 +118,23 @@ impl<'a, Led: Ledger, R: Wait> Caller for Seated<'a, Led, R> {
             Ok(answer) => Ok(answer),
             Err((refusal, _)) => Err(refusal),
         }
+    }
+
+    fn open_feed(&mut self, channel: Name, capacity: usize) -> Result<Name, Refusal> {
+        self.rings
+            .open_feed(self.rt, self.switchboard, channel, capacity)
+    }
+
+    fn send_apart(&mut self, target: Name, capacity: usize, message: u64) -> Result<(), Refusal> {
+        self.rings
+            .send(self.rt, self.switchboard, target, capacity, message)
+    }
+
+    fn poll_apart(&mut self, feed: usize) -> Result<(), Refusal> {
+        self.rings.poll(self.rt, self.switchboard, feed as u64)
+    }
+
+    fn close_lanes(&mut self) -> Result<(), Refusal> {
+        self.rings.close_lanes(self.rt, self.switchboard)
     }
 }

@@ -1,16 +1,17 @@
 //! The threads of a script.
 ghost use Rattle.std.specs.Prelude.{◌≡◌, ◌+◌, ◌<◌, ◌≤◌, length, vec_len, vec_capacity, IfOk};
-ghost use Rattle.cml_script.specs.Working.{first_of};
 
 use super::caller::Seated;
 use super::declaring::declare;
 use super::gate::Gate;
-use super::worker::{stop_of, work};
+use super::rings::{Rings, Subscription};
+use super::worker::{first_of, stop_of, work};
 use crate::plan::{Plan, THREADS};
 use crate::stop::Stop;
+use crate::tally::Tally;
 use cml_board::BoardLog;
 use cml_grammar::{Makes, Script};
-use cml_threads::{Left, Seat, Switchboard};
+use cml_threads::{Left, Switchboard};
 use std::alloc::{AllocError, Global};
 use std::sync::Wait;
 use std::sync::atomic::{AtomicBool, Ordering};
@@ -18,11 +19,12 @@ use std::sync::ledger::Ledger;
 use std::thread;
 use std::thread::{JoinHandle, Threads};
 
-/// What is left of the threads of a script: what `settle` needs, and how they ended.
+/// What is left of the threads of a script: what `settle` needs, what went by their lanes and feeds, and how they ended.
 #[derive(Drop)]
 pub struct Ended<Led: Ledger> {
     /// Of the seat that made the declared objects, and of each thread's.
     pub lefts: Vec<Left<Led>>,
+    pub tally: Tally,
     pub stop: Stop,
 }
 
@@ -30,6 +32,7 @@ pub struct Ended<Led: Ledger> {
 #[derive(Drop)]
 struct Worked<Led: Ledger> {
     left: Left<Led>,
+    rings: Rings,
     stop: Result<Stop, AllocError>,
 }
 
@@ -44,48 +47,51 @@ pub fn perform_in_threads<Led: Ledger + Send + Sync, R: Threads + Wait + Sync, G
     gate: &G,
 ) -> Result<Ended<Led>, AllocError> {
     let plan = Plan::new(alloc, script)?;
-    let first = take_seat(rt, switchboard)?;
-    let seats = take_seats(rt, alloc, switchboard, count_threads(script))?;
-    let mut maker = Seated::new(rt, switchboard, first);
+    let mut maker = take_seat(rt, alloc, switchboard)?;
+    let mut crew = take_seats(rt, alloc, switchboard, count_threads(script))?;
     let declared = declare(&plan, &mut maker);
-    let first = maker.leave();
+    let feeds = maker.hand_feeds(alloc);
+    let tally = Tally::new(alloc, feeds.len())?;
+    deal(script, feeds, &mut crew)?;
+    let (first, _) = maker.leave();
     match declared {
         Ok(()) => {
-            let ended = start(rt, alloc, &plan, switchboard, gate, seats)?;
-            gather(alloc, first, Ok(Stop::Done), ended)
+            let ended = start(rt, alloc, &plan, gate, crew)?;
+            gather(alloc, first, tally, Ok(Stop::Done), ended)
         }
         Err(refusal) => {
-            let ended = leave_all(rt, alloc, switchboard, seats)?;
-            gather(alloc, first, stop_of(refusal), ended)
+            let ended = leave_all(alloc, crew)?;
+            gather(alloc, first, tally, stop_of(refusal), ended)
         }
     }
 }
 
-fn take_seat<Led: Ledger, R: Wait>(
-    rt: &R,
-    switchboard: &Switchboard<u64, BoardLog<u64>, Led>,
-) -> Result<Seat<Led>, AllocError> {
+fn take_seat<'a, Led: Ledger, R: Wait>(
+    rt: &'a R,
+    alloc: Global,
+    switchboard: &'a Switchboard<u64, BoardLog<u64>, Led>,
+) -> Result<Seated<'a, Led, R>, AllocError> {
     match switchboard.seat(rt) {
-        Ok(seat) => Ok(seat),
+        Ok(seat) => Ok(Seated::new(alloc, rt, switchboard, seat)),
         Err(_) => Err(AllocError),
     }
 }
 
 /// A seat for each thread, in their order.
-fn take_seats<Led: Ledger, R: Wait>(
-    rt: &R,
+fn take_seats<'a, Led: Ledger, R: Wait>(
+    rt: &'a R,
     alloc: Global,
-    switchboard: &Switchboard<u64, BoardLog<u64>, Led>,
+    switchboard: &'a Switchboard<u64, BoardLog<u64>, Led>,
     threads: usize,
-) -> Result<Vec<Seat<Led>>, AllocError>
+) -> Result<Vec<Seated<'a, Led, R>>, AllocError>
     requires { threads ≤ 64 }
-    ensures { IfOk result (λ seats. vec_len seats ≤ 64) }
+    ensures { IfOk result (λ crew. vec_len crew ≤ 64) }
 {
-    let mut seats = Vec::with_capacity(alloc, threads)?;
+    let mut crew = Vec::with_capacity(alloc, threads)?;
     for _ in 0..threads {
-        seats.push_reserved(take_seat(rt, switchboard)?);
+        crew.push_reserved(take_seat(rt, alloc, switchboard)?);
     }
-    Ok(seats)
+    Ok(crew)
 }
 
 /// How many threads a script has.
@@ -100,37 +106,54 @@ fn count_threads(script: &Script) -> usize
     threads.min(THREADS)
 }
 
+/// Hands each thread its feeds, which were opened in text order.
+fn deal<Led: Ledger, R: Wait>(
+    script: &Script,
+    feeds: Vec<Subscription>,
+    crew: &mut [Seated<'_, Led, R>],
+) -> Result<(), AllocError> {
+    let mut feeds = feeds.into_iter();
+    for declaration in script.declarations() {
+        if let Makes::Feed(making) = declaration.makes {
+            let Some(feed) = feeds.next() else {
+                return Ok(());
+            };
+            if let Some(member) = crew.get_mut((making.seat as usize).saturating_sub(1)) {
+                member.take_feed(feed)?;
+            }
+        }
+    }
+    Ok(())
+}
+
 /// Starts a thread for each seat, and joins them all. What is needed for them is reserved before the first is started, so
 /// that none is lost.
 fn start<Led: Ledger + Send + Sync, R: Threads + Wait + Sync, G: Gate + Sync>(
     rt: &R,
     alloc: Global,
     plan: &Plan<'_>,
-    switchboard: &Switchboard<u64, BoardLog<u64>, Led>,
     gate: &G,
-    seats: Vec<Seat<Led>>,
+    crew: Vec<Seated<'_, Led, R>>,
 ) -> Result<Vec<Worked<Led>>, AllocError>
-    requires { vec_len seats ≤ 64 }
+    requires { vec_len crew ≤ 64 }
 {
-    let started = flags(alloc, seats.len())?;
-    let running = Vec::with_capacity(alloc, seats.len())?;
-    let ended = Vec::with_capacity(alloc, seats.len())?;
+    let started = flags(alloc, crew.len())?;
+    let running = Vec::with_capacity(alloc, crew.len())?;
+    let ended = Vec::with_capacity(alloc, crew.len())?;
     let flags = started.as_slice();
     Ok(thread::scope(
         thread::scope_env(),
         rt,
         move |scope| -> Vec<Worked<Led>>
-            requires all { (vec_len seats ≤ 64) × (vec_len seats ≡ length flags.now) }
+            requires all { (vec_len crew ≤ 64) × (vec_len crew ≡ length flags.now) }
             requires none { (vec_len running ≡ 0) × (vec_len ended ≡ 0) }
-            requires room { (vec_len seats ≤ vec_capacity running) × (vec_len seats ≤ vec_capacity ended) }
+            requires room { (vec_len crew ≤ vec_capacity running) × (vec_len crew ≤ vec_capacity ended) }
         {
-            let (mut seats, mut running, mut ended) = (seats, running, ended);
-            while let Some(seat) = seats.pop() {
-                let thread = seats.len();
+            let (mut crew, mut running, mut ended) = (crew, running, ended);
+            while let Some(member) = crew.pop() {
+                let thread = crew.len();
                 let flag = &flags[thread];
-                match scope.spawn(move || {
-                    work_seated(rt, alloc, plan, switchboard, gate, thread, seat, flag)
-                }) {
+                match scope.spawn(move || work_seated(alloc, plan, gate, thread, member, flag)) {
                     Ok(handle) => running.push_reserved(handle),
                     Err(refused) => {
                         flag.store(false, Ordering::SeqCst);
@@ -171,75 +194,62 @@ fn join_all<Led: Ledger, R: Threads>(
 
 /// What a thread runs. It leaves its seat whatever stopped it. One that was not started makes no step.
 fn work_seated<Led: Ledger, R: Wait, G: Gate>(
-    rt: &R,
     alloc: Global,
     plan: &Plan<'_>,
-    switchboard: &Switchboard<u64, BoardLog<u64>, Led>,
     gate: &G,
     thread: usize,
-    seat: Seat<Led>,
+    member: Seated<'_, Led, R>,
     flag: &AtomicBool,
 ) -> Worked<Led>
     requires { thread < 64 }
 {
-    let mut caller = Seated::new(rt, switchboard, seat);
+    let mut member = member;
     let stop = if flag.load(Ordering::SeqCst) {
-        work(alloc, plan, thread, gate, &mut caller)
+        work(alloc, plan, thread, gate, &mut member)
     } else {
         Err(AllocError)
     };
-    Worked {
-        left: caller.leave(),
-        stop,
-    }
+    let (left, rings) = member.leave();
+    Worked { left, rings, stop }
 }
 
 /// All seats leave at once, since the declared objects could not be made.
 fn leave_all<Led: Ledger, R: Wait>(
-    rt: &R,
     alloc: Global,
-    switchboard: &Switchboard<u64, BoardLog<u64>, Led>,
-    seats: Vec<Seat<Led>>,
+    crew: Vec<Seated<'_, Led, R>>,
 ) -> Result<Vec<Worked<Led>>, AllocError> {
-    let mut ended = Vec::with_capacity(alloc, seats.len())?;
-    let mut seats = seats;
-    while let Some(seat) = seats.pop() {
+    let mut ended = Vec::with_capacity(alloc, crew.len())?;
+    let mut crew = crew;
+    while let Some(member) = crew.pop() {
+        let (left, rings) = member.leave();
         ended.push_reserved(Worked {
-            left: switchboard.leave(rt, seat),
+            left,
+            rings,
             stop: Ok(Stop::Done),
         });
     }
     Ok(ended)
 }
 
-/// The lefts of all, and how they ended.
+/// The lefts of all, what went by lanes and feeds, and how they ended.
 fn gather<Led: Ledger>(
     alloc: Global,
     first: Left<Led>,
+    tally: Tally,
     stopped: Result<Stop, AllocError>,
     ended: Vec<Worked<Led>>,
 ) -> Result<Ended<Led>, AllocError> {
     let mut lefts = Vec::new(alloc);
     lefts.push(first)?;
-    let mut stop = stopped;
+    let (mut tally, mut stop) = (tally, stopped);
     for worked in ended {
         lefts.push(worked.left)?;
+        worked.rings.tell(&mut tally);
         stop = first_of(stop, worked.stop);
     }
-    Ok(Ended { lefts, stop: stop? })
-}
-
-/// How two threads ended that ended differently.
-fn first_of(
-    one: Result<Stop, AllocError>,
-    other: Result<Stop, AllocError>,
-) -> Result<Stop, AllocError>
-    ensures { result ≡ first_of one other }
-{
-    match (one?, other?) {
-        (Stop::Full, _) | (_, Stop::Full) => Ok(Stop::Full),
-        (Stop::Held, _) | (_, Stop::Held) => Ok(Stop::Held),
-        (Stop::Stalled, _) | (_, Stop::Stalled) => Ok(Stop::Stalled),
-        (Stop::Done, Stop::Done) => Ok(Stop::Done),
-    }
+    Ok(Ended {
+        lefts,
+        tally,
+        stop: stop?,
+    })
 }

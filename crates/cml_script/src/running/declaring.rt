@@ -1,26 +1,42 @@
 //! The objects that a script declares.
-ghost use Rattle.std.specs.Prelude.{◌≡◌, ◌<◌, true, Some, None, length, IfSome, IfOk, MatchOption};
-ghost use Rattle.cml_script.specs.Schedule.{declared_count, makes_object};
+ghost use Rattle.std.specs.Prelude.{◌≡◌, ◌<◌, true, Some, None, length, IfSome, OnOk, OnErr, MatchOption};
 ghost use Rattle.cml_script.specs.Plan.{IsKnown};
 ghost use Rattle.cml_script.specs.Makes.{IsMadeOfDeclared};
-ghost use Rattle.cml_script.specs.Working.{HasMadeNone, Declares, making};
+ghost use Rattle.cml_script.specs.Working.{BeginsAt, Declares, HasCapacity, HasMade, making};
 
 use super::caller::Caller;
 use crate::plan::Plan;
 use cml_board::{Call, Refusal};
 use cml_grammar::Makes;
 
-/// Makes the declared objects in text order. It stops at the first that is refused.
+/// Makes the declared objects in text order, a feed's port by opening the feed. It stops at the first that is refused.
 pub fn declare<C: Caller>(plan: &Plan<'_>, caller: &mut C) -> Result<(), Refusal>
     requires known { IsKnown plan.now }
     requires goes_on { C.goes_on caller.old ≡ true }
-    requires begins { HasMadeNone (C.made caller.old) }
-    ensures { IfSome (C.made caller.new) (λ calls. Declares plan.now calls result) }
+    requires begins { BeginsAt 0 (C.made caller.old) }
+    ensures { IfSome (C.made caller.new) (λ made. Declares plan.now made.entries result) }
 {
     for declaration in plan.script().declarations() {
-        if let Some(call) = making(plan, declaration.makes) {
-            caller.call(call)?;
-        }
+        make(plan, declaration.makes, caller)?;
+    }
+    Ok(())
+}
+
+/// Makes what a declaration makes.
+fn make<C: Caller>(plan: &Plan<'_>, makes: Makes, caller: &mut C) -> Result<(), Refusal>
+    requires declared { IsMadeOfDeclared plan.now makes }
+    requires capacity { HasCapacity makes }
+    requires goes_on { C.goes_on caller.old ≡ true }
+    ensures goes_on { OnOk result (C.goes_on caller.new ≡ true) }
+    ensures made { OnOk result (HasMade plan.now makes (C.made caller.old) (C.made caller.new)) }
+    ensures refused { OnErr result (C.made caller.new ≡ C.made caller.old) }
+{
+    if let Makes::Feed(feed) = makes {
+        caller.open_feed(plan.number(feed.channel), feed.capacity)?;
+        return Ok(());
+    }
+    if let Some(call) = making(plan, makes) {
+        caller.call(call)?;
     }
     Ok(())
 }

@@ -1,10 +1,12 @@
 //! What a thread does.
-ghost use Rattle.std.specs.Prelude.{◌≡◌, ◌+◌, ◌<◌, true, Some, length, IfSome, IsSome};
-ghost use Rattle.cml_board.specs.declared.entry.Who.TheVariants.{Seat};
+ghost use Rattle.std.specs.Prelude.{◌≡◌, ◌+◌, ◌<◌, ◌^◌, ◌⊎◌, true, Some, length, IfSome, IsSome, OnOk, OnErr};
 ghost use Rattle.cml_board.specs.History.{entries_in};
-ghost use Rattle.cml_script.specs.Schedule.{History, step_call};
+ghost use Rattle.cml_script.specs.Schedule.{History, declared_count, earlier, step_call};
 ghost use Rattle.cml_script.specs.Bindings.{AreBindings};
-ghost use Rattle.cml_script.specs.Working.{HasMadeNone, IsOpening, Works, stop_of};
+ghost use Rattle.cml_script.specs.Working.{BeginsAt, IsOpening, Works, may_wait, stop_of, first_of, ending_with};
+ghost use Rattle.cml_script.specs.Plan.{IsKnown, way_at};
+ghost use Rattle.cml_grammar.specs.Reading.{IsCapacity};
+ghost use Rattle.cml_script.specs.Course.{IsTurn, IsUnderWay};
 
 use super::caller::Caller;
 use super::gate::Gate;
@@ -12,11 +14,25 @@ use crate::binding::{Binding, bind};
 use crate::calls::{call_on, used_by};
 use crate::plan::Plan;
 use crate::stop::Stop;
+use crate::way::Way;
 use cml_board::{Call, Refusal};
+use cml_grammar::Action;
 use std::alloc::{AllocError, Global};
 
-/// Performs the steps of a thread, in order, once the declared objects are made. It stops at the first call that is
-/// refused, or where the gate says no.
+/// How far a thread has come.
+#[derive(Drop)]
+struct Course {
+    // What steps gave their names.
+    bindings: Vec<Binding>,
+    // How many objects were declared, and steps performed by the thread's seat.
+    made: usize,
+    // Whether the thread may have a lane open.
+    is_sending: bool,
+}
+
+/// Performs the steps of a thread, in order, once the declared objects are made. It stops at the first that is refused, or
+/// where the gate says no. It closes its lanes before a step that may wait, and where it ends; after a refusal they are left
+/// to its caller.
 pub fn work<C: Caller, G: Gate>(
     alloc: Global,
     plan: &Plan<'_>,
@@ -26,31 +42,156 @@ pub fn work<C: Caller, G: Gate>(
 ) -> Result<Stop, AllocError>
     requires thread { thread < 64 }
     requires goes_on { C.goes_on caller.old ≡ true }
-    requires begins { HasMadeNone (C.made caller.old) }
+    requires begins { BeginsAt (thread + 1) (C.made caller.old) }
     ensures { (first : History) → IsOpening plan.now first
-        → IfSome (C.made caller.new) (λ calls. Works plan.now (thread + 1) calls result first) }
+        → IfSome (C.made caller.new) (λ made. Works plan.now (thread + 1) made.entries result first) }
 {
-    let mut bindings = plan.unbound(alloc)?;
-    let declared = plan.declared();
+    let mut course = Course {
+        bindings: plan.unbound(alloc)?,
+        made: plan.declared(),
+        is_sending: false,
+    };
     for nth in 0..plan.script().steps().len() {
-        let Some(step) = plan.step(thread, nth) else {
-            return Ok(Stop::Done);
+        let Some(step) = plan.turn(thread, nth) else {
+            return close(&course, caller, Stop::Done);
         };
         if !gate.before(thread, nth) {
-            return Ok(Stop::Held);
+            return close(&course, caller, Stop::Held);
         }
-        match caller.call(call_of(plan, step, declared + nth, &bindings)) {
-            Ok(answer) => bind(
-                &mut bindings,
-                plan.given(step),
-                answer.call(),
-                answer.reply(),
-            ),
-            Err(refusal) => return stop_of(refusal),
+        if let Err(refusal) = perform(plan, thread, step, &mut course, caller) {
+            return stop_of(refusal);
         }
         gate.after(thread, nth);
     }
-    Ok(Stop::Done)
+    close(&course, caller, Stop::Done)
+}
+
+/// Closes what lanes are open where a thread ends. A refusal may make that another end.
+fn close<C: Caller>(course: &Course, caller: &mut C, stop: Stop) -> Result<Stop, AllocError>
+    requires { C.goes_on caller.old ≡ true }
+    ensures made { C.made caller.new ≡ C.made caller.old }
+    ensures stop { (result ≡ Ok stop) ⊎ ((course.now.is_sending ≡ true) × ((refusal : Refusal) × (result ≡ ending_with stop refusal))) }
+{
+    if !course.is_sending {
+        return Ok(stop);
+    }
+    match caller.close_lanes() {
+        Ok(()) => Ok(stop),
+        Err(refusal) => first_of(Ok(stop), stop_of(refusal)),
+    }
+}
+
+/// Performs a step of the thread, by its seat or by a ring.
+fn perform<C: Caller>(
+    plan: &Plan<'_>,
+    thread: usize,
+    step: usize,
+    course: &mut Course,
+    caller: &mut C,
+) -> Result<(), Refusal>
+    requires thread { thread < 64 }
+    requires known { IsKnown plan.now }
+    requires goes_on { C.goes_on caller.old ≡ true }
+    requires turn { IsTurn plan.now (thread + 1) step course.old.made }
+    requires room { course.old.made < 2 ^ 63 }
+    requires way { IsUnderWay plan.now (thread + 1) course.old (C.made caller.old) }
+    ensures goes_on { OnOk result (C.goes_on caller.new ≡ true) }
+    ensures made { OnOk result (course.new.made ≡ declared_count plan.now + earlier plan.now (thread + 1) (step + 1)) }
+    ensures way { OnOk result (IsUnderWay plan.now (thread + 1) course.new (C.made caller.new)) }
+    ensures refused { OnErr result (C.made caller.new ≡ C.made caller.old) }
+{
+    match plan.way(step) {
+        Way::Seat => perform_seated(plan, thread, step, course, caller),
+        Way::Lane(capacity) => send_apart(plan, thread, step, capacity, course, caller),
+        Way::Feed(feed) => caller.poll_apart(feed),
+    }
+}
+
+/// Performs a step by the thread's seat.
+fn perform_seated<C: Caller>(
+    plan: &Plan<'_>,
+    thread: usize,
+    step: usize,
+    course: &mut Course,
+    caller: &mut C,
+) -> Result<(), Refusal>
+    requires thread { thread < 64 }
+    requires known { IsKnown plan.now }
+    requires goes_on { C.goes_on caller.old ≡ true }
+    requires turn { IsTurn plan.now (thread + 1) step course.old.made }
+    requires room { course.old.made < 2 ^ 63 }
+    requires called { way_at plan.now step ≡ Way.Seat }
+    requires way { IsUnderWay plan.now (thread + 1) course.old (C.made caller.old) }
+    ensures goes_on { OnOk result (C.goes_on caller.new ≡ true) }
+    ensures made { OnOk result (course.new.made ≡ course.old.made + 1) }
+    ensures way { OnOk result (IsUnderWay plan.now (thread + 1) course.new (C.made caller.new)) }
+    ensures refused { OnErr result (C.made caller.new ≡ C.made caller.old) }
+{
+    close_before(plan.script().steps()[step].action, course, caller)?;
+    let call = call_of(plan, step, course.made, &course.bindings);
+    let answer = caller.call(call)?;
+    let given = plan.given(step);
+    bind(&mut course.bindings, given, answer.call(), answer.reply());
+    course.made += 1;
+    Ok(())
+}
+
+/// Closes what lanes are open before a step that may wait.
+fn close_before<C: Caller>(
+    action: Action,
+    course: &mut Course,
+    caller: &mut C,
+) -> Result<(), Refusal>
+    requires { C.goes_on caller.old ≡ true }
+    ensures goes_on { OnOk result (C.goes_on caller.new ≡ true) }
+    ensures made { C.made caller.new ≡ C.made caller.old }
+    ensures course { course.new ≡ record course.old { is_sending = course.new.is_sending } }
+    ensures sending { course.new.is_sending ≡ true → course.old.is_sending ≡ true }
+{
+    if course.is_sending && may_wait(action) {
+        caller.close_lanes()?;
+        course.is_sending = false;
+    }
+    Ok(())
+}
+
+/// Whether a step waits where it can't be answered.
+fn may_wait(action: Action) -> bool
+    ensures { result ≡ may_wait action }
+{
+    matches!(
+        action,
+        Action::Recv(_) | Action::Get(_) | Action::Take(_) | Action::Swap(_, _)
+    )
+}
+
+/// Performs a step by the thread's lane.
+fn send_apart<C: Caller>(
+    plan: &Plan<'_>,
+    thread: usize,
+    step: usize,
+    capacity: usize,
+    course: &mut Course,
+    caller: &mut C,
+) -> Result<(), Refusal>
+    requires thread { thread < 64 }
+    requires known { IsKnown plan.now }
+    requires goes_on { C.goes_on caller.old ≡ true }
+    requires turn { IsTurn plan.now (thread + 1) step course.old.made }
+    requires laid { way_at plan.now step ≡ Way.Lane capacity }
+    requires capacity { IsCapacity capacity }
+    requires way { IsUnderWay plan.now (thread + 1) course.old (C.made caller.old) }
+    ensures goes_on { OnOk result (C.goes_on caller.new ≡ true) }
+    ensures way { IsUnderWay plan.now (thread + 1) course.new (C.made caller.new) }
+    ensures made { (course.new.made ≡ course.old.made) × (C.made caller.new ≡ C.made caller.old) }
+{
+    course.is_sending = true;
+    match plan.script().steps()[step].action {
+        Action::Send(at, message) | Action::Multicast(at, message) => {
+            caller.send_apart(plan.number(at), capacity, message)
+        }
+        _ => unreachable!(),
+    }
 }
 
 /// The call of a step, where so many entries are made and steps gave their names this.
@@ -79,5 +220,20 @@ pub fn stop_of(refusal: Refusal) -> Result<Stop, AllocError>
         | Refusal::NoSuch
         | Refusal::WrongKind
         | Refusal::Unseen => Ok(Stop::Stalled),
+    }
+}
+
+/// How two threads ended that ended differently.
+pub fn first_of(
+    one: Result<Stop, AllocError>,
+    other: Result<Stop, AllocError>,
+) -> Result<Stop, AllocError>
+    ensures { result ≡ first_of one other }
+{
+    match (one?, other?) {
+        (Stop::Full, _) | (_, Stop::Full) => Ok(Stop::Full),
+        (Stop::Held, _) | (_, Stop::Held) => Ok(Stop::Held),
+        (Stop::Stalled, _) | (_, Stop::Stalled) => Ok(Stop::Stalled),
+        (Stop::Done, Stop::Done) => Ok(Stop::Done),
     }
 }

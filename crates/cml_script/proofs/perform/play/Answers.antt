@@ -1,7 +1,9 @@
-use Rattle.std.proofs.Common.{◌∙◌, ap, sym, subst, string_bytes}
+use Rattle.std.proofs.Common.{◌≡◌, None, ◌∙◌, ap, sym, subst, string_bytes}
+use Rattle.cml_grammar.specs.Script.{Lines}
+use Rattle.cml_grammar.specs.Rings.{first_ring}
 use Rattle.cml_script.specs.Schedule.{History, Schedule}
 use Rattle.cml_script.specs.Stage.{Play}
-use Rattle.cml_script.specs.Report.{report}
+use Rattle.cml_script.specs.Report.{Tallied, report}
 use Rattle.cml_script.specs.Play.{IsPlayed}
 use Rattle.cml_script.specs.Audit.{IsOfScript}
 use Rattle.cml_script.proofs.GivingLemmas.{follows_own}
@@ -21,12 +23,14 @@ returns c =
     let script = c.perform.ensures.script ∙ ap (λ (p : Play). p.script) c.in_ok-stage.ensures in
     let limit = c.perform.ensures.limit ∙ ap (λ (p : Play). p.limit) c.in_ok-stage.ensures in
     let scheduled : Schedule stage.script stage.limit stage.history stop = record {
+      plain = subst (λ (s : Lines). first_ring s ≡ None) (sym script) c.requires.plain;
       lawful = c.board.ensures.lawful;
       room = c.board.ensures.room;
       follows = c.board.ensures.follows;
       ends = c.in_ok-stop.ensures.ends;
     } in
-    let text = c.in_ok-report.ensures ∙ ap (λ (h : History). report c.args.script.now h stop) c.board.ensures.history in
+    let text = c.in_ok-report.ensures ∙ ap (λ (h : History). report c.args.script.now h c.no_rings-tally.result stop) c.board.ensures.history
+    ∙ ap (λ (t : Tallied). report c.args.script.now stage.history t stop) c.no_rings-tally.ensures in
     let same = subst (λ s. Schedule s stage.limit stage.history stop) script scheduled in
     subst (λ l. IsPlayed c.args.script.now l stop (string_bytes c.in_ok-report.report)) limit
     (record { history = stage.history; scheduled = same; reported = text })

@@ -9,7 +9,7 @@ use Rattle.cml_script.proofs.plan.Plan.new.Goals as goal
 pub returns-clause-known : goal.returns-clause-known
 returns-clause-known c = record {
   named = c.in_ok-numbers.ensures.named;
-  seats = c.in_ok-queues.ensures.seats;
+  seats = c.in_ok-turns.ensures.seats;
   given = c.names.ensures.given;
   asks = c.in_ok-givings.ensures.asks;
 }
@@ -18,12 +18,14 @@ pub invariant_of-result : goal.invariant_of-result
 invariant_of-result c = record {
   known = record {
     named = c.in_ok-numbers.ensures.named;
-    seats = c.in_ok-queues.ensures.seats;
+    seats = c.in_ok-turns.ensures.seats;
     given = c.names.ensures.given;
     asks = c.in_ok-givings.ensures.asks;
   };
   total = omega (arith, c.len.ensures.len, length-map {B = Given} c.names.result.now.entries (λ (e : String Global × Named). (string_bytes e.0, e.1)), ap length c.names.ensures.names);
   numbered = c.in_ok-numbers.ensures.numbers;
-  queued = c.in_ok-queues.ensures.queues;
+  fed = c.in_ok-feeds.ensures;
+  queued = c.in_ok-queues.ensures;
+  turned = c.in_ok-turns.ensures.queues;
   giving = c.in_ok-givings.ensures.givings;
 }

@@ -1,4 +1,4 @@
-use Rattle.std.proofs.Common.{◌+◌, ◌∙◌, sym, ap, subst, take, length}
+use Rattle.std.proofs.Common.{◌≡◌, None, ◌+◌, ◌∙◌, sym, ap, subst, take, length}
 use Rattle.std.proofs.lemmas.Bool.{MatchBool-at_true}
 use Rattle.cml_grammar.specs.Script.{Lines}
 use Rattle.cml_grammar.specs.Meaning.{names_of}
@@ -8,12 +8,14 @@ use Rattle.cml_script.specs.Schedule.{is_object}
 use Rattle.cml_script.specs.Plan.{NamesObjects}
 use Rattle.cml_script.specs.Stage.{Play}
 use Rattle.cml_script.proofs.ListLemmas.{read_at, mapped_at, count_taken}
-use Rattle.cml_script.proofs.LineLemmas.{all_at, declaration_object}
+use Rattle.cml_script.proofs.LineLemmas.{all_at, declaration_object, declaration_feed}
+use Rattle.cml_script.proofs.PlainLemmas.{plain_feed}
+use Rattle.cml_grammar.specs.Rings.{first_ring}
 use Rattle.cml_script.proofs.KindLemmas.{next_object}
 use Rattle.cml_script.proofs.stage.Stage.declare.Goals as goal
 
-pub declare_next-requires : goal.declare_next-requires
-declare_next-requires c =
+pub declare_next-requires-clause-next : goal.declare_next-requires-clause-next
+declare_next-requires-clause-next c =
     let items = c.declarations-declaration-items.result.now in
     let i = c.loop-declaration.declaration-index in
     let d = c.declaration-item.result in
@@ -25,6 +27,17 @@ declare_next-requires c =
     (mapped_at (λ x. source_of x.line) items c.loop-declaration.self.script.declarations i d lines here)
     (subst (λ (s : Lines). ReadsDeclaration (names_of s) d) same (all_at (ReadsDeclaration (names_of c.script-script.result.now)) items i d c.declarations-declaration-items.ensures.makes here))
     (subst (λ (s : Lines). IsMadeWell (names_of s) i d.makes) same (c.declarations-declaration-items.ensures.names.made i d here))
+
+pub declare_next-requires-clause-plain : goal.declare_next-requires-clause-plain
+declare_next-requires-clause-plain c =
+    let script = c.script-script.result.now in
+    let items = c.declarations-declaration-items.result.now in
+    let i = c.loop-declaration.declaration-index in
+    let d = c.declaration-item.result in
+    let here = read_at items i d c.loop-declaration-test.true c.declaration-item.is in
+    let line = mapped_at (λ x. source_of x.line) items script.declarations i d c.declarations-declaration-items.ensures.lines here in
+    let plain = subst (λ (s : Lines). first_ring s ≡ None) (sym c.script-script.ensures) c.self.invariant.plain in
+    sym (declaration_feed script d (all_at (ReadsDeclaration (names_of script)) items i d c.declarations-declaration-items.ensures.makes here)) ∙ plain_feed script plain i (source_of d.line) line
 
 pub loop-declaration-preserved : goal.loop-declaration-preserved
 loop-declaration-preserved c =

@@ -6,7 +6,7 @@ pub invariant_of-result : goal.invariant_of-result
 invariant_of-result c = record {
   within = omega arith;
   known = c.in_ok-plan.ensures.known;
-  made = rw c.in_ok-plan.ensures.script c.in_ok-makes.ensures;
+  objects = c.in_ok-objects.ensures;
   counted = counted_none [] c.in_ok-counts.counts.items refl (c.in_ok-counts.ensures.items_if_clones_equal (λ y is. is));
   bound = c.in_ok-bindings.ensures;
 }

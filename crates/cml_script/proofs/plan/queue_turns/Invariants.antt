@@ -1,0 +1,7 @@
+use Rattle.std.proofs.Common.{take}
+use Rattle.cml_script.specs.Schedule.{is_seated}
+use Rattle.cml_script.specs.Plan.{AreQueues, items_of}
+use Rattle.cml_script.proofs.plan.queue_turns.Given as goal
+
+abbrev pub invariant-loop-i : goal.invariant-loop-i
+invariant-loop-i l = AreQueues (is_seated l.script) (take l.i l.script.steps) (items_of l.queues.items)

@@ -1,0 +1,267 @@
+//! The rings of one thread: its open lanes, and its feeds.
+ghost use Rattle.std.specs.Prelude.{◌≤◌, ◌<◌, vec_len};
+
+use crate::tally::Tally;
+use cml_board::{BoardLog, Name, Refusal};
+use cml_lanes::{Feed, Lane};
+use cml_threads::Switchboard;
+use std::alloc::{AllocError, Global};
+use std::mem;
+use std::sync::Wait;
+use std::sync::ledger::Ledger;
+
+/// As many messages as a feed's ring has room for at most.
+const MOST: usize = 1_024;
+
+/// The switchboard of a run.
+pub type Board<Led> = Switchboard<u64, BoardLog<u64>, Led>;
+
+/// A lane that is open, and the object that it goes to.
+#[derive(Drop)]
+struct OpenLane {
+    target: Name,
+    lane: Lane<u64>,
+}
+
+/// A feed, and how many messages its thread took from it.
+#[derive(Drop)]
+pub struct Subscription {
+    feed: Feed<u64>,
+    taken: u64,
+}
+
+impl Subscription {
+    /// Takes the next message of the ring: whether there was one.
+    fn take(&mut self) -> bool {
+        let is_there = self.feed.recv().is_some();
+        self.taken = self.taken.saturating_add(u64::from(is_there));
+        is_there
+    }
+
+    /// Takes what is left in the ring of a feed that has ended.
+    fn take_rest(&mut self) {
+        for _ in 0..MOST {
+            if !self.take() {
+                return;
+            }
+        }
+    }
+}
+
+/// The lanes that a thread has open and the feeds that it has, and how many of its steps went by them.
+#[derive(Drop)]
+pub struct Rings {
+    lanes: Vec<OpenLane>,
+    feeds: Vec<Subscription>,
+    performed: usize,
+}
+
+impl Rings {
+    pub fn new(alloc: Global) -> Rings {
+        Rings {
+            lanes: Vec::new(alloc),
+            feeds: Vec::new(alloc),
+            performed: 0,
+        }
+    }
+
+    /// Opens a feed from a channel, and tells its port.
+    pub fn open_feed<Led: Ledger, R: Wait>(
+        &mut self,
+        rt: &R,
+        board: &Board<Led>,
+        channel: Name,
+        capacity: usize,
+    ) -> Result<Name, Refusal>
+        requires least { 1 ≤ capacity }
+        requires most { capacity ≤ 1024 }
+    {
+        if self.feeds.reserve(1).is_err() {
+            return Err(Refusal::NoMemory);
+        }
+        let (feed, _) = board.open_feed(rt, channel, capacity)?;
+        let port = feed.port();
+        self.feeds.push_reserved(Subscription { feed, taken: 0 });
+        Ok(port)
+    }
+
+    /// Sends a message by the lane to this object, which is opened where none is open. A lane that has no room for it is
+    /// drained; where it has none then, it is closed, and another is opened.
+    pub fn send<Led: Ledger, R: Wait>(
+        &mut self,
+        rt: &R,
+        board: &Board<Led>,
+        target: Name,
+        capacity: usize,
+        message: u64,
+    ) -> Result<(), Refusal>
+        requires least { 1 ≤ capacity }
+        requires most { capacity ≤ 1024 }
+    {
+        let is_sent = match self.lanes.iter().position(|open| open.target == target) {
+            Some(at) => self.send_on(rt, board, at, message)?,
+            None => false,
+        };
+        if !is_sent {
+            self.send_first(rt, board, target, capacity, message)?;
+        }
+        self.performed = self.performed.saturating_add(1);
+        Ok(())
+    }
+
+    /// Sends a message on an open lane: whether it had room for it. Where it has none though it was drained, it is closed.
+    fn send_on<Led: Ledger, R: Wait>(
+        &mut self,
+        rt: &R,
+        board: &Board<Led>,
+        at: usize,
+        message: u64,
+    ) -> Result<bool, Refusal>
+        requires { at < vec_len self.old.lanes }
+    {
+        if self.lanes[at].lane.send(message).is_ok() {
+            return Ok(true);
+        }
+        board.drain(rt, self.lanes[at].lane.number())?;
+        if self.lanes[at].lane.send(message).is_ok() {
+            return Ok(true);
+        }
+        let full = self.lanes.swap_remove(at);
+        close(rt, board, full.lane)?;
+        Ok(false)
+    }
+
+    /// Opens a lane, and sends its first message.
+    fn send_first<Led: Ledger, R: Wait>(
+        &mut self,
+        rt: &R,
+        board: &Board<Led>,
+        target: Name,
+        capacity: usize,
+        message: u64,
+    ) -> Result<(), Refusal>
+        requires least { 1 ≤ capacity }
+        requires most { capacity ≤ 1024 }
+    {
+        if self.lanes.reserve(1).is_err() {
+            return Err(Refusal::NoMemory);
+        }
+        let (mut lane, _) = board.open_lane(rt, target, capacity)?;
+        if lane.send(message).is_err() {
+            unreachable!();
+        }
+        self.lanes.push_reserved(OpenLane { target, lane });
+        Ok(())
+    }
+
+    /// Polls a feed: where its ring has no message, what the feed is owed is pumped once.
+    pub fn poll<Led: Ledger, R: Wait>(
+        &mut self,
+        rt: &R,
+        board: &Board<Led>,
+        number: u64,
+    ) -> Result<(), Refusal> {
+        for subscription in self.feeds.iter_mut() {
+            if subscription.feed.number() == number {
+                if !subscription.take() {
+                    board.pump(rt, number)?;
+                    subscription.take();
+                }
+                self.performed = self.performed.saturating_add(1);
+                return Ok(());
+            }
+        }
+        Err(Refusal::NoSuch)
+    }
+
+    /// Closes all lanes. Where one is refused the others stay open.
+    pub fn close_lanes<Led: Ledger, R: Wait>(
+        &mut self,
+        rt: &R,
+        board: &Board<Led>,
+    ) -> Result<(), Refusal> {
+        while let Some(open) = self.lanes.pop() {
+            close(rt, board, open.lane)?;
+        }
+        Ok(())
+    }
+
+    /// Ends what is left at a thread's end: lanes that are open are abandoned, and feeds ended.
+    pub fn end<Led: Ledger, R: Wait>(mut self, rt: &R, board: &Board<Led>) -> Rings {
+        self.abandon_lanes(rt, board);
+        self.end_feeds(rt, board);
+        self
+    }
+
+    /// Abandons all lanes that are open: what they have in their rings is lost.
+    fn abandon_lanes<Led: Ledger, R: Wait>(&mut self, rt: &R, board: &Board<Led>) {
+        while let Some(open) = self.lanes.pop() {
+            let _ = board.abandon_lane(rt, open.lane.number());
+        }
+    }
+
+    /// Ends all feeds, and takes what is left in their rings.
+    fn end_feeds<Led: Ledger, R: Wait>(&mut self, rt: &R, board: &Board<Led>) {
+        for subscription in self.feeds.iter_mut() {
+            let _ = board.end_feed(rt, subscription.feed.number());
+            subscription.take_rest();
+        }
+    }
+
+    /// Hands out all feeds, in the order in which they were opened.
+    pub fn hand_feeds(&mut self, alloc: Global) -> Vec<Subscription> {
+        mem::replace(&mut self.feeds, Vec::new(alloc))
+    }
+
+    /// Takes over a feed that another opened.
+    pub fn take_feed(&mut self, feed: Subscription) -> Result<(), AllocError> {
+        self.feeds.push(feed)?;
+        Ok(())
+    }
+
+    /// Adds what went by them to a tally.
+    pub fn tell(&self, tally: &mut Tally) {
+        tally.add_steps(self.performed);
+        for subscription in &self.feeds {
+            tally.set_taken(subscription.feed.number(), subscription.taken);
+        }
+    }
+}
+
+/// Closes a lane. Where that is refused it is abandoned: what it has left in its ring is lost.
+fn close<Led: Ledger, R: Wait>(rt: &R, board: &Board<Led>, lane: Lane<u64>) -> Result<(), Refusal> {
+    let number = lane.number();
+    let told = finish(rt, board, lane);
+    if told.is_err() {
+        let _ = board.abandon_lane(rt, number);
+    }
+    told
+}
+
+/// Finishes a lane, and closes it.
+fn finish<Led: Ledger, R: Wait>(
+    rt: &R,
+    board: &Board<Led>,
+    lane: Lane<u64>,
+) -> Result<(), Refusal> {
+    let number = lane.number();
+    let Some(end) = lane.finish() else {
+        return drop_lane(rt, board, number);
+    };
+    match board.close_lane(rt, end) {
+        Ok(()) => Ok(()),
+        Err((_, Refusal::Unseen)) => drop_lane(rt, board, number),
+        Err((_, refusal)) => Err(refusal),
+    }
+}
+
+/// Closes a lane without its end. Each turn but the last moves what it can.
+fn drop_lane<Led: Ledger, R: Wait>(rt: &R, board: &Board<Led>, number: u64) -> Result<(), Refusal> {
+    for _ in rt.forever() {
+        let (_, is_closed) = board.drop_lane(rt, number)?;
+        if is_closed {
+            return Ok(());
+        }
+    }
+    unreachable!()
+}

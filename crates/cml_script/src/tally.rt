@@ -1,0 +1,62 @@
+//! What a run counts beside its journal.
+ghost use Rattle.std.specs.Prelude.{◌≡◌, IfOk, replicate, slice_set};
+ghost use Rattle.cml_script.specs.Report.{no_rings};
+
+use std::alloc::{AllocError, Global};
+use std::marker::Model;
+
+/// What went by lanes and feeds, which no journal tells.
+#[derive(Drop)]
+pub struct Tally {
+    /// How many steps went by lanes and feeds.
+    pub apart: usize,
+    /// By feed, in text order, how many messages its thread took.
+    pub taken: Vec<u64>,
+}
+
+impl Model for Tally {
+    ghost use Rattle.cml_script.specs.Report.{Tallied};
+
+    ghost Value = { Tallied };
+
+    ghost view = { λ t. record { apart = t.apart; taken = t.taken.items } };
+}
+
+impl Tally {
+    /// The tally of a script without lanes and feeds.
+    pub fn no_rings(alloc: Global) -> Tally
+        ensures { result ≡ no_rings }
+    {
+        Tally {
+            apart: 0,
+            taken: Vec::new(alloc),
+        }
+    }
+
+    /// The tally of a script with so many feeds, of which nothing is known yet.
+    pub fn new(alloc: Global, feeds: usize) -> Result<Tally, AllocError>
+        ensures apart { IfOk result (λ tally. tally.apart ≡ 0) }
+        ensures taken { IfOk result (λ tally. tally.taken ≡ replicate feeds 0) }
+    {
+        Ok(Tally {
+            apart: 0,
+            taken: vec![in alloc; 0; feeds]?,
+        })
+    }
+
+    /// Adds steps that went by lanes and feeds.
+    pub fn add_steps(&mut self, steps: usize)
+        ensures { self.new.taken ≡ self.old.taken }
+    {
+        self.apart = self.apart.saturating_add(steps);
+    }
+
+    /// Tells how many messages were taken from the feed of this number.
+    pub fn set_taken(&mut self, feed: u64, taken: u64)
+        ensures { self.new ≡ record self.old { taken = slice_set self.old.taken feed taken } }
+    {
+        if let Some(told) = self.taken.get_mut(feed as usize) {
+            *told = taken;
+        }
+    }
+}

@@ -1,0 +1,22 @@
+//! How the steps of a script go.
+ghost use Rattle.std.specs.Prelude.{◌≡◌};
+ghost use Rattle.cml_script.specs.Schedule.{is_by_ring};
+
+/// How a step goes.
+#[derive(Clone, Copy, Debug, PartialEq, Eq)]
+pub enum Way {
+    /// By a call of its thread's seat.
+    Seat,
+    /// By its thread's lane to what it sends to, which has this capacity.
+    Lane(usize),
+    /// By its thread's feed, the one of this number: feeds are counted from 0 in text order.
+    Feed(usize),
+}
+
+impl Way {
+    pub fn is_by_ring(self) -> bool
+        ensures { result ≡ is_by_ring self }
+    {
+        matches!(self, Way::Lane(_) | Way::Feed(_))
+    }
+}
