@@ -1,18 +1,16 @@
 -- What a replay's report tells as left is what its schedule has left.
-use Rattle.std.proofs.Common.{◌≡◌, ℕ, ◌+◌, ◌-◌, ◌<◌, ◌≤◌, true, false, [], ◌∷◌, length, refl, sym, ap, ◌∙◌, arith, inl, inr}
+use Rattle.std.proofs.Common.{◌≡◌, ◌-◌, [], ◌∷◌, length, ap, ◌∙◌, arith, inl, inr}
 use Rattle.std.specs.Prelude.{not}
 use Rattle.std.proofs.lemmas.Bool.{cases_lt, ne_eqb}
-use Rattle.cml_board.specs.declared.entry.Entry.{Entry}
-use Rattle.cml_board.specs.declared.entry.Who.TheVariants.{Seat}
 use Rattle.cml_grammar.specs.Script.{Lines}
 use Rattle.cml_script.specs.Counting.{one_if, how_many}
-use Rattle.cml_script.specs.Schedule.{History, Follows, IsStep, declared_count}
+use Rattle.cml_script.specs.Schedule.{History, Follows, declared_count}
 use Rattle.cml_script.specs.Report.{is_of_thread, is_step_entry}
 use Rattle.cml_script.specs.Plan.{HasSeats}
 use Rattle.cml_script.specs.Laws.{ReportsTellWhatIsLeft}
 use Rattle.cml_script.proofs.ScheduleLemmas.{declares, steps}
 use Rattle.cml_script.proofs.BindingLemmas.{maker_is_none}
-use Rattle.cml_grammar.proofs.ReadableLemmas.{CanBeRead, can_be_read}
+use Rattle.cml_grammar.proofs.ReadableLemmas.{can_be_read}
 use Rattle.cml_script.proofs.LineLemmas.{called_seated, has_seats}
 
 module _ (script : Lines) where

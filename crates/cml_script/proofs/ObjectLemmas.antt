@@ -1,8 +1,8 @@
 -- Who makes the declared objects, where they are declared, and to which lanes lead.
-use Rattle.std.proofs.Common.{◌≡◌, ◌≢◌, ℕ, zero, suc, ◌+◌, ◌<◌, ◌≤◌, ◌||◌, Bool, true, false, cond, eqb, List, [], ◌∷◌, ◌++◌, length, take, filter, slice_get, slice_set, replicate, Option, Some, None, refl, sym, ap, subst, ◌∙◌, arith, inl, inr, one-add, zero-add}
+use Rattle.std.proofs.Common.{◌≡◌, ℕ, zero, suc, ◌+◌, ◌<◌, ◌≤◌, ◌||◌, Bool, true, false, cond, eqb, List, [], ◌∷◌, ◌++◌, length, take, filter, slice_get, slice_set, replicate, Option, Some, refl, sym, ap, ◌∙◌, arith, inl, inr, one-add, zero-add}
 use Rattle.std.specs.Option.{option_map_or}
 use Rattle.std.specs.List.{list_any}
-use Rattle.std.proofs.lemmas.Option.{same_Some, none-some, slice_get_within}
+use Rattle.std.proofs.lemmas.Option.{same_Some, slice_get_within}
 use Rattle.std.proofs.lemmas.List.{length_push, length-set, length-replicate, length-take-le, append-nil}
 use Rattle.std.proofs.lemmas.Bool.{cases_lt, cases_eq, eq-eqb, ne_eqb, true≢false}
 use Rattle.cml_board.specs.declared.call.Kind.{Kind}
@@ -17,10 +17,9 @@ use Rattle.cml_script.specs.Counting.{one_if, how_many}
 use Rattle.cml_script.specs.Schedule.{is_object, is_feed, objects_of, declared_count, number_of, maker, positions_where}
 use Rattle.cml_script.specs.Audit.{leads_to}
 use Rattle.cml_script.specs.Plan.{IsKnown, IsObjectAt}
-use Rattle.cml_script.specs.Objects.{AreMakers}
 use Rattle.cml_script.proofs.ListLemmas.{taken_more, count_taken, filter_at, each_pushed, set_at, set_off}
 use Rattle.cml_script.proofs.LineLemmas.{feed_object}
-use Rattle.cml_script.proofs.KindLemmas.{kind_object, counted_below, length_filter}
+use Rattle.cml_script.proofs.KindLemmas.{kind_object, counted_below}
 use Rattle.cml_script.proofs.QueueLemmas.{positions_pushed}
 use Rattle.cml_script.proofs.FitLemmas.{mailbox_at, channel_at}
 use Rattle.cml_script.proofs.UseLemmas.{given_port}

@@ -8,15 +8,13 @@ use Rattle.std.proofs.lemmas.Bool.{true≢false, false≢true}
 use Rattle.cml_board.specs.declared.entry.Who.TheVariants.{Seat, Feed}
 use Rattle.cml_grammar.specs.declared.forms.Declares.{Declares}
 use Rattle.cml_grammar.specs.declared.forms.Declares.TheVariants as declares
-use Rattle.cml_grammar.specs.declared.forms.FeedMaking.{FeedMaking}
-use Rattle.cml_grammar.specs.declared.forms.Makes.{Makes}
 use Rattle.cml_grammar.specs.declared.forms.Makes.TheVariants as makes
 use Rattle.cml_grammar.specs.declared.forms.Action.{Action}
 use Rattle.cml_grammar.specs.declared.forms.Action.TheVariants as action
 use Rattle.cml_grammar.specs.Names.{Given, position_of}
 use Rattle.cml_grammar.specs.Forms.{declares_of}
 use Rattle.cml_grammar.specs.Script.{SourceLine, Lines}
-use Rattle.cml_grammar.specs.Meaning.{names_of, makes_of, makes_by, feed_by, action_of, seat_of_step}
+use Rattle.cml_grammar.specs.Meaning.{names_of, makes_of, makes_by, action_of, seat_of_step}
 use Rattle.cml_grammar.specs.Rings.{lesser, first_lane, first_feed, first_ring, declares_feed, makes_feed, is_feed as is_feed_word, capacity_of}
 use Rattle.cml_script.specs.declared.way.Way.TheVariants as way
 use Rattle.cml_script.specs.Counting.{how_many}

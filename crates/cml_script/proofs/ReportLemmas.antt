@@ -1,6 +1,6 @@
 -- How the report's first part goes on with one more entry.
 use Rattle.std.proofs.Common.{◌≡◌, ℕ, zero, suc, ◌+◌, ◌<◌, ◌≤◌, Bool, true, false, ltb, List, [], ◌∷◌, ◌++◌, length, drop, filter, slice_get, Option, Some, None, IfSome, inl, inr, refl, sym, ap, ◌∙◌, arith, add-one}
-use Rattle.std.specs.Prelude.{map, string_bytes, codes}
+use Rattle.std.specs.Prelude.{map, string_bytes}
 use Rattle.std.specs.Option.{option_map_or, option_and_then}
 use Rattle.std.proofs.lemmas.Option.{same_Some, none-some, slice_get_past, slice_get_within}
 use Rattle.std.proofs.lemmas.List.{append_assoc, append-nil, drop_all}

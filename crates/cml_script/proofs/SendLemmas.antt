@@ -1,8 +1,8 @@
 -- Which steps go by lanes, and that what they send to is declared.
-use Rattle.std.proofs.Common.{◌≡◌, ℕ, ◌<◌, List, [], length, map, get_or, slice_get, Option, Some, None, refl, sym, ap, subst, ◌∙◌, inl, inr}
+use Rattle.std.proofs.Common.{◌≡◌, ℕ, ◌<◌, List, [], length, map, get_or, slice_get, Option, Some, None, refl, sym, ap, ap₂, subst, ◌∙◌, inl, inr}
 use Rattle.std.specs.Prelude.{All}
-use Rattle.std.specs.Option.{option_map_or}
-use Rattle.std.proofs.lemmas.Option.{slice_get-get_or}
+use Rattle.std.specs.Option.{option_map_or, option_and_then}
+use Rattle.std.proofs.lemmas.Option.{slice_get-get_or, same_Some}
 use Rattle.std.proofs.lemmas.Bool.{cases_lt}
 use Rattle.cml_board.specs.declared.call.Kind.{Kind}
 use Rattle.cml_board.specs.declared.call.Kind.TheVariants as kind
@@ -10,12 +10,12 @@ use Rattle.cml_grammar.specs.declared.forms.Action.{Action}
 use Rattle.cml_grammar.specs.declared.forms.Action.TheVariants as action
 use Rattle.cml_grammar.specs.declared.names.Named.TheVariants as called
 use Rattle.cml_grammar.specs.declared.script.Step.{Step}
-use Rattle.cml_grammar.specs.Script.{Lines}
-use Rattle.cml_grammar.specs.Meaning.{names_of, seat_of_step}
-use Rattle.cml_grammar.specs.Reading.{source_of, ReadsStep, UsesWell, IsMailboxAt, IsChannelAt}
-use Rattle.cml_script.specs.declared.way.Way.{Way}
+use Rattle.cml_grammar.specs.Script.{SourceLine, Lines}
+use Rattle.cml_grammar.specs.Meaning.{names_of, action_of, seat_of_step}
+use Rattle.cml_grammar.specs.Reading.{source_of, ReadsStep, UsesWell}
 use Rattle.cml_script.specs.declared.way.Way.TheVariants as way
 use Rattle.cml_script.specs.Schedule.{feed_way, feed_at, way_of, way_of_line}
+use Rattle.cml_script.specs.Apart.{by_feed, act_of, act_of_line}
 use Rattle.cml_script.specs.Plan.{IsKnown, IsObjectAt, way_at}
 use Rattle.cml_script.proofs.ListLemmas.{mapped_at}
 use Rattle.cml_script.proofs.LineLemmas.{all_at}
@@ -52,6 +52,25 @@ pub lane_sends : (script : Lines) (items : List Step) (i capacity : ℕ) (d : St
 lane_sends script items i capacity d lines reads within goes =
     let found = slice_get-get_or items i d within in
     lane_action script (seat_of_step (names_of script) (source_of (get_or items i d).line).words) (get_or items i d).action capacity (sym (step_way script items i (get_or items i d) lines reads found) ∙ goes)
+
+-- what it does
+pub lane_acts : (script : Lines) (items : List Step) (i capacity : ℕ) (d : Step) (line : SourceLine) (a : Action) → map (λ x. source_of x.line) items ≡ script.steps → All (ReadsStep (names_of script)) items → i < length items → slice_get script.steps i ≡ Some line
+    → way_of_line script line ≡ way.Lane capacity → (get_or items i d).action ≡ a → act_of_line script line ≡ act_of script (way.Lane capacity) a
+lane_acts script items i capacity d line a lines reads within found goes is =
+    let s = get_or items i d in
+    let here = slice_get-get_or items i d within in
+    let same : line ≡ source_of s.line = same_Some _ _ (sym found ∙ mapped_at (λ x. source_of x.line) items script.steps i s lines here) in
+    let acts : action_of (names_of script) line.words ≡ Some a =
+    ap (λ (l : SourceLine). action_of (names_of script) l.words) same ∙ (all_at (ReadsStep (names_of script)) items i s reads here).action ∙ ap Some is in
+    ap₂ (λ w o. option_and_then (act_of script w) o) goes acts
+
+-- what goes by a feed polls it
+pub feed_acts : (script : Lines) (line : SourceLine) (feed : ℕ) → way_of_line script line ≡ way.Feed feed → act_of_line script line ≡ Some (by_feed feed)
+feed_acts script line feed goes = ap (λ w. option_and_then (act_of script w) (action_of (names_of script) line.words)) goes ∙ by_action (action_of (names_of script) line.words) goes
+  where
+    by_action : (o : Option Action) → option_map_or (way_of script (seat_of_step (names_of script) line.words)) o way.Seat ≡ way.Feed feed → option_and_then (act_of script (way.Feed feed)) o ≡ Some (by_feed feed)
+    by_action None e = cc
+    by_action (Some a) e = refl
 
 -- a name that a step gives is a port's, so that any other was declared
 declared_name : (script : Lines) (known : IsKnown script) (at : ℕ) (k : Kind) → IsObjectAt (names_of script) at k → (Some kind.Port ≡ Some k → ⊥) → at < length script.declarations

@@ -1,10 +1,11 @@
 -- What a thread makes, whatever made the declared objects.
-use Rattle.std.proofs.Common.{◌≡◌, ℕ, zero, suc, ◌+◌, ◌<◌, ◌≤◌, Bool, true, false, eqb, List, [], ◌∷◌, ◌++◌, length, map, take, slice_get, Option, Some, None, Ok, Err, Result, IfSome, IsSome, ◌⊎◌, inl, inr, refl, sym, ap, ap₂, subst, ◌∙◌, arith}
-use Rattle.std.specs.Prelude.{All, ⊤, ◌&&◌, not, OnOk}
+use Rattle.std.proofs.Common.{◌≡◌, ℕ, zero, suc, ◌+◌, ◌<◌, ◌≤◌, Bool, true, false, List, [], ◌∷◌, ◌++◌, length, map, take, slice_get, Option, Some, None, Ok, Err, Result, IfSome, IsSome, ◌⊎◌, inl, inr, refl, sym, ap, ap₂, subst, ◌∙◌, arith}
+use Rattle.std.specs.Prelude.{All, ◌&&◌, ◌||◌, not, OnOk}
+use Rattle.std.specs.List.{list_any}
 use Rattle.std.specs.Option.{option_map, option_map_or, option_and_then}
 use Rattle.std.specs.declared.alloc.AllocError.{AllocError}
-use Rattle.std.proofs.lemmas.Option.{none-some, slice_get_within, slice_get_past}
-use Rattle.std.proofs.lemmas.List.{take_all, length-map}
+use Rattle.std.proofs.lemmas.Option.{none-some, slice_get_within}
+use Rattle.std.proofs.lemmas.List.{take_all}
 use Rattle.std.proofs.lemmas.Bool.{false≢true, eq-eqb, cases_lt}
 use Rattle.cml_board.specs.declared.call.Call.{Call}
 use Rattle.cml_board.specs.declared.call.Call.TheVariants as call
@@ -21,18 +22,18 @@ use Rattle.cml_grammar.specs.Meaning.{names_of}
 use Rattle.cml_grammar.specs.Reading.{source_of, ReadsStep, UsesEarlier, used_by}
 use Rattle.cml_script.specs.declared.stop.Stop.{Stop}
 use Rattle.cml_script.specs.declared.stop.Stop.TheVariants.{Done, Stalled, Full, Held}
-use Rattle.cml_script.specs.declared.binding.Binding.{Binding}
 use Rattle.cml_script.specs.declared.binding.Binding.TheVariants as binding
 use Rattle.cml_script.specs.declared.way.Way.{Way}
 use Rattle.cml_script.specs.declared.way.Way.TheVariants as way
 use Rattle.cml_script.specs.declared.running.worker.Course.{Course}
 use Rattle.cml_script.specs.Counting.{one_if, how_many}
-use Rattle.cml_script.specs.Schedule.{History, declared_count, maker, performed, is_seat, is_seated, is_called, is_apart, is_by_ring, way_of_line, earlier, positions_where, positions_from, next_position, given_by, step_call, bound_by, binding_of, port_bound}
+use Rattle.cml_script.specs.Schedule.{History, declared_count, maker, performed, is_seat, is_seated, is_called, is_apart, is_by_ring, way_of_line, earlier, positions_where, next_position, given_by, step_call, bound_by, binding_of, port_bound}
+use Rattle.cml_script.specs.Apart.{Apart, is_by_lane, HasSent, goes_apart, earlier_apart, act_of_line}
 use Rattle.cml_script.specs.Report.{is_of_thread}
 use Rattle.cml_script.specs.Plan.{IsKnown, HasSeats, AsksForPorts, way_at}
 use Rattle.cml_script.specs.Bindings.{AreBindings, with_binding}
-use Rattle.cml_script.specs.Working.{Made, with_call, BeginsAt, AreBySeat, AreByMakers, IsOpening, AreNextSteps, GoesApart, IsStop, Works, stop_of, first_stop, ending_with}
-use Rattle.cml_script.specs.Course.{IsTurn, AreSuiting, IsUnderWay}
+use Rattle.cml_script.specs.Working.{Made, with_call, with_apart, BeginsAt, AreBySeat, AreByMakers, IsOpening, AreNextSteps, IsTurn, IsStop, Works, stop_of, first_stop, ending_with}
+use Rattle.cml_script.specs.Course.{AreSuiting, IsUnderWay, HasTaken}
 use Rattle.cml_script.proofs.ListLemmas.{how_many-le, count_taken, taken_count}
 use Rattle.cml_script.proofs.LineLemmas.{stands, called_seated}
 use Rattle.cml_script.proofs.QueueLemmas.{positions_count, position_is}
@@ -118,19 +119,27 @@ suits_gives (call.Take name) r suit asks = absurd (false≢true asks)
 suits_gives (call.TakePoll name) r suit asks = absurd (false≢true asks)
 suits_gives (call.Swap name message) r suit asks = absurd (false≢true asks)
 
-pub begins : (script : Lines) (seat : ℕ) (course : Course) (made : Option Made) → IsKnown script → BeginsAt seat made → course.made ≡ declared_count script → AreBindings script [] course.bindings.items → course.is_sending ≡ false → IsUnderWay script seat course made
+pub begins : (script : Lines) (seat : ℕ) (course : Course) (made : Option Made) → IsKnown script → BeginsAt seat made → course.made ≡ declared_count script → AreBindings script [] course.bindings.items → course.is_sending ≡ false → HasTaken script seat 0 course made
 begins script seat course made known none count bound sends = record {
-  entries = [];
-  told = none;
-  by = tt;
-  count = count ∙ omega arith;
-  suiting = tt;
-  steps = λ first opening. tt;
-  bound = λ first opening. record {
-    all = bound.all;
-    each = λ at lt. bound.each at lt ∙ ap Some (sym (opening_binding script first at known.asks known.seats opening.by));
+  place = 0;
+  behind = refl;
+  way = record {
+    entries = [];
+    apart = [];
+    told = none;
+    by = tt;
+    count = count ∙ omega arith;
+    called = refl;
+    gone = refl;
+    suiting = tt;
+    steps = λ first opening. tt;
+    does = tt;
+    bound = λ first opening. record {
+      all = bound.all;
+      each = λ at lt. bound.each at lt ∙ ap Some (sym (opening_binding script first at known.asks known.seats opening.by));
+    };
+    sends = λ is. absurd (false≢true (sym sends ∙ is));
   };
-  sends = λ is. absurd (false≢true (sym sends ∙ is));
 }
 
 module _ (script : Lines) (seat : ℕ) (low : 1 ≤ seat) (first : History) (opening : IsOpening script first) where
@@ -150,18 +159,18 @@ module _ (script : Lines) (seat : ℕ) (low : 1 ≤ seat) (first : History) (ope
   all_steps (entry ∷ entries) steps suiting =
       (inr (steps.0, suits_gives entry.call entry.reply suiting.0), all_steps entries steps.1 suiting.1)
 
-  module _ {course : Course} {made : Option Made} (under : IsUnderWay script seat course made) where
+  module _ {place : ℕ} {course : Course} {made : Option Made} (under : IsUnderWay script seat place course made) where
     abbrev pub so_far : History
     so_far = under.entries ++ first
 
     pub entries_are : length so_far ≡ course.made
     entries_are = all_entries under.entries ∙ sym under.count
 
-    -- a turn that is called is the thread's next
-    pub next_called : (i : ℕ) (turn : IsTurn script seat i course.made) → is_called script seat turn.line ≡ true → next_position script so_far (Seat seat) ≡ Some i
-    next_called i turn called =
+    -- a turn there that is called is the thread's next
+    pub next_called : (turn : IsTurn script seat place) → is_called script seat turn.line ≡ true → next_position script so_far (Seat seat) ≡ Some place
+    next_called turn called =
         let done = all_performed under.entries under.by in
-        next_at script so_far seat i turn.line turn.found called (omega (arith, done, under.count, turn.behind))
+        next_at script so_far seat place turn.line turn.found called (omega (arith, done, under.called))
 
     -- and its call is known
     pub call_known : (items : List Step) (i : ℕ) (s : Step) → IsKnown script → map (λ x. source_of x.line) items ≡ script.steps → All (ReadsStep (names_of script)) items → UsesEarlier script items → slice_get items i ≡ Some s → next_position script so_far (Seat seat) ≡ Some i → IsSome (step_call script so_far i)
@@ -170,8 +179,16 @@ module _ (script : Lines) (seat : ℕ) (low : 1 ≤ seat) (first : History) (ope
         let object = used_stands_for script so_far known items i seat s (all_steps under.entries (under.steps first opening) under.suiting) lines reads earlier item next (omega (arith, ge)) in
         subst IsSome (sym (step_calls script so_far items i (used_by s.action) s (named (Some object.0)) lines reads item refl (ap named (sym object.1)))) refl
 
-    pub works : (stop : Result Stop AllocError) → IsStop script seat (next_position script so_far (Seat seat)) stop → Works script seat under.entries stop first
-    works stop stops = record { by = under.by; steps = under.steps first opening; stops = stops }
+    pub works : (stop : Result Stop AllocError) → IsStop script seat place under.apart stop → Works script seat (record { seat = seat; entries = under.entries; apart = under.apart }) stop first
+    works stop stops = record {
+      by = under.by;
+      steps = under.steps first opening;
+      apart = under.does;
+      place = place;
+      called = under.called;
+      gone = under.gone;
+      stops = stops;
+    }
 
 pub some_mapped : {X Y : Type 0} (f : X → Y) (o : Option X) → IsSome (option_map f o) → IsSome o
 some_mapped f None some = absurd (false≢true some)
@@ -183,165 +200,186 @@ on_ok (Err e) f p = tt
 
 -- A turn.
 
-module _ (script : Lines) (seat : ℕ) where
-  pub turn_within : (i made : ℕ) → IsTurn script seat i made → i < length script.steps
-  turn_within i made turn = slice_get_within script.steps i turn.line turn.found
+module _ (script : Lines) (seat i : ℕ) (turn : IsTurn script seat i) where
+  pub turn_within : i < length script.steps
+  turn_within = slice_get_within script.steps i turn.line turn.found
 
   -- how it goes
-  pub turn_goes : (i made : ℕ) (turn : IsTurn script seat i made) (w : Way) → way_at script i ≡ w → way_of_line script turn.line ≡ w
-  turn_goes i made turn w is = sym (ap (λ l. option_map_or (way_of_line script) l way.Seat) turn.found) ∙ is
+  pub turn_goes : (w : Way) → way_at script i ≡ w → way_of_line script turn.line ≡ w
+  turn_goes w is = sym (ap (λ l. option_map_or (way_of_line script) l way.Seat) turn.found) ∙ is
 
-  pub turn_called : (i made : ℕ) (turn : IsTurn script seat i made) (t : Bool) → is_by_ring (way_of_line script turn.line) ≡ t → is_called script seat turn.line ≡ not t
-  turn_called i made turn t is = ap₂ (λ s a. s && not a) turn.seated is ∙ by_test t
-    where
-      by_test : (t : Bool) → (true && not t) ≡ not t
-      by_test true = refl
-      by_test false = refl
+  pub turn_apart : (t : Bool) → is_by_ring (way_of_line script turn.line) ≡ t → goes_apart script seat turn.line ≡ t
+  turn_apart t is = ap₂ (λ s a. s && a) turn.seated is
 
-  -- it isn't past what a script may have
-  pub turn_few : (i made : ℕ) (turn : IsTurn script seat i made) → made ≤ declared_count script + length script.steps
-  turn_few i made turn =
-      let within = slice_get_within script.steps i turn.line turn.found in
-      let le = taken_count (is_called script seat) script.steps i (length script.steps) (omega (arith, within)) in
-      let all = ap (how_many (is_called script seat)) (take_all (length script.steps) script.steps (omega arith)) in
-      omega (arith, turn.behind, le, all, how_many-le (is_called script seat) script.steps)
+  pub turn_called : (t : Bool) → is_by_ring (way_of_line script turn.line) ≡ t → is_called script seat turn.line ≡ not t
+  turn_called t is = ap₂ (λ s a. s && not a) turn.seated is
 
-  -- one that goes by a ring
-  pub turn_apart : (i made : ℕ) (turn : IsTurn script seat i made) → is_by_ring (way_of_line script turn.line) ≡ true → GoesApart script seat
-  turn_apart i made turn apart = record {
-    step = i;
-    line = turn.line;
-    found = turn.found;
-    seated = turn.seated;
-    apart = apart;
-  }
+  -- how many steps of its kinds stand behind it
+  pub called_more : (t : Bool) → is_called script seat turn.line ≡ t → earlier script seat (i + 1) ≡ earlier script seat i + one_if t
+  called_more t is = count_taken (is_called script seat) script.steps i turn.line turn.found ∙ ap (λ u. earlier script seat i + one_if u) is
 
-  -- how many the seat performed behind it
-  pub turn_counted : (i made : ℕ) (turn : IsTurn script seat i made) (t : Bool) → is_by_ring (way_of_line script turn.line) ≡ t → made + one_if (not t) ≡ declared_count script + earlier script seat (i + 1)
-  turn_counted i made turn t is =
-      omega (arith, turn.behind, count_taken (is_called script seat) script.steps i turn.line turn.found, ap one_if (turn_called i made turn t is))
+  pub apart_more : (t : Bool) → goes_apart script seat turn.line ≡ t → earlier_apart script seat (i + 1) ≡ earlier_apart script seat i + one_if t
+  apart_more t is = count_taken (goes_apart script seat) script.steps i turn.line turn.found ∙ ap (λ u. earlier_apart script seat i + one_if u) is
+
+-- no more was made than a script may have
+pub under_way_few : (script : Lines) (seat place : ℕ) {course : Course} {made : Option Made} → IsUnderWay script seat place course made → course.made ≤ declared_count script + length script.steps
+under_way_few script seat place under =
+    let le = taken_count (is_called script seat) script.steps place (place + length script.steps) (omega arith) in
+    let all = ap (how_many (is_called script seat)) (take_all (place + length script.steps) script.steps (omega arith)) in
+    omega (arith, under.count, under.called, le, all, how_many-le (is_called script seat) script.steps)
 
 -- How it goes on.
 
--- nothing more was made, and lanes are open where they were, or since a step went by one
-pub kept : (script : Lines) (seat : ℕ) {course : Course} {made : Option Made} (later : Course) (now : Option Made) → IsUnderWay script seat course made → later.made ≡ course.made → later.bindings ≡ course.bindings → now ≡ made → (later.is_sending ≡ true → (course.is_sending ≡ true) ⊎ GoesApart script seat) → IsUnderWay script seat later now
-kept script seat later now under count bound same sends = record {
+-- what is told goes on so
+told_more : (told : Made) (adds : Made → Made) (made later : Option Made) → IfSome made (λ tells. tells ≡ told) → later ≡ option_map adds made → IfSome later (λ tells. tells ≡ adds told)
+told_more told adds made later is more = subst (λ (o : Option Made). IfSome o (λ tells. tells ≡ adds told)) (sym more) (by_made made is)
+  where
+    by_made : (o : Option Made) → IfSome o (λ tells. tells ≡ told) → IfSome (option_map adds o) (λ tells. tells ≡ adds told)
+    by_made None is = tt
+    by_made (Some tells) is = ap adds is
+
+-- nothing more was made, and lanes are open at most where they were
+pub kept : (script : Lines) (seat place : ℕ) {course : Course} {made : Option Made} (later : Course) (now : Option Made) → IsUnderWay script seat place course made → later.made ≡ course.made → later.bindings ≡ course.bindings → now ≡ made → (later.is_sending ≡ true → course.is_sending ≡ true) → IsUnderWay script seat place later now
+kept script seat place later now under count bound same sends = record {
   entries = under.entries;
-  told = subst (λ (o : Option Made). IfSome o (λ tells. tells ≡ record { seat = seat; entries = under.entries })) (sym same) under.told;
+  apart = under.apart;
+  told = subst (λ (o : Option Made). IfSome o (λ tells. tells ≡ record { seat = seat; entries = under.entries; apart = under.apart })) (sym same) under.told;
   by = under.by;
   count = count ∙ under.count;
+  called = under.called;
+  gone = under.gone;
   suiting = under.suiting;
   steps = under.steps;
+  does = under.does;
   bound = λ first opening. subst (λ b. AreBindings script (under.entries ++ first) b.items) (sym bound) (under.bound first opening);
-  sends = λ is. elim (sends is) [ inl was ↦ under.sends was | inr apart ↦ apart ];
+  sends = λ is. under.sends (sends is);
 }
 
-told_more : (seat : ℕ) (entries : History) (asked : Call ℕ) (r : Reply ℕ) (made later : Option Made) → IfSome made (λ tells. tells ≡ record { seat = seat; entries = entries }) → later ≡ option_map (with_call asked r) made
-    → IfSome later (λ tells. tells ≡ record { seat = seat; entries = record { who = Seat seat; call = asked; reply = r } ∷ entries })
-told_more seat entries asked r None later told more =
-    subst (λ (o : Option Made). IfSome o (λ tells. tells ≡ record { seat = seat; entries = record { who = Seat seat; call = asked; reply = r } ∷ entries })) (sym more) tt
-told_more seat entries asked r (Some tells) later told more =
-    subst (λ (o : Option Made). IfSome o (λ tells. tells ≡ record { seat = seat; entries = record { who = Seat seat; call = asked; reply = r } ∷ entries })) (sym more) (ap (with_call asked r) told)
-
--- one more call was answered
-pub more_made : (script : Lines) (seat : ℕ) (low : 1 ≤ seat) {course : Course} {made : Option Made} (under : IsUnderWay script seat course made) (known : IsKnown script) (i : ℕ) (turn : IsTurn script seat i course.made) (asked : Call ℕ) (r : Reply ℕ) (g : Option ℕ) (next : Course) (later : Option Made)
-    → is_called script seat turn.line ≡ true → suits asked r ≡ true
+-- a turn that is the seat's was performed
+pub more_made : (script : Lines) (seat : ℕ) (low : 1 ≤ seat) (i : ℕ) {course : Course} {made : Option Made} (under : IsUnderWay script seat i course made) (known : IsKnown script) (turn : IsTurn script seat i) (asked : Call ℕ) (r : Reply ℕ) (g : Option ℕ) (next : Course) (later : Option Made)
+    → is_by_ring (way_of_line script turn.line) ≡ false → suits asked r ≡ true
     → ((history : History) → length history ≡ course.made → AreBindings script history course.bindings.items → step_call script history i ≡ Some asked)
     → g ≡ given_by script i → later ≡ option_map (with_call asked r) made → next.made ≡ course.made + 1 → next.bindings.items ≡ with_binding course.bindings.items g (bound_by asked r) → next.is_sending ≡ course.is_sending
-    → IsUnderWay script seat next later
-more_made script seat low {course} {made} under known i turn asked r g next later called suit calls gives more count bound sends = record {
+    → IsUnderWay script seat (i + 1) next later
+more_made script seat low i {course} {made} under known turn asked r g next later seated suit calls gives more count bound sends = record {
   entries = entry ∷ under.entries;
-  told = told_more seat under.entries asked r made later under.told more;
+  apart = under.apart;
+  told = told_more (record { seat = seat; entries = under.entries; apart = under.apart }) (with_call asked r) made later under.told more;
   by = (refl, under.by);
   count = omega (arith, count, under.count);
+  called = omega (arith, under.called, called_more script seat i turn true called);
+  gone = omega (arith, under.gone, apart_more script seat i turn false (turn_apart script seat i turn false seated));
   suiting = (suit, under.suiting);
   steps = λ first opening. (
     record {
       step = i;
-      next = next_called script seat low first opening under i turn called;
+      next = next_called script seat low first opening under turn called;
       calls = calls (under.entries ++ first) (entries_are script seat low first opening under) (under.bound first opening);
     },
     under.steps first opening,
   );
+  does = under.does;
   bound = λ first opening.
       subst (AreBindings script (entry ∷ (under.entries ++ first))) (sym bound)
       (bindings_more script (under.entries ++ first) entry course.bindings.items g known.asks known.seats
-      (ap (option_and_then (given_by script)) (next_called script seat low first opening under i turn called) ∙ sym gives) (under.bound first opening));
+      (ap (option_and_then (given_by script)) (next_called script seat low first opening under turn called) ∙ sym gives) (under.bound first opening));
   sends = λ is. under.sends (sym sends ∙ is);
 }
   where
+    called : is_called script seat turn.line ≡ true
+    called = turn_called script seat i turn false seated
+
     entry : Entry ℕ
     entry = record { who = Seat seat; call = asked; reply = r }
 
+-- a turn that goes by a lane or a feed
+pub more_gone : (script : Lines) (seat i : ℕ) {course : Course} {made : Option Made} (under : IsUnderWay script seat i course made) (turn : IsTurn script seat i) (done : Apart) (next : Course) (later : Option Made)
+    → is_by_ring (way_of_line script turn.line) ≡ true → act_of_line script turn.line ≡ Some done → later ≡ option_map (with_apart done) made
+    → next.made ≡ course.made → next.bindings ≡ course.bindings → (next.is_sending ≡ true → (course.is_sending ≡ true) ⊎ (is_by_lane done ≡ true)) → IsUnderWay script seat (i + 1) next later
+more_gone script seat i {course} {made} under turn done next later by_ring does more count bound sends = record {
+  entries = under.entries;
+  apart = done ∷ under.apart;
+  told = told_more (record { seat = seat; entries = under.entries; apart = under.apart }) (with_apart done) made later under.told more;
+  by = under.by;
+  count = count ∙ under.count;
+  called = omega (arith, under.called, called_more script seat i turn false (turn_called script seat i turn true by_ring));
+  gone = omega (arith, under.gone, apart_more script seat i turn true apart);
+  suiting = under.suiting;
+  steps = under.steps;
+  does = (
+    record {
+      step = i;
+      line = turn.line;
+      found = turn.found;
+      apart = apart;
+      next = sym under.gone;
+      does = does;
+    },
+    under.does,
+  );
+  bound = λ first opening. subst (λ b. AreBindings script (under.entries ++ first) b.items) (sym bound) (under.bound first opening);
+  sends = λ is. elim (sends is) [ inl was ↦ or_true (is_by_lane done) (list_any is_by_lane under.apart) (inr (under.sends was)) | inr lane ↦ or_true (is_by_lane done) (list_any is_by_lane under.apart) (inl lane) ];
+}
+  where
+    apart : goes_apart script seat turn.line ≡ true
+    apart = turn_apart script seat i turn true by_ring
+
+    or_true : (a b : Bool) → (a ≡ true) ⊎ (b ≡ true) → (a || b) ≡ true
+    or_true true b e = refl
+    or_true false b e = elim e [ inl lane ↦ absurd (false≢true lane) | inr sent ↦ sent ]
+
 -- How it ends.
 
-full_stops : (script : Lines) (seat : ℕ) (next : Option ℕ) (stop : Stop) → IsSome next ⊎ GoesApart script seat → IsStop script seat next (Ok (first_stop stop Full))
-full_stops script seat next Full left = left
-full_stops script seat next Held left = left
-full_stops script seat next Stalled left = left
-full_stops script seat next Done left = left
+module _ (script : Lines) (seat place : ℕ) (apart : List Apart) (left : IsTurn script seat place ⊎ HasSent apart) where
+  full_stops : (stop : Stop) → IsStop script seat place apart (Ok (first_stop stop Full))
+  full_stops Full = left
+  full_stops Held = left
+  full_stops Stalled = left
+  full_stops Done = left
 
-stall_stops : (script : Lines) (seat : ℕ) (next : Option ℕ) (stop : Stop) → IsSome next ⊎ GoesApart script seat → IsStop script seat next (Ok (first_stop stop Stalled))
-stall_stops script seat next Full left = left
-stall_stops script seat next Held left = left
-stall_stops script seat next Stalled left = left
-stall_stops script seat next Done left = left
+  stall_stops : (stop : Stop) → IsStop script seat place apart (Ok (first_stop stop Stalled))
+  stall_stops Full = left
+  stall_stops Held = left
+  stall_stops Stalled = left
+  stall_stops Done = left
 
--- a refusal stops it
-pub refusal_stops : (script : Lines) (seat : ℕ) (next : Option ℕ) (r : Refusal) → IsSome next ⊎ GoesApart script seat → IsStop script seat next (stop_of r)
-refusal_stops script seat next refusal.JournalFull left = left
-refusal_stops script seat next refusal.NoMemory left = tt
-refusal_stops script seat next refusal.Gone left = left
-refusal_stops script seat next refusal.Busy left = left
-refusal_stops script seat next refusal.NoSuch left = left
-refusal_stops script seat next refusal.WrongKind left = left
-refusal_stops script seat next refusal.Stalled left = left
-refusal_stops script seat next refusal.Unseen left = left
+  -- a refusal stops it
+  pub refusal_stops : (r : Refusal) → IsStop script seat place apart (stop_of r)
+  refusal_stops refusal.JournalFull = left
+  refusal_stops refusal.NoMemory = tt
+  refusal_stops refusal.Gone = left
+  refusal_stops refusal.Busy = left
+  refusal_stops refusal.NoSuch = left
+  refusal_stops refusal.WrongKind = left
+  refusal_stops refusal.Stalled = left
+  refusal_stops refusal.Unseen = left
 
--- or makes its end another
-pub closing_stops : (script : Lines) (seat : ℕ) (next : Option ℕ) (stop : Stop) (r : Refusal) → IsSome next ⊎ GoesApart script seat → IsStop script seat next (ending_with stop r)
-closing_stops script seat next stop refusal.JournalFull left = full_stops script seat next stop left
-closing_stops script seat next stop refusal.NoMemory left = tt
-closing_stops script seat next stop refusal.Gone left = stall_stops script seat next stop left
-closing_stops script seat next stop refusal.Busy left = stall_stops script seat next stop left
-closing_stops script seat next stop refusal.NoSuch left = stall_stops script seat next stop left
-closing_stops script seat next stop refusal.WrongKind left = stall_stops script seat next stop left
-closing_stops script seat next stop refusal.Stalled left = stall_stops script seat next stop left
-closing_stops script seat next stop refusal.Unseen left = stall_stops script seat next stop left
+  -- or makes its end another
+  closing_stops : (stop : Stop) (r : Refusal) → IsStop script seat place apart (ending_with stop r)
+  closing_stops stop refusal.JournalFull = full_stops stop
+  closing_stops stop refusal.NoMemory = tt
+  closing_stops stop refusal.Gone = stall_stops stop
+  closing_stops stop refusal.Busy = stall_stops stop
+  closing_stops stop refusal.NoSuch = stall_stops stop
+  closing_stops stop refusal.WrongKind = stall_stops stop
+  closing_stops stop refusal.Stalled = stall_stops stop
+  closing_stops stop refusal.Unseen = stall_stops stop
 
-module _ (script : Lines) (seat : ℕ) (low : 1 ≤ seat) {course : Course} {made : Option Made} (under : IsUnderWay script seat course made) where
+module _ (script : Lines) (seat : ℕ) (low : 1 ≤ seat) (place : ℕ) {course : Course} {made : Option Made} (under : IsUnderWay script seat place course made) where
   -- what is told at the end
-  pub ends_with : (stop : Result Stop AllocError) (now : Option Made) → now ≡ made → ((first : History) (opening : IsOpening script first) → IsStop script seat (next_position script (under.entries ++ first) (Seat seat)) stop)
-      → (first : History) → IsOpening script first → IfSome now (λ m. Works script seat m.entries stop first)
-  ends_with stop now same stops first opening =
-      subst (λ (o : Option Made). IfSome o (λ m. Works script seat m.entries stop first)) (sym same) (by_made made under.told)
+  pub ends_with : (stop : Result Stop AllocError) (now : Option Made) → now ≡ made → IsStop script seat place under.apart stop → (first : History) → IsOpening script first → IfSome now (λ m. Works script seat m stop first)
+  ends_with stop now same stops first opening = subst (λ (o : Option Made). IfSome o (λ m. Works script seat m stop first)) (sym same) (by_made made under.told)
     where
-      by_made : (o : Option Made) → IfSome o (λ tells. tells ≡ record { seat = seat; entries = under.entries }) → IfSome o (λ m. Works script seat m.entries stop first)
+      by_made : (o : Option Made) → IfSome o (λ tells. tells ≡ record { seat = seat; entries = under.entries; apart = under.apart }) → IfSome o (λ m. Works script seat m stop first)
       by_made None told = tt
-      by_made (Some tells) told = subst (λ (m : Made). Works script seat m.entries stop first) (sym told) (works script seat low first opening under stop (stops first opening))
+      by_made (Some tells) told = subst (λ (m : Made). Works script seat m stop first) (sym told) (works script seat low first opening under stop stops)
 
-  -- there is a step left at a turn, or one that goes by a ring
-  pub turn_left : (i : ℕ) (turn : IsTurn script seat i course.made) (first : History) (opening : IsOpening script first) → IsSome (next_position script (under.entries ++ first) (Seat seat)) ⊎ GoesApart script seat
-  turn_left i turn first opening = by_test (is_by_ring (way_of_line script turn.line)) refl
-    where
-      by_test : (t : Bool) → is_by_ring (way_of_line script turn.line) ≡ t → IsSome (next_position script (under.entries ++ first) (Seat seat)) ⊎ GoesApart script seat
-      by_test true is = inr (turn_apart script seat i course.made turn is)
-      by_test false is = inl (subst IsSome (sym (next_called script seat low first opening under i turn (turn_called script seat i course.made turn false is))) refl)
-
-  -- none is left where the seat performed all
-  pub none_left : course.made ≡ declared_count script + how_many (is_called script seat) script.steps → (first : History) (opening : IsOpening script first) → next_position script (under.entries ++ first) (Seat seat) ≡ None
-  none_left all first opening =
-      slice_get_past (positions_from script seat 0 script.steps) (performed (under.entries ++ first) seat)
-      (omega (arith, all, under.count, all_performed script seat low first opening under.entries under.by, positions_count (is_called script seat) 0 script.steps))
-
-  -- how it ends where a gate says no at a turn, or all its steps are performed, and closing its lanes may be refused
-  pub closes_with : (stop : Stop) (result : Result Stop AllocError) (now : Option Made) → now ≡ made → ((first : History) (opening : IsOpening script first) → IsStop script seat (next_position script (under.entries ++ first) (Seat seat)) (Ok stop))
-      → (result ≡ Ok stop) ⊎ ((course.is_sending ≡ true) × ((r : Refusal) × (result ≡ ending_with stop r))) → (first : History) → IsOpening script first → IfSome now (λ m. Works script seat m.entries result first)
+  -- where a gate says no at a turn, or all its steps are performed, and closing its lanes may be refused
+  pub closes_with : (stop : Stop) (result : Result Stop AllocError) (now : Option Made) → now ≡ made → IsStop script seat place under.apart (Ok stop) → (result ≡ Ok stop) ⊎ ((course.is_sending ≡ true) × ((r : Refusal) × (result ≡ ending_with stop r)))
+      → (first : History) → IsOpening script first → IfSome now (λ m. Works script seat m result first)
   closes_with stop result now same stops closed = elim closed [
-    | inl as_told ↦ ends_with result now same (λ first opening. subst (IsStop script seat (next_position script (under.entries ++ first) (Seat seat))) (sym as_told) (stops first opening))
-    | inr refused ↦
-        ends_with result now same
-        (λ first opening. subst (IsStop script seat (next_position script (under.entries ++ first) (Seat seat))) (sym refused.1.1) (closing_stops script seat (next_position script (under.entries ++ first) (Seat seat)) stop refused.1.0 (inr (under.sends refused.0))))
+    | inl as_told ↦ ends_with result now same (subst (IsStop script seat place under.apart) (sym as_told) stops)
+    | inr refused ↦ ends_with result now same (subst (IsStop script seat place under.apart) (sym refused.1.1) (closing_stops script seat place under.apart (inr (under.sends refused.0)) stop refused.1.0))
   ]
 
 -- Its turns, one after the other.
@@ -363,78 +401,90 @@ narrower p q (x ∷ xs) zero (suc b) implied le = let ih = narrower p q xs zero 
 narrower p q (x ∷ xs) (suc a) zero implied le = absurd (omega arith)
 narrower p q (x ∷ xs) (suc a) (suc b) implied le = let ih = narrower p q xs a b implied (omega arith) in omega (arith, ih)
 
--- the seat performed what it performs of the first so many steps of its thread
-pub record IsBehind (script : Lines) (seat nth made : ℕ) : Type 0 where
-  pub few : nth ≤ how_many (is_seated script seat) script.steps
-  pub place : (i : ℕ) → how_many (is_seated script seat) (take i script.steps) ≡ nth → made ≡ declared_count script + earlier script seat i
+apart_seated : (script : Lines) (seat : ℕ) (line : SourceLine) → goes_apart script seat line ≡ true → is_seated script seat line ≡ true
+apart_seated script seat line goes = by_test (is_seated script seat line) (is_apart script line) goes
+  where
+    by_test : (t a : Bool) → (t && a) ≡ true → t ≡ true
+    by_test true a e = refl
+    by_test false a e = absurd (false≢true e)
 
-module _ (script : Lines) (seat : ℕ) where
-  pub none_behind : (made : ℕ) → made ≡ declared_count script → IsBehind script seat 0 made
-  none_behind made none = record {
-    few = omega arith;
-    place = λ i here.
-        let fewer = narrower (is_seated script seat) (is_called script seat) script.steps 0 i (called_seated script seat) (omega arith) in
-        omega (arith, none, here, fewer);
+-- between two places with no turn between them nothing of the thread stands
+none_between : (script : Lines) (seat : ℕ) (q : SourceLine → Bool) (a b : ℕ) → ((line : SourceLine) → q line ≡ true → is_seated script seat line ≡ true)
+    → how_many (is_seated script seat) (take a script.steps) ≡ how_many (is_seated script seat) (take b script.steps) → how_many q (take a script.steps) ≡ how_many q (take b script.steps)
+none_between script seat q a b implied same = elim (cases_lt a b) [
+  | inl lt ↦ up a b (omega (arith, lt)) same
+  | inr ge ↦ sym (up b a ge (sym same))
+]
+  where
+    up : (a b : ℕ) → a ≤ b → how_many (is_seated script seat) (take a script.steps) ≡ how_many (is_seated script seat) (take b script.steps) → how_many q (take a script.steps) ≡ how_many q (take b script.steps)
+    up a b le same =
+        let fewer = narrower (is_seated script seat) q script.steps a b implied le in
+        let more = taken_count q script.steps a b le in
+        omega (arith, same, fewer, more)
+
+all_taken : {X : Type 0} (p : X → Bool) (xs : List X) → how_many p (take (length xs) xs) ≡ how_many p xs
+all_taken p xs = ap (how_many p) (take_all (length xs) xs (omega arith))
+
+module _ (script : Lines) (seat taken : ℕ) {course : Course} {made : Option Made} (so : HasTaken script seat taken course made) where
+  -- it is under way at any such place
+  pub under_way_at : (i : ℕ) → how_many (is_seated script seat) (take i script.steps) ≡ taken → IsUnderWay script seat i course made
+  under_way_at i here = let under = so.way in record {
+    entries = under.entries;
+    apart = under.apart;
+    told = under.told;
+    by = under.by;
+    count = under.count;
+    called = under.called ∙ none_between script seat (is_called script seat) so.place i (called_seated script seat) (so.behind ∙ sym here);
+    gone = under.gone ∙ none_between script seat (goes_apart script seat) so.place i (apart_seated script seat) (so.behind ∙ sym here);
+    suiting = under.suiting;
+    steps = under.steps;
+    does = under.does;
+    bound = under.bound;
+    sends = under.sends;
   }
 
-  all_taken : {X : Type 0} (p : X → Bool) (xs : List X) → how_many p (take (length xs) xs) ≡ how_many p xs
-  all_taken p xs = ap (how_many p) (take_all (length xs) xs (omega arith))
+  -- as where the text ends, when all were taken
+  past_there : how_many (is_seated script seat) script.steps ≤ taken → IsUnderWay script seat (length script.steps) course made
+  past_there all =
+      let few = taken_count (is_seated script seat) script.steps so.place (so.place + length script.steps) (omega arith) in
+      let whole = ap (how_many (is_seated script seat)) (take_all (so.place + length script.steps) script.steps (omega arith)) in
+      under_way_at (length script.steps) (all_taken (is_seated script seat) script.steps ∙ omega (arith, all, few, whole, so.behind))
 
-  -- the next turn
-  pub turn_at : (nth i made : ℕ) → IsBehind script seat nth made → slice_get (positions_where (is_seated script seat) 0 script.steps) nth ≡ Some i → IsTurn script seat i made
-  turn_at nth i made behind next =
-      let there = position_is (is_seated script seat) 0 script.steps nth i next in
-      let same : i ≡ there.place = omega (arith, there.at) in
-      record {
-        line = there.line;
-        found = ap (slice_get script.steps) same ∙ there.found;
-        seated = there.seated;
-        behind = behind.place i (ap (λ n. how_many (is_seated script seat) (take n script.steps)) same ∙ there.behind);
-      }
-
-  -- behind it
-  pub one_behind : (nth i made later : ℕ) → slice_get (positions_where (is_seated script seat) 0 script.steps) nth ≡ Some i → later ≡ declared_count script + earlier script seat (i + 1) → IsBehind script seat (nth + 1) later
-  one_behind nth i made later next more =
-      let there = position_is (is_seated script seat) 0 script.steps nth i next in
-      let same : i ≡ there.place = omega (arith, there.at) in
-      let at : how_many (is_seated script seat) (take i script.steps) ≡ nth = ap (λ n. how_many (is_seated script seat) (take n script.steps)) same ∙ there.behind in
-      let counted : how_many (is_seated script seat) (take (i + 1) script.steps) ≡ nth + 1 =
-      count_taken (is_seated script seat) script.steps i there.line (ap (slice_get script.steps) same ∙ there.found) ∙ omega (arith, at, ap one_if there.seated) in
-      record {
-        few =
-            let within = slice_get_within script.steps there.place there.line there.found in
-            let le = taken_count (is_seated script seat) script.steps (i + 1) (length script.steps) (omega (arith, within, same)) in
-            omega (arith, counted, le, all_taken (is_seated script seat) script.steps);
-        place = λ j here. more ∙ ap (λ n. declared_count script + n) (equal (i + 1) j (counted ∙ sym here));
-      }
-    where
-      equal : (a b : ℕ) → how_many (is_seated script seat) (take a script.steps) ≡ how_many (is_seated script seat) (take b script.steps) → earlier script seat a ≡ earlier script seat b
-      equal a b same = elim (cases_lt a b) [
-        | inl lt ↦ up a b (omega (arith, lt)) same
-        | inr ge ↦ sym (up b a ge (sym same))
-      ]
-        where
-          up : (a b : ℕ) → a ≤ b → how_many (is_seated script seat) (take a script.steps) ≡ how_many (is_seated script seat) (take b script.steps) → earlier script seat a ≡ earlier script seat b
-          up a b le same =
-              let fewer = narrower (is_seated script seat) (is_called script seat) script.steps a b (called_seated script seat) le in
-              let more = taken_count (is_called script seat) script.steps a b le in
-              omega (arith, same, fewer, more)
-
-  -- where there is no more turn, the seat performed all
-  pub all_behind : (nth made : ℕ) → IsBehind script seat nth made → slice_get (positions_where (is_seated script seat) 0 script.steps) nth ≡ None → made ≡ declared_count script + how_many (is_called script seat) script.steps
-  all_behind nth made behind none = elim (cases_lt nth (length (positions_where (is_seated script seat) 0 script.steps))) [
+  -- since there is no more turn
+  pub past_turns : slice_get (positions_where (is_seated script seat) 0 script.steps) taken ≡ None → IsUnderWay script seat (length script.steps) course made
+  past_turns none = elim (cases_lt taken (length (positions_where (is_seated script seat) 0 script.steps))) [
     | inl lt ↦
-        let there = stands (positions_where (is_seated script seat) 0 script.steps) nth lt in
+        let there = stands (positions_where (is_seated script seat) 0 script.steps) taken lt in
         absurd (none-some there.0 (sym none ∙ there.1))
-    | inr ge ↦
-        let count = positions_count (is_seated script seat) 0 script.steps in
-        behind.place (length script.steps) (all_taken (is_seated script seat) script.steps ∙ omega (arith, ge, count, behind.few))
-        ∙ ap (λ n. declared_count script + n) (all_taken (is_called script seat) script.steps)
+    | inr ge ↦ past_there (omega (arith, ge, positions_count (is_seated script seat) 0 script.steps))
   ]
 
-  -- nor where as many were taken as the script has steps
-  pub past_all : (nth made : ℕ) → IsBehind script seat nth made → length script.steps ≤ nth → made ≡ declared_count script + how_many (is_called script seat) script.steps
-  past_all nth made behind all =
-      let le = how_many-le (is_seated script seat) script.steps in
-      behind.place (length script.steps) (all_taken (is_seated script seat) script.steps ∙ omega (arith, all, le, behind.few))
-      ∙ ap (λ n. declared_count script + n) (all_taken (is_called script seat) script.steps)
+  -- or as many were taken as the script has steps
+  pub past_steps : length script.steps ≤ taken → IsUnderWay script seat (length script.steps) course made
+  past_steps all = past_there (omega (arith, all, how_many-le (is_seated script seat) script.steps))
+
+-- there is no turn then
+pub none_past : (script : Lines) (seat i : ℕ) → IsTurn script seat i → i < length script.steps
+none_past script seat i turn = turn_within script seat i turn
+
+module _ (script : Lines) (seat taken i : ℕ) (next : slice_get (positions_where (is_seated script seat) 0 script.steps) taken ≡ Some i) where
+  -- the next turn
+  pub turn_at : IsTurn script seat i
+  turn_at =
+      let there = position_is (is_seated script seat) 0 script.steps taken i next in
+      let same : i ≡ there.place = omega (arith, there.at) in
+      record { line = there.line; found = ap (slice_get script.steps) same ∙ there.found; seated = there.seated }
+
+  pub turns_before : how_many (is_seated script seat) (take i script.steps) ≡ taken
+  turns_before =
+      let there = position_is (is_seated script seat) 0 script.steps taken i next in
+      let same : i ≡ there.place = omega (arith, there.at) in
+      ap (λ n. how_many (is_seated script seat) (take n script.steps)) same ∙ there.behind
+
+  -- behind it
+  pub one_taken : {course : Course} {made : Option Made} → IsUnderWay script seat (i + 1) course made → HasTaken script seat (taken + 1) course made
+  one_taken under = record {
+    place = i + 1;
+    behind = count_taken (is_seated script seat) script.steps i turn_at.line turn_at.found ∙ omega (arith, turns_before, ap one_if turn_at.seated);
+    way = under;
+  }

@@ -15,6 +15,7 @@ pub mod Bindings
 pub mod Makes
 pub mod Objects
 pub mod Stage
+pub mod Apart
 pub mod Audit
 pub mod Trail
 pub mod Scene

@@ -15,7 +15,7 @@ use Rattle.cml_grammar.specs.declared.forms.Action.{Action}
 use Rattle.cml_grammar.specs.Reading.{gives_name, IsCapacity}
 use Rattle.cml_grammar.specs.Giving.{is_giving, NamesAreGiven}
 use Rattle.cml_script.specs.Counting.{how_many}
-use Rattle.cml_script.specs.Schedule.{is_object, is_feed, number_of, is_seated, is_called, positions_where, way_of_line, given_by}
+use Rattle.cml_script.specs.Schedule.{is_feed, number_of, is_seated, is_called, positions_where, way_of_line, given_by}
 use Rattle.cml_script.specs.declared.way.Way.{Way}
 use Rattle.cml_script.specs.declared.way.Way.TheVariants as way
 

@@ -1,5 +1,5 @@
 -- What one thread performs of a script, whoever makes its calls.
-use Rattle.std.specs.Prelude.{ℕ, ◌≡◌, ◌+◌, ◌<◌, ◌≤◌, ◌⊎◌, Bool, true, false, List, [], ◌∷◌, ◌++◌, length, slice_get, Option, Some, None, Result, Ok, Err, IfSome, IsSome, OnOk, ⊤}
+use Rattle.std.specs.Prelude.{ℕ, ◌≡◌, ◌<◌, ◌≤◌, ◌⊎◌, Bool, true, false, List, [], ◌∷◌, ◌++◌, length, slice_get, Option, Some, Result, Ok, Err, IfSome, OnOk, ⊤}
 use Rattle.std.specs.Option.{option_map}
 use Rattle.std.specs.declared.alloc.AllocError.{AllocError}
 use Rattle.cml_board.specs.declared.call.Name.{Name}
@@ -22,15 +22,17 @@ use Rattle.cml_grammar.specs.Reading.{IsCapacity}
 use Rattle.cml_script.specs.declared.stop.Stop.{Stop}
 use Rattle.cml_script.specs.declared.stop.Stop.TheVariants.{Done, Stalled, Full, Held}
 use Rattle.cml_script.specs.Counting.{how_many}
-use Rattle.cml_script.specs.Schedule.{History, declared_count, number_of, maker, is_seated, is_apart, next_position, making_call}
+use Rattle.cml_script.specs.Schedule.{History, declared_count, number_of, maker, is_seated, earlier, making_call}
+use Rattle.cml_script.specs.Apart.{Apart, HasSent, AreNextApart, earlier_apart}
 use Rattle.cml_script.specs.Audit.{IsNextOfThread, IsOfScript}
 
 -- What a caller made.
 
--- its seat, and the entries that it made, newest first
+-- its seat, the entries that it made, and what went by its lanes and feeds, newest first
 pub record Made : Type 0 where
   pub seat : ℕ
   pub entries : History
+  pub apart : List Apart
 
 -- with a call that its seat was answered
 abbrev pub with_call : Call ℕ → Reply ℕ → Made → Made
@@ -48,9 +50,13 @@ is_of_feed entry = is_feed_of entry.who
 abbrev pub with_feed : Name → Name → Made → Made
 with_feed channel port made = record made { entries = (record { who = Feed (how_many is_of_feed made.entries); call = NewPort channel; reply = reply.Made port }) ∷ made.entries }
 
+-- with what went by a lane or a feed
+abbrev pub with_apart : Apart → Made → Made
+with_apart done made = record made { apart = done ∷ made.apart }
+
 -- it has this seat, and made nothing yet, where it tells what it makes
 abbrev pub BeginsAt : ℕ → Option Made → Type 0
-BeginsAt seat made = IfSome made (λ made. made ≡ record { seat = seat; entries = [] })
+BeginsAt seat made = IfSome made (λ made. made ≡ record { seat = seat; entries = []; apart = [] })
 
 -- What declares.
 
@@ -97,27 +103,30 @@ abbrev pub AreNextSteps : Lines → History → History → Type 0
 AreNextSteps script first [] = ⊤
 AreNextSteps script first (entry ∷ done) = IsNextOfThread script (done ++ first) entry × AreNextSteps script first done
 
--- the thread with this seat has a step that goes by a lane or a feed
-pub record GoesApart (script : Lines) (seat : ℕ) : Type 0 where
-  pub step : ℕ
+-- the i-th step is the thread's with this seat
+pub record IsTurn (script : Lines) (seat i : ℕ) : Type 0 where
   pub line : SourceLine
-  pub found : slice_get script.steps step ≡ Some line
+  pub found : slice_get script.steps i ≡ Some line
   pub seated : is_seated script seat line ≡ true
-  pub apart : is_apart script line ≡ true
 
--- a thread that is done has no step left for its seat, and one that stopped otherwise has, unless it may have stopped at a
--- step that goes by a lane or a feed, or since a lane could not be closed
-abbrev pub IsStop : Lines → ℕ → Option ℕ → Result Stop AllocError → Type 0
-IsStop script seat next (Ok Done) = next ≡ None
-IsStop script seat next (Ok stop) = IsSome next ⊎ GoesApart script seat
-IsStop script seat next (Err error) = ⊤
+-- a thread that is done has no step from this place on, and one that stopped otherwise has its next one there, or may have
+-- stopped since a lane that it sent by could not be closed
+abbrev pub IsStop : Lines → ℕ → ℕ → List Apart → Result Stop AllocError → Type 0
+IsStop script seat place apart (Ok Done) = (i : ℕ) → IsTurn script seat i → i < place
+IsStop script seat place apart (Ok stop) = IsTurn script seat place ⊎ HasSent apart
+IsStop script seat place apart (Err error) = ⊤
 
--- whatever made the declared objects: the entries of the thread with this seat are the steps that its seat performs, from
--- the first one on, in order, each on the objects that its names stand for; and this is why it stopped
-pub record Works (script : Lines) (seat : ℕ) (made : History) (stop : Result Stop AllocError) (first : History) : Type 0 where
-  pub by : AreBySeat seat made
-  pub steps : AreNextSteps script first made
-  pub stops : IsStop script seat (next_position script (made ++ first) (Seat seat)) stop
+-- whatever made the declared objects: the entries of the thread with this seat are the steps that its seat performs, each on
+-- the objects that its names stand for, and what went by its lanes and feeds are its other steps, from the first one on, in
+-- order; all of both before a place of the text, and none from there on; and this is why it stopped
+pub record Works (script : Lines) (seat : ℕ) (made : Made) (stop : Result Stop AllocError) (first : History) : Type 0 where
+  pub by : AreBySeat seat made.entries
+  pub steps : AreNextSteps script first made.entries
+  pub apart : AreNextApart script seat made.apart
+  pub place : ℕ
+  pub called : entries_in made.entries ≡ earlier script seat place
+  pub gone : length made.apart ≡ earlier_apart script seat place
+  pub stops : IsStop script seat place made.apart stop
 
 -- a step that waits where it can't be answered
 abbrev pub may_wait : Action → Bool

@@ -3,7 +3,8 @@ ghost use Rattle.std.specs.Prelude.{◌≡◌, Bool, true, Option, Some, None, I
 ghost use Rattle.std.specs.Option.{option_map};
 ghost use Rattle.cml_threads.specs.Telling.{suits};
 ghost use Rattle.cml_grammar.specs.Reading.{IsCapacity};
-ghost use Rattle.cml_script.specs.Working.{Made, with_call, with_feed};
+ghost use Rattle.cml_script.specs.Apart.{by_lane, by_feed};
+ghost use Rattle.cml_script.specs.Working.{Made, with_call, with_feed, with_apart};
 
 use super::rings::{Rings, Subscription};
 use cml_board::{Answer, BoardLog, Call, Name, Refusal};
@@ -14,8 +15,8 @@ use std::sync::ledger::Ledger;
 
 /// Who makes the calls of one thread, and is asked no more once one was refused.
 pub trait Caller {
-    /// Its seat, and the entries that it made in the journal, newest first, where it tells them. What goes by its lanes, and
-    /// what its feeds receive, are no entries of its own.
+    /// Its seat, the entries that it made in the journal, and what went by its lanes and feeds, newest first, where it tells
+    /// them. What lanes and feeds move is no entry of its own.
     ghost made: { Self → Option Made };
 
     /// Whether nothing was refused.
@@ -43,13 +44,15 @@ pub trait Caller {
         requires goes_on { goes_on self.old ≡ true }
         requires capacity { IsCapacity capacity }
         ensures goes_on { OnOk result (goes_on self.new ≡ true) }
-        ensures made { made self.new ≡ made self.old };
+        ensures made { OnOk result (made self.new ≡ option_map (with_apart (by_lane target capacity message)) (made self.old)) }
+        ensures refused { OnErr result (made self.new ≡ made self.old) };
 
     /// Polls its feed of this number.
     fn poll_apart(&mut self, feed: usize) -> Result<(), Refusal>
         requires { goes_on self.old ≡ true }
         ensures goes_on { OnOk result (goes_on self.new ≡ true) }
-        ensures made { made self.new ≡ made self.old };
+        ensures made { OnOk result (made self.new ≡ option_map (with_apart (by_feed feed)) (made self.old)) }
+        ensures refused { OnErr result (made self.new ≡ made self.old) };
 
     /// Closes all lanes that it has open.
     fn close_lanes(&mut self) -> Result<(), Refusal>

@@ -1,12 +1,12 @@
 //! What a thread does.
 ghost use Rattle.std.specs.Prelude.{◌≡◌, ◌+◌, ◌<◌, ◌^◌, ◌⊎◌, true, Some, length, IfSome, IsSome, OnOk, OnErr};
 ghost use Rattle.cml_board.specs.History.{entries_in};
-ghost use Rattle.cml_script.specs.Schedule.{History, declared_count, earlier, step_call};
+ghost use Rattle.cml_script.specs.Schedule.{History, step_call};
 ghost use Rattle.cml_script.specs.Bindings.{AreBindings};
-ghost use Rattle.cml_script.specs.Working.{BeginsAt, IsOpening, Works, may_wait, stop_of, first_of, ending_with};
+ghost use Rattle.cml_script.specs.Working.{BeginsAt, IsOpening, IsTurn, Works, may_wait, stop_of, first_of, ending_with};
 ghost use Rattle.cml_script.specs.Plan.{IsKnown, way_at};
 ghost use Rattle.cml_grammar.specs.Reading.{IsCapacity};
-ghost use Rattle.cml_script.specs.Course.{IsTurn, IsUnderWay};
+ghost use Rattle.cml_script.specs.Course.{IsUnderWay};
 
 use super::caller::Caller;
 use super::gate::Gate;
@@ -44,7 +44,7 @@ pub fn work<C: Caller, G: Gate>(
     requires goes_on { C.goes_on caller.old ≡ true }
     requires begins { BeginsAt (thread + 1) (C.made caller.old) }
     ensures { (first : History) → IsOpening plan.now first
-        → IfSome (C.made caller.new) (λ made. Works plan.now (thread + 1) made.entries result first) }
+        → IfSome (C.made caller.new) (λ made. Works plan.now (thread + 1) made result first) }
 {
     let mut course = Course {
         bindings: plan.unbound(alloc)?,
@@ -92,12 +92,11 @@ fn perform<C: Caller>(
     requires thread { thread < 64 }
     requires known { IsKnown plan.now }
     requires goes_on { C.goes_on caller.old ≡ true }
-    requires turn { IsTurn plan.now (thread + 1) step course.old.made }
+    requires turn { IsTurn plan.now (thread + 1) step }
     requires room { course.old.made < 2 ^ 63 }
-    requires way { IsUnderWay plan.now (thread + 1) course.old (C.made caller.old) }
+    requires way { IsUnderWay plan.now (thread + 1) step course.old (C.made caller.old) }
     ensures goes_on { OnOk result (C.goes_on caller.new ≡ true) }
-    ensures made { OnOk result (course.new.made ≡ declared_count plan.now + earlier plan.now (thread + 1) (step + 1)) }
-    ensures way { OnOk result (IsUnderWay plan.now (thread + 1) course.new (C.made caller.new)) }
+    ensures way { OnOk result (IsUnderWay plan.now (thread + 1) (step + 1) course.new (C.made caller.new)) }
     ensures refused { OnErr result (C.made caller.new ≡ C.made caller.old) }
 {
     match plan.way(step) {
@@ -118,13 +117,12 @@ fn perform_seated<C: Caller>(
     requires thread { thread < 64 }
     requires known { IsKnown plan.now }
     requires goes_on { C.goes_on caller.old ≡ true }
-    requires turn { IsTurn plan.now (thread + 1) step course.old.made }
+    requires turn { IsTurn plan.now (thread + 1) step }
     requires room { course.old.made < 2 ^ 63 }
     requires called { way_at plan.now step ≡ Way.Seat }
-    requires way { IsUnderWay plan.now (thread + 1) course.old (C.made caller.old) }
+    requires way { IsUnderWay plan.now (thread + 1) step course.old (C.made caller.old) }
     ensures goes_on { OnOk result (C.goes_on caller.new ≡ true) }
-    ensures made { OnOk result (course.new.made ≡ course.old.made + 1) }
-    ensures way { OnOk result (IsUnderWay plan.now (thread + 1) course.new (C.made caller.new)) }
+    ensures way { OnOk result (IsUnderWay plan.now (thread + 1) (step + 1) course.new (C.made caller.new)) }
     ensures refused { OnErr result (C.made caller.new ≡ C.made caller.old) }
 {
     close_before(plan.script().steps()[step].action, course, caller)?;
@@ -177,13 +175,13 @@ fn send_apart<C: Caller>(
     requires thread { thread < 64 }
     requires known { IsKnown plan.now }
     requires goes_on { C.goes_on caller.old ≡ true }
-    requires turn { IsTurn plan.now (thread + 1) step course.old.made }
+    requires turn { IsTurn plan.now (thread + 1) step }
     requires laid { way_at plan.now step ≡ Way.Lane capacity }
     requires capacity { IsCapacity capacity }
-    requires way { IsUnderWay plan.now (thread + 1) course.old (C.made caller.old) }
+    requires way { IsUnderWay plan.now (thread + 1) step course.old (C.made caller.old) }
     ensures goes_on { OnOk result (C.goes_on caller.new ≡ true) }
-    ensures way { IsUnderWay plan.now (thread + 1) course.new (C.made caller.new) }
-    ensures made { (course.new.made ≡ course.old.made) × (C.made caller.new ≡ C.made caller.old) }
+    ensures way { OnOk result (IsUnderWay plan.now (thread + 1) (step + 1) course.new (C.made caller.new)) }
+    ensures refused { OnErr result (C.made caller.new ≡ C.made caller.old) }
 {
     course.is_sending = true;
     match plan.script().steps()[step].action {

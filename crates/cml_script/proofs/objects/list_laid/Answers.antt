@@ -1,9 +1,7 @@
-use Rattle.std.proofs.Common.{ℕ, ◌≡◌, ◌+◌, ◌<◌, eqb, length, sym, ap, subst, ◌∙◌, arith}
+use Rattle.std.proofs.Common.{◌<◌, eqb, sym, ap, ◌∙◌, arith}
 use Rattle.cml_grammar.specs.Meaning.{names_of}
-use Rattle.cml_grammar.specs.Script.{SourceLine, Lines}
 use Rattle.cml_grammar.specs.Reading.{source_of, ReadsLane}
-use Rattle.cml_script.specs.Schedule.{number_of, declared_count}
-use Rattle.cml_script.specs.Audit.{leads_to}
+use Rattle.cml_script.specs.Schedule.{declared_count}
 use Rattle.cml_script.proofs.ListLemmas.{read_at, mapped_at}
 use Rattle.cml_script.proofs.LineLemmas.{all_at}
 use Rattle.cml_script.proofs.ObjectLemmas.{target_declared, laid_more, lane_leads}

@@ -1,4 +1,4 @@
-use Rattle.std.proofs.Common.{ℕ, List, sym, subst, ap, ◌<◌, length, ◌∙◌, IfSome, string_bytes}
+use Rattle.std.proofs.Common.{sym, subst, ap, ◌<◌, length, ◌∙◌, IfSome, string_bytes}
 use Rattle.std.specs.Global.{Global}
 use Rattle.std.specs.Prelude.{String}
 use Rattle.std.specs.Option.{option_map, option_and_then}

@@ -1,4 +1,4 @@
-use Rattle.std.proofs.Common.{◌≡◌, ◌<◌, ◌+◌, ◌++◌, ◌∙◌, refl, ap, ap₂, sym, subst, length, inl, true, false, arith}
+use Rattle.std.proofs.Common.{◌≡◌, ◌+◌, ◌++◌, ◌∙◌, refl, ap, ap₂, sym, subst, length, true, false, arith}
 use Rattle.std.proofs.lemmas.List.{length-map}
 use Rattle.cml_grammar.specs.declared.script.Step.{Step}
 use Rattle.cml_grammar.specs.Reading.{source_of}
@@ -6,7 +6,7 @@ use Rattle.cml_script.specs.declared.way.Way.TheVariants as way
 use Rattle.cml_script.specs.declared.running.worker.Course.{Course}
 use Rattle.cml_script.specs.Schedule.{bound_by, is_by_ring, is_called}
 use Rattle.cml_script.specs.Bindings.{AreBindings, with_binding}
-use Rattle.cml_script.specs.Course.{IsTurn, IsUnderWay}
+use Rattle.cml_script.specs.Course.{IsUnderWay}
 use Rattle.cml_script.proofs.LineLemmas.{stands}
 use Rattle.cml_script.proofs.StandLemmas.{bind_within}
 use Rattle.cml_script.proofs.WorkLemmas.{an_opening, is_opening, kept, so_far, entries_are, next_called, call_known, turn_within, turn_goes, turn_called, more_made}
@@ -19,16 +19,15 @@ call_of-call-requires-clause-stands g c =
     let turn = c.requires.turn in
     let same = c.close_before.ensures.course in
     let count : c.close_before.new.course.made ≡ c.args.course.now.made = ap (λ (k : Course). k.made) same in
-    let under : IsUnderWay script seat c.close_before.new.course (g.C.Caller.made c.close_before.new.caller) =
-    kept script seat c.close_before.new.course (g.C.Caller.made c.close_before.new.caller) c.requires.way count (ap (λ (k : Course). k.bindings) same) c.close_before.ensures.made (λ is. inl (c.close_before.ensures.sending is)) in
-    let now : IsTurn script seat c.args.step c.close_before.new.course.made = record { line = turn.line; found = turn.found; seated = turn.seated; behind = count ∙ turn.behind } in
-    let called : is_called script seat turn.line ≡ true = turn_called script seat c.args.step c.args.course.now.made turn false (ap is_by_ring (turn_goes script seat c.args.step c.args.course.now.made turn way.Seat c.requires.called)) in
+    let under : IsUnderWay script seat c.args.step c.close_before.new.course (g.C.Caller.made c.close_before.new.caller) =
+    kept script seat c.args.step c.close_before.new.course (g.C.Caller.made c.close_before.new.caller) c.requires.way count (ap (λ (k : Course). k.bindings) same) c.close_before.ensures.made c.close_before.ensures.sending in
+    let called : is_called script seat turn.line ≡ true = turn_called script seat c.args.step turn false (ap is_by_ring (turn_goes script seat c.args.step turn way.Seat c.requires.called)) in
     let first = an_opening script in
     let opening = is_opening script in
-    let next = next_called script seat (omega arith) first opening under c.args.step now called in
+    let next = next_called script seat (omega arith) first opening under turn called in
     let steps = rw c.script.ensures at c.steps.ensures in
     let items = c.steps.result.now in
-    let within = turn_within script seat c.args.step c.args.course.now.made turn in
+    let within = turn_within script seat c.args.step turn in
     let there = stands items c.args.step (omega (arith, within, ap length steps.lines, length-map items (λ (x : Step). source_of x.line))) in (
       so_far script seat (omega arith) first opening under,
       entries_are script seat (omega arith) first opening under,
@@ -37,7 +36,7 @@ call_of-call-requires-clause-stands g c =
     )
 
 pub given-given-requires : goal.given-given-requires
-given-given-requires g c = turn_within c.args.plan.now (c.args.thread + 1) c.args.step c.args.course.now.made c.requires.turn
+given-given-requires g c = turn_within c.args.plan.now (c.args.thread + 1) c.args.step c.requires.turn
 
 pub bind-requires : goal.bind-requires
 bind-requires g c =
@@ -57,11 +56,10 @@ returns-clause-way g c =
     let turn = c.requires.turn in
     let same = c.close_before.ensures.course in
     let count : c.close_before.new.course.made ≡ c.args.course.now.made = ap (λ (k : Course). k.made) same in
-    let under : IsUnderWay script seat c.close_before.new.course (g.C.Caller.made c.close_before.new.caller) =
-    kept script seat c.close_before.new.course (g.C.Caller.made c.close_before.new.caller) c.requires.way count (ap (λ (k : Course). k.bindings) same) c.close_before.ensures.made (λ is. inl (c.close_before.ensures.sending is)) in
-    let now : IsTurn script seat c.args.step c.close_before.new.course.made = record { line = turn.line; found = turn.found; seated = turn.seated; behind = count ∙ turn.behind } in
-    let called : is_called script seat turn.line ≡ true = turn_called script seat c.args.step c.args.course.now.made turn false (ap is_by_ring (turn_goes script seat c.args.step c.args.course.now.made turn way.Seat c.requires.called)) in
+    let under : IsUnderWay script seat c.args.step c.close_before.new.course (g.C.Caller.made c.close_before.new.caller) =
+    kept script seat c.args.step c.close_before.new.course (g.C.Caller.made c.close_before.new.caller) c.requires.way count (ap (λ (k : Course). k.bindings) same) c.close_before.ensures.made c.close_before.ensures.sending in
+    let seated = ap is_by_ring (turn_goes script seat c.args.step turn way.Seat c.requires.called) in
     let bound = c.bind.ensures ∙ ap₂ (λ a r. with_binding c.close_before.new.course.bindings.items c.given-given.result (bound_by a r)) (c.call-2.ensures ∙ c.in_ok-answer.ensures.call) c.reply.ensures in
-    more_made script seat (omega arith) under c.requires.known c.args.step now c.call_of-call.result c.in_ok-answer.answer.reply c.given-given.result _ _ called c.in_ok-answer.ensures.reply
+    more_made script seat (omega arith) c.args.step under c.requires.known turn c.call_of-call.result c.in_ok-answer.answer.reply c.given-given.result _ _ seated c.in_ok-answer.ensures.reply
     (λ history long is. c.call_of-call.ensures history long (subst (AreBindings script history) (sym c.deref.ensures.value) is))
     c.given-given.ensures c.in_ok-answer.ensures.made refl bound refl

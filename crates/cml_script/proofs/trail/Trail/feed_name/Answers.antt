@@ -1,7 +1,7 @@
-use Rattle.std.proofs.Common.{◌≡◌, ℕ, ◌<◌, List, length, slice_get, Option, Some, None, IfSome, ap, sym, subst, ◌∙◌, refl}
+use Rattle.std.proofs.Common.{ℕ, ◌<◌, length, slice_get, Option, IfSome, ap, sym, subst, ◌∙◌}
 use Rattle.std.specs.Option.{option_and_then}
 use Rattle.cml_grammar.specs.Script.{Lines}
-use Rattle.cml_script.specs.Schedule.{is_feed, positions_where}
+use Rattle.cml_script.specs.Schedule.{is_feed}
 use Rattle.cml_script.specs.Report.{given_word}
 use Rattle.cml_script.specs.Trail.{Progress}
 use Rattle.cml_script.proofs.ReportLemmas.{placed_line, placed_within}
