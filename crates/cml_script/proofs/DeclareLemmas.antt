@@ -37,7 +37,7 @@ use Rattle.cml_script.proofs.StandLemmas.{declared_is}
 -- what is kept is so of what was made
 pub record IsDeclaring (script : Lines) (i : ℕ) (made : Option Made) : Type 0 where
   pub entries : History
-  pub told : IfSome made (λ tells. tells ≡ record { seat = 0; entries = entries; apart = [] })
+  pub told : IfSome made (λ tells. tells ≡ record { seat = 0; entries = entries; apart = []; is_sending = false })
   pub count : length entries ≡ how_many (is_object script) (take i script.declarations)
   pub fed : how_many is_of_feed entries ≡ how_many (is_feed script) (take i script.declarations)
   pub own : IsOfScript script entries
@@ -113,7 +113,7 @@ module _ (script : Lines) (known : IsKnown script) {i : ℕ} {made : Option Made
   pub none_more : (later : Option Made) → d.makes ≡ makes.Thread → later ≡ made → IsDeclaring script (i + 1) later
   none_more later thread same = record {
     entries = so_far.entries;
-    told = subst (λ (o : Option Made). IfSome o (λ tells. tells ≡ record { seat = 0; entries = so_far.entries; apart = [] })) (sym same) so_far.told;
+    told = subst (λ (o : Option Made). IfSome o (λ tells. tells ≡ record { seat = 0; entries = so_far.entries; apart = []; is_sending = false })) (sym same) so_far.told;
     count = let no : one_if (makes_object d.makes) ≡ 0 = ap (λ m. one_if (makes_object m)) thread in omega (arith, so_far.count, counted, no);
     fed = let no : one_if (makes_feed d.makes) ≡ 0 = ap (λ m. one_if (makes_feed m)) thread in omega (arith, so_far.fed, fed, no);
     own = so_far.own;
@@ -121,7 +121,7 @@ module _ (script : Lines) (known : IsKnown script) {i : ℕ} {made : Option Made
 
   -- an entry more, by who makes the next object
   one_more : (asked : Call ℕ) (entry : Entry ℕ) (later : Option Made) → IsMadeWell (names_of script) i d.makes → making script d.makes ≡ Some asked → entry.call ≡ asked → entry.who ≡ by_feed (makes_feed d.makes) (how_many is_of_feed so_far.entries)
-      → one_if (is_of_feed entry) ≡ one_if (makes_feed d.makes) → IfSome later (λ tells. tells ≡ record { seat = 0; entries = entry ∷ so_far.entries; apart = [] }) → IsDeclaring script (i + 1) later
+      → one_if (is_of_feed entry) ≡ one_if (makes_feed d.makes) → IfSome later (λ tells. tells ≡ record { seat = 0; entries = entry ∷ so_far.entries; apart = []; is_sending = false }) → IsDeclaring script (i + 1) later
   one_more asked entry later well is called by feeds told = record {
     entries = entry ∷ so_far.entries;
     told = told;
@@ -148,10 +148,10 @@ module _ (script : Lines) (known : IsKnown script) {i : ℕ} {made : Option Made
   unfolding by_feed
   made_more later well has = by_makes d.makes refl has
     where
-      told_by : (entry : Entry ℕ) (adds : Made → Made) → adds (record { seat = 0; entries = so_far.entries; apart = [] }) ≡ record { seat = 0; entries = entry ∷ so_far.entries; apart = [] } → later ≡ option_map adds made → IfSome later (λ tells. tells ≡ record { seat = 0; entries = entry ∷ so_far.entries; apart = [] })
-      told_by entry adds one more = subst (λ (o : Option Made). IfSome o (λ tells. tells ≡ record { seat = 0; entries = entry ∷ so_far.entries; apart = [] })) (sym more) (by_made made so_far.told)
+      told_by : (entry : Entry ℕ) (adds : Made → Made) → adds (record { seat = 0; entries = so_far.entries; apart = []; is_sending = false }) ≡ record { seat = 0; entries = entry ∷ so_far.entries; apart = []; is_sending = false } → later ≡ option_map adds made → IfSome later (λ tells. tells ≡ record { seat = 0; entries = entry ∷ so_far.entries; apart = []; is_sending = false })
+      told_by entry adds one more = subst (λ (o : Option Made). IfSome o (λ tells. tells ≡ record { seat = 0; entries = entry ∷ so_far.entries; apart = []; is_sending = false })) (sym more) (by_made made so_far.told)
         where
-          by_made : (o : Option Made) → IfSome o (λ tells. tells ≡ record { seat = 0; entries = so_far.entries; apart = [] }) → IfSome (option_map adds o) (λ tells. tells ≡ record { seat = 0; entries = entry ∷ so_far.entries; apart = [] })
+          by_made : (o : Option Made) → IfSome o (λ tells. tells ≡ record { seat = 0; entries = so_far.entries; apart = []; is_sending = false }) → IfSome (option_map adds o) (λ tells. tells ≡ record { seat = 0; entries = entry ∷ so_far.entries; apart = []; is_sending = false })
           by_made None told = tt
           by_made (Some tells) told = ap adds told ∙ one
 
@@ -191,7 +191,7 @@ module _ (script : Lines) {i : ℕ} {made : Option Made} (so_far : IsDeclaring s
       on_ok (Ok done) all = so_far.count ∙ ap (how_many (is_object script)) (take_all i script.declarations all)
       on_ok (Err refusal) all = tt
 
-      by_made : (o : Option Made) → IfSome o (λ tells. tells ≡ record { seat = 0; entries = so_far.entries; apart = [] }) → IfSome o (λ m. Declares script m.entries ended)
+      by_made : (o : Option Made) → IfSome o (λ tells. tells ≡ record { seat = 0; entries = so_far.entries; apart = []; is_sending = false }) → IfSome o (λ m. Declares script m.entries ended)
       by_made None told = tt
       by_made (Some tells) told = subst (λ (m : Made). Declares script m.entries ended) (sym told) (record { own = so_far.own; within = few; all = on_ok ended ends })
 

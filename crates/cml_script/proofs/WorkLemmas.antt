@@ -1,12 +1,11 @@
 -- What a thread makes, whatever made the declared objects.
-use Rattle.std.proofs.Common.{◌≡◌, ℕ, zero, suc, ◌+◌, ◌<◌, ◌≤◌, Bool, true, false, List, [], ◌∷◌, ◌++◌, length, map, take, slice_get, Option, Some, None, Ok, Err, Result, IfSome, IsSome, ◌⊎◌, inl, inr, refl, sym, ap, ap₂, subst, ◌∙◌, arith}
+use Rattle.std.proofs.Common.{◌≡◌, ℕ, zero, suc, ◌+◌, ◌<◌, ◌≤◌, Bool, true, false, cond, List, [], ◌∷◌, ◌++◌, length, map, slice_get, Option, Some, None, Ok, Err, Result, IfSome, IsSome, ◌⊎◌, inl, inr, refl, sym, ap, ap₂, subst, ◌∙◌, arith}
 use Rattle.std.specs.Prelude.{All, ◌&&◌, ◌||◌, not, OnOk}
-use Rattle.std.specs.List.{list_any}
 use Rattle.std.specs.Option.{option_map, option_map_or, option_and_then}
 use Rattle.std.specs.declared.alloc.AllocError.{AllocError}
-use Rattle.std.proofs.lemmas.Option.{none-some, slice_get_within}
+use Rattle.std.proofs.lemmas.Option.{slice_get_within}
 use Rattle.std.proofs.lemmas.List.{take_all}
-use Rattle.std.proofs.lemmas.Bool.{false≢true, eq-eqb, cases_lt}
+use Rattle.std.proofs.lemmas.Bool.{false≢true, eq-eqb}
 use Rattle.cml_board.specs.declared.call.Call.{Call}
 use Rattle.cml_board.specs.declared.call.Call.TheVariants as call
 use Rattle.cml_board.specs.declared.entry.Who.TheVariants.{Seat}
@@ -17,7 +16,7 @@ use Rattle.cml_board.specs.declared.outcome.Refusal.{Refusal}
 use Rattle.cml_board.specs.declared.outcome.Refusal.TheVariants as refusal
 use Rattle.cml_threads.specs.Telling.{suits}
 use Rattle.cml_grammar.specs.declared.script.Step.{Step}
-use Rattle.cml_grammar.specs.Script.{SourceLine, Lines}
+use Rattle.cml_grammar.specs.Script.{Lines}
 use Rattle.cml_grammar.specs.Meaning.{names_of}
 use Rattle.cml_grammar.specs.Reading.{source_of, ReadsStep, UsesEarlier, used_by}
 use Rattle.cml_script.specs.declared.stop.Stop.{Stop}
@@ -27,16 +26,14 @@ use Rattle.cml_script.specs.declared.way.Way.{Way}
 use Rattle.cml_script.specs.declared.way.Way.TheVariants as way
 use Rattle.cml_script.specs.declared.running.worker.Course.{Course}
 use Rattle.cml_script.specs.Counting.{one_if, how_many}
-use Rattle.cml_script.specs.Schedule.{History, declared_count, maker, performed, is_seat, is_seated, is_called, is_apart, is_by_ring, way_of_line, earlier, positions_where, next_position, given_by, step_call, bound_by, binding_of, port_bound}
-use Rattle.cml_script.specs.Apart.{Apart, is_by_lane, HasSent, goes_apart, earlier_apart, act_of_line}
+use Rattle.cml_script.specs.Schedule.{History, declared_count, maker, performed, is_seat, is_called, is_by_ring, way_of_line, earlier, next_position, given_by, step_call, bound_by, binding_of, port_bound}
+use Rattle.cml_script.specs.Apart.{Apart, is_by_lane, goes_apart, earlier_apart, act_of_line}
 use Rattle.cml_script.specs.Report.{is_of_thread}
 use Rattle.cml_script.specs.Plan.{IsKnown, HasSeats, AsksForPorts, way_at}
 use Rattle.cml_script.specs.Bindings.{AreBindings, with_binding}
-use Rattle.cml_script.specs.Working.{Made, with_call, with_apart, BeginsAt, AreBySeat, AreByMakers, IsOpening, AreNextSteps, IsTurn, IsStop, Works, stop_of, first_stop, ending_with}
+use Rattle.cml_script.specs.Working.{Made, with_call, with_apart, with_closed, closed_if, waits, MayCall, BeginsAt, AreBySeat, AreByMakers, IsOpening, AreNextSteps, IsTurn, IsStop, Works, MayHaveClosed, stop_of, first_stop, ending_with}
 use Rattle.cml_script.specs.Course.{AreSuiting, IsUnderWay, HasTaken}
 use Rattle.cml_script.proofs.ListLemmas.{how_many-le, count_taken, taken_count}
-use Rattle.cml_script.proofs.LineLemmas.{stands, called_seated}
-use Rattle.cml_script.proofs.QueueLemmas.{positions_count, position_is}
 use Rattle.cml_script.proofs.GivingLemmas.{giver, next_at, none_other}
 use Rattle.cml_script.proofs.BindingLemmas.{AreSteps, asks_port, bound_more, maker_is_none, none_seated}
 use Rattle.cml_script.proofs.StandLemmas.{bindings_more}
@@ -126,7 +123,7 @@ begins script seat course made known none count bound sends = record {
   way = record {
     entries = [];
     apart = [];
-    told = none;
+    told = subst (λ t. IfSome made (λ tells. tells ≡ record { seat = seat; entries = []; apart = []; is_sending = t })) (sym sends) none;
     by = tt;
     count = count ∙ omega arith;
     called = refl;
@@ -138,7 +135,6 @@ begins script seat course made known none count bound sends = record {
       all = bound.all;
       each = λ at lt. bound.each at lt ∙ ap Some (sym (opening_binding script first at known.asks known.seats opening.by));
     };
-    sends = λ is. absurd (false≢true (sym sends ∙ is));
   };
 }
 
@@ -179,7 +175,7 @@ module _ (script : Lines) (seat : ℕ) (low : 1 ≤ seat) (first : History) (ope
         let object = used_stands_for script so_far known items i seat s (all_steps under.entries (under.steps first opening) under.suiting) lines reads earlier item next (omega (arith, ge)) in
         subst IsSome (sym (step_calls script so_far items i (used_by s.action) s (named (Some object.0)) lines reads item refl (ap named (sym object.1)))) refl
 
-    pub works : (stop : Result Stop AllocError) → IsStop script seat place under.apart stop → Works script seat (record { seat = seat; entries = under.entries; apart = under.apart }) stop first
+    pub works : (stop : Result Stop AllocError) → IsStop script seat place course.is_sending stop → Works script seat (record { seat = seat; entries = under.entries; apart = under.apart; is_sending = course.is_sending }) stop first
     works stop stops = record {
       by = under.by;
       steps = under.steps first opening;
@@ -238,22 +234,50 @@ told_more told adds made later is more = subst (λ (o : Option Made). IfSome o (
     by_made None is = tt
     by_made (Some tells) is = ap adds is
 
--- nothing more was made, and lanes are open at most where they were
-pub kept : (script : Lines) (seat place : ℕ) {course : Course} {made : Option Made} (later : Course) (now : Option Made) → IsUnderWay script seat place course made → later.made ≡ course.made → later.bindings ≡ course.bindings → now ≡ made → (later.is_sending ≡ true → course.is_sending ≡ true) → IsUnderWay script seat place later now
-kept script seat place later now under count bound same sends = record {
+-- the lanes may have been closed
+told_closed : (t : Bool) (told : Made) (made now : Option Made) → IfSome made (λ tells. tells ≡ told) → now ≡ closed_if t made → IfSome now (λ tells. tells ≡ record told { is_sending = cond t false told.is_sending })
+told_closed true told made now is same = told_more told with_closed made now is same
+told_closed false told made now is same = subst (λ (o : Option Made). IfSome o (λ tells. tells ≡ told)) (sym same) is
+
+-- nothing more was made
+pub kept : (script : Lines) (seat place : ℕ) {course : Course} {made : Option Made} (t : Bool) (now : Option Made) → IsUnderWay script seat place course made → now ≡ closed_if t made → IsUnderWay script seat place (record course { is_sending = cond t false course.is_sending }) now
+kept script seat place {course} {made} t now under same = record {
   entries = under.entries;
   apart = under.apart;
-  told = subst (λ (o : Option Made). IfSome o (λ tells. tells ≡ record { seat = seat; entries = under.entries; apart = under.apart })) (sym same) under.told;
+  told = told_closed t (record { seat = seat; entries = under.entries; apart = under.apart; is_sending = course.is_sending }) made now under.told same;
   by = under.by;
-  count = count ∙ under.count;
+  count = under.count;
   called = under.called;
   gone = under.gone;
   suiting = under.suiting;
   steps = under.steps;
   does = under.does;
-  bound = λ first opening. subst (λ b. AreBindings script (under.entries ++ first) b.items) (sym bound) (under.bound first opening);
-  sends = λ is. under.sends (sends is);
+  bound = under.bound;
 }
+
+-- lanes are closed before a step that may wait
+pub closed_before : (script : Lines) (seat place : ℕ) {course : Course} {made : Option Made} (w : Bool) (later : Course) (now : Option Made) → IsUnderWay script seat place course made → now ≡ closed_if (course.is_sending && w) made → later ≡ record course { is_sending = course.is_sending && not w } → IsUnderWay script seat place later now
+closed_before script seat place {course} w later now under same is =
+    subst (λ (k : Course). IsUnderWay script seat place k now) (ap (λ t. record course { is_sending = t }) (still course.is_sending w) ∙ sym is) (kept script seat place (course.is_sending && w) now under same)
+  where
+    still : (s w : Bool) → cond (s && w) false s ≡ (s && not w)
+    still true true = refl
+    still true false = refl
+    still false true = refl
+    still false false = refl
+
+-- so that none is open at a call that may
+pub may_call : (script : Lines) (seat place : ℕ) {course : Course} {made : Option Made} (sending w : Bool) (asked : Call ℕ) → IsUnderWay script seat place course made → course.is_sending ≡ (sending && not w) → waits asked ≡ w → MayCall asked made
+may_call script seat place {course} {made} sending w asked under closed is = by_made made under.told
+  where
+    none_open : (s w : Bool) → w ≡ true → (s && not w) ≡ false
+    none_open true true e = refl
+    none_open false true e = refl
+    none_open s false e = absurd (false≢true e)
+
+    by_made : (o : Option Made) → IfSome o (λ tells. tells ≡ record { seat = seat; entries = under.entries; apart = under.apart; is_sending = course.is_sending }) → MayCall asked o
+    by_made None told = tt
+    by_made (Some tells) told = λ wait. ap (λ (m : Made). m.is_sending) told ∙ closed ∙ none_open sending w (sym is ∙ wait)
 
 -- a turn that is the seat's was performed
 pub more_made : (script : Lines) (seat : ℕ) (low : 1 ≤ seat) (i : ℕ) {course : Course} {made : Option Made} (under : IsUnderWay script seat i course made) (known : IsKnown script) (turn : IsTurn script seat i) (asked : Call ℕ) (r : Reply ℕ) (g : Option ℕ) (next : Course) (later : Option Made)
@@ -264,7 +288,8 @@ pub more_made : (script : Lines) (seat : ℕ) (low : 1 ≤ seat) (i : ℕ) {cour
 more_made script seat low i {course} {made} under known turn asked r g next later seated suit calls gives more count bound sends = record {
   entries = entry ∷ under.entries;
   apart = under.apart;
-  told = told_more (record { seat = seat; entries = under.entries; apart = under.apart }) (with_call asked r) made later under.told more;
+  told = subst (λ t. IfSome later (λ tells. tells ≡ record { seat = seat; entries = entry ∷ under.entries; apart = under.apart; is_sending = t })) (sym sends)
+      (told_more (record { seat = seat; entries = under.entries; apart = under.apart; is_sending = course.is_sending }) (with_call asked r) made later under.told more);
   by = (refl, under.by);
   count = omega (arith, count, under.count);
   called = omega (arith, under.called, called_more script seat i turn true called);
@@ -283,7 +308,6 @@ more_made script seat low i {course} {made} under known turn asked r g next late
       subst (AreBindings script (entry ∷ (under.entries ++ first))) (sym bound)
       (bindings_more script (under.entries ++ first) entry course.bindings.items g known.asks known.seats
       (ap (option_and_then (given_by script)) (next_called script seat low first opening under turn called) ∙ sym gives) (under.bound first opening));
-  sends = λ is. under.sends (sym sends ∙ is);
 }
   where
     called : is_called script seat turn.line ≡ true
@@ -295,11 +319,12 @@ more_made script seat low i {course} {made} under known turn asked r g next late
 -- a turn that goes by a lane or a feed
 pub more_gone : (script : Lines) (seat i : ℕ) {course : Course} {made : Option Made} (under : IsUnderWay script seat i course made) (turn : IsTurn script seat i) (done : Apart) (next : Course) (later : Option Made)
     → is_by_ring (way_of_line script turn.line) ≡ true → act_of_line script turn.line ≡ Some done → later ≡ option_map (with_apart done) made
-    → next.made ≡ course.made → next.bindings ≡ course.bindings → (next.is_sending ≡ true → (course.is_sending ≡ true) ⊎ (is_by_lane done ≡ true)) → IsUnderWay script seat (i + 1) next later
+    → next.made ≡ course.made → next.bindings ≡ course.bindings → next.is_sending ≡ (is_by_lane done || course.is_sending) → IsUnderWay script seat (i + 1) next later
 more_gone script seat i {course} {made} under turn done next later by_ring does more count bound sends = record {
   entries = under.entries;
   apart = done ∷ under.apart;
-  told = told_more (record { seat = seat; entries = under.entries; apart = under.apart }) (with_apart done) made later under.told more;
+  told = subst (λ t. IfSome later (λ tells. tells ≡ record { seat = seat; entries = under.entries; apart = done ∷ under.apart; is_sending = t })) (sym sends)
+      (told_more (record { seat = seat; entries = under.entries; apart = under.apart; is_sending = course.is_sending }) (with_apart done) made later under.told more);
   by = under.by;
   count = count ∙ under.count;
   called = omega (arith, under.called, called_more script seat i turn false (turn_called script seat i turn true by_ring));
@@ -318,33 +343,28 @@ more_gone script seat i {course} {made} under turn done next later by_ring does 
     under.does,
   );
   bound = λ first opening. subst (λ b. AreBindings script (under.entries ++ first) b.items) (sym bound) (under.bound first opening);
-  sends = λ is. elim (sends is) [ inl was ↦ or_true (is_by_lane done) (list_any is_by_lane under.apart) (inr (under.sends was)) | inr lane ↦ or_true (is_by_lane done) (list_any is_by_lane under.apart) (inl lane) ];
 }
   where
     apart : goes_apart script seat turn.line ≡ true
     apart = turn_apart script seat i turn true by_ring
 
-    or_true : (a b : Bool) → (a ≡ true) ⊎ (b ≡ true) → (a || b) ≡ true
-    or_true true b e = refl
-    or_true false b e = elim e [ inl lane ↦ absurd (false≢true lane) | inr sent ↦ sent ]
-
 -- How it ends.
 
-module _ (script : Lines) (seat place : ℕ) (apart : List Apart) (left : IsTurn script seat place ⊎ HasSent apart) where
-  full_stops : (stop : Stop) → IsStop script seat place apart (Ok (first_stop stop Full))
+module _ (script : Lines) (seat place : ℕ) (sending : Bool) (left : IsTurn script seat place ⊎ (sending ≡ true)) where
+  full_stops : (stop : Stop) → IsStop script seat place sending (Ok (first_stop stop Full))
   full_stops Full = left
   full_stops Held = left
   full_stops Stalled = left
   full_stops Done = left
 
-  stall_stops : (stop : Stop) → IsStop script seat place apart (Ok (first_stop stop Stalled))
+  stall_stops : (stop : Stop) → IsStop script seat place sending (Ok (first_stop stop Stalled))
   stall_stops Full = left
   stall_stops Held = left
   stall_stops Stalled = left
   stall_stops Done = left
 
   -- a refusal stops it
-  pub refusal_stops : (r : Refusal) → IsStop script seat place apart (stop_of r)
+  pub refusal_stops : (r : Refusal) → IsStop script seat place sending (stop_of r)
   refusal_stops refusal.JournalFull = left
   refusal_stops refusal.NoMemory = tt
   refusal_stops refusal.Gone = left
@@ -355,7 +375,7 @@ module _ (script : Lines) (seat place : ℕ) (apart : List Apart) (left : IsTurn
   refusal_stops refusal.Unseen = left
 
   -- or makes its end another
-  closing_stops : (stop : Stop) (r : Refusal) → IsStop script seat place apart (ending_with stop r)
+  closing_stops : (stop : Stop) (r : Refusal) → IsStop script seat place sending (ending_with stop r)
   closing_stops stop refusal.JournalFull = full_stops stop
   closing_stops stop refusal.NoMemory = tt
   closing_stops stop refusal.Gone = stall_stops stop
@@ -365,126 +385,35 @@ module _ (script : Lines) (seat place : ℕ) (apart : List Apart) (left : IsTurn
   closing_stops stop refusal.Stalled = stall_stops stop
   closing_stops stop refusal.Unseen = stall_stops stop
 
-module _ (script : Lines) (seat : ℕ) (low : 1 ≤ seat) (place : ℕ) {course : Course} {made : Option Made} (under : IsUnderWay script seat place course made) where
-  -- what is told at the end
-  pub ends_with : (stop : Result Stop AllocError) (now : Option Made) → now ≡ made → IsStop script seat place under.apart stop → (first : History) → IsOpening script first → IfSome now (λ m. Works script seat m stop first)
-  ends_with stop now same stops first opening = subst (λ (o : Option Made). IfSome o (λ m. Works script seat m stop first)) (sym same) (by_made made under.told)
-    where
-      by_made : (o : Option Made) → IfSome o (λ tells. tells ≡ record { seat = seat; entries = under.entries; apart = under.apart }) → IfSome o (λ m. Works script seat m stop first)
-      by_made None told = tt
-      by_made (Some tells) told = subst (λ (m : Made). Works script seat m stop first) (sym told) (works script seat low first opening under stop stops)
-
-  -- where a gate says no at a turn, or all its steps are performed, and closing its lanes may be refused
-  pub closes_with : (stop : Stop) (result : Result Stop AllocError) (now : Option Made) → now ≡ made → IsStop script seat place under.apart (Ok stop) → (result ≡ Ok stop) ⊎ ((course.is_sending ≡ true) × ((r : Refusal) × (result ≡ ending_with stop r)))
-      → (first : History) → IsOpening script first → IfSome now (λ m. Works script seat m result first)
-  closes_with stop result now same stops closed = elim closed [
-    | inl as_told ↦ ends_with result now same (subst (IsStop script seat place under.apart) (sym as_told) stops)
-    | inr refused ↦ ends_with result now same (subst (IsStop script seat place under.apart) (sym refused.1.1) (closing_stops script seat place under.apart (inr (under.sends refused.0)) stop refused.1.0))
-  ]
-
--- Its turns, one after the other.
-
--- of what stands between two places, no more pass the narrower test
-narrower : {X : Type 0} (p q : X → Bool) (xs : List X) (a b : ℕ) → ((x : X) → q x ≡ true → p x ≡ true) → a ≤ b → how_many q (take b xs) + how_many p (take a xs) ≤ how_many p (take b xs) + how_many q (take a xs)
-narrower p q [] zero zero implied le = omega arith
-narrower p q [] zero (suc b) implied le = omega arith
-narrower p q [] (suc a) zero implied le = omega arith
-narrower p q [] (suc a) (suc b) implied le = omega arith
-narrower p q (x ∷ xs) zero zero implied le = omega arith
-narrower p q (x ∷ xs) zero (suc b) implied le = let ih = narrower p q xs zero b implied (omega arith) in let here = fewer (p x) (q x) (implied x) in omega (arith, ih, here)
+-- what is told at the end
+pub ends_with : (script : Lines) (seat : ℕ) → 1 ≤ seat → (place : ℕ) {course : Course} {made : Option Made} (under : IsUnderWay script seat place course made) (stop : Result Stop AllocError) → IsStop script seat place course.is_sending stop
+    → (first : History) → IsOpening script first → IfSome made (λ m. Works script seat m stop first)
+ends_with script seat low place {course} {made} under stop stops first opening = by_made made under.told
   where
-    fewer : (s t : Bool) → (t ≡ true → s ≡ true) → one_if t ≤ one_if s
-    fewer true true implied = omega arith
-    fewer true false implied = omega arith
-    fewer false true implied = absurd (false≢true (implied refl))
-    fewer false false implied = omega arith
-narrower p q (x ∷ xs) (suc a) zero implied le = absurd (omega arith)
-narrower p q (x ∷ xs) (suc a) (suc b) implied le = let ih = narrower p q xs a b implied (omega arith) in omega (arith, ih)
+    by_made : (o : Option Made) → IfSome o (λ tells. tells ≡ record { seat = seat; entries = under.entries; apart = under.apart; is_sending = course.is_sending }) → IfSome o (λ m. Works script seat m stop first)
+    by_made None told = tt
+    by_made (Some tells) told = subst (λ (m : Made). Works script seat m stop first) (sym told) (works script seat low first opening under stop stops)
 
-apart_seated : (script : Lines) (seat : ℕ) (line : SourceLine) → goes_apart script seat line ≡ true → is_seated script seat line ≡ true
-apart_seated script seat line goes = by_test (is_seated script seat line) (is_apart script line) goes
-  where
-    by_test : (t a : Bool) → (t && a) ≡ true → t ≡ true
-    by_test true a e = refl
-    by_test false a e = absurd (false≢true e)
+-- a step was refused, before which lanes may have been closed
+pub refused_at : (script : Lines) (seat : ℕ) → 1 ≤ seat → (place : ℕ) {course : Course} {made : Option Made} (under : IsUnderWay script seat place course made) (r : Refusal) (result : Result Stop AllocError) (now : Option Made) → result ≡ stop_of r → MayHaveClosed made now → IsTurn script seat place
+    → (first : History) → IsOpening script first → IfSome now (λ m. Works script seat m result first)
+refused_at script seat low place {course} under r result now is (closes, same) turn =
+    ends_with script seat low place (kept script seat place closes now under same) result
+    (subst (IsStop script seat place (cond closes false course.is_sending)) (sym is) (refusal_stops script seat place (cond closes false course.is_sending) (inl turn) r))
 
--- between two places with no turn between them nothing of the thread stands
-none_between : (script : Lines) (seat : ℕ) (q : SourceLine → Bool) (a b : ℕ) → ((line : SourceLine) → q line ≡ true → is_seated script seat line ≡ true)
-    → how_many (is_seated script seat) (take a script.steps) ≡ how_many (is_seated script seat) (take b script.steps) → how_many q (take a script.steps) ≡ how_many q (take b script.steps)
-none_between script seat q a b implied same = elim (cases_lt a b) [
-  | inl lt ↦ up a b (omega (arith, lt)) same
-  | inr ge ↦ sym (up b a ge (sym same))
+-- a gate says no at a turn, or all steps are performed, and closing the lanes may be refused
+pub closes_with : (script : Lines) (seat : ℕ) → 1 ≤ seat → (place : ℕ) {course : Course} {made : Option Made} (under : IsUnderWay script seat place course made) (stop : Stop) (result : Result Stop AllocError) (now : Option Made) → IsStop script seat place false (Ok stop)
+    → ((result ≡ Ok stop) × (now ≡ closed_if course.is_sending made)) ⊎ ((course.is_sending ≡ true) × (now ≡ made) × ((r : Refusal) × (result ≡ ending_with stop r)))
+    → (first : History) → IsOpening script first → IfSome now (λ m. Works script seat m result first)
+closes_with script seat low place {course} {made} under stop result now stops closed = elim closed [
+  | inl as_told ↦
+      ends_with script seat low place (kept script seat place course.is_sending now under as_told.1) result
+      (subst (IsStop script seat place (cond course.is_sending false course.is_sending)) (sym as_told.0) (subst (λ t. IsStop script seat place t (Ok stop)) (sym (none_open course.is_sending)) stops))
+  | inr refused ↦
+      subst (λ (o : Option Made). (first : History) → IsOpening script first → IfSome o (λ m. Works script seat m result first)) (sym refused.1)
+      (ends_with script seat low place under result (subst (IsStop script seat place course.is_sending) (sym refused.2.1) (closing_stops script seat place course.is_sending (inr refused.0) stop refused.2.0)))
 ]
   where
-    up : (a b : ℕ) → a ≤ b → how_many (is_seated script seat) (take a script.steps) ≡ how_many (is_seated script seat) (take b script.steps) → how_many q (take a script.steps) ≡ how_many q (take b script.steps)
-    up a b le same =
-        let fewer = narrower (is_seated script seat) q script.steps a b implied le in
-        let more = taken_count q script.steps a b le in
-        omega (arith, same, fewer, more)
-
-all_taken : {X : Type 0} (p : X → Bool) (xs : List X) → how_many p (take (length xs) xs) ≡ how_many p xs
-all_taken p xs = ap (how_many p) (take_all (length xs) xs (omega arith))
-
-module _ (script : Lines) (seat taken : ℕ) {course : Course} {made : Option Made} (so : HasTaken script seat taken course made) where
-  -- it is under way at any such place
-  pub under_way_at : (i : ℕ) → how_many (is_seated script seat) (take i script.steps) ≡ taken → IsUnderWay script seat i course made
-  under_way_at i here = let under = so.way in record {
-    entries = under.entries;
-    apart = under.apart;
-    told = under.told;
-    by = under.by;
-    count = under.count;
-    called = under.called ∙ none_between script seat (is_called script seat) so.place i (called_seated script seat) (so.behind ∙ sym here);
-    gone = under.gone ∙ none_between script seat (goes_apart script seat) so.place i (apart_seated script seat) (so.behind ∙ sym here);
-    suiting = under.suiting;
-    steps = under.steps;
-    does = under.does;
-    bound = under.bound;
-    sends = under.sends;
-  }
-
-  -- as where the text ends, when all were taken
-  past_there : how_many (is_seated script seat) script.steps ≤ taken → IsUnderWay script seat (length script.steps) course made
-  past_there all =
-      let few = taken_count (is_seated script seat) script.steps so.place (so.place + length script.steps) (omega arith) in
-      let whole = ap (how_many (is_seated script seat)) (take_all (so.place + length script.steps) script.steps (omega arith)) in
-      under_way_at (length script.steps) (all_taken (is_seated script seat) script.steps ∙ omega (arith, all, few, whole, so.behind))
-
-  -- since there is no more turn
-  pub past_turns : slice_get (positions_where (is_seated script seat) 0 script.steps) taken ≡ None → IsUnderWay script seat (length script.steps) course made
-  past_turns none = elim (cases_lt taken (length (positions_where (is_seated script seat) 0 script.steps))) [
-    | inl lt ↦
-        let there = stands (positions_where (is_seated script seat) 0 script.steps) taken lt in
-        absurd (none-some there.0 (sym none ∙ there.1))
-    | inr ge ↦ past_there (omega (arith, ge, positions_count (is_seated script seat) 0 script.steps))
-  ]
-
-  -- or as many were taken as the script has steps
-  pub past_steps : length script.steps ≤ taken → IsUnderWay script seat (length script.steps) course made
-  past_steps all = past_there (omega (arith, all, how_many-le (is_seated script seat) script.steps))
-
--- there is no turn then
-pub none_past : (script : Lines) (seat i : ℕ) → IsTurn script seat i → i < length script.steps
-none_past script seat i turn = turn_within script seat i turn
-
-module _ (script : Lines) (seat taken i : ℕ) (next : slice_get (positions_where (is_seated script seat) 0 script.steps) taken ≡ Some i) where
-  -- the next turn
-  pub turn_at : IsTurn script seat i
-  turn_at =
-      let there = position_is (is_seated script seat) 0 script.steps taken i next in
-      let same : i ≡ there.place = omega (arith, there.at) in
-      record { line = there.line; found = ap (slice_get script.steps) same ∙ there.found; seated = there.seated }
-
-  pub turns_before : how_many (is_seated script seat) (take i script.steps) ≡ taken
-  turns_before =
-      let there = position_is (is_seated script seat) 0 script.steps taken i next in
-      let same : i ≡ there.place = omega (arith, there.at) in
-      ap (λ n. how_many (is_seated script seat) (take n script.steps)) same ∙ there.behind
-
-  -- behind it
-  pub one_taken : {course : Course} {made : Option Made} → IsUnderWay script seat (i + 1) course made → HasTaken script seat (taken + 1) course made
-  one_taken under = record {
-    place = i + 1;
-    behind = count_taken (is_seated script seat) script.steps i turn_at.line turn_at.found ∙ omega (arith, turns_before, ap one_if turn_at.seated);
-    way = under;
-  }
+    none_open : (t : Bool) → cond t false t ≡ false
+    none_open true = refl
+    none_open false = refl

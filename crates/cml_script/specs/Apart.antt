@@ -1,7 +1,6 @@
 -- What goes by the lanes and feeds of a thread.
 use Rattle.std.specs.Prelude.{ℕ, ◌≡◌, ◌&&◌, Bool, true, false, List, [], ◌∷◌, length, take, slice_get, Option, Some, None, ⊤}
 use Rattle.std.specs.Option.{option_and_then}
-use Rattle.std.specs.List.{list_any}
 use Rattle.cml_board.specs.declared.call.Name.{Name}
 use Rattle.cml_grammar.specs.declared.forms.Action.{Action}
 use Rattle.cml_grammar.specs.declared.forms.Action.TheVariants as action
@@ -20,10 +19,6 @@ pub data Apart : Type 0 where
 abbrev pub is_by_lane : Apart → Bool
 is_by_lane (by_lane target capacity message) = true
 is_by_lane (by_feed feed) = false
-
--- something was sent by a lane
-abbrev pub HasSent : List Apart → Type 0
-HasSent done = list_any is_by_lane done ≡ true
 
 -- a step of the thread with this seat that goes by one of its lanes or feeds
 abbrev pub goes_apart : Lines → ℕ → SourceLine → Bool

@@ -6,7 +6,7 @@ use Rattle.cml_grammar.specs.Script.{Lines}
 use Rattle.cml_script.specs.declared.running.worker.Course.{Course}
 use Rattle.cml_script.specs.Counting.{how_many}
 use Rattle.cml_script.specs.Schedule.{History, declared_count, is_seated, earlier}
-use Rattle.cml_script.specs.Apart.{Apart, HasSent, AreNextApart, earlier_apart}
+use Rattle.cml_script.specs.Apart.{Apart, AreNextApart, earlier_apart}
 use Rattle.cml_script.specs.Bindings.{AreBindings}
 use Rattle.cml_script.specs.Working.{Made, IsOpening, AreBySeat, AreNextSteps}
 
@@ -20,7 +20,7 @@ AreSuiting (entry ∷ before) = (suits entry.call entry.reply ≡ true) × AreSu
 pub record IsUnderWay (script : Lines) (seat place : ℕ) (course : Course) (made : Option Made) : Type 0 where
   pub entries : History
   pub apart : List Apart
-  pub told : IfSome made (λ tells. tells ≡ record { seat = seat; entries = entries; apart = apart })
+  pub told : IfSome made (λ tells. tells ≡ record { seat = seat; entries = entries; apart = apart; is_sending = course.is_sending })
   pub by : AreBySeat seat entries
   pub count : course.made ≡ declared_count script + entries_in entries
   pub called : entries_in entries ≡ earlier script seat place
@@ -29,7 +29,6 @@ pub record IsUnderWay (script : Lines) (seat place : ℕ) (course : Course) (mad
   pub steps : (first : History) → IsOpening script first → AreNextSteps script first entries
   pub does : AreNextApart script seat apart
   pub bound : (first : History) → IsOpening script first → AreBindings script (entries ++ first) course.bindings.items
-  pub sends : course.is_sending ≡ true → HasSent apart
 
 -- as many steps of the thread stand before this place as were taken, and it is under way there
 pub record HasTaken (script : Lines) (seat taken : ℕ) (course : Course) (made : Option Made) : Type 0 where

@@ -1,10 +1,11 @@
 -- What one thread performs of a script, whoever makes its calls.
-use Rattle.std.specs.Prelude.{ℕ, ◌≡◌, ◌<◌, ◌≤◌, ◌⊎◌, Bool, true, false, List, [], ◌∷◌, ◌++◌, length, slice_get, Option, Some, Result, Ok, Err, IfSome, OnOk, ⊤}
+use Rattle.std.specs.Prelude.{ℕ, ◌≡◌, ◌<◌, ◌≤◌, ◌⊎◌, ◌||◌, if◌then◌else◌, Bool, true, false, List, [], ◌∷◌, ◌++◌, length, slice_get, Option, Some, Result, Ok, Err, IfSome, OnOk, ⊤}
 use Rattle.std.specs.Option.{option_map}
 use Rattle.std.specs.declared.alloc.AllocError.{AllocError}
 use Rattle.cml_board.specs.declared.call.Name.{Name}
 use Rattle.cml_board.specs.declared.call.Call.{Call}
 use Rattle.cml_board.specs.declared.call.Call.TheVariants.{NewPort}
+use Rattle.cml_board.specs.declared.call.Call.TheVariants as call
 use Rattle.cml_board.specs.declared.entry.Who.{Who}
 use Rattle.cml_board.specs.declared.entry.Who.TheVariants.{Seat, Lane, Feed}
 use Rattle.cml_board.specs.declared.entry.Reply.{Reply}
@@ -23,16 +24,18 @@ use Rattle.cml_script.specs.declared.stop.Stop.{Stop}
 use Rattle.cml_script.specs.declared.stop.Stop.TheVariants.{Done, Stalled, Full, Held}
 use Rattle.cml_script.specs.Counting.{how_many}
 use Rattle.cml_script.specs.Schedule.{History, declared_count, number_of, maker, is_seated, earlier, making_call}
-use Rattle.cml_script.specs.Apart.{Apart, HasSent, AreNextApart, earlier_apart}
+use Rattle.cml_script.specs.Apart.{Apart, is_by_lane, AreNextApart, earlier_apart}
 use Rattle.cml_script.specs.Audit.{IsNextOfThread, IsOfScript}
 
 -- What a caller made.
 
--- its seat, the entries that it made, and what went by its lanes and feeds, newest first
+-- its seat, the entries that it made, and what went by its lanes and feeds, newest first; and whether a lane that it sent by
+-- may be open
 pub record Made : Type 0 where
   pub seat : ℕ
   pub entries : History
   pub apart : List Apart
+  pub is_sending : Bool
 
 -- with a call that its seat was answered
 abbrev pub with_call : Call ℕ → Reply ℕ → Made → Made
@@ -52,11 +55,34 @@ with_feed channel port made = record made { entries = (record { who = Feed (how_
 
 -- with what went by a lane or a feed
 abbrev pub with_apart : Apart → Made → Made
-with_apart done made = record made { apart = done ∷ made.apart }
+with_apart done made = record made { apart = done ∷ made.apart; is_sending = is_by_lane done || made.is_sending }
+
+-- with all its lanes closed
+abbrev pub with_closed : Made → Made
+with_closed made = record made { is_sending = false }
+
+abbrev pub closed_if : Bool → Option Made → Option Made
+closed_if closes made = if closes then option_map with_closed made else made
+
+-- at most its lanes were closed
+abbrev pub MayHaveClosed : Option Made → Option Made → Type 0
+MayHaveClosed before after = (closes : Bool) × (after ≡ closed_if closes before)
+
+-- a call that waits where it can't be answered
+abbrev pub waits : Call ℕ → Bool
+waits (call.Recv name) = true
+waits (call.Get name) = true
+waits (call.Take name) = true
+waits (call.Swap name message) = true
+waits _ = false
+
+-- no lane may be open while such a call waits
+abbrev pub MayCall : Call ℕ → Option Made → Type 0
+MayCall asked made = IfSome made (λ made. waits asked ≡ true → made.is_sending ≡ false)
 
 -- it has this seat, and made nothing yet, where it tells what it makes
 abbrev pub BeginsAt : ℕ → Option Made → Type 0
-BeginsAt seat made = IfSome made (λ made. made ≡ record { seat = seat; entries = []; apart = [] })
+BeginsAt seat made = IfSome made (λ made. made ≡ record { seat = seat; entries = []; apart = []; is_sending = false })
 
 -- What declares.
 
@@ -109,12 +135,12 @@ pub record IsTurn (script : Lines) (seat i : ℕ) : Type 0 where
   pub found : slice_get script.steps i ≡ Some line
   pub seated : is_seated script seat line ≡ true
 
--- a thread that is done has no step from this place on, and one that stopped otherwise has its next one there, or may have
--- stopped since a lane that it sent by could not be closed
-abbrev pub IsStop : Lines → ℕ → ℕ → List Apart → Result Stop AllocError → Type 0
-IsStop script seat place apart (Ok Done) = (i : ℕ) → IsTurn script seat i → i < place
-IsStop script seat place apart (Ok stop) = IsTurn script seat place ⊎ HasSent apart
-IsStop script seat place apart (Err error) = ⊤
+-- a thread that is done has no step from this place on, and its lanes are closed; one that stopped otherwise has its next
+-- step there, or a lane that it could not close
+abbrev pub IsStop : Lines → ℕ → ℕ → Bool → Result Stop AllocError → Type 0
+IsStop script seat place sending (Ok Done) = ((i : ℕ) → IsTurn script seat i → i < place) × (sending ≡ false)
+IsStop script seat place sending (Ok stop) = IsTurn script seat place ⊎ (sending ≡ true)
+IsStop script seat place sending (Err error) = ⊤
 
 -- whatever made the declared objects: the entries of the thread with this seat are the steps that its seat performs, each on
 -- the objects that its names stand for, and what went by its lanes and feeds are its other steps, from the first one on, in
@@ -126,7 +152,7 @@ pub record Works (script : Lines) (seat : ℕ) (made : Made) (stop : Result Stop
   pub place : ℕ
   pub called : entries_in made.entries ≡ earlier script seat place
   pub gone : length made.apart ≡ earlier_apart script seat place
-  pub stops : IsStop script seat place made.apart stop
+  pub stops : IsStop script seat place made.is_sending stop
 
 -- a step that waits where it can't be answered
 abbrev pub may_wait : Action → Bool

@@ -4,7 +4,7 @@ ghost use Rattle.std.specs.Option.{option_map};
 ghost use Rattle.cml_threads.specs.Telling.{suits};
 ghost use Rattle.cml_grammar.specs.Reading.{IsCapacity};
 ghost use Rattle.cml_script.specs.Apart.{by_lane, by_feed};
-ghost use Rattle.cml_script.specs.Working.{Made, with_call, with_feed, with_apart};
+ghost use Rattle.cml_script.specs.Working.{Made, MayCall, with_call, with_feed, with_apart, with_closed};
 
 use super::rings::{Rings, Subscription};
 use cml_board::{Answer, BoardLog, Call, Name, Refusal};
@@ -15,8 +15,8 @@ use std::sync::ledger::Ledger;
 
 /// Who makes the calls of one thread, and is asked no more once one was refused.
 pub trait Caller {
-    /// Its seat, the entries that it made in the journal, and what went by its lanes and feeds, newest first, where it tells
-    /// them. What lanes and feeds move is no entry of its own.
+    /// Its seat, the entries that it made in the journal, and what went by its lanes and feeds, newest first, and whether a
+    /// lane may be open, where it tells them. What lanes and feeds move is no entry of its own.
     ghost made: { Self → Option Made };
 
     /// Whether nothing was refused.
@@ -24,7 +24,8 @@ pub trait Caller {
 
     /// Makes a call of its seat.
     fn call(&mut self, call: Call<u64>) -> Result<Answer<u64>, Refusal>
-        requires { goes_on self.old ≡ true }
+        requires goes_on { goes_on self.old ≡ true }
+        requires closed { MayCall call (made self.old) }
         ensures goes_on { IfOk result (λ _. goes_on self.new ≡ true) }
         ensures call { IfOk result (λ answer. answer.call ≡ call) }
         ensures reply { IfOk result (λ answer. suits call answer.reply ≡ true) }
@@ -58,7 +59,8 @@ pub trait Caller {
     fn close_lanes(&mut self) -> Result<(), Refusal>
         requires { goes_on self.old ≡ true }
         ensures goes_on { OnOk result (goes_on self.new ≡ true) }
-        ensures made { made self.new ≡ made self.old };
+        ensures made { OnOk result (made self.new ≡ option_map with_closed (made self.old)) }
+        ensures refused { OnErr result (made self.new ≡ made self.old) };
 }
 
 /// A thread of a switchboard, with its lanes and feeds: what it was answered stands in the journal, and only there.

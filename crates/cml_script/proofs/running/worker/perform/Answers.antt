@@ -1,4 +1,4 @@
-use Rattle.std.proofs.Common.{◌≡◌, ◌+◌, refl, ap, inl, sym, true}
+use Rattle.std.proofs.Common.{◌+◌, refl, ap, sym}
 use Rattle.cml_script.specs.declared.way.Way.TheVariants as way
 use Rattle.cml_script.specs.Apart.{by_feed}
 use Rattle.cml_script.specs.Schedule.{is_by_ring}
@@ -14,6 +14,5 @@ returns-in-Feed-clause-way g c =
     let goes = turn_goes script seat c.args.step turn (way.Feed c.in-Feed.feed) (sym c.in-Feed.ensures.way) in
     on_ok c.poll_apart.result
     (λ made.
-    more_gone script seat c.args.step c.requires.way turn (by_feed c.in-Feed.feed) c.args.course.now (g.C.Caller.made c.poll_apart.new.self) (ap is_by_ring goes) (feed_acts script turn.line c.in-Feed.feed goes) made refl refl
-    (λ (is : c.args.course.now.is_sending ≡ true). inl is))
+    more_gone script seat c.args.step c.requires.way turn (by_feed c.in-Feed.feed) c.args.course.now (g.C.Caller.made c.poll_apart.new.self) (ap is_by_ring goes) (feed_acts script turn.line c.in-Feed.feed goes) made refl refl refl)
     c.poll_apart.ensures.made

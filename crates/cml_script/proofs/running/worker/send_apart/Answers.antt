@@ -44,5 +44,5 @@ returns-clause-way g c =
       | inr e ↦ acts (action.Multicast at message) steps.lines steps.asked within turn.found goes e
     ] ∙ ap (λ n. Some (by_lane (record { 0 = n }) c.args.capacity message)) (sym c.number.ensures) in
     on_ok c.send_apart.result
-    (λ made. more_gone script seat c.args.step c.requires.way turn (by_lane c.number.result c.args.capacity message) _ (g.C.Caller.made c.send_apart.new.self) (ap is_by_ring goes) sends made refl refl (λ is. inr refl))
+    (λ made. more_gone script seat c.args.step c.requires.way turn (by_lane c.number.result c.args.capacity message) _ (g.C.Caller.made c.send_apart.new.self) (ap is_by_ring goes) sends made refl refl refl)
     c.send_apart.ensures.made

@@ -1,10 +1,10 @@
-use Rattle.std.proofs.Common.{◌+◌, ◌∙◌, refl, ap, sym, subst, inl, length, arith}
+use Rattle.std.proofs.Common.{◌+◌, ◌∙◌, refl, ap, sym, inl, length, arith}
 use Rattle.std.proofs.lemmas.List.{length-map}
 use Rattle.cml_grammar.specs.declared.script.Step.{Step}
 use Rattle.cml_grammar.specs.Reading.{source_of}
 use Rattle.cml_script.specs.declared.stop.Stop.TheVariants.{Done, Held}
-use Rattle.cml_script.specs.Working.{IsStop}
-use Rattle.cml_script.proofs.WorkLemmas.{begins, turn_at, turns_before, one_taken, under_way_at, under_way_few, past_turns, past_steps, none_past, closes_with, ends_with, refusal_stops}
+use Rattle.cml_script.proofs.WorkLemmas.{begins, under_way_few, closes_with, refused_at}
+use Rattle.cml_script.proofs.TurnLemmas.{turn_at, turns_before, one_taken, under_way_at, past_turns, past_steps, none_past}
 use Rattle.cml_script.proofs.running.worker.work.Goals as goal
 
 pub loop-nth-init : goal.loop-nth-init
@@ -18,7 +18,7 @@ returns-in_default g c =
     let script = c.args.plan.now in
     let seat = c.args.thread + 1 in
     let under = past_turns script seat c.loop-nth.nth c.loop-nth.invariant.way (sym c.turn.ensures ∙ c.in_default.is) in
-    closes_with script seat (omega arith) (length script.steps) under Done c.close.result (g.C.Caller.made c.close.new.caller) c.close.ensures.made (none_past script seat) c.close.ensures.stop
+    closes_with script seat (omega arith) (length script.steps) under Done c.close.result (g.C.Caller.made c.close.new.caller) (none_past script seat, refl) c.close.ensures
 
 pub returns-then-not-before : goal.returns-then-not-before
 returns-then-not-before g c =
@@ -26,8 +26,8 @@ returns-then-not-before g c =
     let seat = c.args.thread + 1 in
     let next = sym c.in-Some.ensures in
     let under = under_way_at script seat c.loop-nth.nth c.loop-nth.invariant.way c.in-Some.step (turns_before script seat c.loop-nth.nth c.in-Some.step next) in
-    closes_with script seat (omega arith) c.in-Some.step under Held c.close-then-not-before.result (g.C.Caller.made c.close-then-not-before.new.caller) c.close-then-not-before.ensures.made
-    (inl (turn_at script seat c.loop-nth.nth c.in-Some.step next)) c.close-then-not-before.ensures.stop
+    closes_with script seat (omega arith) c.in-Some.step under Held c.close-then-not-before.result (g.C.Caller.made c.close-then-not-before.new.caller)
+    (inl (turn_at script seat c.loop-nth.nth c.in-Some.step next)) c.close-then-not-before.ensures
 
 pub perform-requires-clause-turn : goal.perform-requires-clause-turn
 perform-requires-clause-turn g c = turn_at c.args.plan.now (c.args.thread + 1) c.loop-nth.nth c.in-Some.step (sym c.in-Some.ensures)
@@ -52,8 +52,7 @@ returns-in-Err g c =
     let seat = c.args.thread + 1 in
     let next = sym c.in-Some.ensures in
     let under = under_way_at script seat c.loop-nth.nth c.loop-nth.invariant.way c.in-Some.step (turns_before script seat c.loop-nth.nth c.in-Some.step next) in
-    ends_with script seat (omega arith) c.in-Some.step under c.stop_of.result (g.C.Caller.made c.perform.new.caller) c.in-Err.ensures.refused
-    (subst (IsStop script seat c.in-Some.step under.apart) (sym c.stop_of.ensures) (refusal_stops script seat c.in-Some.step under.apart (inl (turn_at script seat c.loop-nth.nth c.in-Some.step next)) c.in-Err.refusal))
+    refused_at script seat (omega arith) c.in-Some.step under c.in-Err.refusal c.stop_of.result (g.C.Caller.made c.perform.new.caller) c.stop_of.ensures c.in-Err.ensures.refused (turn_at script seat c.loop-nth.nth c.in-Some.step next)
 
 pub loop-nth-preserved : goal.loop-nth-preserved
 loop-nth-preserved g c =
@@ -69,4 +68,4 @@ returns g c =
     let seat = c.args.thread + 1 in
     let steps = rw c.script.ensures at c.steps-nth-end.ensures in
     let under = past_steps script seat c.loop-nth.nth c.loop-nth.invariant.way (omega (arith, c.loop-nth-test.false, ap length steps.lines, length-map c.steps-nth-end.result.now (λ (x : Step). source_of x.line))) in
-    closes_with script seat (omega arith) (length script.steps) under Done c.close-2.result (g.C.Caller.made c.close-2.new.caller) c.close-2.ensures.made (none_past script seat) c.close-2.ensures.stop
+    closes_with script seat (omega arith) (length script.steps) under Done c.close-2.result (g.C.Caller.made c.close-2.new.caller) (none_past script seat, refl) c.close-2.ensures
