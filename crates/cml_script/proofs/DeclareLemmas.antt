@@ -1,7 +1,7 @@
 -- How the declared objects are made one after the other.
 use Rattle.std.proofs.Common.{◌≡◌, ℕ, zero, suc, ◌+◌, ◌<◌, ◌≤◌, Bool, true, false, cond, List, [], ◌∷◌, length, take, filter, slice_get, Option, Some, None, Ok, Err, Result, MatchBool, IfSome, IsSome, refl, sym, ap, ap₂, subst, ◌∙◌, arith, one-add, zero-add}
-use Rattle.std.specs.Prelude.{OnOk, IsErr}
 use Rattle.std.specs.Option.{option_map, option_map_or}
+use Rattle.std.specs.Result.{IsErrAnd}
 use Rattle.std.proofs.lemmas.Option.{same_Some, none-some}
 use Rattle.std.proofs.lemmas.List.{take_all}
 use Rattle.std.proofs.lemmas.Bool.{lt-ltb, true≢false}
@@ -28,7 +28,7 @@ use Rattle.cml_script.specs.Audit.{IsOfCaller, IsOfScript}
 use Rattle.cml_script.specs.Plan.{IsKnown}
 use Rattle.cml_script.specs.Makes.{IsMadeOfDeclared}
 use Rattle.cml_script.specs.Stage.{Play, IsNext, IsNextObject, IsNextPort}
-use Rattle.cml_script.specs.Working.{Made, with_call, with_feed, is_of_feed, BeginsAt, Declares, HasCapacity, HasMade, making}
+use Rattle.cml_script.specs.Working.{Made, with_call, with_feed, is_of_feed, with_refused, BeginsAt, Declares, HasCapacity, HasMade, making}
 use Rattle.cml_script.proofs.ListLemmas.{count_taken, filter_at, taken_count}
 use Rattle.cml_script.proofs.LineLemmas.{declaration_object, declaration_feed, feed_object}
 use Rattle.cml_script.proofs.KindLemmas.{next_object}
@@ -37,7 +37,7 @@ use Rattle.cml_script.proofs.StandLemmas.{declared_is}
 -- what is kept is so of what was made
 pub record IsDeclaring (script : Lines) (i : ℕ) (made : Option Made) : Type 0 where
   pub entries : History
-  pub told : IfSome made (λ tells. tells ≡ record { seat = 0; entries = entries; apart = []; is_sending = false })
+  pub told : IfSome made (λ tells. tells ≡ record { seat = 0; entries = entries; apart = []; is_sending = false; refused = None })
   pub count : length entries ≡ how_many (is_object script) (take i script.declarations)
   pub fed : how_many is_of_feed entries ≡ how_many (is_feed script) (take i script.declarations)
   pub own : IsOfScript script entries
@@ -113,7 +113,7 @@ module _ (script : Lines) (known : IsKnown script) {i : ℕ} {made : Option Made
   pub none_more : (later : Option Made) → d.makes ≡ makes.Thread → later ≡ made → IsDeclaring script (i + 1) later
   none_more later thread same = record {
     entries = so_far.entries;
-    told = subst (λ (o : Option Made). IfSome o (λ tells. tells ≡ record { seat = 0; entries = so_far.entries; apart = []; is_sending = false })) (sym same) so_far.told;
+    told = subst (λ (o : Option Made). IfSome o (λ tells. tells ≡ record { seat = 0; entries = so_far.entries; apart = []; is_sending = false; refused = None })) (sym same) so_far.told;
     count = let no : one_if (makes_object d.makes) ≡ 0 = ap (λ m. one_if (makes_object m)) thread in omega (arith, so_far.count, counted, no);
     fed = let no : one_if (makes_feed d.makes) ≡ 0 = ap (λ m. one_if (makes_feed m)) thread in omega (arith, so_far.fed, fed, no);
     own = so_far.own;
@@ -121,7 +121,7 @@ module _ (script : Lines) (known : IsKnown script) {i : ℕ} {made : Option Made
 
   -- an entry more, by who makes the next object
   one_more : (asked : Call ℕ) (entry : Entry ℕ) (later : Option Made) → IsMadeWell (names_of script) i d.makes → making script d.makes ≡ Some asked → entry.call ≡ asked → entry.who ≡ by_feed (makes_feed d.makes) (how_many is_of_feed so_far.entries)
-      → one_if (is_of_feed entry) ≡ one_if (makes_feed d.makes) → IfSome later (λ tells. tells ≡ record { seat = 0; entries = entry ∷ so_far.entries; apart = []; is_sending = false }) → IsDeclaring script (i + 1) later
+      → one_if (is_of_feed entry) ≡ one_if (makes_feed d.makes) → IfSome later (λ tells. tells ≡ record { seat = 0; entries = entry ∷ so_far.entries; apart = []; is_sending = false; refused = None }) → IsDeclaring script (i + 1) later
   one_more asked entry later well is called by feeds told = record {
     entries = entry ∷ so_far.entries;
     told = told;
@@ -148,10 +148,10 @@ module _ (script : Lines) (known : IsKnown script) {i : ℕ} {made : Option Made
   unfolding by_feed
   made_more later well has = by_makes d.makes refl has
     where
-      told_by : (entry : Entry ℕ) (adds : Made → Made) → adds (record { seat = 0; entries = so_far.entries; apart = []; is_sending = false }) ≡ record { seat = 0; entries = entry ∷ so_far.entries; apart = []; is_sending = false } → later ≡ option_map adds made → IfSome later (λ tells. tells ≡ record { seat = 0; entries = entry ∷ so_far.entries; apart = []; is_sending = false })
-      told_by entry adds one more = subst (λ (o : Option Made). IfSome o (λ tells. tells ≡ record { seat = 0; entries = entry ∷ so_far.entries; apart = []; is_sending = false })) (sym more) (by_made made so_far.told)
+      told_by : (entry : Entry ℕ) (adds : Made → Made) → adds (record { seat = 0; entries = so_far.entries; apart = []; is_sending = false; refused = None }) ≡ record { seat = 0; entries = entry ∷ so_far.entries; apart = []; is_sending = false; refused = None } → later ≡ option_map adds made → IfSome later (λ tells. tells ≡ record { seat = 0; entries = entry ∷ so_far.entries; apart = []; is_sending = false; refused = None })
+      told_by entry adds one more = subst (λ (o : Option Made). IfSome o (λ tells. tells ≡ record { seat = 0; entries = entry ∷ so_far.entries; apart = []; is_sending = false; refused = None })) (sym more) (by_made made so_far.told)
         where
-          by_made : (o : Option Made) → IfSome o (λ tells. tells ≡ record { seat = 0; entries = so_far.entries; apart = []; is_sending = false }) → IfSome (option_map adds o) (λ tells. tells ≡ record { seat = 0; entries = entry ∷ so_far.entries; apart = []; is_sending = false })
+          by_made : (o : Option Made) → IfSome o (λ tells. tells ≡ record { seat = 0; entries = so_far.entries; apart = []; is_sending = false; refused = None }) → IfSome (option_map adds o) (λ tells. tells ≡ record { seat = 0; entries = entry ∷ so_far.entries; apart = []; is_sending = false; refused = None })
           by_made None told = tt
           by_made (Some tells) told = ap adds told ∙ one
 
@@ -184,20 +184,27 @@ module _ (script : Lines) {i : ℕ} {made : Option Made} (so_far : IsDeclaring s
       let all = take_all (i + length script.declarations) script.declarations (omega arith) in
       omega (arith, so_far.count, taken_count (is_object script) script.declarations i (i + length script.declarations) (omega arith), ap (how_many (is_object script)) all)
 
-  pub declares : (later : Option Made) (ended : Result (Unit {0}) Refusal) → later ≡ made → OnOk ended (length script.declarations ≤ i) → IfSome later (λ m. Declares script m.entries ended)
-  declares later ended same ends = subst (λ (o : Option Made). IfSome o (λ m. Declares script m.entries ended)) (sym same) (by_made made so_far.told)
+  -- all were made
+  pub declares : length script.declarations ≤ i → IfSome made (λ m. Declares script m (Ok tt))
+  declares all = by_made made so_far.told
     where
-      on_ok : (e : Result (Unit {0}) Refusal) → OnOk e (length script.declarations ≤ i) → OnOk e (length so_far.entries ≡ declared_count script)
-      on_ok (Ok done) all = so_far.count ∙ ap (how_many (is_object script)) (take_all i script.declarations all)
-      on_ok (Err refusal) all = tt
-
-      by_made : (o : Option Made) → IfSome o (λ tells. tells ≡ record { seat = 0; entries = so_far.entries; apart = []; is_sending = false }) → IfSome o (λ m. Declares script m.entries ended)
+      by_made : (o : Option Made) → IfSome o (λ tells. tells ≡ record { seat = 0; entries = so_far.entries; apart = []; is_sending = false; refused = None }) → IfSome o (λ m. Declares script m (Ok tt))
       by_made None told = tt
-      by_made (Some tells) told = subst (λ (m : Made). Declares script m.entries ended) (sym told) (record { own = so_far.own; within = few; all = on_ok ended ends })
+      by_made (Some tells) told = subst (λ (m : Made). Declares script m (Ok tt)) (sym told) (record { own = so_far.own; within = few; all = so_far.count ∙ ap (how_many (is_object script)) (take_all i script.declarations all); refused = refl })
 
-pub err_ends : (X : Type 0) (e : Result (Unit {0}) Refusal) → IsErr e → OnOk e X
-err_ends X (Ok done) err = absurd (true≢false (sym err))
-err_ends X (Err refusal) err = tt
+  -- or one was refused
+  pub refuses : (ended : Result (Unit {0}) Refusal) (refusal : Refusal) (later : Option Made) → IsErrAnd ended (λ e. e ≡ refusal) → later ≡ option_map (with_refused refusal) made → IfSome later (λ m. Declares script m ended)
+  refuses ended refusal later is same =
+      subst (λ (e : Result (Unit {0}) Refusal). IfSome later (λ m. Declares script m e)) (sym (err_is ended is))
+      (subst (λ (o : Option Made). IfSome o (λ m. Declares script m (Err refusal))) (sym same) (by_made made so_far.told))
+    where
+      err_is : (e : Result (Unit {0}) Refusal) → IsErrAnd e (λ e. e ≡ refusal) → e ≡ Err refusal
+      err_is (Ok done) is = absurd is
+      err_is (Err e) is = ap Err is
+
+      by_made : (o : Option Made) → IfSome o (λ tells. tells ≡ record { seat = 0; entries = so_far.entries; apart = []; is_sending = false; refused = None }) → IfSome (option_map (with_refused refusal) o) (λ m. Declares script m (Err refusal))
+      by_made None told = tt
+      by_made (Some tells) told = subst (λ (m : Made). Declares script m (Err refusal)) (sym (ap (with_refused refusal) told)) (record { own = so_far.own; within = few; all = tt; refused = refl })
 
 -- what is made well is made of declared names
 pub well_declared : (script : Lines) (i : ℕ) (m : Makes) → i < length script.declarations → IsMadeWell (names_of script) i m → IsMadeOfDeclared script m

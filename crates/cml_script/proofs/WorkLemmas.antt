@@ -13,14 +13,12 @@ use Rattle.cml_board.specs.declared.entry.Reply.{Reply}
 use Rattle.cml_board.specs.declared.entry.Reply.TheVariants as reply
 use Rattle.cml_board.specs.declared.entry.Entry.{Entry}
 use Rattle.cml_board.specs.declared.outcome.Refusal.{Refusal}
-use Rattle.cml_board.specs.declared.outcome.Refusal.TheVariants as refusal
 use Rattle.cml_threads.specs.Telling.{suits}
 use Rattle.cml_grammar.specs.declared.script.Step.{Step}
 use Rattle.cml_grammar.specs.Script.{Lines}
 use Rattle.cml_grammar.specs.Meaning.{names_of}
 use Rattle.cml_grammar.specs.Reading.{source_of, ReadsStep, UsesEarlier, used_by}
 use Rattle.cml_script.specs.declared.stop.Stop.{Stop}
-use Rattle.cml_script.specs.declared.stop.Stop.TheVariants.{Done, Stalled, Full, Held}
 use Rattle.cml_script.specs.declared.binding.Binding.TheVariants as binding
 use Rattle.cml_script.specs.declared.way.Way.{Way}
 use Rattle.cml_script.specs.declared.way.Way.TheVariants as way
@@ -31,7 +29,7 @@ use Rattle.cml_script.specs.Apart.{Apart, is_by_lane, goes_apart, earlier_apart,
 use Rattle.cml_script.specs.Report.{is_of_thread}
 use Rattle.cml_script.specs.Plan.{IsKnown, HasSeats, AsksForPorts, way_at}
 use Rattle.cml_script.specs.Bindings.{AreBindings, with_binding}
-use Rattle.cml_script.specs.Working.{Made, with_call, with_apart, with_closed, closed_if, waits, MayCall, BeginsAt, AreBySeat, AreByMakers, IsOpening, AreNextSteps, IsTurn, IsStop, Works, MayHaveClosed, stop_of, first_stop, ending_with}
+use Rattle.cml_script.specs.Working.{Made, with_call, with_apart, with_closed, closed_if, waits, MayCall, BeginsAt, AreBySeat, AreByMakers, IsOpening, AreNextSteps, IsTurn, IsUnrefused, IsStop, Works, IsRefusedSo, with_refused, stop_of, ending_with}
 use Rattle.cml_script.specs.Course.{AreSuiting, IsUnderWay, HasTaken}
 use Rattle.cml_script.proofs.ListLemmas.{how_many-le, count_taken, taken_count}
 use Rattle.cml_script.proofs.GivingLemmas.{giver, next_at, none_other}
@@ -123,7 +121,7 @@ begins script seat course made known none count bound sends = record {
   way = record {
     entries = [];
     apart = [];
-    told = subst (λ t. IfSome made (λ tells. tells ≡ record { seat = seat; entries = []; apart = []; is_sending = t })) (sym sends) none;
+    told = subst (λ t. IfSome made (λ tells. tells ≡ record { seat = seat; entries = []; apart = []; is_sending = t; refused = None })) (sym sends) none;
     by = tt;
     count = count ∙ omega arith;
     called = refl;
@@ -175,8 +173,8 @@ module _ (script : Lines) (seat : ℕ) (low : 1 ≤ seat) (first : History) (ope
         let object = used_stands_for script so_far known items i seat s (all_steps under.entries (under.steps first opening) under.suiting) lines reads earlier item next (omega (arith, ge)) in
         subst IsSome (sym (step_calls script so_far items i (used_by s.action) s (named (Some object.0)) lines reads item refl (ap named (sym object.1)))) refl
 
-    pub works : (stop : Result Stop AllocError) → IsStop script seat place course.is_sending stop → Works script seat (record { seat = seat; entries = under.entries; apart = under.apart; is_sending = course.is_sending }) stop first
-    works stop stops = record {
+    pub works : (stop : Result Stop AllocError) → (sending : Bool) (refused : Option Refusal) → IsStop script seat place sending refused stop → Works script seat (record { seat = seat; entries = under.entries; apart = under.apart; is_sending = sending; refused = refused }) stop first
+    works stop sending refused stops = record {
       by = under.by;
       steps = under.steps first opening;
       apart = under.does;
@@ -244,7 +242,7 @@ pub kept : (script : Lines) (seat place : ℕ) {course : Course} {made : Option 
 kept script seat place {course} {made} t now under same = record {
   entries = under.entries;
   apart = under.apart;
-  told = told_closed t (record { seat = seat; entries = under.entries; apart = under.apart; is_sending = course.is_sending }) made now under.told same;
+  told = told_closed t (record { seat = seat; entries = under.entries; apart = under.apart; is_sending = course.is_sending; refused = None }) made now under.told same;
   by = under.by;
   count = under.count;
   called = under.called;
@@ -275,7 +273,7 @@ may_call script seat place {course} {made} sending w asked under closed is = by_
     none_open false true e = refl
     none_open s false e = absurd (false≢true e)
 
-    by_made : (o : Option Made) → IfSome o (λ tells. tells ≡ record { seat = seat; entries = under.entries; apart = under.apart; is_sending = course.is_sending }) → MayCall asked o
+    by_made : (o : Option Made) → IfSome o (λ tells. tells ≡ record { seat = seat; entries = under.entries; apart = under.apart; is_sending = course.is_sending; refused = None }) → MayCall asked o
     by_made None told = tt
     by_made (Some tells) told = λ wait. ap (λ (m : Made). m.is_sending) told ∙ closed ∙ none_open sending w (sym is ∙ wait)
 
@@ -288,8 +286,8 @@ pub more_made : (script : Lines) (seat : ℕ) (low : 1 ≤ seat) (i : ℕ) {cour
 more_made script seat low i {course} {made} under known turn asked r g next later seated suit calls gives more count bound sends = record {
   entries = entry ∷ under.entries;
   apart = under.apart;
-  told = subst (λ t. IfSome later (λ tells. tells ≡ record { seat = seat; entries = entry ∷ under.entries; apart = under.apart; is_sending = t })) (sym sends)
-      (told_more (record { seat = seat; entries = under.entries; apart = under.apart; is_sending = course.is_sending }) (with_call asked r) made later under.told more);
+  told = subst (λ t. IfSome later (λ tells. tells ≡ record { seat = seat; entries = entry ∷ under.entries; apart = under.apart; is_sending = t; refused = None })) (sym sends)
+      (told_more (record { seat = seat; entries = under.entries; apart = under.apart; is_sending = course.is_sending; refused = None }) (with_call asked r) made later under.told more);
   by = (refl, under.by);
   count = omega (arith, count, under.count);
   called = omega (arith, under.called, called_more script seat i turn true called);
@@ -323,8 +321,8 @@ pub more_gone : (script : Lines) (seat i : ℕ) {course : Course} {made : Option
 more_gone script seat i {course} {made} under turn done next later by_ring does more count bound sends = record {
   entries = under.entries;
   apart = done ∷ under.apart;
-  told = subst (λ t. IfSome later (λ tells. tells ≡ record { seat = seat; entries = under.entries; apart = done ∷ under.apart; is_sending = t })) (sym sends)
-      (told_more (record { seat = seat; entries = under.entries; apart = under.apart; is_sending = course.is_sending }) (with_apart done) made later under.told more);
+  told = subst (λ t. IfSome later (λ tells. tells ≡ record { seat = seat; entries = under.entries; apart = done ∷ under.apart; is_sending = t; refused = None })) (sym sends)
+      (told_more (record { seat = seat; entries = under.entries; apart = under.apart; is_sending = course.is_sending; refused = None }) (with_apart done) made later under.told more);
   by = under.by;
   count = count ∙ under.count;
   called = omega (arith, under.called, called_more script seat i turn false (turn_called script seat i turn true by_ring));
@@ -350,70 +348,40 @@ more_gone script seat i {course} {made} under turn done next later by_ring does 
 
 -- How it ends.
 
-module _ (script : Lines) (seat place : ℕ) (sending : Bool) (left : IsTurn script seat place ⊎ (sending ≡ true)) where
-  full_stops : (stop : Stop) → IsStop script seat place sending (Ok (first_stop stop Full))
-  full_stops Full = left
-  full_stops Held = left
-  full_stops Stalled = left
-  full_stops Done = left
-
-  stall_stops : (stop : Stop) → IsStop script seat place sending (Ok (first_stop stop Stalled))
-  stall_stops Full = left
-  stall_stops Held = left
-  stall_stops Stalled = left
-  stall_stops Done = left
-
-  -- a refusal stops it
-  pub refusal_stops : (r : Refusal) → IsStop script seat place sending (stop_of r)
-  refusal_stops refusal.JournalFull = left
-  refusal_stops refusal.NoMemory = tt
-  refusal_stops refusal.Gone = left
-  refusal_stops refusal.Busy = left
-  refusal_stops refusal.NoSuch = left
-  refusal_stops refusal.WrongKind = left
-  refusal_stops refusal.Stalled = left
-  refusal_stops refusal.Unseen = left
-
-  -- or makes its end another
-  closing_stops : (stop : Stop) (r : Refusal) → IsStop script seat place sending (ending_with stop r)
-  closing_stops stop refusal.JournalFull = full_stops stop
-  closing_stops stop refusal.NoMemory = tt
-  closing_stops stop refusal.Gone = stall_stops stop
-  closing_stops stop refusal.Busy = stall_stops stop
-  closing_stops stop refusal.NoSuch = stall_stops stop
-  closing_stops stop refusal.WrongKind = stall_stops stop
-  closing_stops stop refusal.Stalled = stall_stops stop
-  closing_stops stop refusal.Unseen = stall_stops stop
-
--- what is told at the end
-pub ends_with : (script : Lines) (seat : ℕ) → 1 ≤ seat → (place : ℕ) {course : Course} {made : Option Made} (under : IsUnderWay script seat place course made) (stop : Result Stop AllocError) → IsStop script seat place course.is_sending stop
-    → (first : History) → IsOpening script first → IfSome made (λ m. Works script seat m stop first)
-ends_with script seat low place {course} {made} under stop stops first opening = by_made made under.told
+-- what is told then
+pub ends_with : (script : Lines) (seat : ℕ) → 1 ≤ seat → (place : ℕ) {course : Course} {made : Option Made} (under : IsUnderWay script seat place course made) (stop : Result Stop AllocError) (sending : Bool) (refused : Option Refusal) (now : Option Made)
+    → IfSome now (λ tells. tells ≡ record { seat = seat; entries = under.entries; apart = under.apart; is_sending = sending; refused = refused }) → IsStop script seat place sending refused stop → (first : History) → IsOpening script first → IfSome now (λ m. Works script seat m stop first)
+ends_with script seat low place under stop sending refused now told stops first opening = by_made now told
   where
-    by_made : (o : Option Made) → IfSome o (λ tells. tells ≡ record { seat = seat; entries = under.entries; apart = under.apart; is_sending = course.is_sending }) → IfSome o (λ m. Works script seat m stop first)
+    by_made : (o : Option Made) → IfSome o (λ tells. tells ≡ record { seat = seat; entries = under.entries; apart = under.apart; is_sending = sending; refused = refused }) → IfSome o (λ m. Works script seat m stop first)
     by_made None told = tt
-    by_made (Some tells) told = subst (λ (m : Made). Works script seat m stop first) (sym told) (works script seat low first opening under stop stops)
+    by_made (Some tells) told = subst (λ (m : Made). Works script seat m stop first) (sym told) (works script seat low first opening under stop sending refused stops)
 
 -- a step was refused, before which lanes may have been closed
-pub refused_at : (script : Lines) (seat : ℕ) → 1 ≤ seat → (place : ℕ) {course : Course} {made : Option Made} (under : IsUnderWay script seat place course made) (r : Refusal) (result : Result Stop AllocError) (now : Option Made) → result ≡ stop_of r → MayHaveClosed made now → IsTurn script seat place
+pub refused_at : (script : Lines) (seat : ℕ) → 1 ≤ seat → (place : ℕ) {course : Course} {made : Option Made} (under : IsUnderWay script seat place course made) (r : Refusal) (result : Result Stop AllocError) (now : Option Made) → result ≡ stop_of r → IsRefusedSo r made now → IsTurn script seat place
     → (first : History) → IsOpening script first → IfSome now (λ m. Works script seat m result first)
-refused_at script seat low place {course} under r result now is (closes, same) turn =
-    ends_with script seat low place (kept script seat place closes now under same) result
-    (subst (IsStop script seat place (cond closes false course.is_sending)) (sym is) (refusal_stops script seat place (cond closes false course.is_sending) (inl turn) r))
+refused_at script seat low place {course} {made} under r result now is (closes, same) turn =
+    let told : Made = record { seat = seat; entries = under.entries; apart = under.apart; is_sending = course.is_sending; refused = None } in
+    ends_with script seat low place under result (cond closes false course.is_sending) (Some r) now
+    (told_more (record told { is_sending = cond closes false course.is_sending }) (with_refused r) (closed_if closes made) now (told_closed closes told made (closed_if closes made) under.told refl) same)
+    (inl (turn, is))
 
 -- a gate says no at a turn, or all steps are performed, and closing the lanes may be refused
-pub closes_with : (script : Lines) (seat : ℕ) → 1 ≤ seat → (place : ℕ) {course : Course} {made : Option Made} (under : IsUnderWay script seat place course made) (stop : Stop) (result : Result Stop AllocError) (now : Option Made) → IsStop script seat place false (Ok stop)
-    → ((result ≡ Ok stop) × (now ≡ closed_if course.is_sending made)) ⊎ ((course.is_sending ≡ true) × (now ≡ made) × ((r : Refusal) × (result ≡ ending_with stop r)))
+pub closes_with : (script : Lines) (seat : ℕ) → 1 ≤ seat → (place : ℕ) {course : Course} {made : Option Made} (under : IsUnderWay script seat place course made) (stop : Stop) (result : Result Stop AllocError) (now : Option Made) → IsUnrefused script seat place (Ok stop)
+    → ((result ≡ Ok stop) × (now ≡ closed_if course.is_sending made)) ⊎ ((course.is_sending ≡ true) × ((r : Refusal) × (now ≡ option_map (with_refused r) made) × (result ≡ ending_with stop r)))
     → (first : History) → IsOpening script first → IfSome now (λ m. Works script seat m result first)
-closes_with script seat low place {course} {made} under stop result now stops closed = elim closed [
+closes_with script seat low place {course} {made} under stop result now ends closed = elim closed [
   | inl as_told ↦
-      ends_with script seat low place (kept script seat place course.is_sending now under as_told.1) result
-      (subst (IsStop script seat place (cond course.is_sending false course.is_sending)) (sym as_told.0) (subst (λ t. IsStop script seat place t (Ok stop)) (sym (none_open course.is_sending)) stops))
+      ends_with script seat low place under result (cond course.is_sending false course.is_sending) None now (told_closed course.is_sending told made now under.told as_told.1)
+      (subst (IsUnrefused script seat place) (sym as_told.0) ends, none_open course.is_sending)
   | inr refused ↦
-      subst (λ (o : Option Made). (first : History) → IsOpening script first → IfSome o (λ m. Works script seat m result first)) (sym refused.1)
-      (ends_with script seat low place under result (subst (IsStop script seat place course.is_sending) (sym refused.2.1) (closing_stops script seat place course.is_sending (inr refused.0) stop refused.2.0)))
+      ends_with script seat low place under result course.is_sending (Some refused.1.0) now (told_more told (with_refused refused.1.0) made now under.told refused.1.1)
+      (inr (refused.0, (stop, ends, refused.1.2)))
 ]
   where
+    told : Made
+    told = record { seat = seat; entries = under.entries; apart = under.apart; is_sending = course.is_sending; refused = None }
+
     none_open : (t : Bool) → cond t false t ≡ false
     none_open true = refl
     none_open false = refl

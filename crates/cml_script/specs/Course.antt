@@ -1,5 +1,5 @@
 -- How far a thread has come.
-use Rattle.std.specs.Prelude.{ℕ, ◌≡◌, ◌+◌, List, true, [], ◌∷◌, ◌++◌, length, take, Option, IfSome, ⊤}
+use Rattle.std.specs.Prelude.{ℕ, ◌≡◌, ◌+◌, List, true, [], ◌∷◌, ◌++◌, length, take, Option, None, IfSome, ⊤}
 use Rattle.cml_board.specs.History.{entries_in}
 use Rattle.cml_threads.specs.Telling.{suits}
 use Rattle.cml_grammar.specs.Script.{Lines}
@@ -20,7 +20,7 @@ AreSuiting (entry ∷ before) = (suits entry.call entry.reply ≡ true) × AreSu
 pub record IsUnderWay (script : Lines) (seat place : ℕ) (course : Course) (made : Option Made) : Type 0 where
   pub entries : History
   pub apart : List Apart
-  pub told : IfSome made (λ tells. tells ≡ record { seat = seat; entries = entries; apart = apart; is_sending = course.is_sending })
+  pub told : IfSome made (λ tells. tells ≡ record { seat = seat; entries = entries; apart = apart; is_sending = course.is_sending; refused = None })
   pub by : AreBySeat seat entries
   pub count : course.made ≡ declared_count script + entries_in entries
   pub called : entries_in entries ≡ earlier script seat place

@@ -1,6 +1,7 @@
 -- What one thread performs of a script, whoever makes its calls.
-use Rattle.std.specs.Prelude.{ℕ, ◌≡◌, ◌<◌, ◌≤◌, ◌⊎◌, ◌||◌, if◌then◌else◌, Bool, true, false, List, [], ◌∷◌, ◌++◌, length, slice_get, Option, Some, Result, Ok, Err, IfSome, OnOk, ⊤}
+use Rattle.std.specs.Prelude.{ℕ, ◌≡◌, ◌<◌, ◌≤◌, ◌⊎◌, ◌||◌, if◌then◌else◌, Bool, true, false, List, [], ◌∷◌, ◌++◌, length, slice_get, Option, Some, None, Result, Ok, Err, IfSome, OnOk, ⊤}
 use Rattle.std.specs.Option.{option_map}
+use Rattle.std.specs.Result.{result_err}
 use Rattle.std.specs.declared.alloc.AllocError.{AllocError}
 use Rattle.cml_board.specs.declared.call.Name.{Name}
 use Rattle.cml_board.specs.declared.call.Call.{Call}
@@ -29,13 +30,14 @@ use Rattle.cml_script.specs.Audit.{IsNextOfThread, IsOfScript}
 
 -- What a caller made.
 
--- its seat, the entries that it made, and what went by its lanes and feeds, newest first; and whether a lane that it sent by
--- may be open
+-- its seat, the entries that it made, and what went by its lanes and feeds, newest first; whether a lane that it sent by may
+-- be open; and what refused it something, if anything did
 pub record Made : Type 0 where
   pub seat : ℕ
   pub entries : History
   pub apart : List Apart
   pub is_sending : Bool
+  pub refused : Option Refusal
 
 -- with a call that its seat was answered
 abbrev pub with_call : Call ℕ → Reply ℕ → Made → Made
@@ -64,9 +66,13 @@ with_closed made = record made { is_sending = false }
 abbrev pub closed_if : Bool → Option Made → Option Made
 closed_if closes made = if closes then option_map with_closed made else made
 
--- at most its lanes were closed
-abbrev pub MayHaveClosed : Option Made → Option Made → Type 0
-MayHaveClosed before after = (closes : Bool) × (after ≡ closed_if closes before)
+-- with a refusal
+abbrev pub with_refused : Refusal → Made → Made
+with_refused refusal made = record made { refused = Some refusal }
+
+-- it was refused so, and at most its lanes were closed before
+abbrev pub IsRefusedSo : Refusal → Option Made → Option Made → Type 0
+IsRefusedSo refusal before after = (closes : Bool) × (after ≡ option_map (with_refused refusal) (closed_if closes before))
 
 -- a call that waits where it can't be answered
 abbrev pub waits : Call ℕ → Bool
@@ -82,7 +88,7 @@ MayCall asked made = IfSome made (λ made. waits asked ≡ true → made.is_send
 
 -- it has this seat, and made nothing yet, where it tells what it makes
 abbrev pub BeginsAt : ℕ → Option Made → Type 0
-BeginsAt seat made = IfSome made (λ made. made ≡ record { seat = seat; entries = []; apart = []; is_sending = false })
+BeginsAt seat made = IfSome made (λ made. made ≡ record { seat = seat; entries = []; apart = []; is_sending = false; refused = None })
 
 -- What declares.
 
@@ -102,10 +108,11 @@ HasMade script (makes.Feed feed) before after = (port : Name) × (after ≡ opti
 HasMade script m before after = (asked : Call ℕ) × (answered : Reply ℕ) × (making script m ≡ Some asked) × (after ≡ option_map (with_call asked answered) before)
 
 -- these are the declared objects, in text order, each made by seat 0 or by its feed; all of them, where none was refused
-pub record Declares (script : Lines) (made : History) (ended : Result (Unit {0}) Refusal) : Type 0 where
-  pub own : IsOfScript script made
-  pub within : entries_in made ≤ declared_count script
-  pub all : OnOk ended (entries_in made ≡ declared_count script)
+pub record Declares (script : Lines) (made : Made) (ended : Result (Unit {0}) Refusal) : Type 0 where
+  pub own : IsOfScript script made.entries
+  pub within : entries_in made.entries ≤ declared_count script
+  pub all : OnOk ended (entries_in made.entries ≡ declared_count script)
+  pub refused : made.refused ≡ result_err ended
 
 -- What a thread performs.
 
@@ -134,25 +141,6 @@ pub record IsTurn (script : Lines) (seat i : ℕ) : Type 0 where
   pub line : SourceLine
   pub found : slice_get script.steps i ≡ Some line
   pub seated : is_seated script seat line ≡ true
-
--- a thread that is done has no step from this place on, and its lanes are closed; one that stopped otherwise has its next
--- step there, or a lane that it could not close
-abbrev pub IsStop : Lines → ℕ → ℕ → Bool → Result Stop AllocError → Type 0
-IsStop script seat place sending (Ok Done) = ((i : ℕ) → IsTurn script seat i → i < place) × (sending ≡ false)
-IsStop script seat place sending (Ok stop) = IsTurn script seat place ⊎ (sending ≡ true)
-IsStop script seat place sending (Err error) = ⊤
-
--- whatever made the declared objects: the entries of the thread with this seat are the steps that its seat performs, each on
--- the objects that its names stand for, and what went by its lanes and feeds are its other steps, from the first one on, in
--- order; all of both before a place of the text, and none from there on; and this is why it stopped
-pub record Works (script : Lines) (seat : ℕ) (made : Made) (stop : Result Stop AllocError) (first : History) : Type 0 where
-  pub by : AreBySeat seat made.entries
-  pub steps : AreNextSteps script first made.entries
-  pub apart : AreNextApart script seat made.apart
-  pub place : ℕ
-  pub called : entries_in made.entries ≡ earlier script seat place
-  pub gone : length made.apart ≡ earlier_apart script seat place
-  pub stops : IsStop script seat place made.is_sending stop
 
 -- a step that waits where it can't be answered
 abbrev pub may_wait : Action → Bool
@@ -186,3 +174,31 @@ first_of (Ok one) (Ok other) = Ok (first_stop one other)
 -- how a thread ends that would end so but for a lane that this refusal kept from closing
 abbrev pub ending_with : Stop → Refusal → Result Stop AllocError
 ending_with stop refusal = first_of (Ok stop) (stop_of refusal)
+
+-- where nothing is refused a thread is done, and has no step from this place on, or it is held, and has its next one there;
+-- or it never began, for want of memory
+abbrev pub IsUnrefused : Lines → ℕ → ℕ → Result Stop AllocError → Type 0
+IsUnrefused script seat place (Ok Done) = (i : ℕ) → IsTurn script seat i → i < place
+IsUnrefused script seat place (Ok Held) = IsTurn script seat place
+IsUnrefused script seat place (Ok stop) = ⊥
+IsUnrefused script seat place (Err error) = ⊤
+
+-- then its lanes are closed. A refusal stops it at its next step, or it comes from a lane that could not be closed where it
+-- would have ended otherwise
+abbrev pub IsStop : Lines → ℕ → ℕ → Bool → Option Refusal → Result Stop AllocError → Type 0
+IsStop script seat place sending None stop = IsUnrefused script seat place stop × (sending ≡ false)
+IsStop script seat place sending (Some refusal) stop =
+    (IsTurn script seat place × (stop ≡ stop_of refusal))
+    ⊎ ((sending ≡ true) × ((whole : Stop) × IsUnrefused script seat place (Ok whole) × (stop ≡ ending_with whole refusal)))
+
+-- whatever made the declared objects: the entries of the thread with this seat are the steps that its seat performs, each on
+-- the objects that its names stand for, and what went by its lanes and feeds are its other steps, from the first one on, in
+-- order; all of both before a place of the text, and none from there on; and this is why it stopped
+pub record Works (script : Lines) (seat : ℕ) (made : Made) (stop : Result Stop AllocError) (first : History) : Type 0 where
+  pub by : AreBySeat seat made.entries
+  pub steps : AreNextSteps script first made.entries
+  pub apart : AreNextApart script seat made.apart
+  pub place : ℕ
+  pub called : entries_in made.entries ≡ earlier script seat place
+  pub gone : length made.apart ≡ earlier_apart script seat place
+  pub stops : IsStop script seat place made.is_sending made.refused stop

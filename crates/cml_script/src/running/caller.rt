@@ -1,10 +1,10 @@
 //! Who makes a thread's calls.
-ghost use Rattle.std.specs.Prelude.{◌≡◌, Bool, true, Option, Some, None, IfOk, OnOk, OnErr};
+ghost use Rattle.std.specs.Prelude.{◌≡◌, Bool, true, Option, Some, None, IfOk, IfErr, OnOk};
 ghost use Rattle.std.specs.Option.{option_map};
 ghost use Rattle.cml_threads.specs.Telling.{suits};
 ghost use Rattle.cml_grammar.specs.Reading.{IsCapacity};
 ghost use Rattle.cml_script.specs.Apart.{by_lane, by_feed};
-ghost use Rattle.cml_script.specs.Working.{Made, MayCall, with_call, with_feed, with_apart, with_closed};
+ghost use Rattle.cml_script.specs.Working.{Made, MayCall, with_call, with_feed, with_apart, with_closed, with_refused};
 
 use super::rings::{Rings, Subscription};
 use cml_board::{Answer, BoardLog, Call, Name, Refusal};
@@ -15,8 +15,8 @@ use std::sync::ledger::Ledger;
 
 /// Who makes the calls of one thread, and is asked no more once one was refused.
 pub trait Caller {
-    /// Its seat, the entries that it made in the journal, and what went by its lanes and feeds, newest first, and whether a
-    /// lane may be open, where it tells them. What lanes and feeds move is no entry of its own.
+    /// Its seat, the entries that it made in the journal, and what went by its lanes and feeds, newest first, whether a lane
+    /// may be open, and what refused it something, where it tells them. What lanes and feeds move is no entry of its own.
     ghost made: { Self → Option Made };
 
     /// Whether nothing was refused.
@@ -30,7 +30,7 @@ pub trait Caller {
         ensures call { IfOk result (λ answer. answer.call ≡ call) }
         ensures reply { IfOk result (λ answer. suits call answer.reply ≡ true) }
         ensures made { IfOk result (λ answer. made self.new ≡ option_map (with_call call answer.reply) (made self.old)) }
-        ensures refused { OnErr result (made self.new ≡ made self.old) };
+        ensures refused { IfErr result (λ refusal. made self.new ≡ option_map (with_refused refusal) (made self.old)) };
 
     /// Opens a feed from a channel, and tells its port.
     fn open_feed(&mut self, channel: Name, capacity: usize) -> Result<Name, Refusal>
@@ -38,7 +38,7 @@ pub trait Caller {
         requires capacity { IsCapacity capacity }
         ensures goes_on { IfOk result (λ _. goes_on self.new ≡ true) }
         ensures made { IfOk result (λ port. made self.new ≡ option_map (with_feed channel port) (made self.old)) }
-        ensures refused { OnErr result (made self.new ≡ made self.old) };
+        ensures refused { IfErr result (λ refusal. made self.new ≡ option_map (with_refused refusal) (made self.old)) };
 
     /// Sends a message by a lane to this object, which has room for so many.
     fn send_apart(&mut self, target: Name, capacity: usize, message: u64) -> Result<(), Refusal>
@@ -46,21 +46,21 @@ pub trait Caller {
         requires capacity { IsCapacity capacity }
         ensures goes_on { OnOk result (goes_on self.new ≡ true) }
         ensures made { OnOk result (made self.new ≡ option_map (with_apart (by_lane target capacity message)) (made self.old)) }
-        ensures refused { OnErr result (made self.new ≡ made self.old) };
+        ensures refused { IfErr result (λ refusal. made self.new ≡ option_map (with_refused refusal) (made self.old)) };
 
     /// Polls its feed of this number.
     fn poll_apart(&mut self, feed: usize) -> Result<(), Refusal>
         requires { goes_on self.old ≡ true }
         ensures goes_on { OnOk result (goes_on self.new ≡ true) }
         ensures made { OnOk result (made self.new ≡ option_map (with_apart (by_feed feed)) (made self.old)) }
-        ensures refused { OnErr result (made self.new ≡ made self.old) };
+        ensures refused { IfErr result (λ refusal. made self.new ≡ option_map (with_refused refusal) (made self.old)) };
 
     /// Closes all lanes that it has open.
     fn close_lanes(&mut self) -> Result<(), Refusal>
         requires { goes_on self.old ≡ true }
         ensures goes_on { OnOk result (goes_on self.new ≡ true) }
         ensures made { OnOk result (made self.new ≡ option_map with_closed (made self.old)) }
-        ensures refused { OnErr result (made self.new ≡ made self.old) };
+        ensures refused { IfErr result (λ refusal. made self.new ≡ option_map (with_refused refusal) (made self.old)) };
 }
 
 /// A thread of a switchboard, with its lanes and feeds: what it was answered stands in the journal, and only there.

@@ -1,8 +1,9 @@
 //! The objects that a script declares.
-ghost use Rattle.std.specs.Prelude.{◌≡◌, ◌<◌, true, Some, None, length, IfSome, OnOk, OnErr, MatchOption};
+ghost use Rattle.std.specs.Prelude.{◌≡◌, ◌<◌, true, Some, None, length, IfSome, IfErr, OnOk, MatchOption};
+ghost use Rattle.std.specs.Option.{option_map};
 ghost use Rattle.cml_script.specs.Plan.{IsKnown};
 ghost use Rattle.cml_script.specs.Makes.{IsMadeOfDeclared};
-ghost use Rattle.cml_script.specs.Working.{BeginsAt, Declares, HasCapacity, HasMade, making};
+ghost use Rattle.cml_script.specs.Working.{BeginsAt, Declares, HasCapacity, HasMade, making, with_refused};
 
 use super::caller::Caller;
 use crate::plan::Plan;
@@ -14,7 +15,7 @@ pub fn declare<C: Caller>(plan: &Plan<'_>, caller: &mut C) -> Result<(), Refusal
     requires known { IsKnown plan.now }
     requires goes_on { C.goes_on caller.old ≡ true }
     requires begins { BeginsAt 0 (C.made caller.old) }
-    ensures { IfSome (C.made caller.new) (λ made. Declares plan.now made.entries result) }
+    ensures { IfSome (C.made caller.new) (λ made. Declares plan.now made result) }
 {
     for declaration in plan.script().declarations() {
         make(plan, declaration.makes, caller)?;
@@ -29,7 +30,7 @@ fn make<C: Caller>(plan: &Plan<'_>, makes: Makes, caller: &mut C) -> Result<(), 
     requires goes_on { C.goes_on caller.old ≡ true }
     ensures goes_on { OnOk result (C.goes_on caller.new ≡ true) }
     ensures made { OnOk result (HasMade plan.now makes (C.made caller.old) (C.made caller.new)) }
-    ensures refused { OnErr result (C.made caller.new ≡ C.made caller.old) }
+    ensures refused { IfErr result (λ refusal. C.made caller.new ≡ option_map (with_refused refusal) (C.made caller.old)) }
 {
     if let Makes::Feed(feed) = makes {
         caller.open_feed(plan.number(feed.channel), feed.capacity)?;

@@ -1,9 +1,10 @@
 //! What a thread does.
-ghost use Rattle.std.specs.Prelude.{◌≡◌, ◌+◌, ◌<◌, ◌^◌, ◌⊎◌, ◌&&◌, not, true, Some, length, IfSome, IsSome, OnOk, OnErr};
+ghost use Rattle.std.specs.Prelude.{◌≡◌, ◌+◌, ◌<◌, ◌^◌, ◌⊎◌, ◌&&◌, not, true, Some, length, IfSome, IfErr, IsSome, OnOk};
+ghost use Rattle.std.specs.Option.{option_map};
 ghost use Rattle.cml_board.specs.History.{entries_in};
 ghost use Rattle.cml_script.specs.Schedule.{History, step_call};
 ghost use Rattle.cml_script.specs.Bindings.{AreBindings};
-ghost use Rattle.cml_script.specs.Working.{BeginsAt, IsOpening, IsTurn, Works, MayHaveClosed, closed_if, may_wait, stop_of, first_of, ending_with};
+ghost use Rattle.cml_script.specs.Working.{BeginsAt, IsOpening, IsTurn, Works, IsRefusedSo, with_refused, closed_if, may_wait, stop_of, first_of, ending_with};
 ghost use Rattle.cml_script.specs.Plan.{IsKnown, way_at};
 ghost use Rattle.cml_grammar.specs.Reading.{IsCapacity};
 ghost use Rattle.cml_script.specs.Course.{IsUnderWay};
@@ -70,7 +71,7 @@ pub fn work<C: Caller, G: Gate>(
 fn close<C: Caller>(course: &Course, caller: &mut C, stop: Stop) -> Result<Stop, AllocError>
     requires { C.goes_on caller.old ≡ true }
     ensures { ((result ≡ Ok stop) × (C.made caller.new ≡ closed_if course.now.is_sending (C.made caller.old)))
-        ⊎ ((course.now.is_sending ≡ true) × (C.made caller.new ≡ C.made caller.old) × ((refusal : Refusal) × (result ≡ ending_with stop refusal))) }
+        ⊎ ((course.now.is_sending ≡ true) × ((refusal : Refusal) × (C.made caller.new ≡ option_map (with_refused refusal) (C.made caller.old)) × (result ≡ ending_with stop refusal))) }
 {
     if !course.is_sending {
         return Ok(stop);
@@ -97,7 +98,7 @@ fn perform<C: Caller>(
     requires way { IsUnderWay plan.now (thread + 1) step course.old (C.made caller.old) }
     ensures goes_on { OnOk result (C.goes_on caller.new ≡ true) }
     ensures way { OnOk result (IsUnderWay plan.now (thread + 1) (step + 1) course.new (C.made caller.new)) }
-    ensures refused { OnErr result (MayHaveClosed (C.made caller.old) (C.made caller.new)) }
+    ensures refused { IfErr result (λ refusal. IsRefusedSo refusal (C.made caller.old) (C.made caller.new)) }
 {
     match plan.way(step) {
         Way::Seat => perform_seated(plan, thread, step, course, caller),
@@ -123,7 +124,7 @@ fn perform_seated<C: Caller>(
     requires way { IsUnderWay plan.now (thread + 1) step course.old (C.made caller.old) }
     ensures goes_on { OnOk result (C.goes_on caller.new ≡ true) }
     ensures way { OnOk result (IsUnderWay plan.now (thread + 1) (step + 1) course.new (C.made caller.new)) }
-    ensures refused { OnErr result (MayHaveClosed (C.made caller.old) (C.made caller.new)) }
+    ensures refused { IfErr result (λ refusal. IsRefusedSo refusal (C.made caller.old) (C.made caller.new)) }
 {
     close_before(plan.script().steps()[step].action, course, caller)?;
     let call = call_of(plan, step, course.made, &course.bindings);
@@ -143,7 +144,7 @@ fn close_before<C: Caller>(
     requires { C.goes_on caller.old ≡ true }
     ensures goes_on { OnOk result (C.goes_on caller.new ≡ true) }
     ensures made { OnOk result (C.made caller.new ≡ closed_if (course.old.is_sending && may_wait action) (C.made caller.old)) }
-    ensures refused { OnErr result (C.made caller.new ≡ C.made caller.old) }
+    ensures refused { IfErr result (λ refusal. C.made caller.new ≡ option_map (with_refused refusal) (C.made caller.old)) }
     ensures course { OnOk result (course.new ≡ record course.old { is_sending = course.old.is_sending && not (may_wait action) }) }
 {
     if course.is_sending && may_wait(action) {
@@ -181,7 +182,7 @@ fn send_apart<C: Caller>(
     requires way { IsUnderWay plan.now (thread + 1) step course.old (C.made caller.old) }
     ensures goes_on { OnOk result (C.goes_on caller.new ≡ true) }
     ensures way { OnOk result (IsUnderWay plan.now (thread + 1) (step + 1) course.new (C.made caller.new)) }
-    ensures refused { OnErr result (C.made caller.new ≡ C.made caller.old) }
+    ensures refused { IfErr result (λ refusal. C.made caller.new ≡ option_map (with_refused refusal) (C.made caller.old)) }
 {
     course.is_sending = true;
     match plan.script().steps()[step].action {

@@ -1,11 +1,11 @@
-use Rattle.std.proofs.Common.{length, refl, ap, arith}
+use Rattle.std.proofs.Common.{length, ap, arith}
 use Rattle.std.proofs.lemmas.List.{length-map}
 use Rattle.cml_grammar.specs.declared.script.Declaration.{Declaration}
 use Rattle.cml_grammar.specs.Meaning.{names_of}
 use Rattle.cml_grammar.specs.Reading.{source_of, ReadsDeclaration}
 use Rattle.cml_script.proofs.ListLemmas.{read_at, mapped_at}
 use Rattle.cml_script.proofs.LineLemmas.{all_at}
-use Rattle.cml_script.proofs.DeclareLemmas.{nothing_declared, made_more, well_declared, well_fitted, declares, err_ends}
+use Rattle.cml_script.proofs.DeclareLemmas.{nothing_declared, made_more, well_declared, well_fitted, declares, refuses}
 use Rattle.cml_script.proofs.running.declaring.declare.Goals as goal
 
 pub loop-declaration-init : goal.loop-declaration-init
@@ -36,7 +36,7 @@ make-requires-clause-capacity g c =
 
 pub returns-in_err-make : goal.returns-in_err-make
 returns-in_err-make g c =
-    declares c.args.plan.now c.loop-declaration.invariant.declaring (g.C.Caller.made c.make.new.caller) c.from_residual.result c.in_err-make.ensures.refused (err_ends _ c.from_residual.result c.from_residual.ensures.0)
+    refuses c.args.plan.now c.loop-declaration.invariant.declaring c.from_residual.result c.in_err-make.field-0.0 (g.C.Caller.made c.make.new.caller) c.from_residual.ensures.1 c.in_err-make.ensures.refused
 
 pub loop-declaration-preserved : goal.loop-declaration-preserved
 loop-declaration-preserved g c =
@@ -57,4 +57,4 @@ pub returns : goal.returns
 returns g c =
     let items = c.declarations-declaration-items.result.now in
     let told = rw c.script.ensures at c.declarations-declaration-items.ensures in
-    declares c.args.plan.now c.loop-declaration.invariant.declaring _ _ refl (omega (arith, c.loop-declaration-test.false, ap length told.lines, length-map items (λ (x : Declaration). source_of x.line)))
+    declares c.args.plan.now c.loop-declaration.invariant.declaring (omega (arith, c.loop-declaration-test.false, ap length told.lines, length-map items (λ (x : Declaration). source_of x.line)))

@@ -1,4 +1,4 @@
-use Rattle.std.proofs.Common.{◌+◌, ◌∙◌, refl, ap, sym, inl, length, arith}
+use Rattle.std.proofs.Common.{◌+◌, ◌∙◌, refl, ap, sym, length, arith}
 use Rattle.std.proofs.lemmas.List.{length-map}
 use Rattle.cml_grammar.specs.declared.script.Step.{Step}
 use Rattle.cml_grammar.specs.Reading.{source_of}
@@ -18,7 +18,7 @@ returns-in_default g c =
     let script = c.args.plan.now in
     let seat = c.args.thread + 1 in
     let under = past_turns script seat c.loop-nth.nth c.loop-nth.invariant.way (sym c.turn.ensures ∙ c.in_default.is) in
-    closes_with script seat (omega arith) (length script.steps) under Done c.close.result (g.C.Caller.made c.close.new.caller) (none_past script seat, refl) c.close.ensures
+    closes_with script seat (omega arith) (length script.steps) under Done c.close.result (g.C.Caller.made c.close.new.caller) (none_past script seat) c.close.ensures
 
 pub returns-then-not-before : goal.returns-then-not-before
 returns-then-not-before g c =
@@ -27,7 +27,7 @@ returns-then-not-before g c =
     let next = sym c.in-Some.ensures in
     let under = under_way_at script seat c.loop-nth.nth c.loop-nth.invariant.way c.in-Some.step (turns_before script seat c.loop-nth.nth c.in-Some.step next) in
     closes_with script seat (omega arith) c.in-Some.step under Held c.close-then-not-before.result (g.C.Caller.made c.close-then-not-before.new.caller)
-    (inl (turn_at script seat c.loop-nth.nth c.in-Some.step next)) c.close-then-not-before.ensures
+    (turn_at script seat c.loop-nth.nth c.in-Some.step next) c.close-then-not-before.ensures
 
 pub perform-requires-clause-turn : goal.perform-requires-clause-turn
 perform-requires-clause-turn g c = turn_at c.args.plan.now (c.args.thread + 1) c.loop-nth.nth c.in-Some.step (sym c.in-Some.ensures)
@@ -68,4 +68,4 @@ returns g c =
     let seat = c.args.thread + 1 in
     let steps = rw c.script.ensures at c.steps-nth-end.ensures in
     let under = past_steps script seat c.loop-nth.nth c.loop-nth.invariant.way (omega (arith, c.loop-nth-test.false, ap length steps.lines, length-map c.steps-nth-end.result.now (λ (x : Step). source_of x.line))) in
-    closes_with script seat (omega arith) (length script.steps) under Done c.close-2.result (g.C.Caller.made c.close-2.new.caller) (none_past script seat, refl) c.close-2.ensures
+    closes_with script seat (omega arith) (length script.steps) under Done c.close-2.result (g.C.Caller.made c.close-2.new.caller) (none_past script seat) c.close-2.ensures
