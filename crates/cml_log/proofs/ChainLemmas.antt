@@ -1,11 +1,11 @@
 -- Lemmas on a chain of chunks, and on what the log sees of it.
 use Rattle.std.proofs.Common.{◌≡◌, ℕ, zero, suc, ◌+◌, ◌-◌, ◌*◌, ◌/◌, ◌%◌, ◌<◌, ◌≤◌, List, [], ◌∷◌, ◌++◌, length, set, map, take, drop, Option, Some, None, refl, sym, ap, subst, ◌∙◌, inl, inr, arith}
 use Rattle.std.specs.List.{slice_get}
-use Rattle.std.proofs.Math.Nat.{mul-add, mul-one, mul-zero, mul-div-le, mod-lt}
-use Rattle.std.proofs.Math.Seq.{map-set_same, get_or-append_seam}
+use Rattle.std.proofs.Math.Nat.{zero-div, mul-add, mul-one, mul-zero, mul-div-le, mod-lt}
+use Rattle.std.proofs.Math.Seq.{drop-nil, map-set_same, get_or-append_seam}
 use Rattle.std.proofs.lemmas.Bool.{cases_eq, cases_lt}
 use Rattle.std.proofs.lemmas.Nat.{div-mul-add, div-add-mod'}
-use Rattle.std.proofs.lemmas.List.{get_or_past, get_or_append_left, length-set, length-append, length-drop, take_all, map-set, map-append}
+use Rattle.std.proofs.lemmas.List.{get_or_past, get_or_append_left, length-set, length-append, length-drop, take_all, set-append_left, map-set, map-append}
 use denote.RawPtr.{Ptr}
 use Rattle.cml_log.specs.declared.raw.Address.{Address}
 use Rattle.cml_log.specs.declared.raw.chunk.Chunk.{Chunk}
@@ -28,6 +28,58 @@ module _ {T : Type 0} {N : ℕ} where
   abbrev pub shown : List (Option (Ptr × Chunk T N)) → ℕ → ℕ → ℕ → Chunks T
   shown kept made given followed =
       record { given = given; items = items_of kept; cells = map cell_of kept; made = made; followed = followed }
+
+  -- the counts are the same, wherever they stand
+  pub shown-at : (kept : List (Option (Ptr × Chunk T N))) (made given followed made' given' followed' : ℕ)
+      → made' ≡ made → given' ≡ given → followed' ≡ followed → shown kept made' given' followed' ≡ shown kept made given followed
+  shown-at kept made given followed made' given' followed' same_made same_given same_followed =
+      ap (λ n. shown kept n given' followed') same_made ∙ ap (λ n. shown kept made n followed') same_given ∙ ap (shown kept made given) same_followed
+
+  pub IsChain-at : (kept : List (Option (Ptr × Chunk T N))) (head tail : Address) (next made given made' given' : ℕ)
+      → IsChain kept head tail next made given → made' ≡ made → given' ≡ given → IsChain kept head tail next made' given'
+  IsChain-at kept head tail next made given made' given' chain same_made same_given =
+      record {
+        holds_one = chain.holds_one;
+        small = chain.small;
+        linked = chain.linked;
+        ends = chain.ends;
+        in_tail = chain.in_tail;
+        bounded = chain.bounded;
+        made_is = same_made ∙ chain.made_is;
+        given_is = same_given ∙ chain.given_is;
+      }
+
+  -- one chunk alone, in which nothing is
+  abbrev bare : Chunk T N
+  bare = record { row = []; link = None; cursors = 0 }
+
+  pub IsChain-one : (kept : List (Option (Ptr × Chunk T N))) (head : Address) (made given : ℕ) → kept ≡ Some (head.at, bare) ∷ []
+      → 0 < N → N ≤ 1024 → head.number ≡ 0 → made ≡ 1 → given ≡ 0 → IsChain kept head head 0 made given
+  IsChain-one kept head made given alone one small first counted none =
+      let there : block_at (Some (head.at, bare) ∷ []) head.number ≡ Some (head.at, bare) = ap (block_at (Some (head.at, bare) ∷ [])) first in
+      subst (λ k. IsChain k head head 0 made given) (sym alone)
+      record {
+        holds_one = one;
+        small = small;
+        linked = record {
+          order = omega arith;
+          last = omega (arith, first);
+          starts = (bare, there);
+          finishes = (bare, there);
+          gone = λ number before. absurd (omega (arith, before, first));
+          links = λ number low high. absurd (omega (arith, low, high));
+          rows = λ number low. row_one number ∙ sym (ap (take N) (drop-nil (N * (number - head.number))) ∙ take_all N [] (omega arith));
+        };
+        ends = omega (arith, ap (λ n. N * n) first, mul-zero N);
+        in_tail = zero-div N ∙ sym first;
+        bounded = omega arith;
+        made_is = counted;
+        given_is = none ∙ sym first;
+      }
+    where
+      row_one : (number : ℕ) → row_at (Some (head.at, bare) ∷ []) number ≡ []
+      row_one zero = refl
+      row_one (suc number) = refl
 
   module _ (kept : List (Option (Ptr × Chunk T N))) (head tail : Address) (next made given : ℕ) (chain : IsChain kept head tail next made given) where
     pub end_shown : (followed : ℕ) → end_of N (shown kept made given followed) ≡ next
@@ -200,6 +252,42 @@ module _ {T : Type 0} {N : ℕ} where
                     ∙ sym (ap count_of (get_or_past (map cell_of kept) number None past))
               ]
             ]
+
+    -- a chunk is put behind, and then the tail is written and linked to it
+    module _ (grown written joined : List (Option (Ptr × Chunk T N))) (more : Address) (fresh : Chunk T N) (item : T) (puts : grown ≡ kept ++ Some (more.at, fresh) ∷ []) where
+      tail_before : block_at grown tail.number ≡ block_at kept tail.number
+      tail_before =
+          ap (λ k. block_at k tail.number) puts ∙ get_or_append_left kept (Some (more.at, fresh) ∷ []) None tail.number (omega (arith, chain.linked.last))
+
+      pub tail_grown : IsKept grown tail.number tail.at
+      tail_grown = (chain.linked.finishes.0, tail_before ∙ chain.linked.finishes.1)
+
+      pub slot_grown : next % N ≡ length (row_at grown tail.number)
+      slot_grown = slot_is ∙ ap (λ b. length (row_of b)) (sym tail_before)
+
+      module _ (writes : Rewrites grown written tail.number tail.at (with_row (row_at grown tail.number ++ item ∷ []))) where
+        abbrev after : List (Option (Ptr × Chunk T N))
+        after = set kept tail.number (Some (tail.at, with_row (row_at kept tail.number ++ item ∷ []) writes.chunk))
+
+        after_writes : Rewrites kept after tail.number tail.at (with_row (row_at kept tail.number ++ item ∷ []))
+        after_writes = record { chunk = writes.chunk; found = sym tail_before ∙ writes.found; kept = refl }
+
+        written_is : written ≡ after ++ Some (more.at, fresh) ∷ []
+        written_is =
+            writes.kept
+            ∙ ap (λ k. set k tail.number (Some (tail.at, with_row (row_at grown tail.number ++ item ∷ []) writes.chunk))) puts
+            ∙ ap (λ b. set (kept ++ Some (more.at, fresh) ∷ []) tail.number (Some (tail.at, with_row (row_of b ++ item ∷ []) writes.chunk))) tail_before
+            ∙ set-append_left kept (Some (more.at, fresh) ∷ []) tail.number (Some (tail.at, with_row (row_at kept tail.number ++ item ∷ []) writes.chunk)) (omega (arith, chain.linked.last))
+
+        pub tail_written : IsKept written tail.number tail.at
+        tail_written = tail_put after item after_writes written (Some (more.at, fresh)) written_is
+
+        module _ (numbered : more.number ≡ tail.number + 1) (empty : fresh ≡ record { row = []; link = None; cursors = 0 }) (links : Rewrites written joined tail.number tail.at (with_link (Some more))) (last : next % N + 1 ≡ N) where
+          pub IsChain-grown : (made' : ℕ) → made' ≡ made + 1 → next < 18446744073709551614 → IsChain joined head more (next + 1) made' given
+          IsChain-grown = IsChain-joined after item after_writes written joined more fresh written_is numbered empty links last
+
+          pub Pushed-grown : (made' followed : ℕ) → Pushed N (shown kept made given followed) (shown joined made' given followed) item
+          Pushed-grown = Pushed-joined after item after_writes written joined more fresh written_is numbered empty links last
 
     -- another number of cursors in a chunk
     module _ (after : List (Option (Ptr × Chunk T N))) (number : ℕ) (at : Ptr) (count : ℕ) (counts : Rewrites kept after number at (with_cursors count)) where

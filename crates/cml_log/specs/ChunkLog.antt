@@ -13,6 +13,12 @@ pub record Counted (T : Type 0) : Type 0 where
   pub given : ℕ
   pub followed : ℕ
 
+-- no chunk was made or given back, and no link followed
+pub record KeepsCounted {T : Type 0} (old new : Counted T) : Type 0 where
+  pub made : new.made ≡ old.made
+  pub given : new.given ≡ old.given
+  pub followed : new.followed ≡ old.followed
+
 -- it is stored as the tuple of these
 abbrev pub counted_code : {T : Type 0} → Coded T → Coded (Counted T)
 counted_code {T} code =

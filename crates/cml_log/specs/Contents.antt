@@ -3,6 +3,7 @@ use Rattle.std.specs.Prelude.{◌≡◌, ℕ, List, [], ◌∷◌, ◌++◌, Opt
 use denote.RawPtr.{Ptr}
 use Rattle.cml_log.specs.declared.raw.Address.{Address}
 use Rattle.cml_log.specs.declared.raw.chunk.Chunk.{Chunk}
+use Rattle.cml_log.specs.declared.raw.chunk.KeptChunks.{KeptChunks}
 use Rattle.cml_log.specs.Blocks.{block_at}
 
 module _ {T : Type 0} {N : ℕ} where
@@ -37,6 +38,12 @@ module _ {T : Type 0} {N : ℕ} where
     pub chunk : Chunk T N
     pub found : block_at old number ≡ Some (at, chunk)
     pub kept : new ≡ slice_set old number (Some (at, change chunk))
+
+  -- nothing was made, given back or followed
+  pub record KeepsCounts (old new : KeptChunks T N) : Type 0 where
+    pub made : new.made.count ≡ old.made.count
+    pub given : new.given.count ≡ old.given.count
+    pub followed : new.followed.count ≡ old.followed.count
 
   abbrev pub with_row : List T → Chunk T N → Chunk T N
   with_row items chunk = record chunk { row = items }

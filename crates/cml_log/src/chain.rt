@@ -1,20 +1,17 @@
 ghost use Rattle.std.specs.Prelude.{◌≡◌, ℕ, ◌+◌, ◌-◌, ◌*◌, ◌/◌, ◌%◌, ◌^◌, ◌<◌, ◌≤◌, [], ◌∷◌, ◌++◌, Some, length, drop, false, option_copied, slice_get, ltb, IfOk, OnOk, OnErr, IfErr};
 
 use crate::Back;
-use crate::raw::{Address, Blocks, Chunk, Count, fits};
+use crate::raw::{Address, KeptChunks};
 use std::alloc::{AllocError, Global};
 use std::marker::Model;
 
 /// The kept chunks of a log, each linked to the next, from the head to the tail, which takes the next item.
 pub(crate) struct Chain<T: Drop, const N: usize> {
     alloc: Global,
-    blocks: Blocks<Chunk<T, N>>,
+    chunks: KeptChunks<T, N>,
     head: Address,
     tail: Address,
     next: u64,
-    made: Count,
-    given: Count,
-    followed: Count,
 }
 
 impl<T: Drop, const N: usize> Model for Chain<T, N> {
@@ -28,15 +25,15 @@ impl<T: Drop, const N: usize> Model for Chain<T, N> {
     ghost coded = { chunks_code T.code };
 
     ghost view = { λ c. record {
-      given = c.given.count;
-      items = items_of c.blocks.kept;
-      cells = map cell_of c.blocks.kept;
-      made = c.made.count;
-      followed = c.followed.count;
+      given = c.chunks.given.count;
+      items = items_of c.chunks.blocks.kept;
+      cells = map cell_of c.chunks.blocks.kept;
+      made = c.chunks.made.count;
+      followed = c.chunks.followed.count;
     } };
 
     ghost invariant = { λ c.
-        IsChain c.blocks.kept c.head c.tail c.next c.made.count c.given.count };
+        IsChain c.chunks.blocks.kept c.head c.tail c.next c.chunks.made.count c.chunks.given.count };
 }
 
 impl<T: Drop, const N: usize> Chain<T, N> {
@@ -46,22 +43,20 @@ impl<T: Drop, const N: usize> Chain<T, N> {
     pub(crate) fn new(alloc: Global) -> Result<Chain<T, N>, AllocError>
         ensures { IfOk result (λ made. Begins made) }
     {
-        if N == 0 || N > 1024 || !fits::<Chunk<T, N>>() {
+        if N == 0 || N > 1024 {
             return Err(AllocError);
         }
-        let mut made = Count::zero();
-        let right = Chunk::make(alloc, &mut made)?;
-        let mut blocks = Blocks::new();
-        let head = blocks.put(0, right);
+        let mut chunks = KeptChunks::new()?;
+        let Ok(head) = chunks.make(alloc, 0) else {
+            chunks.done();
+            return Err(AllocError);
+        };
         Ok(Chain {
             alloc,
-            blocks,
+            chunks,
             head,
             tail: head,
             next: 0,
-            made,
-            given: Count::zero(),
-            followed: Count::zero(),
         })
     }
 
@@ -74,19 +69,17 @@ impl<T: Drop, const N: usize> Chain<T, N> {
         ensures back { IfErr result (λ refused. refused.0 ≡ item) }
         ensures refused { OnErr result (end_of N self.old % N ≡ N - 1) }
     {
-        self.blocks.fit();
         let slot = (self.next % N as u64) as usize;
         if slot + 1 < N {
-            self.blocks.write(self.tail, slot, item);
+            self.chunks.write(self.tail, slot, item);
             self.next += 1;
             return Ok(());
         }
-        let Ok(right) = Chunk::make(self.alloc, &mut self.made) else {
+        let Ok(next) = self.chunks.make(self.alloc, self.tail.number + 1) else {
             return Err(Back(item));
         };
-        self.blocks.write(self.tail, slot, item);
-        let next = self.blocks.put(self.tail.number + 1, right);
-        self.blocks.set_link(self.tail, next);
+        self.chunks.write(self.tail, slot, item);
+        self.chunks.set_link(self.tail, next);
         self.tail = next;
         self.next += 1;
         Ok(())
@@ -99,8 +92,7 @@ impl<T: Drop, const N: usize> Chain<T, N> {
         ensures { option_copied result
             ≡ slice_get (drop (N * (at.number - self.now.given)) self.now.items) slot }
     {
-        self.blocks.fit();
-        self.blocks.item(at, slot)
+        self.chunks.item(at, slot)
     }
 
     /// Where the chunk of the next place lies.
@@ -119,8 +111,7 @@ impl<T: Drop, const N: usize> Chain<T, N> {
         ensures lies { LiesAt self.old.cells result.number result.at }
         ensures followed { self.new ≡ record self.old { followed = self.old.followed + 1 } }
     {
-        self.blocks.fit();
-        self.blocks.follow(at, &mut self.followed).unwrap_or(at)
+        self.chunks.follow(at).unwrap_or(at)
     }
 
     /// Counts one cursor more in a chunk.
@@ -129,9 +120,8 @@ impl<T: Drop, const N: usize> Chain<T, N> {
         requires room { count_at self.old.cells at.number + 1 < 2 ^ 64 }
         ensures { self.new ≡ with_count self.old at.number at.at (count_at self.old.cells at.number + 1) }
     {
-        self.blocks.fit();
-        let cursors = self.blocks.cursors(at);
-        self.blocks.set_cursors(at, cursors + 1);
+        let cursors = self.chunks.cursors(at);
+        self.chunks.set_cursors(at, cursors + 1);
     }
 
     /// Counts one cursor less in a chunk.
@@ -140,16 +130,14 @@ impl<T: Drop, const N: usize> Chain<T, N> {
         requires entered { 0 < count_at self.old.cells at.number }
         ensures { self.new ≡ with_count self.old at.number at.at (count_at self.old.cells at.number - 1) }
     {
-        self.blocks.fit();
-        let cursors = self.blocks.cursors(at);
-        self.blocks.set_cursors(at, cursors - 1);
+        let cursors = self.chunks.cursors(at);
+        self.chunks.set_cursors(at, cursors - 1);
     }
 
     pub(crate) fn is_idle(&self) -> bool
         ensures { result ≡ is_idle N self.now }
     {
-        self.blocks.fit();
-        self.head.number < self.tail.number && self.blocks.cursors(self.head) == 0
+        self.head.number < self.tail.number && self.chunks.cursors(self.head) == 0
     }
 
     /// Gives the head back, after which the next chunk lies there.
@@ -159,10 +147,7 @@ impl<T: Drop, const N: usize> Chain<T, N> {
         requires lies { LiesAt self.old.cells next.number next.at }
         ensures { self.new ≡ passed N self.old }
     {
-        self.blocks.fit();
-        self.blocks
-            .take(self.head)
-            .give_back(self.alloc, &mut self.given);
+        self.chunks.give_back(self.alloc, self.head);
         self.head = next;
     }
 
@@ -219,17 +204,13 @@ impl<T: Drop, const N: usize> Chain<T, N> {
     {
         let Chain {
             alloc,
-            mut blocks,
+            mut chunks,
             head,
             tail: _,
             next: _,
-            made: _,
-            mut given,
-            followed: _,
         } = self;
-        blocks.fit();
-        blocks.take(head).give_back(alloc, &mut given);
-        blocks.done();
+        chunks.give_back(alloc, head);
+        chunks.done();
     }
 
     fn has_next(&self) -> bool

@@ -50,7 +50,8 @@ impl<T: Drop, const N: usize> Model for ChunkLog<T, N> {
 }
 
 impl<T: Drop, const N: usize> MessageLog<T> for ChunkLog<T, N> {
-    ghost use Rattle.cml_log.specs.Log.{next_of, trimmed, with_item, with_place, place_of, owed_items, IsOpen};
+    ghost use Rattle.cml_log.specs.Log.{next_of, trimmed, with_item, with_place, place_of, owed_items, IsOpen, Opens};
+    ghost use Rattle.cml_log.specs.ChunkLog.{KeepsCounted};
 
     const CHUNK: u64 = if N == 0 {
         1
@@ -87,7 +88,13 @@ impl<T: Drop, const N: usize> MessageLog<T> for ChunkLog<T, N> {
         Ok(())
     }
 
-    fn open_cursor(&mut self) -> Result<Key, AllocError> {
+    fn open_cursor(&mut self) -> Result<Key, AllocError>
+        ensures ok { IfOk result (λ key. Opens self.old.log self.new.log key (next_of self.old.log)) }
+        ensures err { OnErr result (self.new.log ≡ self.old.log) }
+
+        // No chunk is made or given back, and no link followed.
+        ensures counts { KeepsCounted self.old self.new }
+    {
         let cursor = Cursor {
             at: self.chain.end(),
             place: self.chain.next(),
@@ -99,12 +106,17 @@ impl<T: Drop, const N: usize> MessageLog<T> for ChunkLog<T, N> {
         Ok(Key(self.cursors.insert_reserved(cursor)))
     }
 
-    fn copy_cursor(&mut self, k: Key) -> Result<Key, AllocError> {
-        let cursor = self.cursors[k.0];
+    fn copy_cursor(&mut self, k: Key) -> Result<Key, AllocError>
+        requires { IsOpen self.old.log k }
+        ensures ok { IfOk result (λ key. Opens self.old.log self.new.log key (place_of self.old.log k)) }
+        ensures err { OnErr result (self.new.log ≡ self.old.log) }
+        ensures counts { KeepsCounted self.old self.new }
+    {
+        let original = self.cursors[k.0];
         self.cursors.reserve(1)?;
         let _ = self.cursors.capacity();
-        self.chain.enter(cursor.at);
-        Ok(Key(self.cursors.insert_reserved(cursor)))
+        self.chain.enter(original.at);
+        Ok(Key(self.cursors.insert_reserved(original)))
     }
 
     fn close_cursor(&mut self, k: Key)

@@ -10,13 +10,13 @@ ghost use Rattle.cml_log.specs.Blocks.{block_at, IsKept, IsBare, blocks_own, blo
 
 mod chunk;
 
-pub(crate) use chunk::Chunk;
+pub(crate) use chunk::KeptChunks;
 use std::alloc::{AllocError, Allocator, Global};
 use std::marker::{Model, PhantomData, Send, Sync};
 use std::mem::size_of;
 
 /// How often something was done, for contracts alone: it has no bytes, and so no last value.
-pub struct Count {
+struct Count {
     mark: PhantomData<()>,
     pub ghost count: { ℕ },
 }
@@ -35,7 +35,7 @@ unsafe impl Send for Count {}
 
 impl Count {
     /// Nothing was done yet.
-    pub(crate) fn zero() -> Count
+    fn zero() -> Count
         ensures { result.count ≡ 0 }
     {
         Count { mark: PhantomData }
@@ -59,7 +59,7 @@ unsafe impl Send for Address {}
 unsafe impl Sync for Address {}
 
 /// The right to a block, which has to be spent: `give_back` spends it.
-pub(crate) struct Right<C> {
+struct Right<C> {
     at: *mut C,
     pub(crate) ghost content: { C },
 }
@@ -115,7 +115,7 @@ impl<C> Right<C> {
 
 impl<C: Drop> Right<C> {
     /// A block with this content.
-    pub(crate) fn make(alloc: Global, content: C, made: &mut Count) -> Result<Right<C>, AllocError>
+    fn make(alloc: Global, content: C, made: &mut Count) -> Result<Right<C>, AllocError>
         ensures ok { IfOk result
             (λ right. (right.content ≡ content) × (made.new.count ≡ made.old.count + 1)) }
         ensures err { OnErr result (made.new ≡ made.old) }
@@ -126,7 +126,7 @@ impl<C: Drop> Right<C> {
     }
 
     /// Drops the block's content and gives its memory back.
-    pub(crate) fn give_back(self, alloc: Global, given: &mut Count)
+    fn give_back(self, alloc: Global, given: &mut Count)
         ensures { given.new.count ≡ given.old.count + 1 }
     {
         given.add();
@@ -135,14 +135,14 @@ impl<C: Drop> Right<C> {
 }
 
 /// Whether a content of this type fits in memory.
-pub(crate) fn fits<C>() -> bool
+fn fits<C>() -> bool
     ensures { result ≡ true → FitsInMemory C.row }
 {
     size_of::<C>() < 0x8000_0000_0000_0000
 }
 
 /// The blocks of a log, each under its number. It has no bytes: each call is told where the block lies.
-pub(crate) struct Blocks<C> {
+struct Blocks<C> {
     mark: PhantomData<*const C>,
     pub(crate) ghost kept: { List (Option (Ptr × C)) },
 }
@@ -159,7 +159,7 @@ impl<C> Blocks<C> {
     ghost use Rattle.std.specs.Borrow.{sem};
     ghost use Rattle.cml_log.specs.Lends.{lends_block};
 
-    pub(crate) fn new() -> Blocks<C>
+    fn new() -> Blocks<C>
         requires { FitsInMemory C.row }
         ensures { result.kept ≡ [] }
     {
@@ -167,12 +167,12 @@ impl<C> Blocks<C> {
     }
 
     /// A content fits in memory, as whoever made the blocks has shown. What reads or drops a content asks for it.
-    pub(crate) fn fit(&self)
+    fn fit(&self)
         ensures { FitsInMemory C.row }
     {}
 
     /// Keeps a block under the next number.
-    pub(crate) fn put(&mut self, number: u64, right: Right<C>) -> Address
+    fn put(&mut self, number: u64, right: Right<C>) -> Address
         requires { number ≡ length self.old.kept }
         ensures number { result.number ≡ number }
         ensures kept { self.new.kept ≡ self.old.kept ++ Some (result.at, right.content) ∷ [] }
@@ -183,7 +183,7 @@ impl<C> Blocks<C> {
     }
 
     /// Takes a block out; its number stays its own.
-    pub(crate) fn take(&mut self, address: Address) -> Right<C>
+    fn take(&mut self, address: Address) -> Right<C>
         requires { IsKept self.old.kept address.number address.at }
         ensures content { block_at self.old.kept address.number ≡ Some (address.at, result.content) }
         ensures kept { self.new.kept ≡ slice_set self.old.kept address.number None }
@@ -194,7 +194,7 @@ impl<C> Blocks<C> {
     }
 
     /// Lends a block's content.
-    pub(crate) fn get(&self, address: Address) -> &C
+    fn get(&self, address: Address) -> &C
         requires { IsKept self.now.kept address.number address.at }
         ensures { block_at self.now.kept address.number ≡ Some (address.at, result.now) }
     {
@@ -202,7 +202,7 @@ impl<C> Blocks<C> {
     }
 
     /// Lends a block's content to be changed.
-    pub(crate) fn get_mut(&mut self, address: Address) -> &mut C
+    fn get_mut(&mut self, address: Address) -> &mut C
         requires { IsKept self.old.kept address.number address.at }
         ensures* writes_back { sem 𝓛 (lends_block C.row self.entry address.number address.at result) }
         ensures value { block_at self.old.kept address.number ≡ Some (address.at, result.now) }
@@ -211,7 +211,7 @@ impl<C> Blocks<C> {
     }
 
     /// Ends the blocks, once each was taken.
-    pub(crate) fn done(self)
+    fn done(self)
         requires { IsBare self.kept }
     {
         let Blocks { mark: _ } = self;

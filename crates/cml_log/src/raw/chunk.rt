@@ -1,14 +1,15 @@
-ghost use Rattle.std.specs.Prelude.{◌≡◌, ◌+◌, ◌<◌, [], ◌∷◌, ◌++◌, Some, None, length, option_copied, slice_get, IfOk, OnErr};
-ghost use Rattle.cml_log.specs.Blocks.{block_at, IsKept};
-ghost use Rattle.cml_log.specs.Contents.{row_at, link_at, cell_of, Rewrites, with_row, with_link, with_cursors};
+//! The chunks of a log in their blocks. What is done to one, or read of one, stands here.
+ghost use Rattle.std.specs.Prelude.{◌≡◌, ◌+◌, ◌<◌, [], ◌∷◌, ◌++◌, Some, None, length, option_copied, slice_get, slice_set, IfOk, OnErr};
+ghost use Rattle.cml_log.specs.Blocks.{block_at, IsKept, IsBare};
+ghost use Rattle.cml_log.specs.Contents.{row_at, link_at, cell_of, KeepsCounts, Rewrites, with_row, with_link, with_cursors};
 
-use super::{Address, Blocks, Count, Right};
+use super::{Address, Blocks, Count, Right, fits};
 use crate::row::Row;
 use std::alloc::{AllocError, Global};
 
 /// A chunk's block: its places, where the next chunk lies, and how many cursors are in it.
 #[derive(Drop)]
-pub(crate) struct Chunk<T, const N: usize> {
+struct Chunk<T, const N: usize> {
     row: Row<T, N>,
 
     // Only `follow` reads it, so that no link is followed uncounted.
@@ -18,69 +19,143 @@ pub(crate) struct Chunk<T, const N: usize> {
 
 impl<T: Drop, const N: usize> Chunk<T, N> {
     /// A chunk with no item, no link and no cursor.
-    pub(crate) fn make(alloc: Global, made: &mut Count) -> Result<Right<Chunk<T, N>>, AllocError>
-        ensures ok { IfOk result (λ right. (right.content ≡ record { row = []; link = None; cursors = 0 })
-            × (made.new.count ≡ made.old.count + 1)) }
-        ensures err { OnErr result (made.new ≡ made.old) }
+    fn empty() -> Chunk<T, N>
+        ensures { result ≡ record { row = []; link = None; cursors = 0 } }
     {
-        let chunk = Chunk {
+        Chunk {
             row: Row::new(),
             link: None,
             cursors: 0,
-        };
-        Right::make(alloc, chunk, made)
+        }
     }
 }
 
-impl<T: Drop, const N: usize> Blocks<Chunk<T, N>> {
-    /// Lends the item at a slot, if it was written.
-    pub(crate) fn item(&self, at: Address, slot: usize) -> Option<&T>
-        requires kept { IsKept self.now.kept at.number at.at }
-        ensures { option_copied result ≡ slice_get (row_at self.now.kept at.number) slot }
+/// The chunks of a log, and how often one was made, one was given back, and a link was followed. Whoever owns the chunks
+/// owns these counts: no other way leads to a block or to a count, and what raises a count takes the chunks by `&mut`, so
+/// that a look by `&` follows no link.
+pub(crate) struct KeptChunks<T, const N: usize> {
+    blocks: Blocks<Chunk<T, N>>,
+    made: Count,
+    given: Count,
+    followed: Count,
+}
+
+impl<T: Drop, const N: usize> KeptChunks<T, N> {
+    /// No chunk, and nothing counted yet. There are none too large for memory.
+    pub(crate) fn new() -> Result<KeptChunks<T, N>, AllocError>
+        ensures kept { IfOk result (λ chunks. chunks.blocks.kept ≡ []) }
+        ensures counts { IfOk result (λ chunks. (chunks.made.count ≡ 0) × (chunks.given.count ≡ 0) × (chunks.followed.count ≡ 0)) }
     {
-        self.get(at).row.get(slot)
+        if !fits::<Chunk<T, N>>() {
+            return Err(AllocError);
+        }
+        Ok(KeptChunks {
+            blocks: Blocks::new(),
+            made: Count::zero(),
+            given: Count::zero(),
+            followed: Count::zero(),
+        })
+    }
+
+    /// Makes a chunk with no item, no link and no cursor, under the next number, and counts it.
+    pub(crate) fn make(&mut self, alloc: Global, number: u64) -> Result<Address, AllocError>
+        requires { number ≡ length self.old.blocks.kept }
+        ensures number { IfOk result (λ at. at.number ≡ number) }
+        ensures kept { IfOk result (λ at. self.new.blocks.kept
+            ≡ self.old.blocks.kept ++ Some (at.at, record { row = []; link = None; cursors = 0 }) ∷ []) }
+        ensures counted { IfOk result (λ _. (self.new.made.count ≡ self.old.made.count + 1)
+            × (self.new.given.count ≡ self.old.given.count) × (self.new.followed.count ≡ self.old.followed.count)) }
+        ensures err { OnErr result (self.new ≡ self.old) }
+    {
+        self.blocks.fit();
+        let right = Right::make(alloc, Chunk::empty(), &mut self.made)?;
+        Ok(self.blocks.put(number, right))
+    }
+
+    /// Gives a chunk back with all that is in it, and counts that.
+    pub(crate) fn give_back(&mut self, alloc: Global, at: Address)
+        requires { IsKept self.old.blocks.kept at.number at.at }
+        ensures kept { self.new.blocks.kept ≡ slice_set self.old.blocks.kept at.number None }
+        ensures counted { (self.new.given.count ≡ self.old.given.count + 1)
+            × (self.new.made.count ≡ self.old.made.count) × (self.new.followed.count ≡ self.old.followed.count) }
+    {
+        self.blocks.fit();
+        self.blocks.take(at).give_back(alloc, &mut self.given);
     }
 
     /// Reads a chunk's link, and counts it.
-    pub(crate) fn follow(&self, at: Address, followed: &mut Count) -> Option<Address>
-        requires { IsKept self.now.kept at.number at.at }
-        ensures link { result ≡ link_at self.now.kept at.number }
-        ensures counted { followed.new.count ≡ followed.old.count + 1 }
+    pub(crate) fn follow(&mut self, at: Address) -> Option<Address>
+        requires { IsKept self.old.blocks.kept at.number at.at }
+        ensures link { result ≡ link_at self.old.blocks.kept at.number }
+        ensures kept { self.new.blocks ≡ self.old.blocks }
+        ensures counted { (self.new.followed.count ≡ self.old.followed.count + 1)
+            × (self.new.made.count ≡ self.old.made.count) × (self.new.given.count ≡ self.old.given.count) }
     {
-        followed.add();
-        self.get(at).link
+        self.blocks.fit();
+        self.followed.add();
+        self.blocks.get(at).link
+    }
+
+    /// Lends the item at a slot, if it was written.
+    pub(crate) fn item(&self, at: Address, slot: usize) -> Option<&T>
+        requires { IsKept self.now.blocks.kept at.number at.at }
+        ensures { option_copied result ≡ slice_get (row_at self.now.blocks.kept at.number) slot }
+    {
+        self.blocks.fit();
+        self.blocks.get(at).row.get(slot)
     }
 
     /// How many cursors are in a chunk.
     pub(crate) fn cursors(&self, at: Address) -> u64
-        requires { IsKept self.now.kept at.number at.at }
-        ensures { cell_of (block_at self.now.kept at.number) ≡ Some (at.at, result) }
+        requires { IsKept self.now.blocks.kept at.number at.at }
+        ensures { cell_of (block_at self.now.blocks.kept at.number) ≡ Some (at.at, result) }
     {
-        self.get(at).cursors
+        self.blocks.fit();
+        self.blocks.get(at).cursors
     }
 
     /// Links a chunk to the one after it.
     pub(crate) fn set_link(&mut self, at: Address, next: Address)
-        requires { IsKept self.old.kept at.number at.at }
-        ensures { Rewrites self.old.kept self.new.kept at.number at.at (with_link (Some next)) }
+        requires { IsKept self.old.blocks.kept at.number at.at }
+        ensures rewrites { Rewrites self.old.blocks.kept self.new.blocks.kept at.number at.at (with_link (Some next)) }
+        ensures counts { KeepsCounts self.old self.new }
     {
-        self.get_mut(at).link = Some(next);
+        self.blocks.fit();
+        self.blocks.get_mut(at).link = Some(next);
     }
 
     pub(crate) fn set_cursors(&mut self, at: Address, cursors: u64)
-        requires { IsKept self.old.kept at.number at.at }
-        ensures { Rewrites self.old.kept self.new.kept at.number at.at (with_cursors cursors) }
+        requires { IsKept self.old.blocks.kept at.number at.at }
+        ensures rewrites { Rewrites self.old.blocks.kept self.new.blocks.kept at.number at.at (with_cursors cursors) }
+        ensures counts { KeepsCounts self.old self.new }
     {
-        self.get_mut(at).cursors = cursors;
+        self.blocks.fit();
+        self.blocks.get_mut(at).cursors = cursors;
     }
 
     /// Writes the next slot of a chunk.
     pub(crate) fn write(&mut self, at: Address, slot: usize, item: T)
-        requires kept { IsKept self.old.kept at.number at.at }
-        requires next { slot ≡ length (row_at self.old.kept at.number) }
+        requires kept { IsKept self.old.blocks.kept at.number at.at }
+        requires next { slot ≡ length (row_at self.old.blocks.kept at.number) }
         requires within { slot < N }
-        ensures { Rewrites self.old.kept self.new.kept at.number at.at (with_row (row_at self.old.kept at.number ++ item ∷ [])) }
+        ensures rewrites { Rewrites self.old.blocks.kept self.new.blocks.kept at.number at.at
+            (with_row (row_at self.old.blocks.kept at.number ++ item ∷ [])) }
+        ensures counts { KeepsCounts self.old self.new }
     {
-        self.get_mut(at).row.write(slot, item);
+        self.blocks.fit();
+        self.blocks.get_mut(at).row.write(slot, item);
+    }
+
+    /// Ends the chunks, once each was given back.
+    pub(crate) fn done(self)
+        requires { IsBare self.blocks.kept }
+    {
+        let KeptChunks {
+            blocks,
+            made: _,
+            given: _,
+            followed: _,
+        } = self;
+        blocks.done();
     }
 }

@@ -6,4 +6,4 @@ use Rattle.cml_log.proofs.chain.Chain.end.Goals as goal
 pub returns-clause-lies : goal.returns-clause-lies
 returns-clause-lies g c =
     subst (λ m. LiesAt m.cells c.self.inside.tail.number c.self.inside.tail.at) c.self.view_is
-    (lies_where_kept c.self.inside.blocks.kept c.self.inside.tail.number c.self.inside.tail.at c.self.invariant.linked.finishes)
+    (lies_where_kept c.self.inside.chunks.blocks.kept c.self.inside.tail.number c.self.inside.tail.at c.self.invariant.linked.finishes)

@@ -9,7 +9,7 @@ follow-next-requires g c =
       omega arith,
       (
         subst (λ m. LiesAt m.cells c.follow.inside.head.number c.follow.inside.head.at) c.follow.view_is
-            (lies_where_kept c.follow.inside.blocks.kept c.follow.inside.head.number c.follow.inside.head.at c.follow.invariant.linked.starts),
+            (lies_where_kept c.follow.inside.chunks.blocks.kept c.follow.inside.head.number c.follow.inside.head.at c.follow.invariant.linked.starts),
         subst (λ n. n < end_of g.row.N c.args.self.now / g.row.N) head c.requires,
       ),
     )
