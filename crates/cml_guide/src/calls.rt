@@ -21,6 +21,8 @@ pub enum Trouble {
     NoMemory,
     /// Of threads: a seat is missing at the end.
     Unsettled,
+    /// Of a lane without an end: a message was refused when it was dropped.
+    Unclosed,
 }
 
 impl From<AllocError> for Trouble {

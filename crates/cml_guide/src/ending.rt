@@ -68,7 +68,7 @@ fn wait_for_nobody<Led: Ledger + Send + Sync, R: Threads + Wait + Sync>(
 }
 
 /// Waits for a message, and then leaves. Gives why there was none.
-fn wait_for<Led: Ledger, R: Wait>(
+pub fn wait_for<Led: Ledger, R: Wait>(
     rt: &R,
     board: &Shared<Led>,
     mut waiter: Seat<Led>,

@@ -9,6 +9,7 @@ use cml_threads::{Count, Left, PARTS, Seat};
 use std::alloc::Global;
 use std::marker::Brand;
 use std::sync::Wait;
+use std::sync::atomic::{AtomicBool, Ordering};
 use std::sync::ledger::{Blank, Ledger};
 use std::thread;
 use std::thread::Threads;
@@ -50,43 +51,58 @@ fn send_and_collect<Led: Ledger + Send + Sync, R: Threads + Wait + Sync>(
     let mut collector = board.seat(rt)?;
     let readings = made(board.mailbox(rt, &mut collector))?;
     let (lane, number) = board.open_lane(rt, readings, ROOM)?;
+    let stopped = AtomicBool::new(false);
+    let has_stopped = &stopped;
     let (collected, end) = thread::join(
         rt,
-        move || receive_and_leave(rt, board, collector, readings, number),
-        move || send_all(rt, lane),
+        move || receive_and_leave(rt, board, collector, readings, number, has_stopped),
+        move || send_all(rt, lane, has_stopped),
     );
     close(rt, board, number, end)?;
     Ok(collected)
 }
 
-/// Sends all readings, and finishes.
-fn send_all<R: Wait>(rt: &R, mut lane: Lane<u64>) -> Option<LaneEnd<u64>> {
+/// Sends all readings, or as many as there is room for once their collector has stopped, and finishes.
+pub fn send_all<R: Wait>(
+    rt: &R,
+    mut lane: Lane<u64>,
+    has_stopped: &AtomicBool,
+) -> Option<LaneEnd<u64>> {
     for reading in 1..=READINGS as u64 {
-        send(rt, &mut lane, reading);
+        if !send(rt, &mut lane, reading, has_stopped) {
+            break;
+        }
     }
     lane.finish()
 }
 
-/// Sends a message, again as long as there is no room for it.
-fn send<R: Wait>(rt: &R, lane: &mut Lane<u64>, message: u64) {
+/// Sends a message, again as long as there is no room for it and its collector goes on. Whether it was sent.
+fn send<R: Wait>(rt: &R, lane: &mut Lane<u64>, message: u64, has_stopped: &AtomicBool) -> bool {
     for _ in rt.forever() {
+        // Asked before the lane is tried: who has stopped makes no more room.
+        let last = has_stopped.load(Ordering::SeqCst);
         if lane.send(message).is_ok() {
-            return;
+            return true;
+        }
+        if last {
+            return false;
         }
         thread::yield_now();
     }
     unreachable!()
 }
 
-/// Collects all readings, and leaves, whatever became of that.
-fn receive_and_leave<Led: Ledger, R: Wait>(
+/// Collects all readings, tells that it has stopped, and leaves, whatever became of that.
+pub fn receive_and_leave<Led: Ledger, R: Wait>(
     rt: &R,
     board: &Shared<Led>,
     mut collector: Seat<Led>,
     readings: Name,
     lane: u64,
+    has_stopped: &AtomicBool,
 ) -> (Result<u64, Trouble>, Left<Led>) {
     let sum = receive_all(rt, board, &mut collector, readings, lane);
+    has_stopped.store(true, Ordering::SeqCst);
     (sum, board.leave(rt, collector))
 }
 
@@ -127,18 +143,31 @@ fn receive<Led: Ledger, R: Wait>(
     Ok(sum)
 }
 
-/// Closes the lane by its end; without one, by what is seen of it.
-fn close<Led: Ledger, R: Wait>(
+/// Closes the lane. Where that is refused it is abandoned: nobody is told of a stall while it is open.
+pub fn close<Led: Ledger, R: Wait>(
     rt: &R,
     board: &Shared<Led>,
     lane: u64,
     end: Option<LaneEnd<u64>>,
 ) -> Result<(), Trouble> {
-    match end {
-        Some(end) => board.close_lane(rt, end)?,
-        None => {
-            board.drop_lane(rt, lane)?;
-        }
+    let closed = close_by(rt, board, lane, end);
+    if closed.is_err() {
+        board.abandon_lane(rt, lane)?;
     }
+    closed
+}
+
+/// Closes the lane by its end; without one, by what is seen of it.
+fn close_by<Led: Ledger, R: Wait>(
+    rt: &R,
+    board: &Shared<Led>,
+    lane: u64,
+    end: Option<LaneEnd<u64>>,
+) -> Result<(), Trouble> {
+    let Some(end) = end else {
+        let (_moved, is_closed) = board.drop_lane(rt, lane)?;
+        return if is_closed { Ok(()) } else { Err(Trouble::Unclosed) };
+    };
+    board.close_lane(rt, end)?;
     Ok(())
 }

@@ -5,6 +5,7 @@ mod calls;
 mod channels;
 mod ending;
 mod feeds;
+mod giving_up;
 mod journals;
 mod lanes;
 mod locking;
@@ -116,6 +117,12 @@ fn show_threads<R: Threads + Wait + Sync + Print>(rt: &R, alloc: Global) -> io::
         &locking::counted_by_two(rt, alloc),
     )?;
     show(rt, "lanes::collected", &lanes::collected(rt, alloc))?;
+    show(rt, "giving_up::stopped", &giving_up::stopped(rt, alloc))?;
+    show(
+        rt,
+        "giving_up::closed_before_waiting",
+        &giving_up::closed_before_waiting(rt, alloc),
+    )?;
     show(rt, "feeds::shown", &feeds::shown(rt, alloc))?;
     show(rt, "ending::stalled", &ending::stalled(rt, alloc))?;
     show(rt, "ending::missed", &ending::missed(rt, alloc))

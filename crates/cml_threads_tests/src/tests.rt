@@ -2,6 +2,7 @@ mod crew;
 mod forms;
 mod hall;
 mod lane_rows;
+mod refusing;
 mod rings;
 mod scene;
 mod senders;
@@ -20,6 +21,7 @@ const SCENES: &[(Scene, &str)] = &[
     (Scene::Crowd, "each once, and lawful"),
     (Scene::Stall, "each is told"),
     (Scene::Forms, "as in the journal"),
+    (Scene::Refused, "each by its own refusal"),
     (Scene::OneLeft, "handed back, and settled"),
     (Scene::Dropped, "handed back"),
     (Scene::Senders, "each once, in its lane's order"),

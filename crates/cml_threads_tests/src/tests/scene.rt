@@ -1,9 +1,9 @@
 //! Scenes on a switchboard, and the one place that names a ledger for them.
-ghost use Rattle.std.specs.Prelude.{◌≡◌, ◌^◌};
+ghost use Rattle.std.specs.Prelude.{◌≡◌, ◌≤◌, ◌^◌};
 
 use super::crew::{Crew, at_work};
 use super::trouble::Trouble;
-use super::{forms, rings, senders, settling, verdict};
+use super::{forms, refusing, rings, senders, settling, verdict};
 use cml_board::BoardLog;
 use cml_threads::{Left, PARTS, Settled, Switchboard};
 use std::alloc::{AllocError, Global};
@@ -28,6 +28,8 @@ pub enum Scene {
     Callers,
     /// All named forms in turn.
     Forms,
+    /// Calls that are refused, the last in a full journal.
+    Refused,
     /// Eight threads on one mailbox.
     Crowd,
     /// Eight seats of which each is told that all are stalled.
@@ -38,6 +40,19 @@ pub enum Scene {
     Dropped,
     /// Four lanes, one thread that drains them, and two seats that receive.
     Senders,
+}
+
+impl Scene {
+    /// How many entries the scene's journal takes.
+    fn limit(self) -> u64
+        ensures least { 1 ≤ result }
+        ensures most { result ≤ 2 ^ 32 }
+    {
+        match self {
+            Scene::Refused => refusing::ENTRIES,
+            _ => LIMIT,
+        }
+    }
 }
 
 /// What the scene comes to.
@@ -58,13 +73,14 @@ fn performed_in<Led: Ledger + Send + Sync, R: Threads + Wait + Sync>(
     requires parts { blank.parts ≡ Led.parts }
     requires enough { blank.parts ≡ 2 ^ 63 }
 {
-    let board: Numbers<Led> = Switchboard::new(alloc, LIMIT, blank)?;
+    let board: Numbers<Led> = Switchboard::new(alloc, scene.limit(), blank)?;
     match scene {
         Scene::Rings => rings::try_rings(rt, board),
         Scene::Callers => judged(rt, alloc, board, Crew::Callers),
         Scene::Crowd => judged(rt, alloc, board, Crew::Crowd),
         Scene::Stall => judged(rt, alloc, board, Crew::Stalled),
         Scene::Forms => forms::call_all(rt, alloc, board),
+        Scene::Refused => refusing::refuse_each(rt, alloc, board),
         Scene::OneLeft => settling::settle_late(rt, alloc, board),
         Scene::Dropped => settling::settle_without(rt, alloc, board),
         Scene::Senders => senders::send_all(rt, alloc, board),
