@@ -58,8 +58,7 @@ fn send_in_vain<Led: Ledger, R: Wait>(
     let (mut lane, number) = board.open_lane(rt, readings, ROOM)?;
     lane.send(0).is_ok();
     let has_stopped = AtomicBool::new(false);
-    let (collected, left) =
-        receive_and_leave(rt, board, collector, readings, number, &has_stopped);
+    let (collected, left) = receive_and_leave(rt, board, collector, readings, number, &has_stopped);
     let end = send_all(rt, lane, &has_stopped);
     let given_up = GivenUp {
         sent: sent_by(&end),

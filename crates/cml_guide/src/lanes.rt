@@ -166,7 +166,10 @@ fn close_by<Led: Ledger, R: Wait>(
 ) -> Result<(), Trouble> {
     let Some(end) = end else {
         let (_moved, is_closed) = board.drop_lane(rt, lane)?;
-        return if is_closed { Ok(()) } else { Err(Trouble::Unclosed) };
+        if !is_closed {
+            return Err(Trouble::Unclosed);
+        }
+        return Ok(());
     };
     board.close_lane(rt, end)?;
     Ok(())
