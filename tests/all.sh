@@ -1,7 +1,7 @@
 #!/bin/sh
 # Everything: every crate is proved from nothing, its wrong edits are refused and its tests run; then the tables of calls
-# are performed, the guide's code is compared with the sources, the logs are seen not to grow, and the built program is
-# tried from outside. The last line is `N passed, M failed`.
+# are performed, the guide's code is compared with the sources and run with memory refused, the logs are seen not to grow,
+# and the built program is tried from outside. The last line is `N passed, M failed`.
 cd "$(dirname "$0")/.." || exit 1
 work=$(mktemp -d) || exit 1
 trap 'rm -rf "$work"' EXIT
@@ -21,11 +21,12 @@ counted() { tail -n 1 "$work/$1" | sed -n "s/.*\\b\\([0-9][0-9]*\\) $2.*/\\1/p";
 step crates rt ci
 step board sh tests/board.sh crates/cml_board_rows/out/cml_board_rows
 step guide sh tests/guide.sh
+step refused sh tests/refused.sh crates/cml_guide/out/cml_guide
 step memory sh tests/memory.sh crates/cml_bench/out/cml_bench
 step program sh tests/program.sh crates/cml/out/cml
 passed=0
 failed=0
-for name in crates board guide memory program; do
+for name in crates board guide refused memory program; do
     passed=$((passed + $(counted $name passed)))
     failed=$((failed + $(counted $name failed)))
 done
