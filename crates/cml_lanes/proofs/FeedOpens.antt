@@ -1,5 +1,5 @@
 -- What a floor keeps of its lanes and its feeds when a feed is opened.
-use Rattle.std.proofs.Common.{◌≡◌, ◌≢◌, ℕ, ◌<◌, ◌≤◌, inl, inr, Bool, true, false, cond, List, [], ◌∷◌, ◌++◌, length, slice_get, Option, Some, None, is_some, count_by, subst, refl, sym, ap, ◌∙◌, arith}
+use Rattle.std.proofs.Common.{◌≡◌, ◌≢◌, ℕ, ◌<◌, ◌≤◌, inl, inr, Bool, true, false, cond, List, [], ◌∷◌, ◌++◌, length, slice_get, Option, Some, None, subst, refl, sym, ap, ◌∙◌, arith}
 use Rattle.std.specs.Option.{option_map}
 use Rattle.std.proofs.lemmas.Option.{same_Some, none-some, slice_get_past}
 use Rattle.std.proofs.lemmas.List.{append-nil, length_push}
@@ -57,7 +57,7 @@ module _ {M : Type 0} where
   abbrev made_entry : ℕ → Name → Name → Entry M
   made_entry number channel name = record { who = Feed number; call = NewPort channel; reply = Made name }
 
-  none_fed : (number : ℕ) (channel name : Name) (history : List (Entry M)) (k : ℕ) → fed (made_entry number channel name ∷ history) k ≡ fed history k
+  pub none_fed : (number : ℕ) (channel name : Name) (history : List (Entry M)) (k : ℕ) → fed (made_entry number channel name ∷ history) k ≡ fed history k
   none_fed number channel name history k = nothing_more (fed history k) (is_feed (Feed number) k)
 
   still_keeps : (number : ℕ) (channel name : Name) (history : List (Entry M)) (k : ℕ) (side : FeedSide M) → KeepsFeed history k side
@@ -133,16 +133,14 @@ module _ {M : Type 0} where
   }
 
   -- what the floor keeps of both
-  pub feed_opened_keeps : (number opened : ℕ) (old new : Shown M) (channel name : Name) (lanes : List (Option (LaneSide M))) (feeds via news : List (Option (FeedSide M)))
+  pub feed_opened_keeps : (number : ℕ) (old new : Shown M) (channel name : Name) (lanes : List (Option (LaneSide M))) (feeds via news : List (Option (FeedSide M)))
       (side : FeedSide M) → MakesPort number old new channel name → Lawful old.history → number ≡ length via → via ≡ feeds → news ≡ via ++ Some side ∷ []
       → side.port ≡ name → side.pushed ≡ []
-      → KeepsLanes old.history lanes × (opened ≡ count_by is_some lanes) × KeepsFeeds old.history feeds
-      → KeepsLanes new.history lanes × (opened ≡ count_by is_some lanes) × KeepsFeeds new.history news
-  feed_opened_keeps number opened old new channel name lanes feeds via news side makes lawful last same pushed own none keeps =
+      → KeepsLanes old.history lanes × KeepsFeeds old.history feeds → KeepsLanes new.history lanes × KeepsFeeds new.history news
+  feed_opened_keeps number old new channel name lanes feeds via news side makes lawful last same pushed own none keeps =
       let next = next_port number old new channel name makes in
-      let more = keeps_one_more number channel name old.history feeds side lawful next (last ∙ ap length same) own none keeps.2 in (
+      let more = keeps_one_more number channel name old.history feeds side lawful next (last ∙ ap length same) own none keeps.1 in (
         subst (λ h. KeepsLanes h lanes) (sym makes.entry.history) (lanes_still number channel name old.history lanes keeps.0),
-        keeps.1,
         subst (λ fs. KeepsFeeds new.history fs) (sym (pushed ∙ ap (λ fs. fs ++ Some side ∷ []) same))
             (subst (λ h. KeepsFeeds h (feeds ++ Some side ∷ [])) (sym makes.entry.history) more),
       )

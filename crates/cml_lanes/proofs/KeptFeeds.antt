@@ -1,5 +1,5 @@
 -- What a floor keeps of its feeds, while something is done to the board, to a lane or to one of them.
-use Rattle.std.proofs.Common.{◌≡◌, ◌≢◌, ℕ, zero, suc, ◌≤◌, inl, inr, Bool, true, false, cond, ◌||◌, eqb, List, [], ◌∷◌, length, slice_get, slice_set, Option, Some, None, is_some, count_by, subst, refl, sym, ap, ◌∙◌, arith}
+use Rattle.std.proofs.Common.{◌≡◌, ◌≢◌, ℕ, zero, suc, ◌≤◌, inl, inr, Bool, true, false, cond, ◌||◌, eqb, List, [], ◌∷◌, length, slice_get, slice_set, Option, Some, None, subst, refl, sym, ap, ◌∙◌, arith}
 use Rattle.std.proofs.lemmas.Option.{same_Some, none-some}
 use Rattle.std.proofs.lemmas.Bool.{eq-eqb, ne_eqb, false≢true}
 use Rattle.cml_board.specs.declared.call.Name.{Name}
@@ -21,8 +21,8 @@ use Rattle.cml_lanes.specs.declared.way.Way.{Way}
 use Rattle.cml_lanes.specs.Sides.{LaneSide, FeedSide}
 use Rattle.cml_lanes.specs.Laned.{with_lane}
 use Rattle.cml_lanes.specs.Fed.{fed}
-use Rattle.cml_lanes.specs.Moving.{Drains}
-use Rattle.cml_lanes.specs.Pumping.{KeepsFeed, LearnsFree, Pumps}
+use Rattle.cml_lanes.specs.Moving.{DrainsRing}
+use Rattle.cml_lanes.specs.Pumping.{KeepsFeed, LearnsFree, PumpsIn}
 use Rattle.cml_lanes.specs.Floor.{is_taken, KeepsLanes, KeepsFeeds}
 use Rattle.cml_lanes.specs.Barring.{has_port, is_feeds_port, is_barred}
 use Rattle.cml_lanes.proofs.Feeding.{fed_other, fed_laned, fed_apart, keeps_laned, keeps_fed}
@@ -53,7 +53,7 @@ module _ {M : Type 0} where
 
   -- nothing is kept at the beginning
   pub begins : (history : List (Entry M)) (lanes : List (Option (LaneSide M))) (feeds : List (Option (FeedSide M))) → history ≡ [] → lanes ≡ [] → feeds ≡ []
-      → KeepsLanes history lanes × (0 ≡ count_by is_some lanes) × KeepsFeeds history feeds
+      → KeepsLanes history lanes × KeepsFeeds history feeds
   begins history lanes feeds none no_lanes no_feeds =
       let lanes_begin : KeepsLanes {M = M} [] [] = record { lane = λ number side found. absurd (none-some (Some side) found); no_lane = λ number past. refl } in
       let feeds_begin : KeepsFeeds {M = M} [] [] = record {
@@ -62,7 +62,6 @@ module _ {M : Type 0} where
         apart = λ one two a b first second ports. absurd (none-some (Some a) first);
       } in (
         subst (λ h. KeepsLanes h lanes) (sym none) (subst (λ ls. KeepsLanes [] ls) (sym no_lanes) lanes_begin),
-        ap (λ ls. count_by is_some ls) (sym no_lanes),
         subst (λ h. KeepsFeeds h feeds) (sym none) (subst (λ fs. KeepsFeeds [] fs) (sym no_feeds) feeds_begin),
       )
 
@@ -76,7 +75,7 @@ module _ {M : Type 0} where
   }
 
   pub drained_keeps_feeds : (number count : ℕ) (old new : Shown M) (feeds : List (Option (FeedSide M))) (from to : LaneSide M)
-      → Drains number count old new from to → KeepsFeeds old.history feeds → KeepsFeeds new.history feeds
+      → DrainsRing number count old new from to → KeepsFeeds old.history feeds → KeepsFeeds new.history feeds
   drained_keeps_feeds number count old new feeds from to d keeps =
       subst (λ h. KeepsFeeds h feeds) (sym d.moves.history)
       (laned_keeps_feeds number d.looked.way d.looked.target d.moves.moved old.history feeds keeps)
@@ -171,7 +170,7 @@ module _ {M : Type 0} where
   }
 
   pub pumped_keeps_feeds : (number count : ℕ) (old new : Shown M) (feeds : List (Option (FeedSide M))) (from looked to : FeedSide M) → slice_get feeds number ≡ Some (Some from)
-      → LearnsFree from looked → Pumps number count old new looked to → KeepsFeeds old.history feeds → KeepsFeeds new.history (slice_set feeds number (Some to))
+      → LearnsFree from looked → PumpsIn number count old new looked to → KeepsFeeds old.history feeds → KeepsFeeds new.history (slice_set feeds number (Some to))
   pumped_keeps_feeds number count old new feeds from looked to opened looks p keeps = record {
     feed = each;
     no_feed = none;

@@ -13,7 +13,7 @@ use Rattle.cml_board.proofs.Closing.{kind_kept}
 use Rattle.cml_board.proofs.ListLemmas.{slice_get-set_same, slice_get-set_other}
 use Rattle.cml_lanes.specs.Sides.{LaneSide, way_kind}
 use Rattle.cml_lanes.specs.Laned.{laned, is_lane}
-use Rattle.cml_lanes.specs.Moving.{KeepsLane, Drains}
+use Rattle.cml_lanes.specs.Moving.{KeepsLane, DrainsRing}
 use Rattle.cml_lanes.specs.Floor.{is_taken, KeepsLanes}
 use Rattle.cml_lanes.proofs.Laning.{laned_other, laned_apart, kind_more}
 use Rattle.cml_lanes.proofs.Moves.{keeps_moved}
@@ -44,7 +44,7 @@ module _ {M : Type 0} where
 
   -- a slot's lane, where nothing but messages of it went into the journal
   pub drained_keeps : (number count : ℕ) (old new : Shown M) (lanes : List (Option (LaneSide M))) (from to : LaneSide M) → KeepsLane old.history number from
-      → Drains number count old new from to → KeepsLane new.history number to
+      → DrainsRing number count old new from to → KeepsLane new.history number to
   drained_keeps number count old new lanes from to keeps d =
       keeps_moved number count old new d.looked to
       (record {
@@ -53,19 +53,19 @@ module _ {M : Type 0} where
       }) d.moves
 
   -- of each other lane nothing changed
-  others_laned : (number count : ℕ) (old new : Shown M) (from to : LaneSide M) → Drains number count old new from to
+  others_laned : (number count : ℕ) (old new : Shown M) (from to : LaneSide M) → DrainsRing number count old new from to
       → (other : ℕ) → other ≢ number → laned new.history other ≡ laned old.history other
   others_laned number count old new from to d other apart =
       ap (λ h. laned h other) d.moves.history ∙ laned_apart number d.looked.way d.looked.target d.moves.moved old.history other apart
 
-  kinds_kept : (number count : ℕ) (old new : Shown M) (from to : LaneSide M) → Drains number count old new from to
+  kinds_kept : (number count : ℕ) (old new : Shown M) (from to : LaneSide M) → DrainsRing number count old new from to
       → (side : LaneSide M) → kind_of old.history side.target.0 ≡ Some (way_kind side.way) → kind_of new.history side.target.0 ≡ Some (way_kind side.way)
   kinds_kept number count old new from to d side is =
       ap (λ h. kind_of h side.target.0) d.moves.history
       ∙ kind_more number d.looked.way d.looked.target d.moves.moved old.history side.target.0 (way_kind side.way) is
 
   pub drain_keeps : (number count : ℕ) (old new : Shown M) (lanes : List (Option (LaneSide M))) (from to : LaneSide M) → slice_get lanes number ≡ Some (Some from)
-      → Drains number count old new from to → KeepsLanes old.history lanes → KeepsLanes new.history (slice_set lanes number (Some to))
+      → DrainsRing number count old new from to → KeepsLanes old.history lanes → KeepsLanes new.history (slice_set lanes number (Some to))
   drain_keeps number count old new lanes from to opened d keeps = record { lane = each; no_lane = none }
     where
       each : (k : ℕ) (side : LaneSide M) → slice_get (slice_set lanes number (Some to)) k ≡ Some (Some side) → KeepsLane new.history k side

@@ -3,12 +3,16 @@ pub mod Moves
 pub mod Feeding
 pub mod Pumps
 pub mod Slots
+pub mod Places
+pub mod Rings
+pub mod Outcomes
 pub mod Lanes
 pub mod Ports
 pub mod KeptFeeds
 pub mod FeedPlaces
 pub mod OneLane
 pub mod OneFeed
+pub mod Deeds
 pub mod Opens
 pub mod FeedOpens
-pub mod Closes
+pub mod Lasting

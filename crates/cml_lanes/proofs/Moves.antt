@@ -1,5 +1,5 @@
 -- Moves of messages, one after another.
-use Rattle.std.proofs.Common.{◌≡◌, ℕ, ◌+◌, ◌<◌, Bool, false, List, [], ◌∷◌, ◌++◌, length, slice_get, Option, Some, None, IfNone, is_some, subst, refl, sym, ap, ◌∙◌, arith, length-append, append_assoc}
+use Rattle.std.proofs.Common.{◌≡◌, ℕ, ◌+◌, ◌<◌, ◌≤◌, Bool, false, List, [], ◌∷◌, ◌++◌, length, slice_get, Option, Some, None, IfNone, IfSome, is_some, subst, refl, sym, ap, ◌∙◌, arith, length-append, append_assoc}
 use Rattle.std.proofs.lemmas.Option.{same_Some, none-some}
 use Rattle.std.proofs.lemmas.List.{append-nil}
 use Rattle.std.proofs.lemmas.Bool.{true≢false}
@@ -15,7 +15,8 @@ use Rattle.cml_board.specs.Outcome.{IsAsBefore, AddsEntry, Refuses, HasRoom}
 use Rattle.cml_board.proofs.Sparing.{call_takes}
 use Rattle.cml_lanes.specs.Sides.{LaneSide, way_call, way_kind}
 use Rattle.cml_lanes.specs.Laned.{laned, lane_entry, with_lane}
-use Rattle.cml_lanes.specs.Moving.{IsLimit, KeepsLane, Moves, Stops}
+use Rattle.cml_lanes.specs.Moving.{IsLimit, KeepsLane, MovesOut, Stops, Looks, DrainsRing}
+use Rattle.cml_lanes.specs.Slots.{DrainsUntil}
 use Rattle.cml_lanes.proofs.Laning.{laned_more, kind_more, with_lane_more, fits_way, answer_way, way_has_message}
 
 -- what holds where there is no value holds where none is
@@ -39,7 +40,7 @@ module _ {M : Type 0} where
   unchanged board = record { history = refl; limit = refl; objects = refl; reserved = omega arith }
 
   -- none were moved
-  pub none_move : (number : ℕ) (board : Shown M) (side : LaneSide M) → Moves number 0 board board side side
+  pub none_move : (number : ℕ) (board : Shown M) (side : LaneSide M) → MovesOut number 0 board board side side
   none_move number board side = record {
     moved = [];
     as_many = refl;
@@ -54,7 +55,7 @@ module _ {M : Type 0} where
   pub one_moves : (number : ℕ) (old new : Shown M) (from to : LaneSide M) (call : Call M) (reply : Reply M) (message taken : M)
       → AddsEntry old new (Lane number) call reply → answer old.history call ≡ Some reply
       → call ≡ way_call from.way from.target message → slice_get from.seen 0 ≡ Some message
-      → to ≡ record from { received = from.received ++ taken ∷ []; seen = to.seen } → from.seen ≡ taken ∷ to.seen → Moves number 1 old new from to
+      → to ≡ record from { received = from.received ++ taken ∷ []; seen = to.seen } → from.seen ≡ taken ∷ to.seen → MovesOut number 1 old new from to
   one_moves number old new from to call reply message taken adds answers call_is next side seen =
       let same : message ≡ taken = first_is seen next in
       let replied : reply ≡ Done = same_Some _ _ (sym answers ∙ ap (answer old.history) call_is ∙ answer_way old.history from.way from.target message) in
@@ -72,7 +73,7 @@ module _ {M : Type 0} where
 
   -- some were moved, and then more
   pub moves_more : (number count more total : ℕ) (old mid new : Shown M) (from via to : LaneSide M) → count + more ≡ total
-      → Moves number count old mid from via → Moves number more mid new via to → Moves number total old new from to
+      → MovesOut number count old mid from via → MovesOut number more mid new via to → MovesOut number total old new from to
   moves_more number count more total old mid new from via to sum a b = record {
     moved = a.moved ++ b.moved;
     as_many = omega (arith, length-append a.moved b.moved, a.as_many, b.as_many, sum);
@@ -90,7 +91,7 @@ module _ {M : Type 0} where
 
   -- the lane is kept
   pub keeps_moved : (number count : ℕ) (old new : Shown M) (from to : LaneSide M) → KeepsLane old.history number from
-      → Moves number count old new from to → KeepsLane new.history number to
+      → MovesOut number count old new from to → KeepsLane new.history number to
   keeps_moved number count old new from to keeps m = record {
     laned = ap (λ h. laned h number) m.history ∙ laned_more number from.way from.target m.moved old.history
         ∙ ap (λ received. received ++ m.moved) keeps.laned ∙ sym (ap (λ (side : LaneSide M). side.received) m.side);
@@ -101,10 +102,10 @@ module _ {M : Type 0} where
   }
 
   -- what is still seen
-  pub left_seen : {number count : ℕ} {old new : Shown M} {from to : LaneSide M} → Moves number count old new from to → length from.seen ≡ count + length to.seen
+  pub left_seen : {number count : ℕ} {old new : Shown M} {from to : LaneSide M} → MovesOut number count old new from to → length from.seen ≡ count + length to.seen
   left_seen {number} {count} {old} {new} {from} {to} m = omega (arith, ap length m.seen, length-append m.moved to.seen, m.as_many)
 
-  pub all_moved : {number count : ℕ} {old new : Shown M} {from to : LaneSide M} → Moves number count old new from to → length from.seen ≡ count → to.seen ≡ []
+  pub all_moved : {number count : ℕ} {old new : Shown M} {from to : LaneSide M} → MovesOut number count old new from to → length from.seen ≡ count → to.seen ≡ []
   all_moved {number} {count} {old} {new} {from} {to} m all = no_items to.seen (omega (arith, left_seen m, all))
 
   -- the first call was refused
@@ -157,13 +158,13 @@ module _ {M : Type 0} where
 
   -- some were moved before it
   pub stops_later : (chunk : ℕ) (sure : Bool) (number count : ℕ) (old mid new : Shown M) (from via to : LaneSide M) (refusal : Refusal)
-      → Moves number count old mid from via → Stops chunk sure number 0 mid new via to refusal → Stops chunk sure number count old new from to refusal
+      → MovesOut number count old mid from via → Stops chunk sure number 0 mid new via to refusal → Stops chunk sure number count old new from to refusal
   stops_later chunk sure number count old mid new from via to refusal a s =
       record { at = s.at; moves = moves_more number count 0 count old mid s.at from via to (omega arith) a s.moves; after = s.after; message = s.message; next = s.next; limit = s.limit; refused = s.refused }
 
   -- so many went out until one was refused
   pub stopped_moves : {chunk : ℕ} {sure : Bool} {number count : ℕ} {old new : Shown M} {from to : LaneSide M} {refusal : Refusal}
-      → Stops chunk sure number count old new from to refusal → Moves number count old new from to
+      → Stops chunk sure number count old new from to refusal → MovesOut number count old new from to
   stopped_moves {chunk} {sure} {number} {count} {old} {new} {from} {to} {refusal} s = record {
     moved = s.moves.moved;
     as_many = s.moves.as_many;
@@ -182,3 +183,30 @@ module _ {M : Type 0} where
       by_cases : (xs : List M) → slice_get xs 0 ≡ Some s.message → 0 < length xs
       by_cases [] next = absurd (none-some s.message next)
       by_cases (x ∷ xs) next = omega arith
+
+  -- no more go out than the ring has room for
+  pub moved_most : {number count : ℕ} {old new : Shown M} {from looked to : LaneSide M} → Looks from looked → MovesOut number count old new looked to → count ≤ from.capacity
+  moved_most {number} {count} {old} {new} {from} {looked} {to} looks m = omega (arith, left_seen m, looks.most, ap (λ (side : LaneSide M). side.capacity) looks.side)
+
+  pub stopped_fewer : {chunk : ℕ} {sure : Bool} {number count : ℕ} {old new : Shown M} {from looked to : LaneSide M} {refusal : Refusal} → Looks from looked
+      → Stops chunk sure number count old new looked to refusal → count < from.capacity
+  stopped_fewer {chunk} {sure} {number} {count} {old} {new} {from} {looked} {to} {refusal} looks s =
+      omega (arith, still_seen s, left_seen s.moves, looks.most, ap (λ (side : LaneSide M). side.capacity) looks.side)
+
+  -- all that was seen went, or one was refused
+  pub drained_until : (chunk : ℕ) (sure : Bool) (number count : ℕ) (old new : Shown M) (from looked to : LaneSide M) → Looks from looked
+      → (stopped : Option Refusal) → IfNone stopped (MovesOut number count old new looked to × (to.seen ≡ []))
+      → IfSome stopped (λ refusal. Stops chunk sure number count old new looked to refusal) → DrainsUntil chunk sure number count stopped old new from to
+  drained_until chunk sure number count old new from looked to looks None moved stopped = record {
+    drains = record { looked = looked; looks = looks; moves = moved.0; most = moved_most looks moved.0 };
+    none = moved.1;
+  }
+  drained_until chunk sure number count old new from looked to looks (Some refusal) moved stopped =
+      record { looked = looked; looks = looks; stops = stopped; fewer = stopped_fewer looks stopped }
+
+  -- either way nothing else was done
+  pub until_drains : (chunk : ℕ) (sure : Bool) (number count : ℕ) (stopped : Option Refusal) (old new : Shown M) (from to : LaneSide M)
+      → DrainsUntil chunk sure number count stopped old new from to → DrainsRing number count old new from to
+  until_drains chunk sure number count None old new from to until = until.drains
+  until_drains chunk sure number count (Some refusal) old new from to until =
+      record { looked = until.looked; looks = until.looks; moves = stopped_moves until.stops; most = omega (arith, until.fewer) }

@@ -1,5 +1,5 @@
--- What is done to the slot of a feed, as what is done to the floor.
-use Rattle.std.proofs.Common.{◌≡◌, ℕ, Bool, true, false, List, slice_get, slice_set, Option, Some, None, is_some, count_by, IfNone, IfSome, subst, sym, ap, ◌∙◌}
+-- What is done to the slots of feeds, as what is done to the floor.
+use Rattle.std.proofs.Common.{◌≡◌, ℕ, Bool, true, false, List, slice_get, slice_set, Option, Some, None, is_some, IfSome, subst, refl, sym, ap, ◌∙◌}
 use Rattle.std.proofs.lemmas.Option.{same_Some, none-some}
 use Rattle.cml_board.specs.declared.outcome.Refusal.{Refusal}
 use Rattle.cml_board.specs.declared.entry.Entry.{Entry}
@@ -7,19 +7,20 @@ use Rattle.cml_board.specs.Shown.{Shown}
 use Rattle.cml_lanes.specs.Ends.{Ended}
 use Rattle.cml_lanes.specs.Sides.{LaneSide, FeedSide}
 use Rattle.cml_lanes.specs.Fed.{fed, with_feed}
-use Rattle.cml_lanes.specs.Pumping.{Pumps, Fills, IsStarved}
-use Rattle.cml_lanes.specs.Floor.{FloorShown, is_taken, is_open_feed, KeepsLanes, KeepsFeeds, KeepsRings, OnFeed}
+use Rattle.cml_lanes.specs.Pumping.{PumpsIn}
+use Rattle.cml_lanes.specs.Floor.{FloorShown, is_taken, is_open_feed, KeepsLanes, KeepsFeeds, KeepsRings, stays, goes, OnPlace, OnFeed}
 use Rattle.cml_lanes.specs.Barring.{is_feeds_port}
-use Rattle.cml_lanes.specs.Slots.{OnPlace}
+use Rattle.cml_lanes.specs.Slots.{PumpsUntil}
 use Rattle.cml_lanes.specs.Feeds.{EndsFeed}
 use Rattle.cml_lanes.proofs.Feeding.{laned_fed, keeps_lane_fed}
-use Rattle.cml_lanes.proofs.Slots.{taken_slot, same_places, set_places}
-use Rattle.cml_lanes.proofs.FeedPlaces.{Pumped}
+use Rattle.cml_lanes.proofs.Slots.{taken_slot}
+use Rattle.cml_lanes.proofs.Pumps.{until_pumps}
+use Rattle.cml_lanes.proofs.Rings.{feed_rings}
 use Rattle.cml_lanes.proofs.KeptFeeds.{ended_keeps_feeds, own_port, pumped_keeps_feeds}
 
 module _ {M : Type 0} where
   -- no lane has more
-  fed_keeps_lanes : (number count : ℕ) (old new : Shown M) (lanes : List (Option (LaneSide M))) (from to : FeedSide M) → Pumps number count old new from to
+  fed_keeps_lanes : (number count : ℕ) (old new : Shown M) (lanes : List (Option (LaneSide M))) (from to : FeedSide M) → PumpsIn number count old new from to
       → KeepsLanes old.history lanes → KeepsLanes new.history lanes
   fed_keeps_lanes number count old new lanes from to p keeps =
       let now : KeepsLanes (with_feed number from.port p.pumped old.history) lanes = record {
@@ -29,62 +30,31 @@ module _ {M : Type 0} where
       subst (λ h. KeepsLanes h lanes) (sym p.history) now
 
   -- what the floor keeps of its lanes and of its feeds
-  pub pump_keeps : (number count opened : ℕ) (board after : Shown M) (lanes : List (Option (LaneSide M))) (feeds news : List (Option (FeedSide M)))
-      → OnPlace number feeds news (Pumped number count board after)
-      → KeepsLanes board.history lanes × (opened ≡ count_by is_some lanes) × KeepsFeeds board.history feeds
-      → KeepsLanes after.history lanes × (opened ≡ count_by is_some lanes) × KeepsFeeds after.history news
-  pump_keeps number count opened board after lanes feeds news on keeps = (
-    fed_keeps_lanes number count board after lanes on.does.looked on.to on.does.pumps keeps.0,
-    keeps.1,
-    subst (λ fs. KeepsFeeds after.history fs) (sym on.slots)
-        (pumped_keeps_feeds number count board after feeds on.from on.does.looked on.to on.opened on.does.looks on.does.pumps keeps.2),
-  )
+  pub floor_pumped : (chunk : ℕ) (sure : Bool) (number count : ℕ) (stopped : Option Refusal) (board after : Shown M) (lanes : List (Option (LaneSide M))) (feeds news : List (Option (FeedSide M)))
+      → OnPlace stays number feeds news (PumpsUntil chunk sure number count stopped board after)
+      → KeepsLanes board.history lanes × KeepsFeeds board.history feeds → KeepsLanes after.history lanes × KeepsFeeds after.history news
+  floor_pumped chunk sure number count stopped board after lanes feeds news on keeps =
+      let pumps = until_pumps chunk sure number count stopped board after on.from on.to on.does in (
+        fed_keeps_lanes number count board after lanes pumps.looked on.to pumps.pumps keeps.0,
+        subst (λ fs. KeepsFeeds after.history fs) (sym on.places)
+            (pumped_keeps_feeds number count board after feeds on.from pumps.looked on.to on.opened pumps.looks pumps.pumps keeps.1),
+      )
 
-  -- what is done to the slot is done to the feed
-  on_feed : {lanes : List (Option (LaneSide M))} (number : ℕ) (board after : Shown M) (feeds news : List (Option (FeedSide M))) (old : FloorShown M)
-      (Does : Shown M → FeedSide M → FeedSide M → Type 0) → record { board = board; lanes = lanes; feeds = feeds } ≡ old → OnPlace number feeds news (Does board)
-      → OnFeed number old (record { board = after; lanes = lanes; feeds = news }) (Does old.board)
-  on_feed number board after feeds news old Does view on = record {
-    from = on.from;
-    to = on.to;
-    opened = ap (λ (f : FloorShown M). slice_get f.feeds number) (sym view) ∙ on.opened;
-    feeds = on.slots ∙ ap (λ (f : FloorShown M). slice_set f.feeds number (Some on.to)) view;
-    lanes = ap (λ (f : FloorShown M). f.lanes) view;
-    does = subst (λ (f : FloorShown M). Does f.board on.from on.to) view on.does;
-  }
-
-  pub on_feed_whole : {lanes : List (Option (LaneSide M))} (number count : ℕ) (board after : Shown M) (feeds news : List (Option (FeedSide M))) (old : FloorShown M)
-      → record { board = board; lanes = lanes; feeds = feeds } ≡ old
-      → (stopped : Option Refusal) → IfNone stopped (OnPlace number feeds news (Fills number count board after))
-      → IfNone stopped (OnFeed number old (record { board = after; lanes = lanes; feeds = news }) (Fills number count old.board after))
-  on_feed_whole number count board after feeds news old view None on =
-      on_feed number board after feeds news old (λ b. Fills number count b after) view on
-  on_feed_whole number count board after feeds news old view (Some refusal) on = tt
-
-  pub on_feed_starved : {lanes : List (Option (LaneSide M))} (chunk : ℕ) (sure : Bool) (number count : ℕ) (board after : Shown M) (feeds news : List (Option (FeedSide M)))
-      (old : FloorShown M) → record { board = board; lanes = lanes; feeds = feeds } ≡ old
-      → (stopped : Option Refusal) → IfSome stopped (λ refusal. OnPlace number feeds news (λ from to. IsStarved chunk sure number count board after from to refusal))
-      → IfSome stopped (λ refusal. OnFeed number old (record { board = after; lanes = lanes; feeds = news }) (λ from to. IsStarved chunk sure number count old.board after from to refusal))
-  on_feed_starved chunk sure number count board after feeds news old view None on = tt
-  on_feed_starved chunk sure number count board after feeds news old view (Some refusal) on =
-      on_feed number board after feeds news old (λ b from to. IsStarved chunk sure number count b after from to refusal) view on
+  -- what is done to the place is done to the feed
+  pub on_feed : {lanes : List (Option (LaneSide M))} (left : FeedSide M → Option (FeedSide M)) (number : ℕ) (board after : Shown M) (feeds news : List (Option (FeedSide M))) (old : FloorShown M)
+      (Does : Shown M → FeedSide M → FeedSide M → Type 0) → record { board = board; lanes = lanes; feeds = feeds } ≡ old → OnPlace left number feeds news (Does board)
+      → OnFeed left number old (record { board = after; lanes = lanes; feeds = news }) (Does old.board)
+  on_feed {lanes} left number board after feeds news old Does view on =
+      let all : OnFeed left number (record { board = board; lanes = lanes; feeds = feeds }) (record { board = after; lanes = lanes; feeds = news }) (Does board) = record { place = on; lanes = refl } in
+      subst (λ (f : FloorShown M). OnFeed left number f (record { board = after; lanes = lanes; feeds = news }) (Does f.board)) view all
 
   -- and keeps the rings
-  set_feed_rings : (number : ℕ) (old new : FloorShown M) (from : FeedSide M) (to : Option (FeedSide M)) → slice_get old.feeds number ≡ Some (Some from)
-      → new.feeds ≡ slice_set old.feeds number to → new.lanes ≡ old.lanes → ((side : FeedSide M) → to ≡ Some side → side.ring ≡ from.ring) → KeepsRings old new
-  set_feed_rings number old new from to opened feeds lanes ring = (
-    same_places (λ (side : LaneSide M). side.ring) old.lanes new.lanes lanes,
-    set_places (λ (side : FeedSide M). side.ring) number old.feeds new.feeds from to opened feeds ring,
-  )
-
-  pub pump_rings : {lanes : List (Option (LaneSide M))} (number count : ℕ) (board after : Shown M) (feeds news : List (Option (FeedSide M))) (old : FloorShown M)
-      → record { board = board; lanes = lanes; feeds = feeds } ≡ old → OnPlace number feeds news (Pumped number count board after)
-      → KeepsRings old (record { board = after; lanes = lanes; feeds = news })
-  pump_rings {lanes} number count board after feeds news old view on =
-      let feed = on_feed number board after feeds news old (λ b. Pumped number count b after) view on in
-      set_feed_rings number old (record { board = after; lanes = lanes; feeds = news }) feed.from (Some feed.to) feed.opened feed.feeds feed.lanes
-      (λ side is. sym (ap (λ (s : FeedSide M). s.ring) (same_Some _ _ is)) ∙ ap (λ (s : FeedSide M). s.ring) feed.does.pumps.side
-      ∙ ap (λ (s : FeedSide M). s.ring) feed.does.looks.side)
+  pub pumped_rings : (chunk : ℕ) (sure : Bool) (number count : ℕ) (stopped : Option Refusal) (old new : FloorShown M)
+      → OnFeed stays number old new (PumpsUntil chunk sure number count stopped old.board new.board) → KeepsRings old new
+  pumped_rings chunk sure number count stopped old new =
+      feed_rings (λ from to side until is.
+          let pumps = until_pumps chunk sure number count stopped old.board new.board from to until in
+          sym (ap (λ (s : FeedSide M). s.ring) (same_Some _ _ is)) ∙ ap (λ (s : FeedSide M). s.ring) pumps.pumps.side ∙ ap (λ (s : FeedSide M). s.ring) pumps.looks.side)
 
   -- an open feed's slot
   pub open_feed_slot : {lanes : List (Option (LaneSide M))} (number : ℕ) (board : Shown M) (feeds : List (Option (FeedSide M))) (floor : FloorShown M)
@@ -119,22 +89,17 @@ module _ {M : Type 0} where
       } in
       subst (λ (f : FloorShown M). EndsFeed number f (record { board = board; lanes = lanes; feeds = news }) end) view all
 
-  pub end_keeps : (number opened : ℕ) (board : Shown M) (lanes : List (Option (LaneSide M))) (feeds news : List (Option (FeedSide M))) → is_taken (slice_get feeds number) ≡ true
-      → news ≡ slice_set feeds number None → KeepsLanes board.history lanes × (opened ≡ count_by is_some lanes) × KeepsFeeds board.history feeds
-      → KeepsLanes board.history lanes × (opened ≡ count_by is_some lanes) × KeepsFeeds board.history news
-  end_keeps number opened board lanes feeds news taken written keeps =
-      let slot = taken_slot feeds number taken in (
-        keeps.0,
-        keeps.1,
-        subst (λ fs. KeepsFeeds board.history fs) (sym written) (ended_keeps_feeds number board.history feeds slot.0 slot.1 keeps.2),
-      )
+  pub end_keeps : (number : ℕ) (board : Shown M) (lanes : List (Option (LaneSide M))) (feeds news : List (Option (FeedSide M))) → is_taken (slice_get feeds number) ≡ true
+      → news ≡ slice_set feeds number None → KeepsLanes board.history lanes × KeepsFeeds board.history feeds
+      → KeepsLanes board.history lanes × KeepsFeeds board.history news
+  end_keeps number board lanes feeds news taken written keeps =
+      let slot = taken_slot feeds number taken in
+      (keeps.0, subst (λ fs. KeepsFeeds board.history fs) (sym written) (ended_keeps_feeds number board.history feeds slot.0 slot.1 keeps.1))
 
   pub end_rings : {lanes : List (Option (LaneSide M))} (number : ℕ) (board : Shown M) (feeds news : List (Option (FeedSide M))) (old : FloorShown M)
       → record { board = board; lanes = lanes; feeds = feeds } ≡ old → is_taken (slice_get feeds number) ≡ true → news ≡ slice_set feeds number None
       → KeepsRings old (record { board = board; lanes = lanes; feeds = news })
   end_rings {lanes} number board feeds news old view taken written =
       let slot = taken_slot feeds number taken in
-      set_feed_rings number old (record { board = board; lanes = lanes; feeds = news }) slot.0 None
-      (ap (λ (f : FloorShown M). slice_get f.feeds number) (sym view) ∙ slot.1)
-      (written ∙ ap (λ (f : FloorShown M). slice_set f.feeds number None) view) (ap (λ (f : FloorShown M). f.lanes) view)
-      (λ side is. absurd (none-some side is))
+      let gone : OnPlace goes number feeds news (λ from to. to ≡ from) = record { from = slot.0; to = slot.0; opened = slot.1; places = written; does = refl } in
+      feed_rings (λ from to side same is. absurd (none-some side is)) (on_feed goes number board board feeds news old (λ b from to. to ≡ from) view gone)

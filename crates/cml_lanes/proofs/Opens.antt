@@ -1,5 +1,5 @@
 -- What a floor keeps of its lanes when one is opened.
-use Rattle.std.proofs.Common.{◌≡◌, ℕ, ◌+◌, ◌<◌, ◌≤◌, inl, inr, Bool, false, not, cond, List, [], ◌∷◌, ◌++◌, length, slice_get, Option, Some, is_some, count_by, subst, refl, sym, ap, ◌∙◌, arith}
+use Rattle.std.proofs.Common.{◌≡◌, ℕ, ◌+◌, ◌<◌, ◌≤◌, inl, inr, List, [], ◌∷◌, ◌++◌, length, slice_get, Option, Some, subst, refl, sym, ap, ◌∙◌, arith}
 use Rattle.std.proofs.lemmas.Option.{same_Some}
 use Rattle.std.proofs.lemmas.List.{length_push}
 use Rattle.cml_board.specs.declared.entry.Entry.{Entry}
@@ -10,12 +10,6 @@ use Rattle.cml_lanes.specs.Sides.{LaneSide, FeedSide, way_kind}
 use Rattle.cml_lanes.specs.Laned.{laned}
 use Rattle.cml_lanes.specs.Moving.{KeepsLane}
 use Rattle.cml_lanes.specs.Floor.{FloorShown, KeepsLanes, KeepsFeeds, SameRing}
-use Rattle.cml_lanes.proofs.Slots.{one_taken_more}
-
--- a push that was not refused
-pub was_pushed : {Side : Type 0} (slots items : List (Option Side)) (side : Side) (ok err : Bool) → items ≡ cond ok (slots ++ Some side ∷ []) slots
-    → ok ≡ not err → err ≡ false → items ≡ slots ++ Some side ∷ []
-was_pushed slots items side ok err is negation none = is ∙ ap (λ b. cond b (slots ++ Some side ∷ []) slots) (negation ∙ ap not none)
 
 module _ {M : Type 0} where
   keeps_pushed : (history : List (Entry M)) (lanes : List (Option (LaneSide M))) (side : LaneSide M) → KeepsLanes history lanes
@@ -32,14 +26,11 @@ module _ {M : Type 0} where
       none : (number : ℕ) → length (lanes ++ Some side ∷ []) ≤ number → laned history number ≡ []
       none number past = keeps.no_lane number (omega (arith, past, length_push lanes (Some side)))
 
-  pub opened_keeps : {feeds : List (Option (FeedSide M))} (history : List (Entry M)) (lanes items : List (Option (LaneSide M))) (side : LaneSide M) (opened : ℕ) → items ≡ lanes ++ Some side ∷ []
-      → KeepsLanes history lanes × (opened ≡ count_by is_some lanes) × KeepsFeeds history feeds → side.received ≡ [] → kind_of history side.target.0 ≡ Some (way_kind side.way)
-      → KeepsLanes history items × (opened + 1 ≡ count_by is_some items) × KeepsFeeds history feeds
-  opened_keeps history lanes items side opened pushed keeps received kind = (
-    subst (λ ls. KeepsLanes history ls) (sym pushed) (keeps_pushed history lanes side keeps.0 received kind),
-    omega (arith, keeps.1, one_taken_more lanes side, ap (count_by is_some) pushed),
-    keeps.2,
-  )
+  pub opened_keeps : {feeds : List (Option (FeedSide M))} (history : List (Entry M)) (lanes items : List (Option (LaneSide M))) (side : LaneSide M) → items ≡ lanes ++ Some side ∷ []
+      → KeepsLanes history lanes × KeepsFeeds history feeds → side.received ≡ [] → kind_of history side.target.0 ≡ Some (way_kind side.way)
+      → KeepsLanes history items × KeepsFeeds history feeds
+  opened_keeps history lanes items side pushed keeps received kind =
+      (subst (λ ls. KeepsLanes history ls) (sym pushed) (keeps_pushed history lanes side keeps.0 received kind), keeps.1)
 
   pub opened_rings : {feeds : List (Option (FeedSide M))} (board : Shown M) (lanes items : List (Option (LaneSide M))) (side : LaneSide M) (old : FloorShown M)
       → record { board = board; lanes = lanes; feeds = feeds } ≡ old → items ≡ lanes ++ Some side ∷ []

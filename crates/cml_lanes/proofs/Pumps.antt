@@ -1,18 +1,19 @@
 -- Messages that are pumped, one after another.
-use Rattle.std.proofs.Common.{◌≡◌, ℕ, ◌+◌, ◌++◌, Bool, sym, ap, ◌∙◌, arith, length-append, append_assoc}
+use Rattle.std.proofs.Common.{◌≡◌, ℕ, ◌+◌, ◌<◌, ◌≤◌, ◌++◌, Bool, Option, Some, None, IfNone, IfSome, sym, ap, ◌∙◌, arith, length-append, append_assoc}
 use Rattle.cml_board.specs.declared.call.Kind.TheVariants.{Port}
 use Rattle.cml_board.specs.declared.outcome.Refusal.{Refusal}
 use Rattle.cml_board.specs.History.{kind_of, is_open, got}
 use Rattle.cml_board.specs.Shown.{Shown}
 use Rattle.cml_lanes.specs.Sides.{FeedSide}
 use Rattle.cml_lanes.specs.Fed.{fed, with_feed}
-use Rattle.cml_lanes.specs.Pumping.{KeepsFeed, Pumps, Balks}
+use Rattle.cml_lanes.specs.Pumping.{KeepsFeed, PumpsIn, Balks, IsSated, LearnsFree}
+use Rattle.cml_lanes.specs.Slots.{PumpsUntil}
 use Rattle.cml_lanes.proofs.Feeding.{fed_more, got_more, kind_fed, open_fed, with_feed_more}
 
 module _ {M : Type 0} where
   -- some were pumped, and then more
   pub pumps_more : (number count more total : ℕ) (old mid new : Shown M) (from via to : FeedSide M) → count + more ≡ total
-      → Pumps number count old mid from via → Pumps number more mid new via to → Pumps number total old new from to
+      → PumpsIn number count old mid from via → PumpsIn number more mid new via to → PumpsIn number total old new from to
   pumps_more number count more total old mid new from via to sum a b = record {
     pumped = a.pumped ++ b.pumped;
     as_many = omega (arith, length-append a.pumped b.pumped, a.as_many, b.as_many, sum);
@@ -30,7 +31,7 @@ module _ {M : Type 0} where
 
   -- the feed is kept
   pub keeps_pumped : (number count : ℕ) (old new : Shown M) (from to : FeedSide M) → KeepsFeed old.history number from
-      → Pumps number count old new from to → KeepsFeed new.history number to
+      → PumpsIn number count old new from to → KeepsFeed new.history number to
   keeps_pumped number count old new from to keeps p =
       let port : to.port ≡ from.port = ap (λ (side : FeedSide M). side.port) p.side in
       let pushed : from.pushed ++ p.pumped ≡ to.pushed = sym (ap (λ (side : FeedSide M). side.pushed) p.side) in
@@ -47,7 +48,7 @@ module _ {M : Type 0} where
 
   -- so many were pumped until one was refused
   pub balked_pumps : {chunk : ℕ} {sure : Bool} {number count : ℕ} {old new : Shown M} {from to : FeedSide M} {refusal : Refusal}
-      → Balks chunk sure number count old new from to refusal → Pumps number count old new from to
+      → Balks chunk sure number count old new from to refusal → PumpsIn number count old new from to
   balked_pumps {chunk} {sure} {number} {count} {old} {new} {from} {to} {refusal} b = record {
     pumped = b.pumps.pumped;
     as_many = b.pumps.as_many;
@@ -57,3 +58,33 @@ module _ {M : Type 0} where
     side = b.pumps.side;
     free = b.pumps.free;
   }
+
+  -- no more are pumped than the ring has room for
+  pub pumped_most : {number count : ℕ} {old new : Shown M} {from looked to : FeedSide M} → LearnsFree from looked → PumpsIn number count old new looked to → count ≤ from.capacity
+  pumped_most {number} {count} {old} {new} {from} {looked} {to} looks p = omega (arith, p.free, looks.most, ap (λ (side : FeedSide M). side.capacity) looks.side)
+
+  pub balked_fewer : {chunk : ℕ} {sure : Bool} {number count : ℕ} {old new : Shown M} {from looked to : FeedSide M} {refusal : Refusal} → LearnsFree from looked
+      → Balks chunk sure number count old new looked to refusal → count < from.capacity
+  balked_fewer {chunk} {sure} {number} {count} {old} {new} {from} {looked} {to} {refusal} looks b =
+      omega (arith, b.room, b.pumps.free, looks.most, ap (λ (side : FeedSide M). side.capacity) looks.side)
+
+  -- there was no slot or no message, or one was refused
+  pub pumped_until : (chunk : ℕ) (sure : Bool) (number count : ℕ) (old new : Shown M) (from looked to : FeedSide M) → LearnsFree from looked
+      → (stopped : Option Refusal) → IfNone stopped (PumpsIn number count old new looked to × IsSated new to)
+      → IfSome stopped (λ refusal. Balks chunk sure number count old new looked to refusal) → PumpsUntil chunk sure number count stopped old new from to
+  pumped_until chunk sure number count old new from looked to looks None pumped balked =
+      record { looked = looked; looks = looks; pumps = pumped.0; sated = pumped.1; most = pumped_most looks pumped.0 }
+  pumped_until chunk sure number count old new from looked to looks (Some refusal) pumped balked =
+      record { looked = looked; looks = looks; balks = balked; fewer = balked_fewer looks balked }
+
+  -- so many went into the ring, whether or not one was refused then
+  pub record PumpsRing (number count : ℕ) (old new : Shown M) (from to : FeedSide M) : Type 0 where
+    pub looked : FeedSide M
+    pub looks : LearnsFree from looked
+    pub pumps : PumpsIn number count old new looked to
+
+  pub until_pumps : (chunk : ℕ) (sure : Bool) (number count : ℕ) (stopped : Option Refusal) (old new : Shown M) (from to : FeedSide M)
+      → PumpsUntil chunk sure number count stopped old new from to → PumpsRing number count old new from to
+  until_pumps chunk sure number count None old new from to until = record { looked = until.looked; looks = until.looks; pumps = until.pumps }
+  until_pumps chunk sure number count (Some refusal) old new from to until =
+      record { looked = until.looked; looks = until.looks; pumps = balked_pumps until.balks }

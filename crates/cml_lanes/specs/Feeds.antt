@@ -1,5 +1,5 @@
 -- What the calls on feeds do to a floor.
-use Rattle.std.specs.Prelude.{ℕ, ◌≡◌, ◌<◌, ◌⊎◌, Bool, [], ◌∷◌, ◌++◌, length, slice_get, slice_set, Option, Some, None, IfSome}
+use Rattle.std.specs.Prelude.{ℕ, ◌≡◌, ◌<◌, ◌⊎◌, Bool, [], ◌∷◌, ◌++◌, length, slice_get, slice_set, Option, Some, None, Result, Ok, Err, IfSome}
 use Rattle.cml_board.specs.declared.call.Name.{Name}
 use Rattle.cml_board.specs.declared.call.Call.TheVariants.{NewPort}
 use Rattle.cml_board.specs.declared.entry.Who.TheVariants.{Feed}
@@ -11,7 +11,7 @@ use Rattle.cml_board.specs.Outcome.{HasRoom, AddsEntry, IsAsBefore, Refuses}
 use Rattle.cml_lanes.specs.Ends.{FeedShown, Ended}
 use Rattle.cml_lanes.specs.Sides.{FeedSide}
 use Rattle.cml_lanes.specs.Fed.{fed}
-use Rattle.cml_lanes.specs.Floor.{FloorShown, OnFeed}
+use Rattle.cml_lanes.specs.Floor.{FloorShown, FindsNoFeed, NoSuchOr, stays, OnFeed}
 use Rattle.cml_lanes.specs.Pumping.{Fills, IsStarved}
 
 module _ {M : Type 0} where
@@ -38,13 +38,19 @@ module _ {M : Type 0} where
     pub lanes : new.lanes ≡ old.lanes
     pub feeds : new.feeds ≡ old.feeds
 
+  -- what becomes of the opening of a feed
+  abbrev pub OpensAFeed : ℕ → Bool → FloorShown M → FloorShown M → Name → ℕ → Result (FeedShown M × ℕ) Refusal → Type 0
+  OpensAFeed chunk sure old new channel capacity (Ok feed) = OpensFeed old new channel capacity feed.0 feed.1
+  OpensAFeed chunk sure old new channel capacity (Err refusal) = FeedRefused chunk sure old new channel refusal
+
   -- so many messages of an open feed's port went into its ring, until it had no slot or no message more
   abbrev pub FillsFeed : ℕ → ℕ → FloorShown M → FloorShown M → Type 0
-  FillsFeed number count old new = OnFeed number old new (Fills number count old.board new.board)
+  FillsFeed number count old new = OnFeed stays number old new (Fills number count old.board new.board)
 
   -- so many of them went, and then one was refused, which is still owed
   abbrev pub Starves : ℕ → Bool → ℕ → ℕ → FloorShown M → FloorShown M → Refusal → Type 0
-  Starves chunk sure number count old new refusal = OnFeed number old new (λ from to. IsStarved chunk sure number count old.board new.board from to refusal)
+  Starves chunk sure number count old new refusal =
+      OnFeed stays number old new (λ from to. IsStarved chunk sure number count old.board new.board from to refusal)
 
   -- one was refused, but not the first
   abbrev pub BalksLate : ℕ → Bool → ℕ → ℕ → FloorShown M → FloorShown M → Type 0
@@ -54,9 +60,19 @@ module _ {M : Type 0} where
   abbrev pub PumpsFeed : ℕ → Bool → ℕ → ℕ → FloorShown M → FloorShown M → Type 0
   PumpsFeed chunk sure number count old new = FillsFeed number count old new ⊎ BalksLate chunk sure number count old new
 
+  -- what becomes of a pump: so many went; or no open feed has the number; or the first that was owed was refused
+  abbrev pub Pumps : ℕ → Bool → ℕ → FloorShown M → FloorShown M → Result ℕ Refusal → Type 0
+  Pumps chunk sure number old new (Ok count) = PumpsFeed chunk sure number count old new
+  Pumps chunk sure number old new (Err refusal) = NoSuchOr (FindsNoFeed number old new) (Starves chunk sure number 0 old new) refusal
+
   -- an open feed is ended for good, and nothing else is changed; the end that is given tells all that was pumped
   pub record EndsFeed (number : ℕ) (old new : FloorShown M) (end : Option (Ended M)) : Type 0 where
     pub from : FeedSide M
     pub opened : slice_get old.feeds number ≡ Some (Some from)
     pub floor : new ≡ record old { feeds = slice_set old.feeds number None }
     pub given : IfSome end (λ whole. whole ≡ record { ring = from.ring; number = number; sent = fed old.board.history number })
+
+  -- what becomes of the end of a feed: it is ended; or no open feed has the number
+  abbrev pub Ends : ℕ → FloorShown M → FloorShown M → Result (Option (Ended M)) Refusal → Type 0
+  Ends number old new (Ok end) = EndsFeed number old new end
+  Ends number old new (Err refusal) = NoSuchOr (FindsNoFeed number old new) (λ other. ⊥) refusal

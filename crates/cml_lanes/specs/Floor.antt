@@ -1,6 +1,8 @@
 -- What a floor shows of itself, and what always holds of it.
 use Rattle.std.specs.Prelude.{ℕ, ◌≡◌, ◌≤◌, Bool, true, false, List, [], ◌++◌, length, slice_get, slice_set, Option, Some, None}
 use Rattle.cml_board.specs.declared.entry.Entry.{Entry}
+use Rattle.cml_board.specs.declared.outcome.Refusal.{Refusal}
+use Rattle.cml_board.specs.declared.outcome.Refusal.TheVariants.{NoSuch}
 use Rattle.cml_board.specs.Shown.{Shown}
 use Rattle.cml_lanes.specs.Ends.{Ended}
 use Rattle.cml_lanes.specs.Sides.{LaneSide, FeedSide}
@@ -16,10 +18,32 @@ pub record FloorShown (M : Type 0) : Type 0 where
   pub lanes : List (Option (LaneSide M))
   pub feeds : List (Option (FeedSide M))
 
+-- something is in this place
 abbrev pub is_taken : {X : Type 0} → Option (Option X) → Bool
 is_taken None = false
 is_taken (Some None) = false
 is_taken (Some (Some side)) = true
+
+-- a call is refused `NoSuch` for the first reason alone, and in each other way for the second
+abbrev pub NoSuchOr : Type 0 → (Refusal → Type 0) → Refusal → Type 0
+NoSuchOr none why NoSuch = none
+NoSuchOr none why refusal = why refusal
+
+-- it stays open, as it is then
+abbrev pub stays : {Side : Type 0} → Side → Option Side
+stays side = Some side
+
+-- it is no longer open
+abbrev pub goes : {Side : Type 0} → Side → Option Side
+goes side = None
+
+-- this is done to the lane or the feed in one place, which then stays or goes; and nothing to another
+pub record OnPlace {Side : Type 0} (left : Side → Option Side) (number : ℕ) (old new : List (Option Side)) (Does : Side → Side → Type 0) : Type 0 where
+  pub from : Side
+  pub to : Side
+  pub opened : slice_get old number ≡ Some (Some from)
+  pub places : new ≡ slice_set old number (left to)
+  pub does : Does from to
 
 module _ {M : Type 0} where
   -- the lane of this number is open
@@ -43,6 +67,14 @@ module _ {M : Type 0} where
     pub apart : (one two : ℕ) (a b : FeedSide M) → slice_get feeds one ≡ Some (Some a) → slice_get feeds two ≡ Some (Some b)
         → a.port ≡ b.port → one ≡ two
 
+  -- no open lane has the number, and nothing is changed
+  abbrev pub FindsNoLane : ℕ → FloorShown M → FloorShown M → Type 0
+  FindsNoLane number old new = (is_open_lane old number ≡ false) × (new ≡ old)
+
+  -- no open feed has the number, and nothing is changed
+  abbrev pub FindsNoFeed : ℕ → FloorShown M → FloorShown M → Type 0
+  FindsNoFeed number old new = (is_open_feed old number ≡ false) × (new ≡ old)
+
   -- where the lane of this number is open now, it was open before, and is on the same ring
   abbrev pub SameRing : ℕ → FloorShown M → FloorShown M → Type 0
   SameRing number old new = (side : LaneSide M) → slice_get new.lanes number ≡ Some (Some side)
@@ -61,6 +93,7 @@ module _ {M : Type 0} where
   abbrev pub IsOfRing : ℕ → FloorShown M → Ended M → Type 0
   IsOfRing number floor end = (side : LaneSide M) → slice_get floor.lanes number ≡ Some (Some side) → end.ring ≡ side.ring
 
+  -- where the end's own lane is open, it is of its ring
   abbrev pub IsOfItsRing : FloorShown M → Ended M → Type 0
   IsOfItsRing floor end = IsOfRing end.number floor end
 
@@ -68,29 +101,12 @@ module _ {M : Type 0} where
   abbrev pub GivesAll : ℕ → FloorShown M → Ended M → Type 0
   GivesAll number floor end = (side : LaneSide M) → slice_get floor.lanes number ≡ Some (Some side) → laned floor.board.history number ++ side.seen ≡ end.sent
 
-  -- this is done to an open lane, which stays open; and nothing to another, nor to a feed
-  pub record OnLane (number : ℕ) (old new : FloorShown M) (Does : LaneSide M → LaneSide M → Type 0) : Type 0 where
-    pub from : LaneSide M
-    pub to : LaneSide M
-    pub opened : slice_get old.lanes number ≡ Some (Some from)
-    pub lanes : new.lanes ≡ slice_set old.lanes number (Some to)
+  -- this is done to an open lane, which then stays or goes; and nothing to another, nor to a feed
+  pub record OnLane (left : LaneSide M → Option (LaneSide M)) (number : ℕ) (old new : FloorShown M) (Does : LaneSide M → LaneSide M → Type 0) : Type 0 where
+    pub place : OnPlace left number old.lanes new.lanes Does
     pub feeds : new.feeds ≡ old.feeds
-    pub does : Does from to
 
-  -- this is done to an open lane, which is then closed for good; and nothing to another, nor to a feed
-  pub record OffLane (number : ℕ) (old new : FloorShown M) (Does : LaneSide M → LaneSide M → Type 0) : Type 0 where
-    pub from : LaneSide M
-    pub to : LaneSide M
-    pub opened : slice_get old.lanes number ≡ Some (Some from)
-    pub lanes : new.lanes ≡ slice_set old.lanes number None
-    pub feeds : new.feeds ≡ old.feeds
-    pub does : Does from to
-
-  -- this is done to an open feed, which stays open; and nothing to another, nor to a lane
-  pub record OnFeed (number : ℕ) (old new : FloorShown M) (Does : FeedSide M → FeedSide M → Type 0) : Type 0 where
-    pub from : FeedSide M
-    pub to : FeedSide M
-    pub opened : slice_get old.feeds number ≡ Some (Some from)
-    pub feeds : new.feeds ≡ slice_set old.feeds number (Some to)
+  -- this is done to an open feed, which then stays or goes; and nothing to another, nor to a lane
+  pub record OnFeed (left : FeedSide M → Option (FeedSide M)) (number : ℕ) (old new : FloorShown M) (Does : FeedSide M → FeedSide M → Type 0) : Type 0 where
+    pub place : OnPlace left number old.feeds new.feeds Does
     pub lanes : new.lanes ≡ old.lanes
-    pub does : Does from to

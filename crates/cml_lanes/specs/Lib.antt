@@ -10,3 +10,4 @@ pub mod Lanes
 pub mod Barring
 pub mod Slots
 pub mod Feeds
+pub mod Steps

@@ -1,5 +1,5 @@
 -- How messages go out of a lane's ring into the journal.
-use Rattle.std.specs.Prelude.{ℕ, ◌≡◌, ◌+◌, ◌≤◌, Bool, List, [], ◌++◌, length, slice_get, Option, Some, ⊤}
+use Rattle.std.specs.Prelude.{ℕ, ◌≡◌, ◌+◌, ◌<◌, ◌≤◌, Bool, List, [], ◌++◌, length, slice_get, Some, ⊤}
 use mathlib.Core.List.{IsPrefix}
 use Rattle.cml_board.specs.declared.outcome.Refusal.{Refusal}
 use Rattle.cml_board.specs.declared.outcome.Refusal.TheVariants.{JournalFull, NoMemory}
@@ -16,14 +16,6 @@ IsLimit JournalFull = ⊤
 IsLimit NoMemory = ⊤
 IsLimit refusal = ⊥
 
--- the lane or the feed of a slot stays open, and this is done to it
-pub record OnSlot {Side : Type 0} (old new : Option Side) (Does : Side → Side → Type 0) : Type 0 where
-  pub from : Side
-  pub to : Side
-  pub opened : old ≡ Some from
-  pub stays : new ≡ Some to
-  pub does : Does from to
-
 module _ {M : Type 0} where
   -- an open lane: what the journal has of its number is what was taken out of its ring, and its target is of the kind that
   -- its way goes to
@@ -33,7 +25,7 @@ module _ {M : Type 0} where
 
   -- so many messages went out of the ring, in order, and each of them has an entry; the journal and the lane changed in
   -- nothing else
-  pub record Moves (number count : ℕ) (old new : Shown M) (from to : LaneSide M) : Type 0 where
+  pub record MovesOut (number count : ℕ) (old new : Shown M) (from to : LaneSide M) : Type 0 where
     pub moved : List M
     pub as_many : length moved ≡ count
     pub history : new.history ≡ with_lane number from.way from.target moved old.history
@@ -45,18 +37,12 @@ module _ {M : Type 0} where
   -- so many went out, and then the call of the next, which is still in the ring, was refused
   pub record Stops (chunk : ℕ) (sure : Bool) (number count : ℕ) (old new : Shown M) (from to : LaneSide M) (refusal : Refusal) : Type 0 where
     pub at : Shown M
-    pub moves : Moves number count old at from to
+    pub moves : MovesOut number count old at from to
     pub after : IsAsBefore at new
     pub message : M
     pub next : slice_get to.seen 0 ≡ Some message
     pub limit : IsLimit refusal
     pub refused : Refuses chunk sure at (way_call to.way to.target message) refusal
-
-  -- a slot of a floor with an open lane
-  pub record HasLane (history : List (Entry M)) (number : ℕ) (slot : Option (LaneSide M)) : Type 0 where
-    pub side : LaneSide M
-    pub opened : slot ≡ Some side
-    pub keeps : KeepsLane history number side
 
   -- more of the ring's messages may have been seen
   pub record Looks (from to : LaneSide M) : Type 0 where
@@ -64,19 +50,21 @@ module _ {M : Type 0} where
     pub more : IsPrefix from.seen to.seen
     pub most : length to.seen ≤ to.capacity
 
-  -- the floor looked into the ring, and so many went out
-  pub record Drains (number count : ℕ) (old new : Shown M) (from to : LaneSide M) : Type 0 where
+  -- the floor looked into the ring, and so many went out, which are no more than the ring has room for
+  pub record DrainsRing (number count : ℕ) (old new : Shown M) (from to : LaneSide M) : Type 0 where
     pub looked : LaneSide M
     pub looks : Looks from looked
-    pub moves : Moves number count old new looked to
+    pub moves : MovesOut number count old new looked to
+    pub most : count ≤ from.capacity
 
   -- the floor looked into the ring, and all that it saw went out
   pub record Empties (number count : ℕ) (old new : Shown M) (from to : LaneSide M) : Type 0 where
-    pub drains : Drains number count old new from to
+    pub drains : DrainsRing number count old new from to
     pub none : to.seen ≡ []
 
-  -- the floor looked into the ring, and so many went out until one was refused
+  -- the floor looked into the ring, and so many went out until one was refused, which are fewer than the ring has room for
   pub record IsHeld (chunk : ℕ) (sure : Bool) (number count : ℕ) (old new : Shown M) (from to : LaneSide M) (refusal : Refusal) : Type 0 where
     pub looked : LaneSide M
     pub looks : Looks from looked
     pub stops : Stops chunk sure number count old new looked to refusal
+    pub fewer : count < from.capacity

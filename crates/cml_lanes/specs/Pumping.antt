@@ -1,5 +1,5 @@
 -- How messages go from a port into a feed's ring.
-use Rattle.std.specs.Prelude.{ℕ, ◌≡◌, ◌+◌, ◌<◌, ◌≤◌, ◌⊎◌, Bool, true, List, ◌++◌, length, Option, Some, None}
+use Rattle.std.specs.Prelude.{ℕ, ◌≡◌, ◌+◌, ◌<◌, ◌≤◌, ◌⊎◌, Bool, true, List, ◌++◌, length, Some, None}
 use Rattle.cml_board.specs.declared.call.Kind.TheVariants.{Port}
 use Rattle.cml_board.specs.declared.call.Call.TheVariants.{Recv}
 use Rattle.cml_board.specs.declared.entry.Reply.TheVariants.{Got}
@@ -8,7 +8,6 @@ use Rattle.cml_board.specs.declared.outcome.Refusal.{Refusal}
 use Rattle.cml_board.specs.History.{kind_of, is_open, got, answer}
 use Rattle.cml_board.specs.Shown.{Shown}
 use Rattle.cml_board.specs.Outcome.{IsAsBefore, Refuses}
-use Rattle.cml_lanes.specs.Ends.{Ended}
 use Rattle.cml_lanes.specs.Sides.{FeedSide}
 use Rattle.cml_lanes.specs.Fed.{fed, with_feed}
 use Rattle.cml_lanes.specs.Moving.{IsLimit}
@@ -24,7 +23,7 @@ module _ {M : Type 0} where
 
   -- so many messages were received from the port, in order, each by an entry of the feed's own, and put into free slots of
   -- the ring; the journal and the feed changed in nothing else
-  pub record Pumps (number count : ℕ) (old new : Shown M) (from to : FeedSide M) : Type 0 where
+  pub record PumpsIn (number count : ℕ) (old new : Shown M) (from to : FeedSide M) : Type 0 where
     pub pumped : List M
     pub as_many : length pumped ≡ count
     pub history : new.history ≡ with_feed number from.port pumped old.history
@@ -36,7 +35,7 @@ module _ {M : Type 0} where
   -- so many were pumped, and then the call for the next, which the port is still owed, was refused; a slot was free for it
   pub record Balks (chunk : ℕ) (sure : Bool) (number count : ℕ) (old new : Shown M) (from to : FeedSide M) (refusal : Refusal) : Type 0 where
     pub at : Shown M
-    pub pumps : Pumps number count old at from to
+    pub pumps : PumpsIn number count old at from to
     pub after : IsAsBefore at new
     pub room : 0 < to.free
     pub message : M
@@ -48,33 +47,25 @@ module _ {M : Type 0} where
   abbrev pub IsSated : Shown M → FeedSide M → Type 0
   IsSated board side = (side.free ≡ 0) ⊎ (answer board.history (Recv side.port) ≡ None)
 
-  -- a slot of a floor with an open feed
-  pub record HasFeed (history : List (Entry M)) (number : ℕ) (slot : Option (FeedSide M)) : Type 0 where
-    pub side : FeedSide M
-    pub opened : slot ≡ Some side
-    pub keeps : KeepsFeed history number side
-
-  -- a slot's feed is ended: all that was put into its ring is what was pumped
-  pub record EndsSlot (number : ℕ) (old : Option (FeedSide M)) (end : Ended M) : Type 0 where
-    pub side : FeedSide M
-    pub opened : old ≡ Some side
-    pub ends : end ≡ record { ring = side.ring; number = number; sent = side.pushed }
-
   -- more of the ring's slots may be known to be free
   pub record LearnsFree (from to : FeedSide M) : Type 0 where
     pub side : to ≡ record from { free = to.free }
     pub more : from.free ≤ to.free
     pub most : to.free ≤ to.capacity
 
-  -- the floor looked how many slots are free, and so many messages were pumped until it had no slot or no message
+  -- the floor looked how many slots are free, and so many messages were pumped until it had no slot or no message, which are
+  -- no more than the ring has room for
   pub record Fills (number count : ℕ) (old new : Shown M) (from to : FeedSide M) : Type 0 where
     pub looked : FeedSide M
     pub looks : LearnsFree from looked
-    pub pumps : Pumps number count old new looked to
+    pub pumps : PumpsIn number count old new looked to
     pub sated : IsSated new to
+    pub most : count ≤ from.capacity
 
-  -- the floor looked how many slots are free, and so many messages were pumped until one was refused
+  -- the floor looked how many slots are free, and so many messages were pumped until one was refused, which are fewer than
+  -- the ring has room for
   pub record IsStarved (chunk : ℕ) (sure : Bool) (number count : ℕ) (old new : Shown M) (from to : FeedSide M) (refusal : Refusal) : Type 0 where
     pub looked : FeedSide M
     pub looks : LearnsFree from looked
     pub balks : Balks chunk sure number count old new looked to refusal
+    pub fewer : count < from.capacity

@@ -1,9 +1,9 @@
-ghost use Rattle.std.specs.Prelude.{◌≡◌, ◌<◌, ◌∷◌, ◌++◌, [], true, false, length, slice_get, slice_set, Some, None, is_some, count_by, IsSome, IfNone, IfSome, OnOk};
+ghost use Rattle.std.specs.Prelude.{◌≡◌, ◌<◌, ◌∷◌, ◌++◌, [], true, false, length, slice_get, slice_set, Some, None, is_some, count_by, IsSome, IfSome, OnOk};
 ghost use Rattle.cml_lanes.specs.Sides.{FeedSide};
-ghost use Rattle.cml_lanes.specs.Floor.{is_taken};
-ghost use Rattle.cml_lanes.specs.Pumping.{KeepsFeed, Fills, IsStarved};
+ghost use Rattle.cml_lanes.specs.Floor.{is_taken, stays, OnPlace};
+ghost use Rattle.cml_lanes.specs.Pumping.{KeepsFeed};
+ghost use Rattle.cml_lanes.specs.Slots.{PumpsUntil};
 ghost use Rattle.cml_lanes.specs.Barring.{is_feeds_port, is_barred};
-ghost use Rattle.cml_lanes.specs.Slots.{OnPlace};
 
 use crate::feed::FeedEnd;
 use crate::inner_feed::InnerFeed;
@@ -122,9 +122,7 @@ impl<M: Message> FeedSlots<M> {
     ) -> (usize, Option<Refusal>)
         requires opened { is_taken (slice_get self.old.feeds number) ≡ true }
         requires kept { (side : FeedSide M) → slice_get self.old.feeds number ≡ Some (Some side) → KeepsFeed board.old.history number side }
-        ensures whole { IfNone result.1 (OnPlace number self.old.feeds self.new.feeds (Fills number result.0 board.old board.new)) }
-        ensures starved { IfSome result.1 (λ refusal. OnPlace number self.old.feeds self.new.feeds
-            (λ from to. IsStarved L.CHUNK M.SURE number result.0 board.old board.new from to refusal)) }
+        ensures { OnPlace stays number self.old.feeds self.new.feeds (PumpsUntil L.CHUNK M.SURE number result.0 result.1 board.old board.new) }
     {
         pump_slot(board, &mut self.slots[number as usize], number)
     }

@@ -1,21 +1,20 @@
-ghost use Rattle.std.specs.Prelude.{◌≡◌, true, false, [], length, slice_set, None, count_by, is_some, IfNone, IfSome};
+ghost use Rattle.std.specs.Prelude.{◌≡◌, true, false, [], length, slice_set, None, count_by, is_some};
 ghost use Rattle.cml_board.specs.declared.entry.Who.TheVariants.{Seat};
 ghost use Rattle.cml_board.specs.declared.outcome.Outcome.TheVariants.{Refused};
 ghost use Rattle.cml_board.specs.declared.outcome.Refusal.TheVariants.{WrongKind};
 ghost use Rattle.cml_board.specs.History.{no_entries};
 ghost use Rattle.cml_board.specs.Outcome.{Applies};
 ghost use Rattle.cml_lanes.specs.Laned.{laned};
-ghost use Rattle.cml_lanes.specs.Moving.{Empties, IsHeld};
-ghost use Rattle.cml_lanes.specs.Floor.{is_open_lane, is_open_feed, KeepsLanes, KeepsFeeds, KeepsRings, IsOfRing, GivesAll, OnLane};
+ghost use Rattle.cml_lanes.specs.Floor.{is_open_lane, is_open_feed, stays, OnLane, KeepsLanes, KeepsFeeds, KeepsRings, IsOfRing, GivesAll};
+ghost use Rattle.cml_lanes.specs.Slots.{DrainsUntil};
 ghost use Rattle.cml_lanes.specs.Barring.{is_barred};
 
 mod feeds;
 mod lanes;
 
 use crate::feed_slots::FeedSlots;
-use crate::inner_lane::InnerLane;
 use crate::lane::LaneEnd;
-use crate::moving::{drain_slot, drain_slot_after};
+use crate::lane_slots::LaneSlots;
 use cml_board::{Board, Call, Message, Outcome, Refusal, Who};
 use cml_log::MessageLog;
 use std::alloc::Global;
@@ -26,8 +25,7 @@ use std::marker::Model;
 pub struct Floor<M, L: MessageLog<M>> {
     alloc: Global,
     board: Board<M, L>,
-    lanes: Vec<Option<InnerLane<M>>>,
-    opened: u64,
+    lanes: LaneSlots<M>,
     feeds: FeedSlots<M>,
 }
 
@@ -36,12 +34,11 @@ impl<M, L: MessageLog<M>> Model for Floor<M, L> {
 
     ghost Value = { FloorShown M };
 
-    ghost use Rattle.std.specs.Prelude.{◌≡◌, count_by, is_some};
     ghost use Rattle.cml_lanes.specs.Floor.{KeepsLanes, KeepsFeeds};
 
-    ghost view = { λ f. record { board = f.board; lanes = f.lanes.items; feeds = f.feeds.feeds } };
+    ghost view = { λ f. record { board = f.board; lanes = f.lanes; feeds = f.feeds.feeds } };
 
-    ghost invariant = { λ f. KeepsLanes f.board.history f.lanes.items × (f.opened ≡ count_by is_some f.lanes.items) × KeepsFeeds f.board.history f.feeds.feeds };
+    ghost invariant = { λ f. KeepsLanes f.board.history f.lanes × KeepsFeeds f.board.history f.feeds.feeds };
 }
 
 impl<M: Message, L: MessageLog<M>> Floor<M, L> {
@@ -53,8 +50,7 @@ impl<M: Message, L: MessageLog<M>> Floor<M, L> {
         Floor {
             alloc,
             board,
-            lanes: Vec::new(alloc),
-            opened: 0,
+            lanes: LaneSlots::new(alloc),
             feeds: FeedSlots::new(alloc),
         }
     }
@@ -83,7 +79,7 @@ impl<M: Message, L: MessageLog<M>> Floor<M, L> {
     pub fn open_lanes(&self) -> u64
         ensures { result ≡ count_by is_some self.now.lanes }
     {
-        self.opened
+        self.lanes.open_count()
     }
 
     /// How many feeds are open.
@@ -113,7 +109,7 @@ impl<M: Message, L: MessageLog<M>> Floor<M, L> {
     fn has_lane(&self, lane: u64) -> bool
         ensures { result ≡ is_open_lane self.now lane }
     {
-        matches!(self.lanes.get(lane as usize), Some(Some(_)))
+        self.lanes.has(lane)
     }
 
     fn has_feed(&self, feed: u64) -> bool
@@ -125,17 +121,10 @@ impl<M: Message, L: MessageLog<M>> Floor<M, L> {
     /// Moves what is seen of an open lane, until a message is refused: how many were moved, and the refusal.
     fn drain_open(&mut self, lane: u64) -> (usize, Option<Refusal>)
         requires { is_open_lane self.old lane ≡ true }
-        ensures whole { IfNone result.1 (OnLane lane self.old self.new (Empties lane result.0 self.old.board self.new.board)) }
-        ensures held { IfSome result.1 (λ refusal. OnLane lane self.old self.new
-            (λ from to. IsHeld L.CHUNK M.SURE lane result.0 self.old.board self.new.board from to refusal)) }
+        ensures until { OnLane stays lane self.old self.new (DrainsUntil L.CHUNK M.SURE lane result.0 result.1 self.old.board self.new.board) }
         ensures rings { KeepsRings self.old self.new }
     {
-        drain_slot(
-            self.alloc,
-            &mut self.board,
-            &mut self.lanes[lane as usize],
-            lane,
-        )
+        self.lanes.drain(self.alloc, &mut self.board, lane)
     }
 
     /// The same with all that is left of an open lane, whose end this is.
@@ -143,19 +132,12 @@ impl<M: Message, L: MessageLog<M>> Floor<M, L> {
         requires opened { is_open_lane self.old lane ≡ true }
         requires ring { IsOfRing lane self.old end.old }
         ensures end { end.new ≡ end.old }
-        ensures whole { IfNone result.1 (OnLane lane self.old self.new (Empties lane result.0 self.old.board self.new.board)) }
-        ensures held { IfSome result.1 (λ refusal. OnLane lane self.old self.new
-            (λ from to. IsHeld L.CHUNK M.SURE lane result.0 self.old.board self.new.board from to refusal)) }
+        ensures until { OnLane stays lane self.old self.new (DrainsUntil L.CHUNK M.SURE lane result.0 result.1 self.old.board self.new.board) }
         ensures all { GivesAll lane self.new end.old }
         ensures rings { KeepsRings self.old self.new }
     {
-        drain_slot_after(
-            self.alloc,
-            &mut self.board,
-            &mut self.lanes[lane as usize],
-            lane,
-            end,
-        )
+        self.lanes
+            .drain_after(self.alloc, &mut self.board, lane, end)
     }
 
     /// How many messages of an open lane are in the journal.
@@ -163,10 +145,7 @@ impl<M: Message, L: MessageLog<M>> Floor<M, L> {
         requires { is_open_lane self.now lane ≡ true }
         ensures { result ≡ length (laned self.now.board.history lane) }
     {
-        match &self.lanes[lane as usize] {
-            Some(inner) => inner.count(),
-            None => unreachable!(),
-        }
+        self.lanes.moved_count(lane)
     }
 
     /// Lets go of an open lane, and drops what is left in its ring.
@@ -175,7 +154,6 @@ impl<M: Message, L: MessageLog<M>> Floor<M, L> {
         ensures floor { self.new ≡ record self.old { lanes = slice_set self.old.lanes lane None } }
         ensures rings { KeepsRings self.old self.new }
     {
-        self.lanes[lane as usize] = None;
-        self.opened -= 1;
+        self.lanes.let_go(lane);
     }
 }

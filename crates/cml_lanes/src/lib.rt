@@ -8,6 +8,8 @@ mod floor;
 mod inner_feed;
 mod inner_lane;
 mod lane;
+mod lane_slots;
+mod laws;
 mod moving;
 mod pumping;
 mod way;
@@ -15,3 +17,7 @@ mod way;
 pub use feed::{Feed, FeedEnd, Taken};
 pub use floor::Floor;
 pub use lane::{Lane, LaneEnd, LaneFull};
+pub use laws::{closed_lanes_get_no_entry, ended_feeds_get_no_entry};
+
+/// For how many messages a ring may have room, that of a lane or of a feed.
+pub const MAX_CAPACITY: usize = 1024;

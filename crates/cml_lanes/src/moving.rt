@@ -1,6 +1,7 @@
 //! How messages go out of a lane's ring into the journal: each is taken out once it has its entry.
-ghost use Rattle.std.specs.Prelude.{◌≡◌, ◌<◌, [], ◌++◌, length, IfNone, IfSome};
-ghost use Rattle.cml_lanes.specs.Moving.{KeepsLane, Moves, Stops, HasLane, OnSlot, Empties, IsHeld};
+ghost use Rattle.std.specs.Prelude.{◌≡◌, ◌<◌, [], length, IfNone, IfSome};
+ghost use Rattle.cml_lanes.specs.Moving.{KeepsLane, MovesOut, Stops};
+ghost use Rattle.cml_lanes.specs.Slots.{OnSlot, HasLane, DrainsUntil, LeavesAll};
 
 use crate::inner_lane::InnerLane;
 use crate::lane::LaneEnd;
@@ -17,8 +18,7 @@ pub fn drain_slot<M: Message, L: MessageLog<M>>(
     number: u64,
 ) -> (usize, Option<Refusal>)
     requires { HasLane board.old.history number slot.old }
-    ensures whole { IfNone result.1 (OnSlot slot.old slot.new (Empties number result.0 board.old board.new)) }
-    ensures held { IfSome result.1 (λ refusal. OnSlot slot.old slot.new (λ from to. IsHeld L.CHUNK M.SURE number result.0 board.old board.new from to refusal)) }
+    ensures { OnSlot slot.old slot.new (DrainsUntil L.CHUNK M.SURE number result.0 result.1 board.old board.new) }
 {
     let Some(lane) = slot else { unreachable!() };
     lane.look();
@@ -36,9 +36,8 @@ pub fn drain_slot_after<M: Message, L: MessageLog<M>>(
     requires slot { HasLane board.old.history number slot.old }
     requires ring { IfSome slot.old (λ side. end.old.ring ≡ side.ring) }
     ensures end { end.new ≡ end.old }
-    ensures whole { IfNone result.1 (OnSlot slot.old slot.new (Empties number result.0 board.old board.new)) }
-    ensures held { IfSome result.1 (λ refusal. OnSlot slot.old slot.new (λ from to. IsHeld L.CHUNK M.SURE number result.0 board.old board.new from to refusal)) }
-    ensures all { IfSome slot.new (λ side. side.received ++ side.seen ≡ end.old.sent) }
+    ensures until { OnSlot slot.old slot.new (DrainsUntil L.CHUNK M.SURE number result.0 result.1 board.old board.new) }
+    ensures all { IfSome slot.new (LeavesAll end.old) }
 {
     let Some(lane) = slot else { unreachable!() };
     lane.look_after(end);
@@ -53,7 +52,7 @@ pub fn move_seen<M: Message, L: MessageLog<M>>(
     number: u64,
 ) -> (usize, Option<Refusal>)
     requires { KeepsLane board.old.history number lane.old }
-    ensures moved { IfNone result.1 (Moves number result.0 board.old board.new lane.old lane.new × (lane.new.seen ≡ [])) }
+    ensures moved { IfNone result.1 (MovesOut number result.0 board.old board.new lane.old lane.new × (lane.new.seen ≡ [])) }
     ensures stopped { IfSome result.1 (λ refusal. Stops L.CHUNK M.SURE number result.0 board.old board.new lane.old lane.new refusal) }
 {
     let count = lane.seen();
@@ -75,7 +74,7 @@ fn move_next<M: Message, L: MessageLog<M>>(
 ) -> Option<Refusal>
     requires kept { KeepsLane board.old.history number lane.old }
     requires seen { 0 < length lane.old.seen }
-    ensures moved { IfNone result (Moves number 1 board.old board.new lane.old lane.new) }
+    ensures moved { IfNone result (MovesOut number 1 board.old board.new lane.old lane.new) }
     ensures stopped { IfSome result (λ refusal. Stops L.CHUNK M.SURE number 0 board.old board.new lane.old lane.new refusal) }
 {
     // A full journal is told before any memory is asked for.

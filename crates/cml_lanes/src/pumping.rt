@@ -2,8 +2,8 @@
 ghost use Rattle.std.specs.Prelude.{◌≡◌, ◌≢◌, ◌<◌, None, IfNone, IfSome};
 ghost use Rattle.cml_board.specs.declared.call.Call.TheVariants.{Recv};
 ghost use Rattle.cml_board.specs.History.{answer};
-ghost use Rattle.cml_lanes.specs.Moving.{OnSlot};
-ghost use Rattle.cml_lanes.specs.Pumping.{KeepsFeed, HasFeed, Pumps, Balks, IsSated, Fills, IsStarved, EndsSlot};
+ghost use Rattle.cml_lanes.specs.Pumping.{KeepsFeed, PumpsIn, Balks, IsSated};
+ghost use Rattle.cml_lanes.specs.Slots.{OnSlot, HasFeed, PumpsUntil, EndsSlot};
 
 use crate::feed::FeedEnd;
 use crate::inner_feed::InnerFeed;
@@ -18,8 +18,7 @@ pub fn pump_slot<M: Message, L: MessageLog<M>>(
     number: u64,
 ) -> (usize, Option<Refusal>)
     requires { HasFeed board.old.history number slot.old }
-    ensures whole { IfNone result.1 (OnSlot slot.old slot.new (Fills number result.0 board.old board.new)) }
-    ensures starved { IfSome result.1 (λ refusal. OnSlot slot.old slot.new (λ from to. IsStarved L.CHUNK M.SURE number result.0 board.old board.new from to refusal)) }
+    ensures { OnSlot slot.old slot.new (PumpsUntil L.CHUNK M.SURE number result.0 result.1 board.old board.new) }
 {
     let Some(feed) = slot else { unreachable!() };
     feed.look();
@@ -42,7 +41,7 @@ fn pump_free<M: Message, L: MessageLog<M>>(
     number: u64,
 ) -> (usize, Option<Refusal>)
     requires { KeepsFeed board.old.history number feed.old }
-    ensures pumped { IfNone result.1 (Pumps number result.0 board.old board.new feed.old feed.new × IsSated board.new feed.new) }
+    ensures pumped { IfNone result.1 (PumpsIn number result.0 board.old board.new feed.old feed.new × IsSated board.new feed.new) }
     ensures balked { IfSome result.1 (λ refusal. Balks L.CHUNK M.SURE number result.0 board.old board.new feed.old feed.new refusal) }
 {
     let count = feed.free();
@@ -68,7 +67,7 @@ fn pump_next<M: Message, L: MessageLog<M>>(
     requires kept { KeepsFeed board.old.history number feed.old }
     requires room { 0 < feed.old.free }
     requires owed { answer board.old.history (Recv feed.old.port) ≢ None }
-    ensures pumped { IfNone result (Pumps number 1 board.old board.new feed.old feed.new) }
+    ensures pumped { IfNone result (PumpsIn number 1 board.old board.new feed.old feed.new) }
     ensures balked { IfSome result (λ refusal. Balks L.CHUNK M.SURE number 0 board.old board.new feed.old feed.new refusal) }
 {
     match board.apply(Who::Feed(number), Call::Recv(feed.port())) {

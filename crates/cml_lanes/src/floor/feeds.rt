@@ -1,13 +1,14 @@
 //! Feeds are opened, pumped and ended.
-ghost use Rattle.std.specs.Prelude.{ℕ, ◌≡◌, ◌≤◌, ◌<◌, true, false, length, IsOk, IfOk, IfErr, IfNone, IfSome, MatchOption, Err};
+ghost use Rattle.std.specs.Prelude.{ℕ, ◌≡◌, ◌≤◌, ◌<◌, true, length, IfOk, IfErr, IfNone, IfSome, MatchOption};
 ghost use Rattle.cml_board.specs.declared.call.Call.TheVariants.{NewPort};
-ghost use Rattle.cml_board.specs.declared.outcome.Refusal.TheVariants.{NoSuch};
 ghost use Rattle.cml_board.specs.History.{Fits, Lawful};
 ghost use Rattle.cml_board.specs.Outcome.{HasRoom, IsAsBefore, Refuses};
-ghost use Rattle.cml_lanes.specs.Floor.{is_open_feed, KeepsRings, SameFeedRing};
-ghost use Rattle.cml_lanes.specs.Feeds.{MakesPort, OpensFeed, FeedRefused, FillsFeed, PumpsFeed, Starves, EndsFeed};
+ghost use Rattle.cml_lanes.specs.Floor.{is_open_feed, stays, OnFeed, KeepsRings, SameFeedRing};
+ghost use Rattle.cml_lanes.specs.Feeds.{MakesPort, OpensAFeed, Pumps, Ends};
+ghost use Rattle.cml_lanes.specs.Slots.{PumpsUntil};
 
 use super::Floor;
+use crate::MAX_CAPACITY;
 use crate::feed::{Feed, FeedEnd};
 use crate::inner_feed::InnerFeed;
 use cml_board::{Board, Call, Kind, Message, Name, Outcome, Refusal, Reply, Who};
@@ -20,11 +21,9 @@ impl<M: Message, L: MessageLog<M>> Floor<M, L> {
     /// `JournalFull` and `NoMemory` just where the port would be, and for want of memory for the ring.
     pub fn open_feed(&mut self, channel: Name, capacity: usize) -> Result<(Feed<M>, u64), Refusal>
         requires least { 1 ≤ capacity }
-        requires most { capacity ≤ 1024 }
-        ensures opened { IfOk result (λ feed. OpensFeed self.old self.new channel capacity feed.0 feed.1) }
-        ensures refused { IfErr result (λ refusal. FeedRefused L.CHUNK M.SURE self.old self.new channel refusal) }
+        requires most { capacity ≤ MAX_CAPACITY }
+        ensures opens { OpensAFeed L.CHUNK M.SURE self.old self.new channel capacity result }
         ensures rings { (number : ℕ) → number < length self.old.feeds → SameFeedRing number self.old self.new }
-        ensures lanes { self.new.lanes ≡ self.old.lanes }
     {
         // What refuses the port is told before any memory is asked for.
         if let Some(refusal) = port_refusal(&self.board, channel) {
@@ -46,10 +45,7 @@ impl<M: Message, L: MessageLog<M>> Floor<M, L> {
     /// ring while a slot is known to be free: how many messages. It stops where one is refused, and is itself refused,
     /// `JournalFull` or `NoMemory`, only where that was the first; `NoSuch` where no open feed has the number.
     pub fn pump(&mut self, feed: u64) -> Result<usize, Refusal>
-        ensures unknown { is_open_feed self.old feed ≡ false → (result ≡ Err NoSuch) × (self.new ≡ self.old) }
-        ensures pumped { IfOk result (λ count. PumpsFeed L.CHUNK M.SURE feed count self.old self.new) }
-        ensures refused { IfErr result (λ refusal. is_open_feed self.old feed ≡ true
-            → Starves L.CHUNK M.SURE feed 0 self.old self.new refusal) }
+        ensures pumps { Pumps L.CHUNK M.SURE feed self.old self.new result }
         ensures rings { KeepsRings self.old self.new }
     {
         if !self.has_feed(feed) {
@@ -68,8 +64,7 @@ impl<M: Message, L: MessageLog<M>> Floor<M, L> {
     /// Pumps an open feed until one is refused: how many messages, and the refusal.
     fn pump_open(&mut self, feed: u64) -> (usize, Option<Refusal>)
         requires { is_open_feed self.old feed ≡ true }
-        ensures whole { IfNone result.1 (FillsFeed feed result.0 self.old self.new) }
-        ensures starved { IfSome result.1 (λ refusal. Starves L.CHUNK M.SURE feed result.0 self.old self.new refusal) }
+        ensures until { OnFeed stays feed self.old self.new (PumpsUntil L.CHUNK M.SURE feed result.0 result.1 self.old.board self.new.board) }
         ensures rings { KeepsRings self.old self.new }
     {
         self.feeds.pump(&mut self.board, feed)
@@ -79,10 +74,7 @@ impl<M: Message, L: MessageLog<M>> Floor<M, L> {
     /// there; it gives `None` only where the subscriber has let go of the feed before. The port stays, and is a port like
     /// any other from now on. `NoSuch` where no open feed has the number.
     pub fn end_feed(&mut self, feed: u64) -> Result<Option<FeedEnd<M>>, Refusal>
-        ensures unknown { is_open_feed self.old feed ≡ false → (result ≡ Err NoSuch) × (self.new ≡ self.old) }
-        ensures ended { IfOk result (λ end. EndsFeed feed self.old self.new end) }
-        ensures opened { is_open_feed self.old feed ≡ true → IsOk result }
-        ensures board { self.new.board ≡ self.old.board }
+        ensures ends { Ends feed self.old self.new result }
         ensures rings { KeepsRings self.old self.new }
     {
         if self.has_feed(feed) {

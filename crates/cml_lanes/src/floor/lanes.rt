@@ -1,11 +1,10 @@
 //! Lanes are opened, drained and closed.
-ghost use Rattle.std.specs.Prelude.{ℕ, ◌≡◌, ◌≤◌, ◌<◌, true, false, length, slice_set, Err, None, OnOk, IsOk, IfOk, IfErr};
-ghost use Rattle.cml_board.specs.declared.outcome.Refusal.TheVariants.{NoSuch};
-ghost use Rattle.cml_lanes.specs.Laned.{laned};
-ghost use Rattle.cml_lanes.specs.Floor.{is_open_lane, KeepsRings, SameRing, IsOfItsRing, GivesAll};
-ghost use Rattle.cml_lanes.specs.Lanes.{OpensLane, OpenRefused, DrainsLane, HoldsUp, HoldsUpSome, StopsLate, EmptiesOff, ClosesLane, CountRefused};
+ghost use Rattle.std.specs.Prelude.{ℕ, ◌≤◌, ◌<◌, length};
+ghost use Rattle.cml_lanes.specs.Floor.{KeepsRings, SameRing, IsOfItsRing};
+ghost use Rattle.cml_lanes.specs.Lanes.{OpensALane, Drains, Closes, ClosesCounted, Drops, Abandons};
 
 use super::Floor;
+use crate::MAX_CAPACITY;
 use crate::inner_lane::InnerLane;
 use crate::lane::{Lane, LaneEnd};
 use crate::way::Way;
@@ -19,11 +18,9 @@ impl<M: Message, L: MessageLog<M>> Floor<M, L> {
     /// has no entry of it.
     pub fn open_lane(&mut self, target: Name, capacity: usize) -> Result<(Lane<M>, u64), Refusal>
         requires least { 1 ≤ capacity }
-        requires most { capacity ≤ 1024 }
-        ensures opened { IfOk result (λ lane. OpensLane self.old self.new target capacity lane.0 lane.1) }
-        ensures refused { IfErr result (λ refusal. OpenRefused self.old target refusal × (self.new ≡ self.old)) }
+        requires most { capacity ≤ MAX_CAPACITY }
+        ensures opens { OpensALane self.old self.new target capacity result }
         ensures rings { (number : ℕ) → number < length self.old.lanes → SameRing number self.old self.new }
-        ensures feeds { self.new.feeds ≡ self.old.feeds }
     {
         let Some(kind) = self.board.kind(target) else {
             return Err(Refusal::NoSuch);
@@ -34,12 +31,11 @@ impl<M: Message, L: MessageLog<M>> Floor<M, L> {
         let Ok((producer, consumer)) = RingBuffer::new(self.alloc, capacity) else {
             return Err(Refusal::NoMemory);
         };
-        let number = self.lanes.len() as u64;
+        let number = self.lanes.count() as u64;
         let inner = InnerLane::new(consumer, target, way);
-        if self.lanes.push(Some(inner)).is_err() {
+        if self.lanes.add(inner).is_err() {
             return Err(Refusal::NoMemory);
         }
-        self.opened += 1;
         Ok((Lane::new(producer, number), number))
     }
 
@@ -47,10 +43,7 @@ impl<M: Message, L: MessageLog<M>> Floor<M, L> {
     /// how many. It stops where one is refused, and is itself refused, `JournalFull` or `NoMemory`, only where that was
     /// the first; `NoSuch` where no open lane has the number.
     pub fn drain(&mut self, lane: u64) -> Result<usize, Refusal>
-        ensures unknown { is_open_lane self.old lane ≡ false → (result ≡ Err NoSuch) × (self.new ≡ self.old) }
-        ensures drained { IfOk result (λ count. DrainsLane L.CHUNK M.SURE lane count self.old self.new) }
-        ensures refused { IfErr result (λ refusal. is_open_lane self.old lane ≡ true
-            → HoldsUp L.CHUNK M.SURE lane 0 self.old self.new refusal) }
+        ensures drains { Drains L.CHUNK M.SURE lane self.old self.new result }
         ensures rings { KeepsRings self.old self.new }
     {
         if !self.has_lane(lane) {
@@ -71,13 +64,7 @@ impl<M: Message, L: MessageLog<M>> Floor<M, L> {
     /// moved before has its entry, the others are in the ring, and the lane is open, so that the end may be tried again.
     pub fn close_lane(&mut self, mut end: LaneEnd<M>) -> Result<(), (LaneEnd<M>, Refusal)>
         requires { IsOfItsRing self.old end }
-        ensures unknown { is_open_lane self.old end.number ≡ false → (result ≡ Err (end, NoSuch)) × (self.new ≡ self.old) }
-        ensures closed { OnOk result (ClosesLane end.number self.old self.new) }
-
-        // The journal has exactly what was sent, in order, each message once.
-        ensures all { OnOk result (laned self.new.board.history end.number ≡ end.sent) }
-        ensures refused { IfErr result (λ failed. (failed.0 ≡ end) × (is_open_lane self.old end.number ≡ true
-            → HoldsUpSome L.CHUNK M.SURE end.number self.old self.new failed.1 × GivesAll end.number self.new end)) }
+        ensures closes { Closes L.CHUNK M.SURE self.old self.new end result }
         ensures rings { KeepsRings self.old self.new }
     {
         let lane = end.number();
@@ -95,11 +82,7 @@ impl<M: Message, L: MessageLog<M>> Floor<M, L> {
     /// the journal as the end tells; else it is refused `Unseen`, and the lane stays open. This asks for no end of the
     /// lane's own ring, but can tell of the count alone. The other refusals come as those of `close_lane`.
     pub fn close_counted(&mut self, end: LaneEnd<M>) -> Result<(), (LaneEnd<M>, Refusal)>
-        ensures unknown { is_open_lane self.old end.number ≡ false → (result ≡ Err (end, NoSuch)) × (self.new ≡ self.old) }
-        ensures closed { OnOk result (ClosesLane end.number self.old self.new) }
-        ensures counted { OnOk result (length (laned self.new.board.history end.number) ≡ length end.sent) }
-        ensures refused { IfErr result (λ failed. (failed.0 ≡ end) × (is_open_lane self.old end.number ≡ true
-            → CountRefused L.CHUNK M.SURE self.old self.new end failed.1)) }
+        ensures closes { ClosesCounted L.CHUNK M.SURE self.old self.new end result }
         ensures rings { KeepsRings self.old self.new }
     {
         let lane = end.number();
@@ -120,11 +103,7 @@ impl<M: Message, L: MessageLog<M>> Floor<M, L> {
     /// closed. It is refused as `drain` is; then, and where it tells that it isn't closed, the lane is open. Whether all
     /// that was sent was seen, nothing tells.
     pub fn drop_lane(&mut self, lane: u64) -> Result<(usize, bool), Refusal>
-        ensures unknown { is_open_lane self.old lane ≡ false → (result ≡ Err NoSuch) × (self.new ≡ self.old) }
-        ensures closed { IfOk result (λ told. told.1 ≡ true → EmptiesOff lane told.0 self.old self.new) }
-        ensures stopped { IfOk result (λ told. told.1 ≡ false → StopsLate L.CHUNK M.SURE lane told.0 self.old self.new) }
-        ensures refused { IfErr result (λ refusal. is_open_lane self.old lane ≡ true
-            → HoldsUp L.CHUNK M.SURE lane 0 self.old self.new refusal) }
+        ensures drops { Drops L.CHUNK M.SURE lane self.old self.new result }
         ensures rings { KeepsRings self.old self.new }
     {
         if !self.has_lane(lane) {
@@ -143,9 +122,7 @@ impl<M: Message, L: MessageLog<M>> Floor<M, L> {
 
     /// Closes an open lane at once. What is left in its ring is dropped. `NoSuch` where no open lane has the number.
     pub fn abandon_lane(&mut self, lane: u64) -> Result<(), Refusal>
-        ensures unknown { is_open_lane self.old lane ≡ false → (result ≡ Err NoSuch) × (self.new ≡ self.old) }
-        ensures closed { OnOk result (self.new ≡ record self.old { lanes = slice_set self.old.lanes lane None }) }
-        ensures opened { is_open_lane self.old lane ≡ true → IsOk result }
+        ensures abandons { Abandons lane self.old self.new result }
         ensures rings { KeepsRings self.old self.new }
     {
         if self.has_lane(lane) {

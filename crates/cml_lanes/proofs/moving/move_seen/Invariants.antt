@@ -1,5 +1,5 @@
-use Rattle.cml_lanes.specs.Moving.{Moves}
+use Rattle.cml_lanes.specs.Moving.{MovesOut}
 use Rattle.cml_lanes.proofs.moving.move_seen.Given as goal
 
 abbrev pub invariant-loop-moved : goal.invariant-loop-moved
-invariant-loop-moved g l = Moves l.number l.moved l.initial.board l.board l.initial.lane l.lane
+invariant-loop-moved g l = MovesOut l.number l.moved l.initial.board l.board l.initial.lane l.lane

@@ -1,5 +1,5 @@
-use Rattle.cml_lanes.specs.Pumping.{Pumps}
+use Rattle.cml_lanes.specs.Pumping.{PumpsIn}
 use Rattle.cml_lanes.proofs.pumping.pump_free.Given as goal
 
 abbrev pub invariant-loop-pumped : goal.invariant-loop-pumped
-invariant-loop-pumped g l = Pumps l.number l.pumped l.initial.board l.board l.initial.feed l.feed
+invariant-loop-pumped g l = PumpsIn l.number l.pumped l.initial.board l.board l.initial.feed l.feed

@@ -2,18 +2,17 @@ use Rattle.std.proofs.Common.{ap, sym, ◌∙◌}
 use Rattle.cml_lanes.specs.Floor.{FloorShown}
 use Rattle.cml_lanes.proofs.Lanes.{applied_keeps}
 use Rattle.cml_lanes.proofs.KeptFeeds.{applied_keeps_feeds}
-use Rattle.cml_lanes.proofs.OneLane.{same_rings}
+use Rattle.cml_lanes.proofs.Rings.{same_rings}
 use Rattle.cml_lanes.proofs.floor.Floor.apply.Goals as goal
 
 pub invariant_of-self : goal.invariant_of-self
 invariant_of-self g c = (
-  applied_keeps g.L.MessageLog.CHUNK g.M.Message.SURE c.self.inside.board c.apply.new.self c.self.inside.lanes.items c.args.seat c.args.call c.apply.result c.apply.ensures c.self.invariant.0,
-  c.self.invariant.1,
+  applied_keeps g.L.MessageLog.CHUNK g.M.Message.SURE c.self.inside.board c.apply.new.self c.self.inside.lanes c.args.seat c.args.call c.apply.result c.apply.ensures c.self.invariant.0,
   applied_keeps_feeds g.L.MessageLog.CHUNK g.M.Message.SURE c.self.inside.board c.apply.new.self c.self.inside.feeds.feeds c.args.seat c.args.call c.apply.result
-      (sym c.bars.ensures ∙ c.if-bars.false) c.apply.ensures c.self.invariant.2,
+      (sym c.bars.ensures ∙ c.if-bars.false) c.apply.ensures c.self.invariant.1,
 )
 
 pub returns-clause-rings : goal.returns-clause-rings
 returns-clause-rings g c =
-    same_rings c.args.self.now (record { board = c.apply.new.self; lanes = c.self.inside.lanes.items; feeds = c.self.inside.feeds.feeds })
+    same_rings c.args.self.now (record { board = c.apply.new.self; lanes = c.self.inside.lanes; feeds = c.self.inside.feeds.feeds })
     (ap (λ (f : FloorShown g.row.M.Denot). f.lanes) c.self.view_is) (ap (λ (f : FloorShown g.row.M.Denot). f.feeds) c.self.view_is)

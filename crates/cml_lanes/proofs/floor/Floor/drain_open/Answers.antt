@@ -1,34 +1,27 @@
-use Rattle.cml_lanes.proofs.OneLane.{open_slot, has_lane, slot_keeps, slot_drains, on_lane_whole, on_lane_held, drain_rings}
+use Rattle.std.proofs.Common.{ap, ◌∙◌}
+use Rattle.cml_lanes.specs.Floor.{FloorShown, is_open_lane, stays}
+use Rattle.cml_lanes.specs.Slots.{DrainsUntil}
+use Rattle.cml_lanes.proofs.OneLane.{floor_drained, on_lane, drained_rings}
 use Rattle.cml_lanes.proofs.floor.Floor.drain_open.Goals as goal
 
-pub drain_slot-requires : goal.drain_slot-requires
-drain_slot-requires g c =
-    has_lane c.args.lane c.self.inside.board c.self.inside.lanes.items c.index_mut.result.now c.args.self.now c.self.view_is c.requires c.index_mut.ensures.value c.self.invariant.0
+pub drain-requires-clause-opened : goal.drain-requires-clause-opened
+drain-requires-clause-opened g c = ap (λ (f : FloorShown g.row.M.Denot). is_open_lane f c.args.lane) c.self.view_is ∙ c.requires
+
+pub drain-requires-clause-kept : goal.drain-requires-clause-kept
+drain-requires-clause-kept g c = c.self.invariant.0.lane c.args.lane
 
 pub invariant_of-self : goal.invariant_of-self
 invariant_of-self g c =
-    let lanes = c.self.inside.lanes.items in
-    let at = open_slot c.args.lane c.self.inside.board lanes c.index_mut.result.now c.args.self.now c.self.view_is c.requires c.index_mut.ensures.value in
-    let on = slot_drains g.L.MessageLog.CHUNK g.M.Message.SURE c.args.lane c.self.inside.board c.drain_slot.new.board c.index_mut.result.now c.drain_slot.new.slot c.drain_slot.result
-    c.drain_slot.ensures.whole c.drain_slot.ensures.held in
-    slot_keeps c.args.lane c.drain_slot.result.0 c.self.inside.opened c.self.inside.board c.drain_slot.new.board lanes c.index_mut.result.now c.drain_slot.new.slot at on c.self.invariant
+    floor_drained g.L.MessageLog.CHUNK g.M.Message.SURE c.args.lane c.drain.result.0 c.drain.result.1 c.self.inside.board c.drain.new.board c.self.inside.lanes c.drain.new.self
+    c.self.inside.feeds.feeds c.drain.ensures c.self.invariant
 
-pub returns-clause-whole : goal.returns-clause-whole
-returns-clause-whole g c =
-    let at = open_slot c.args.lane c.self.inside.board c.self.inside.lanes.items c.index_mut.result.now c.args.self.now c.self.view_is c.requires c.index_mut.ensures.value in
-    on_lane_whole c.args.lane c.drain_slot.result.0 c.self.inside.board c.drain_slot.new.board c.self.inside.lanes.items c.index_mut.result.now c.drain_slot.new.slot c.args.self.now
-    c.self.view_is at c.drain_slot.result.1 c.drain_slot.ensures.whole
-
-pub returns-clause-held : goal.returns-clause-held
-returns-clause-held g c =
-    let at = open_slot c.args.lane c.self.inside.board c.self.inside.lanes.items c.index_mut.result.now c.args.self.now c.self.view_is c.requires c.index_mut.ensures.value in
-    on_lane_held g.L.MessageLog.CHUNK g.M.Message.SURE c.args.lane c.drain_slot.result.0 c.self.inside.board c.drain_slot.new.board c.self.inside.lanes.items c.index_mut.result.now
-    c.drain_slot.new.slot c.args.self.now c.self.view_is at c.drain_slot.result.1 c.drain_slot.ensures.held
+pub returns-clause-until : goal.returns-clause-until
+returns-clause-until g c =
+    on_lane stays c.args.lane c.self.inside.board c.drain.new.board c.self.inside.lanes c.drain.new.self c.args.self.now
+    (λ b. DrainsUntil g.L.MessageLog.CHUNK g.M.Message.SURE c.args.lane c.drain.result.0 c.drain.result.1 b c.drain.new.board) c.self.view_is c.drain.ensures
 
 pub returns-clause-rings : goal.returns-clause-rings
 returns-clause-rings g c =
-    let at = open_slot c.args.lane c.self.inside.board c.self.inside.lanes.items c.index_mut.result.now c.args.self.now c.self.view_is c.requires c.index_mut.ensures.value in
-    let on = slot_drains g.L.MessageLog.CHUNK g.M.Message.SURE c.args.lane c.self.inside.board c.drain_slot.new.board c.index_mut.result.now c.drain_slot.new.slot c.drain_slot.result
-    c.drain_slot.ensures.whole c.drain_slot.ensures.held in
-    drain_rings c.args.lane c.drain_slot.result.0 c.self.inside.board c.drain_slot.new.board c.self.inside.lanes.items c.index_mut.result.now c.drain_slot.new.slot c.args.self.now
-    c.self.view_is at on
+    drained_rings g.L.MessageLog.CHUNK g.M.Message.SURE c.args.lane c.drain.result.0 c.drain.result.1 c.args.self.now _
+    (on_lane stays c.args.lane c.self.inside.board c.drain.new.board c.self.inside.lanes c.drain.new.self c.args.self.now
+    (λ b. DrainsUntil g.L.MessageLog.CHUNK g.M.Message.SURE c.args.lane c.drain.result.0 c.drain.result.1 b c.drain.new.board) c.self.view_is c.drain.ensures)

@@ -1,7 +1,11 @@
-use Rattle.cml_lanes.proofs.OneLane.{count_at}
+use Rattle.std.proofs.Common.{length, sym, ap, ◌∙◌}
+use Rattle.cml_lanes.specs.Laned.{laned}
+use Rattle.cml_lanes.specs.Floor.{FloorShown, is_open_lane}
+use Rattle.cml_lanes.proofs.Slots.{taken_slot}
 use Rattle.cml_lanes.proofs.floor.Floor.moved_count.Goals as goal
 
 pub returns : goal.returns
 returns g c =
-    count_at c.args.lane c.count.result c.self.inside.board c.self.inside.lanes.items c.index.result.now c.args.self.now c.in-Some.inner c.self.view_is c.requires c.index.ensures c.self.invariant.0
-    c.in-Some.is c.count.ensures
+    let lane = taken_slot c.self.inside.lanes c.args.lane (ap (λ (f : FloorShown g.row.M.Denot). is_open_lane f c.args.lane) c.self.view_is ∙ c.requires) in
+    c.moved_count.ensures lane.0 lane.1 ∙ ap length (sym (c.self.invariant.0.lane c.args.lane lane.0 lane.1).laned)
+    ∙ ap (λ (f : FloorShown g.row.M.Denot). length (laned f.board.history c.args.lane)) c.self.view_is
