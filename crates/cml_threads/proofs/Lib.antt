@@ -1,4 +1,3 @@
 pub mod Counting
-pub mod FeedCounting
 pub mod Idling
 pub mod Turning

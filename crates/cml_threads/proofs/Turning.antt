@@ -27,7 +27,7 @@ use Rattle.cml_threads.specs.Asking.{Reaches, IsBarred, Asks}
 module _ {M : Type 0} where
   pub may_ask : (chunk : ℕ) (sure : Bool) (may : Type 0) (old new : Hosted M) (before after : Sitting) (call : Call M) (told : Asked M)
       → may → Asks chunk sure ⊤ old new before after call told → Asks chunk sure may old new before after call told
-  may_ask chunk sure may old new before after call (asked.Answered answer) can turn = (can, turn.1, turn.2, turn.3, turn.4, turn.5, turn.6)
+  may_ask chunk sure may old new before after call (asked.Answered answer) can turn = (can, turn.1, turn.2, turn.3, turn.4, turn.5)
   may_ask chunk sure may old new before after call (asked.Parked back) can turn = (can, turn.1, turn.2, turn.3)
   may_ask chunk sure may old new before after call (asked.Refused Gone back) can turn = elim (turn.0 tt) [ ]
   may_ask chunk sure may old new before after call (asked.Refused Stalled back) can turn = (can, turn.1, turn.2, turn.3)
@@ -94,9 +94,9 @@ module _ {M : Type 0} where
       (call : Call M) (answer : Answer M) → hall_of floor seats book ≡ hall → number ≡ before.number → again ≡ before.number
       → (is_barred floor.feeds call ≡ true → (Answered answer ≡ Refused WrongKind call) × (new ≡ floor))
       → (is_barred floor.feeds call ≡ false → Applies chunk sure floor.board new.board (Seat number) call (Answered answer))
-      → new.lanes ≡ floor.lanes → new.feeds ≡ floor.feeds → seats' ≡ slice_set seats again Free → book' ≡ book + 1 → after ≡ raised before
+      → new.lanes ≡ floor.lanes → new.feeds ≡ floor.feeds → seats' ≡ slice_set seats again Free → after ≡ raised before
       → Asks chunk sure ⊤ hall (hall_of new seats' book') before after call (asked.Answered answer)
-  answered_asks chunk sure hall floor new seats seats' book book' before after number again call answer view same still bars applies lanes feeds set counted is =
+  answered_asks chunk sure hall floor new seats seats' book book' before after number again call answer view same still bars applies lanes feeds set is =
       let reaches = answered_reaches chunk sure floor new number call answer bars applies in
       let told : Asks chunk sure ⊤ (hall_of floor seats book) (hall_of new seats' book') before after call (asked.Answered answer) = (
         tt,
@@ -104,7 +104,6 @@ module _ {M : Type 0} where
         set ∙ ap (λ n. slice_set seats n Free) still,
         lanes,
         feeds,
-        counted,
         is,
       ) in
       subst (λ (h : Hosted M). Asks chunk sure ⊤ h (hall_of new seats' book') before after call (asked.Answered answer)) view told
@@ -129,7 +128,7 @@ module _ {M : Type 0} where
           on,
           ap want_in (sym reaches.applies.3) ∙ wants,
           moving,
-          record { seats = goes_on.1 ∙ ap (λ n. slice_set seats n (Parked on)) same; lanes = lanes; feeds = feeds; book = refl },
+          record { seats = goes_on.1 ∙ ap (λ n. slice_set seats n (Parked on)) same; lanes = lanes; feeds = feeds },
         ),
         refl,
       ) in
@@ -155,7 +154,7 @@ module _ {M : Type 0} where
           on,
           ap want_in (sym reaches.applies.3) ∙ wants,
           stalled,
-          record { seats = stuck.1 ∙ ap (λ n. slice_set seats n Free) same; lanes = lanes; feeds = feeds; book = refl },
+          record { seats = stuck.1 ∙ ap (λ n. slice_set seats n Free) same; lanes = lanes; feeds = feeds },
         ),
         refl,
       ) in
@@ -187,7 +186,7 @@ module _ {M : Type 0} where
       let here : Reaches chunk sure floor new before.number call (Refused refusal back) ⊎ IsBarred floor new call refusal back =
       subst (λ n. Reaches chunk sure floor new n call (Refused refusal back) ⊎ IsBarred floor new call refusal back) same why in
       let moves : Moves (hall_of floor seats book) (hall_of new seats' book) before.number Free =
-      record { seats = set ∙ ap (λ n. slice_set seats n Free) same; lanes = lanes; feeds = feeds; book = refl } in
+      record { seats = set ∙ ap (λ n. slice_set seats n Free) same; lanes = lanes; feeds = feeds } in
       subst (λ (h : Hosted M). Asks chunk sure ⊤ h (hall_of new seats' book) before before call (asked.Refused refusal back)) view
       (by_refusal chunk sure (hall_of floor seats book) (hall_of new seats' book) before call back refusal here moves)
 

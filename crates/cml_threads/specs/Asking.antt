@@ -1,5 +1,5 @@
 -- What becomes of a seat's call.
-use Rattle.std.specs.Prelude.{ℕ, ◌≡◌, ◌+◌, ◌⊎◌, Bool, true, false, Some}
+use Rattle.std.specs.Prelude.{ℕ, ◌≡◌, ◌⊎◌, Bool, true, false, Some}
 use Rattle.cml_board.specs.declared.call.Call.{Call}
 use Rattle.cml_board.specs.declared.entry.Who.TheVariants.{Seat}
 use Rattle.cml_board.specs.declared.want.Want.{Want}
@@ -31,7 +31,7 @@ module _ {M : Type 0} where
     pub board : new.board ≡ old.board
 
   -- by what is returned, each case with the condition under which it comes; `may` says that the seat may make the call:
-  -- the call is answered, as the board answers it, and counted for this seat and in the book; no lane or feed is changed
+  -- the call is answered, as the board answers it, and counted for this seat; no lane or feed is changed
   -- or it would wait, and somebody can go on: the seat waits
   -- or the seat may not make it, and nothing is changed
   -- or it would wait, and nobody could go on then: the seat is free
@@ -39,7 +39,7 @@ module _ {M : Type 0} where
   abbrev pub Asks : ℕ → Bool → Type 0 → Hosted M → Hosted M → Sitting → Sitting → Call M → Asked M → Type 0
   Asks chunk sure may old new before after call (asked.Answered answer) =
       may × Reaches chunk sure (floor_of old) (floor_of new) before.number call (board.Answered answer)
-      × (new.seats ≡ with_state old before.number Free) × (new.lanes ≡ old.lanes) × (new.feeds ≡ old.feeds) × (new.book ≡ old.book + 1) × (after ≡ raised before)
+      × (new.seats ≡ with_state old before.number Free) × (new.lanes ≡ old.lanes) × (new.feeds ≡ old.feeds) × (after ≡ raised before)
   Asks chunk sure may old new before after call (asked.Parked back) =
       may × Reaches chunk sure (floor_of old) (floor_of new) before.number call (board.WouldWait back)
       × ((on : Want) × (want_in call ≡ Some on) × ¬ (WouldStall old before.number on) × Moves old new before.number (Parked on))

@@ -44,12 +44,11 @@ module _ {M : Type 0} where
   abbrev pub WouldStall : Hosted M → ℕ → Want → Type 0
   WouldStall hall number on = IsStalled (floor_of hall) (with_state hall number (Parked on))
 
-  -- the seat's state is this now, and no other's has changed, nor a lane, nor a feed, nor the book
+  -- the seat's state is this now, and no other's has changed, nor a lane, nor a feed
   pub record Moves (old new : Hosted M) (number : ℕ) (state : State) : Type 0 where
     pub seats : new.seats ≡ with_state old number state
     pub lanes : new.lanes ≡ old.lanes
     pub feeds : new.feeds ≡ old.feeds
-    pub book : new.book ≡ old.book
 
   -- the book counts each entry; the hall's own share those of lanes and feeds; each seat has one part of the ledger, and
   -- the hall all others, of which there are some
@@ -60,7 +59,3 @@ module _ {M : Type 0} where
     pub enough : whole ≡ 2 ^ 63
     pub own_parts : 0 < parts
     pub bounded : board.limit ≤ 2 ^ 32
-
-  -- the book counts each entry that was added
-  abbrev pub Enters : Hosted M → Hosted M → Type 0
-  Enters old new = new.book + entries_in old.board.history ≡ old.book + entries_in new.board.history

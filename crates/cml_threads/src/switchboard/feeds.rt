@@ -5,7 +5,7 @@ ghost use Rattle.cml_threads.specs.Telling.{MayRefuseFeed, MayRefuseDrain};
 
 use super::Switchboard;
 use cml_board::{Message, Name, Refusal};
-use cml_lanes::{Feed, FeedEnd};
+use cml_lanes::{Feed, FeedEnd, MAX_CAPACITY};
 use cml_log::MessageLog;
 use std::sync::Wait;
 use std::sync::ledger::Ledger;
@@ -21,7 +21,7 @@ impl<M: Message, L: MessageLog<M>, Led: Ledger> Switchboard<M, L, Led> {
         capacity: usize,
     ) -> Result<(Feed<M>, u64), Refusal>
         requires least { 1 ≤ capacity }
-        requires most { capacity ≤ 1024 }
+        requires most { capacity ≤ MAX_CAPACITY }
         ensures feed { IfOk result (λ feed. feed.0 ≡ record { ring = feed.0.ring; number = feed.1; port = feed.0.port; taken = [] }) }
         ensures refused { IfErr result MayRefuseFeed }
     {

@@ -5,7 +5,7 @@ ghost use Rattle.cml_threads.specs.Telling.{MayRefuseLane, MayRefuseDrain, MayRe
 
 use super::Switchboard;
 use cml_board::{Message, Name, Refusal};
-use cml_lanes::{Lane, LaneEnd};
+use cml_lanes::{Lane, LaneEnd, MAX_CAPACITY};
 use cml_log::MessageLog;
 use std::sync::Wait;
 use std::sync::ledger::Ledger;
@@ -20,7 +20,7 @@ impl<M: Message, L: MessageLog<M>, Led: Ledger> Switchboard<M, L, Led> {
         capacity: usize,
     ) -> Result<(Lane<M>, u64), Refusal>
         requires least { 1 ≤ capacity }
-        requires most { capacity ≤ 1024 }
+        requires most { capacity ≤ MAX_CAPACITY }
         ensures lane { IfOk result (λ lane. lane.0 ≡ record { ring = lane.0.ring; number = lane.1; capacity = capacity; accepted = [] }) }
         ensures refused { IfErr result MayRefuseLane }
     {

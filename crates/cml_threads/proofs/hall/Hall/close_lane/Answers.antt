@@ -1,44 +1,27 @@
-use Rattle.std.proofs.Common.{◌≡◌, length, Err, true, OnOk, IfErr, subst}
-use Rattle.cml_board.specs.declared.outcome.Refusal.TheVariants.{NoSuch}
-use Rattle.cml_lanes.specs.Floor.{is_open_lane, KeepsRings, GivesAll}
-use Rattle.cml_lanes.specs.Lanes.{HoldsUpSome, ClosesLane}
-use Rattle.cml_threads.proofs.Counting.{close_adds, grown_at, counted_at, unknown_at}
+use Rattle.std.proofs.Common.{length, subst}
+use Rattle.cml_lanes.specs.Floor.{KeepsRings}
+use Rattle.cml_lanes.specs.Lanes.{Closes}
+use Rattle.cml_lanes.proofs.Deeds.{closes}
 use Rattle.cml_threads.specs.Hosting.{Hosted, floor_of}
+use Rattle.cml_threads.proofs.Counting.{grown_at, counted_at}
 use Rattle.cml_threads.proofs.hall.Hall.close_lane.Goals as goal
 
 pub count_since-requires-clause-grown : goal.count_since-requires-clause-grown
 count_since-requires-clause-grown g c =
-    grown_at c.self.inside.floor.board c.close_lane-told.new.self.board c.board.result.now c.board-2.result.now c.journal-before.result.now
-    c.journal-before.ensures.entries c.board.ensures.board c.board-2.ensures.board
-    (close_adds g.L.MessageLog.CHUNK g.M.Message.SURE c.self.inside.floor c.close_lane-told.new.self c.args.end c.close_lane-told.result
-    c.close_lane-told.ensures.unknown c.close_lane-told.ensures.closed c.close_lane-told.ensures.refused)
+    grown_at c.self.inside.floor c.close_lane-told.new.self c.board.result.now c.board-2.result.now c.journal-before.result.now
+    c.journal-before.ensures.entries c.board.ensures.board c.board-2.ensures.board (closes g.L.MessageLog.CHUNK g.M.Message.SURE c.self.inside.floor c.close_lane-told.new.self c.args.end c.close_lane-told.result c.close_lane-told.ensures.closes)
 
 pub invariant_of-self : goal.invariant_of-self
 invariant_of-self g c =
-    counted_at c.self.inside.floor.board c.close_lane-told.new.self.board c.board.result.now c.board-2.result.now c.journal-before.result.now
+    counted_at c.self.inside.floor c.close_lane-told.new.self c.board.result.now c.board-2.result.now c.journal-before.result.now
     (length c.self.inside.seats) c.self.inside.book.total c.self.inside.rest.amount c.self.inside.rest.parts g.Led.Ledger.parts
     c.count_since.new.book.total c.count_since.new.rest.amount c.count_since.new.rest.parts
-    c.self.invariant c.journal-before.ensures.entries c.board.ensures.board c.board-2.ensures.board
-    (close_adds g.L.MessageLog.CHUNK g.M.Message.SURE c.self.inside.floor c.close_lane-told.new.self c.args.end c.close_lane-told.result
-    c.close_lane-told.ensures.unknown c.close_lane-told.ensures.closed c.close_lane-told.ensures.refused)
+    c.self.invariant c.journal-before.ensures.entries c.board.ensures.board c.board-2.ensures.board (closes g.L.MessageLog.CHUNK g.M.Message.SURE c.self.inside.floor c.close_lane-told.new.self c.args.end c.close_lane-told.result c.close_lane-told.ensures.closes)
     c.count_since.ensures.total c.count_since.ensures.amount c.count_since.ensures.parts
 
-pub returns-clause-unknown : goal.returns-clause-unknown
-returns-clause-unknown g c =
-    unknown_at c.args.self.now c.self.inside.floor c.close_lane-told.new.self c.board.result.now c.board-2.result.now c.journal-before.result.now
-    c.self.inside.seats c.self.inside.book.total c.count_since.new.book.total c.args.end.number (c.close_lane-told.result ≡ Err (c.args.end, NoSuch))
-    c.self.view_is c.journal-before.ensures.entries c.board.ensures.board c.board-2.ensures.board c.count_since.ensures.total c.close_lane-told.ensures.unknown
+pub returns-clause-closes : goal.returns-clause-closes
+returns-clause-closes g c =
+    subst (λ (h : Hosted g.row.M.Denot). Closes g.L.MessageLog.CHUNK g.M.Message.SURE (floor_of h) c.close_lane-told.new.self c.args.end c.close_lane-told.result) c.self.view_is c.close_lane-told.ensures.closes
 
 pub returns-clause-rings : goal.returns-clause-rings
 returns-clause-rings g c = subst (λ (h : Hosted g.row.M.Denot). KeepsRings (floor_of h) c.close_lane-told.new.self) c.self.view_is c.close_lane-told.ensures.rings
-
-pub returns-clause-closed : goal.returns-clause-closed
-returns-clause-closed g c =
-    subst (λ (h : Hosted g.row.M.Denot). OnOk c.close_lane-told.result (ClosesLane c.args.end.number (floor_of h) c.close_lane-told.new.self)) c.self.view_is c.close_lane-told.ensures.closed
-
-pub returns-clause-refused : goal.returns-clause-refused
-returns-clause-refused g c =
-    subst
-    (λ (h : Hosted g.row.M.Denot). IfErr c.close_lane-told.result (λ failed. (failed.0 ≡ c.args.end) × (is_open_lane (floor_of h) c.args.end.number ≡ true
-    → HoldsUpSome g.L.MessageLog.CHUNK g.M.Message.SURE c.args.end.number (floor_of h) c.close_lane-told.new.self failed.1 × GivesAll c.args.end.number c.close_lane-told.new.self c.args.end)))
-    c.self.view_is c.close_lane-told.ensures.refused

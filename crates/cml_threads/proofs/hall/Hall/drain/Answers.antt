@@ -1,32 +1,27 @@
-use Rattle.std.proofs.Common.{◌≡◌, length, Err, subst}
-use Rattle.cml_board.specs.declared.outcome.Refusal.TheVariants.{NoSuch}
+use Rattle.std.proofs.Common.{length, subst}
 use Rattle.cml_lanes.specs.Floor.{KeepsRings}
-use Rattle.cml_threads.proofs.Counting.{drain_adds, grown_at, counted_at, unknown_at}
+use Rattle.cml_lanes.specs.Lanes.{Drains}
+use Rattle.cml_lanes.proofs.Deeds.{drains}
 use Rattle.cml_threads.specs.Hosting.{Hosted, floor_of}
+use Rattle.cml_threads.proofs.Counting.{grown_at, counted_at}
 use Rattle.cml_threads.proofs.hall.Hall.drain.Goals as goal
 
 pub count_since-requires-clause-grown : goal.count_since-requires-clause-grown
 count_since-requires-clause-grown g c =
-    grown_at c.self.inside.floor.board c.drain-told.new.self.board c.board.result.now c.board-2.result.now c.journal-before.result.now
-    c.journal-before.ensures.entries c.board.ensures.board c.board-2.ensures.board
-    (drain_adds g.L.MessageLog.CHUNK g.M.Message.SURE c.args.lane c.self.inside.floor c.drain-told.new.self c.drain-told.result
-    c.drain-told.ensures.unknown c.drain-told.ensures.drained c.drain-told.ensures.refused)
+    grown_at c.self.inside.floor c.drain-told.new.self c.board.result.now c.board-2.result.now c.journal-before.result.now
+    c.journal-before.ensures.entries c.board.ensures.board c.board-2.ensures.board (drains g.L.MessageLog.CHUNK g.M.Message.SURE c.args.lane c.self.inside.floor c.drain-told.new.self c.drain-told.result c.drain-told.ensures.drains)
 
 pub invariant_of-self : goal.invariant_of-self
 invariant_of-self g c =
-    counted_at c.self.inside.floor.board c.drain-told.new.self.board c.board.result.now c.board-2.result.now c.journal-before.result.now
+    counted_at c.self.inside.floor c.drain-told.new.self c.board.result.now c.board-2.result.now c.journal-before.result.now
     (length c.self.inside.seats) c.self.inside.book.total c.self.inside.rest.amount c.self.inside.rest.parts g.Led.Ledger.parts
     c.count_since.new.book.total c.count_since.new.rest.amount c.count_since.new.rest.parts
-    c.self.invariant c.journal-before.ensures.entries c.board.ensures.board c.board-2.ensures.board
-    (drain_adds g.L.MessageLog.CHUNK g.M.Message.SURE c.args.lane c.self.inside.floor c.drain-told.new.self c.drain-told.result
-    c.drain-told.ensures.unknown c.drain-told.ensures.drained c.drain-told.ensures.refused)
+    c.self.invariant c.journal-before.ensures.entries c.board.ensures.board c.board-2.ensures.board (drains g.L.MessageLog.CHUNK g.M.Message.SURE c.args.lane c.self.inside.floor c.drain-told.new.self c.drain-told.result c.drain-told.ensures.drains)
     c.count_since.ensures.total c.count_since.ensures.amount c.count_since.ensures.parts
 
-pub returns-clause-unknown : goal.returns-clause-unknown
-returns-clause-unknown g c =
-    unknown_at c.args.self.now c.self.inside.floor c.drain-told.new.self c.board.result.now c.board-2.result.now c.journal-before.result.now
-    c.self.inside.seats c.self.inside.book.total c.count_since.new.book.total c.args.lane (c.drain-told.result ≡ Err NoSuch)
-    c.self.view_is c.journal-before.ensures.entries c.board.ensures.board c.board-2.ensures.board c.count_since.ensures.total c.drain-told.ensures.unknown
+pub returns-clause-drains : goal.returns-clause-drains
+returns-clause-drains g c =
+    subst (λ (h : Hosted g.row.M.Denot). Drains g.L.MessageLog.CHUNK g.M.Message.SURE c.args.lane (floor_of h) c.drain-told.new.self c.drain-told.result) c.self.view_is c.drain-told.ensures.drains
 
 pub returns-clause-rings : goal.returns-clause-rings
 returns-clause-rings g c = subst (λ (h : Hosted g.row.M.Denot). KeepsRings (floor_of h) c.drain-told.new.self) c.self.view_is c.drain-told.ensures.rings

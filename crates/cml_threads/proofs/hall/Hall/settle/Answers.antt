@@ -22,3 +22,21 @@ new-requires-clause-own g c =
       ap (λ (b : Shown g.row.M.Denot). length b.history) c.into_board-board.ensures,
       ap (λ (b : Shown g.row.M.Denot). rings_in b.history) c.into_board-board.ensures,
     )
+
+pub new-requires-clause-total : goal.new-requires-clause-total
+new-requires-clause-total g c =
+    let all : c.gather-seats.new.rest.parts ≡ g.Led.Ledger.parts =
+    omega (arith, c.gather-seats.ensures.parts, c.self.invariant.shared, c.len.ensures, c.count.ensures, c.if-len-count.false) in
+    omega (
+      arith,
+      c.audit.ensures.whole all,
+      c.gather-seats.ensures.answers,
+      c.gather-seats.ensures.amount,
+      c.gather-seats.ensures.total,
+      c.self.invariant.entries,
+      c.self.invariant.rings,
+      ap length c.journal.ensures.entries,
+      length-reverse c.into_board-board.result.history,
+      ap (λ (b : Shown g.row.M.Denot). length b.history) c.into_board-board.ensures,
+      ap (λ (b : Shown g.row.M.Denot). rings_in b.history) c.into_board-board.ensures,
+    )

@@ -19,7 +19,7 @@ pub returns-in-Answered : goal.returns-in-Answered
 returns-in-Answered g c =
     answered_asks g.L.MessageLog.CHUNK g.M.Message.SURE c.args.self.now c.self.inside.floor c.apply.new.self c.self.inside.seats c.set.new.self c.self.inside.book.total
     c.count.new.book.total c.args.seat.now c.count.new.self c.number-number.result c.number.result c.args.call c.in-Answered.answer c.self.view_is c.number-number.ensures c.number.ensures
-    c.in-Answered.ensures.barred c.in-Answered.ensures.applied c.apply.ensures.lanes c.apply.ensures.feeds c.set.ensures c.count.ensures.book c.count.ensures.seat
+    c.in-Answered.ensures.barred c.in-Answered.ensures.applied c.apply.ensures.lanes c.apply.ensures.feeds c.set.ensures c.count.ensures.seat
 
 pub returns-in-Refused : goal.returns-in-Refused
 returns-in-Refused g c =
