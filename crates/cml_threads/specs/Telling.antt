@@ -1,20 +1,23 @@
 -- What the caller of a switchboard is told.
-use Rattle.std.specs.Prelude.{◌≡◌, Bool, true, false, Result, Ok, Err, ⊤}
+use Rattle.std.specs.Prelude.{◌≡◌, Bool, true, false, Option, Some, Result, Ok, Err, ⊤}
+use Rattle.cml_board.specs.declared.want.Want.{Want}
+use Rattle.cml_board.specs.Waiting.{want_in}
 use Rattle.cml_board.specs.declared.call.Call.{Call}
 use Rattle.cml_board.specs.declared.call.Call.TheVariants.{NewMailbox, NewChannel, NewPort, CopyPort, ClosePort, NewIVar, NewMVar, MVarInit, Send, Cast, Recv, Poll, Put, Get, GetPoll, Take, TakePoll, Swap}
 use Rattle.cml_board.specs.declared.entry.Reply.{Reply}
 use Rattle.cml_board.specs.declared.entry.Reply.TheVariants as reply
 use Rattle.cml_board.specs.declared.outcome.Refusal.{Refusal}
-use Rattle.cml_board.specs.declared.outcome.Refusal.TheVariants.{NoSuch, WrongKind, JournalFull, NoMemory, Busy, Unseen}
+use Rattle.cml_board.specs.declared.outcome.Refusal.TheVariants.{NoSuch, WrongKind, JournalFull, NoMemory, Busy, Stalled, Unseen}
 use Rattle.cml_threads.specs.declared.asked.Asked.{Asked}
 use Rattle.cml_threads.specs.declared.asked.Asked.TheVariants as asked
 use Rattle.cml_threads.specs.Seating.{Sitting, raised}
 
--- the refusals that a seat's call may be given
-abbrev pub MayRefuse : Refusal → Type 0
-MayRefuse Busy = ⊥
-MayRefuse Unseen = ⊥
-MayRefuse refusal = ⊤
+-- the refusals that a seat's call may be given, by what it waits for: that all are stalled is told only where it may wait
+abbrev pub MayRefuse : Option Want → Refusal → Type 0
+MayRefuse want Busy = ⊥
+MayRefuse want Unseen = ⊥
+MayRefuse want Stalled = (on : Want) × (want ≡ Some on)
+MayRefuse want refusal = ⊤
 
 -- the refusals that opening a lane may be given
 abbrev pub MayRefuseLane : Refusal → Type 0
@@ -76,9 +79,9 @@ module _ {M : Type 0} where
   Tells before after call (asked.Answered answer) =
       (answer.call ≡ call) × (suits call answer.reply ≡ true) × (after ≡ raised before)
   Tells before after call (asked.Parked back) = (back ≡ call) × (after ≡ before)
-  Tells before after call (asked.Refused refusal back) = MayRefuse refusal × (back ≡ call) × (after ≡ before)
+  Tells before after call (asked.Refused refusal back) = MayRefuse (want_in call) refusal × (back ≡ call) × (after ≡ before)
 
   -- the same of the reply alone
   abbrev pub Replies : Sitting → Sitting → Call M → Result (Reply M) (Refusal × Call M) → Type 0
   Replies before after call (Ok reply) = (suits call reply ≡ true) × (after ≡ raised before)
-  Replies before after call (Err back) = MayRefuse back.0 × (back.1 ≡ call) × (after ≡ before)
+  Replies before after call (Err back) = MayRefuse (want_in call) back.0 × (back.1 ≡ call) × (after ≡ before)

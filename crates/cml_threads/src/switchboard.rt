@@ -1,5 +1,6 @@
 ghost use Rattle.std.specs.Prelude.{◌≡◌, ◌+◌, ◌^◌, ◌≤◌, true, IfOk, IfErr, OnOk};
 ghost use Rattle.cml_board.specs.declared.outcome.Refusal.TheVariants.{NoMemory};
+ghost use Rattle.cml_board.specs.Waiting.{want_in};
 ghost use Rattle.cml_board.specs.History.{entries_in, rings_in};
 ghost use Rattle.cml_threads.specs.Seating.{Sitting, raised, answers_in};
 ghost use Rattle.cml_threads.specs.Telling.{suits, MayRefuse, Tells, Replies};
@@ -90,7 +91,7 @@ impl<M: Message, L: MessageLog<M>, Led: Ledger> Switchboard<M, L, Led> {
         ensures call { IfOk result (λ answer. answer.call ≡ call) }
         ensures reply { IfOk result (λ answer. suits call answer.reply ≡ true) }
         ensures counted { OnOk result (seat.new ≡ raised seat.old) }
-        ensures back { IfErr result (λ back. MayRefuse back.0 × (back.1 ≡ call) × (seat.new ≡ seat.old)) }
+        ensures back { IfErr result (λ back. MayRefuse (want_in call) back.0 × (back.1 ≡ call) × (seat.new ≡ seat.old)) }
     {
         let mut locked = self.locked.lock(rt);
         let mut asked = ask(&mut locked.hall, seat, call);
