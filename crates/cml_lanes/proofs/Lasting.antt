@@ -1,5 +1,5 @@
 -- What is closed or ended stays so over a run of calls, and gets no entry more.
-use Rattle.std.proofs.Common.{◌≡◌, ◌≢◌, ℕ, zero, suc, ◌<◌, ◌≤◌, inl, inr, Bool, true, false, List, [], ◌∷◌, ◌++◌, length, slice_get, slice_set, Option, Some, None, subst, refl, sym, ap, ◌∙◌, arith}
+use Rattle.std.proofs.Common.{◌≡◌, ◌≢◌, ℕ, zero, suc, ◌<◌, ◌≤◌, Bool, true, false, List, [], ◌∷◌, ◌++◌, length, slice_get, slice_set, Option, Some, None, refl, sym, ap, ◌∙◌, arith}
 use Rattle.std.proofs.lemmas.Bool.{true≢false}
 use Rattle.std.proofs.lemmas.List.{length_push}
 use Rattle.cml_board.specs.declared.call.Call.{Call}
@@ -11,13 +11,12 @@ use Rattle.cml_board.specs.declared.outcome.Outcome.TheVariants.{Answered, Would
 use Rattle.cml_board.specs.Shown.{Shown}
 use Rattle.cml_board.specs.Outcome.{Applies}
 use Rattle.cml_board.proofs.ListLemmas.{slice_get-set_other}
-use Rattle.cml_lanes.specs.Sides.{LaneSide, FeedSide}
 use Rattle.cml_lanes.specs.Laned.{laned}
 use Rattle.cml_lanes.specs.Fed.{fed}
 use Rattle.cml_lanes.specs.Floor.{FloorShown, is_taken, is_open_lane, is_open_feed, OnPlace}
 use Rattle.cml_lanes.specs.Barring.{is_barred}
 use Rattle.cml_lanes.specs.Steps.{FloorCall, Apply, OpenLane, Drain, CloseLane, CloseCounted, DropLane, AbandonLane, OpenFeed, Pump, EndFeed, AppliesSeat, IsCalled, AreCalled}
-use Rattle.cml_lanes.proofs.Slots.{this_or_other, same_length}
+use Rattle.cml_lanes.proofs.Slots.{same_length}
 use Rattle.cml_lanes.proofs.Laning.{laned_other, laned_apart}
 use Rattle.cml_lanes.proofs.Feeding.{fed_other, fed_apart, laned_fed, fed_laned}
 use Rattle.cml_lanes.proofs.FeedOpens.{none_fed}

@@ -1,5 +1,5 @@
 -- What is done to the slots of feeds, as what is done to the floor.
-use Rattle.std.proofs.Common.{◌≡◌, ℕ, Bool, true, false, List, slice_get, slice_set, Option, Some, None, is_some, IfSome, subst, refl, sym, ap, ◌∙◌}
+use Rattle.std.proofs.Common.{◌≡◌, ℕ, Bool, true, false, List, slice_get, slice_set, Option, Some, None, IfSome, subst, refl, sym, ap, ◌∙◌}
 use Rattle.std.proofs.lemmas.Option.{same_Some, none-some}
 use Rattle.cml_board.specs.declared.outcome.Refusal.{Refusal}
 use Rattle.cml_board.specs.declared.entry.Entry.{Entry}
@@ -53,8 +53,8 @@ module _ {M : Type 0} where
       → OnFeed stays number old new (PumpsUntil chunk sure number count stopped old.board new.board) → KeepsRings old new
   pumped_rings chunk sure number count stopped old new =
       feed_rings (λ from to side until is.
-          let pumps = until_pumps chunk sure number count stopped old.board new.board from to until in
-          sym (ap (λ (s : FeedSide M). s.ring) (same_Some _ _ is)) ∙ ap (λ (s : FeedSide M). s.ring) pumps.pumps.side ∙ ap (λ (s : FeedSide M). s.ring) pumps.looks.side)
+      let pumps = until_pumps chunk sure number count stopped old.board new.board from to until in
+      sym (ap (λ (s : FeedSide M). s.ring) (same_Some _ _ is)) ∙ ap (λ (s : FeedSide M). s.ring) pumps.pumps.side ∙ ap (λ (s : FeedSide M). s.ring) pumps.looks.side)
 
   -- an open feed's slot
   pub open_feed_slot : {lanes : List (Option (LaneSide M))} (number : ℕ) (board : Shown M) (feeds : List (Option (FeedSide M))) (floor : FloorShown M)

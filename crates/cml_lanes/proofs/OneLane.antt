@@ -1,5 +1,5 @@
 -- What is done to the slots of lanes, as what is done to the floor.
-use Rattle.std.proofs.Common.{◌≡◌, ◌≢◌, ℕ, ◌<◌, ◌⊎◌, inl, inr, Bool, true, false, List, ◌++◌, length, get_or, slice_get, slice_set, Option, Some, None, Err, is_some, subst, refl, sym, ap, ◌∙◌, arith}
+use Rattle.std.proofs.Common.{◌≡◌, ℕ, Bool, true, false, List, ◌++◌, slice_get, slice_set, Option, Some, None, is_some, subst, refl, sym, ap, ◌∙◌}
 use Rattle.std.proofs.lemmas.Option.{same_Some, none-some}
 use Rattle.std.proofs.lemmas.Bool.{true≢false}
 use Rattle.std.proofs.lemmas.List.{append-nil}
@@ -10,12 +10,11 @@ use Rattle.cml_lanes.specs.Ends.{Ended}
 use Rattle.cml_lanes.specs.Sides.{LaneSide, FeedSide}
 use Rattle.cml_lanes.specs.Laned.{laned}
 use Rattle.cml_lanes.specs.Moving.{DrainsRing, Empties}
-use Rattle.cml_lanes.specs.Floor.{FloorShown, is_taken, is_open_lane, KeepsLanes, KeepsFeeds, KeepsRings, IsOfRing, GivesAll, stays, goes, OnPlace, OnLane}
-use Rattle.cml_lanes.specs.Slots.{OnSlot, DrainsUntil, LeavesAll}
+use Rattle.cml_lanes.specs.Floor.{FloorShown, is_taken, KeepsLanes, KeepsFeeds, KeepsRings, GivesAll, stays, goes, OnPlace, OnLane}
+use Rattle.cml_lanes.specs.Slots.{DrainsUntil, LeavesAll}
 use Rattle.cml_lanes.specs.Lanes.{EmptiesLane}
 use Rattle.cml_lanes.proofs.Moves.{until_drains}
 use Rattle.cml_lanes.proofs.Slots.{taken_slot, set_again}
-use Rattle.cml_lanes.proofs.Places.{does_so}
 use Rattle.cml_lanes.proofs.Rings.{lane_rings}
 use Rattle.cml_lanes.proofs.Lanes.{drain_keeps}
 use Rattle.cml_lanes.proofs.KeptFeeds.{drained_keeps_feeds}
@@ -47,7 +46,7 @@ module _ {M : Type 0} where
       → OnLane stays number old new (DrainsUntil chunk sure number count stopped old.board new.board) → KeepsRings old new
   drained_rings chunk sure number count stopped old new =
       lane_rings (λ from to side until is. sym (ap (λ (s : LaneSide M). s.ring) (same_Some _ _ is))
-          ∙ same_ring number count old.board new.board from to (until_drains chunk sure number count stopped old.board new.board from to until))
+      ∙ same_ring number count old.board new.board from to (until_drains chunk sure number count stopped old.board new.board from to until))
 
   pub gone_rings : {feeds : List (Option (FeedSide M))} (number : ℕ) (board : Shown M) (lanes news : List (Option (LaneSide M))) (old : FloorShown M)
       → record { board = board; lanes = lanes; feeds = feeds } ≡ old → is_taken (slice_get lanes number) ≡ true → news ≡ slice_set lanes number None

@@ -1,8 +1,7 @@
 -- Each ring stays, whatever a call does to one lane or one feed.
-use Rattle.std.proofs.Common.{◌≡◌, ℕ, Option, Some, sym, ap, ◌∙◌}
-use Rattle.std.proofs.lemmas.Option.{same_Some, none-some}
+use Rattle.std.proofs.Common.{◌≡◌, ℕ, Option, Some, ◌∙◌}
 use Rattle.cml_lanes.specs.Sides.{LaneSide, FeedSide}
-use Rattle.cml_lanes.specs.Floor.{FloorShown, KeepsRings, stays, goes, OnPlace, OnLane, OnFeed}
+use Rattle.cml_lanes.specs.Floor.{FloorShown, KeepsRings, OnLane, OnFeed}
 use Rattle.cml_lanes.proofs.Slots.{same_places}
 use Rattle.cml_lanes.proofs.Places.{told_before}
 

@@ -102,13 +102,7 @@ impl<M: Message> LaneSlots<M> {
         ensures until { OnPlace stays number self.old self.new (DrainsUntil L.CHUNK M.SURE number result.0 result.1 board.old board.new) }
         ensures all { (side : LaneSide M) → slice_get self.new number ≡ Some (Some side) → LeavesAll end.old side }
     {
-        drain_slot_after(
-            alloc,
-            board,
-            &mut self.slots[number as usize],
-            number,
-            end,
-        )
+        drain_slot_after(alloc, board, &mut self.slots[number as usize], number, end)
     }
 
     /// How many messages were taken out of an open lane's ring.
