@@ -12,7 +12,8 @@ use Rattle.cml_grammar.specs.Script.{SourceLine, Lines}
 use Rattle.cml_grammar.specs.Meaning.{names_of, action_of}
 use Rattle.cml_grammar.specs.Reading.{source_of, ReadsStep}
 use Rattle.cml_script.specs.Schedule.{History, call_of, object_of, step_call}
-use Rattle.cml_script.specs.Working.{waits, may_wait}
+use Rattle.cml_script.specs.Working.{waits}
+use Rattle.cml_script.specs.Course.{may_wait}
 use Rattle.cml_script.proofs.ListLemmas.{mapped_at}
 use Rattle.cml_script.proofs.LineLemmas.{all_at}
 

@@ -1,6 +1,6 @@
 -- How the declared objects are made one after the other.
 use Rattle.std.proofs.Common.{◌≡◌, ℕ, zero, suc, ◌+◌, ◌<◌, ◌≤◌, Bool, true, false, cond, List, [], ◌∷◌, length, take, filter, slice_get, Option, Some, None, Ok, Err, Result, MatchBool, IfSome, IsSome, refl, sym, ap, ap₂, subst, ◌∙◌, arith, one-add, zero-add}
-use Rattle.std.specs.Option.{option_map, option_map_or}
+use Rattle.std.specs.Option.{option_map, option_map_or, option_and_then}
 use Rattle.std.specs.Result.{IsErrAnd}
 use Rattle.std.proofs.lemmas.Option.{same_Some, none-some}
 use Rattle.std.proofs.lemmas.List.{take_all}
@@ -16,11 +16,12 @@ use Rattle.cml_board.specs.declared.entry.Entry.{Entry}
 use Rattle.cml_board.specs.declared.outcome.Refusal.{Refusal}
 use Rattle.cml_grammar.specs.declared.forms.Makes.{Makes}
 use Rattle.cml_grammar.specs.declared.forms.Makes.TheVariants as makes
+use Rattle.cml_grammar.specs.declared.forms.FeedMaking.{FeedMaking}
 use Rattle.cml_grammar.specs.declared.script.Declaration.{Declaration}
 use Rattle.cml_grammar.specs.Names.{Given}
 use Rattle.cml_grammar.specs.Rings.{makes_feed}
-use Rattle.cml_grammar.specs.Script.{Lines}
-use Rattle.cml_grammar.specs.Meaning.{names_of}
+use Rattle.cml_grammar.specs.Script.{SourceLine, Lines}
+use Rattle.cml_grammar.specs.Meaning.{names_of, makes_of}
 use Rattle.cml_grammar.specs.Reading.{source_of, ReadsDeclaration, IsMadeWell}
 use Rattle.cml_script.specs.Counting.{one_if, how_many}
 use Rattle.cml_script.specs.Schedule.{History, declared_count, objects_of, number_of, maker, is_object, is_feed, makes_object, IsDeclaration}
@@ -28,7 +29,8 @@ use Rattle.cml_script.specs.Audit.{IsOfCaller, IsOfScript}
 use Rattle.cml_script.specs.Plan.{IsKnown}
 use Rattle.cml_script.specs.Makes.{IsMadeOfDeclared}
 use Rattle.cml_script.specs.Stage.{Play, IsNext, IsNextObject, IsNextPort}
-use Rattle.cml_script.specs.Working.{Made, with_call, with_feed, is_of_feed, with_refused, BeginsAt, Declares, HasCapacity, HasMade, making}
+use Rattle.cml_script.specs.Working.{Made, with_call, with_feed, is_of_feed, with_refused, BeginsAt, capacity_made, feed_capacity, AreOpened, Declares}
+use Rattle.cml_script.specs.Declaring.{HasCapacity, HasMade, making}
 use Rattle.cml_script.proofs.ListLemmas.{count_taken, filter_at, taken_count}
 use Rattle.cml_script.proofs.LineLemmas.{declaration_object, declaration_feed, feed_object}
 use Rattle.cml_script.proofs.KindLemmas.{next_object}
@@ -37,13 +39,16 @@ use Rattle.cml_script.proofs.StandLemmas.{declared_is}
 -- what is kept is so of what was made
 pub record IsDeclaring (script : Lines) (i : ℕ) (made : Option Made) : Type 0 where
   pub entries : History
-  pub told : IfSome made (λ tells. tells ≡ record { seat = 0; entries = entries; apart = []; is_sending = false; refused = None })
+  pub opened : List ℕ
+  pub told : IfSome made (λ tells. tells ≡ record { seat = 0; entries = entries; opened = opened; apart = []; is_sending = false; refused = None })
   pub count : length entries ≡ how_many (is_object script) (take i script.declarations)
   pub fed : how_many is_of_feed entries ≡ how_many (is_feed script) (take i script.declarations)
+  pub each : length opened ≡ how_many is_of_feed entries
+  pub so : AreOpened script opened
   pub own : IsOfScript script entries
 
 pub nothing_declared : (script : Lines) (made : Option Made) → BeginsAt 0 made → IsDeclaring script 0 made
-nothing_declared script made none = record { entries = []; told = none; count = refl; fed = refl; own = tt }
+nothing_declared script made none = record { entries = []; opened = []; told = none; count = refl; fed = refl; each = refl; so = tt; own = tt }
 
 -- of the first of those that pass, as many pass a narrower test as of all up to there
 taken_of_filter : {X : Type 0} (p q : X → Bool) (xs : List X) (i : ℕ) → ((x : X) → q x ≡ true → p x ≡ true) → how_many q (take (how_many p (take i xs)) (filter p xs)) ≡ how_many q (take i xs)
@@ -113,17 +118,31 @@ module _ (script : Lines) (known : IsKnown script) {i : ℕ} {made : Option Made
   pub none_more : (later : Option Made) → d.makes ≡ makes.Thread → later ≡ made → IsDeclaring script (i + 1) later
   none_more later thread same = record {
     entries = so_far.entries;
-    told = subst (λ (o : Option Made). IfSome o (λ tells. tells ≡ record { seat = 0; entries = so_far.entries; apart = []; is_sending = false; refused = None })) (sym same) so_far.told;
+    opened = so_far.opened;
+    told = subst (λ (o : Option Made). IfSome o (λ tells. tells ≡ record { seat = 0; entries = so_far.entries; opened = so_far.opened; apart = []; is_sending = false; refused = None })) (sym same) so_far.told;
     count = let no : one_if (makes_object d.makes) ≡ 0 = ap (λ m. one_if (makes_object m)) thread in omega (arith, so_far.count, counted, no);
     fed = let no : one_if (makes_feed d.makes) ≡ 0 = ap (λ m. one_if (makes_feed m)) thread in omega (arith, so_far.fed, fed, no);
+    each = so_far.each;
+    so = so_far.so;
     own = so_far.own;
   }
 
+  -- the next feed has the capacity of its line
+  capacity_is : (feed : FeedMaking) → d.makes ≡ makes.Feed feed → feed_capacity script (length so_far.opened) ≡ Some feed.capacity
+  capacity_is feed e =
+      let there : slice_get (filter (is_feed script) script.declarations) (how_many (is_feed script) (take i script.declarations)) ≡ Some (source_of d.line) =
+      filter_at (is_feed script) script.declarations i (source_of d.line) line (declaration_feed script d reads ∙ ap makes_feed e) in
+      let at : slice_get (filter (is_feed script) script.declarations) (length so_far.opened) ≡ Some (source_of d.line) = ap (slice_get (filter (is_feed script) script.declarations)) (so_far.each ∙ so_far.fed) ∙ there in
+      ap (option_and_then (λ (l : SourceLine). option_and_then capacity_made (makes_of (names_of script) l.words))) at ∙ ap (option_and_then capacity_made) reads.makes ∙ ap capacity_made e
+
   -- an entry more, by who makes the next object
-  one_more : (asked : Call ℕ) (entry : Entry ℕ) (later : Option Made) → IsMadeWell (names_of script) i d.makes → making script d.makes ≡ Some asked → entry.call ≡ asked → entry.who ≡ by_feed (makes_feed d.makes) (how_many is_of_feed so_far.entries)
-      → one_if (is_of_feed entry) ≡ one_if (makes_feed d.makes) → IfSome later (λ tells. tells ≡ record { seat = 0; entries = entry ∷ so_far.entries; apart = []; is_sending = false; refused = None }) → IsDeclaring script (i + 1) later
-  one_more asked entry later well is called by feeds told = record {
+  one_more : (asked : Call ℕ) (entry : Entry ℕ) (opened : List ℕ) (later : Option Made) → AreOpened script opened → length opened ≡ one_if (is_of_feed entry) + length so_far.opened → IsMadeWell (names_of script) i d.makes → making script d.makes ≡ Some asked → entry.call ≡ asked → entry.who ≡ by_feed (makes_feed d.makes) (how_many is_of_feed so_far.entries)
+      → one_if (is_of_feed entry) ≡ one_if (makes_feed d.makes) → IfSome later (λ tells. tells ≡ record { seat = 0; entries = entry ∷ so_far.entries; opened = opened; apart = []; is_sending = false; refused = None }) → IsDeclaring script (i + 1) later
+  one_more asked entry opened later so each well is called by feeds told = record {
     entries = entry ∷ so_far.entries;
+    opened = opened;
+    each = omega (arith, each, so_far.each);
+    so = so;
     told = told;
     count = let yes : one_if (makes_object d.makes) ≡ 1 = ap one_if object in omega (arith, so_far.count, counted, yes);
     fed = omega (arith, so_far.fed, fed, feeds);
@@ -148,10 +167,10 @@ module _ (script : Lines) (known : IsKnown script) {i : ℕ} {made : Option Made
   unfolding by_feed
   made_more later well has = by_makes d.makes refl has
     where
-      told_by : (entry : Entry ℕ) (adds : Made → Made) → adds (record { seat = 0; entries = so_far.entries; apart = []; is_sending = false; refused = None }) ≡ record { seat = 0; entries = entry ∷ so_far.entries; apart = []; is_sending = false; refused = None } → later ≡ option_map adds made → IfSome later (λ tells. tells ≡ record { seat = 0; entries = entry ∷ so_far.entries; apart = []; is_sending = false; refused = None })
-      told_by entry adds one more = subst (λ (o : Option Made). IfSome o (λ tells. tells ≡ record { seat = 0; entries = entry ∷ so_far.entries; apart = []; is_sending = false; refused = None })) (sym more) (by_made made so_far.told)
+      told_by : (entry : Entry ℕ) (opened : List ℕ) (adds : Made → Made) → adds (record { seat = 0; entries = so_far.entries; opened = so_far.opened; apart = []; is_sending = false; refused = None }) ≡ record { seat = 0; entries = entry ∷ so_far.entries; opened = opened; apart = []; is_sending = false; refused = None } → later ≡ option_map adds made → IfSome later (λ tells. tells ≡ record { seat = 0; entries = entry ∷ so_far.entries; opened = opened; apart = []; is_sending = false; refused = None })
+      told_by entry opened adds one more = subst (λ (o : Option Made). IfSome o (λ tells. tells ≡ record { seat = 0; entries = entry ∷ so_far.entries; opened = opened; apart = []; is_sending = false; refused = None })) (sym more) (by_made made so_far.told)
         where
-          by_made : (o : Option Made) → IfSome o (λ tells. tells ≡ record { seat = 0; entries = so_far.entries; apart = []; is_sending = false; refused = None }) → IfSome (option_map adds o) (λ tells. tells ≡ record { seat = 0; entries = entry ∷ so_far.entries; apart = []; is_sending = false; refused = None })
+          by_made : (o : Option Made) → IfSome o (λ tells. tells ≡ record { seat = 0; entries = so_far.entries; opened = so_far.opened; apart = []; is_sending = false; refused = None }) → IfSome (option_map adds o) (λ tells. tells ≡ record { seat = 0; entries = entry ∷ so_far.entries; opened = opened; apart = []; is_sending = false; refused = None })
           by_made None told = tt
           by_made (Some tells) told = ap adds told ∙ one
 
@@ -159,8 +178,8 @@ module _ (script : Lines) (known : IsKnown script) {i : ℕ} {made : Option Made
       called m e unfed (asked, answered, is, more) =
           let plain : makes_feed d.makes ≡ false = ap makes_feed e ∙ unfed in
           let entry : Entry ℕ = record { who = Seat 0; call = asked; reply = answered } in
-          one_more asked entry later well (ap (making script) e ∙ is) refl (sym (ap (λ t. by_feed t (how_many is_of_feed so_far.entries)) plain)) (sym (ap one_if plain))
-          (told_by entry (with_call asked answered) refl more)
+          one_more asked entry so_far.opened later so_far.so (omega arith) well (ap (making script) e ∙ is) refl (sym (ap (λ t. by_feed t (how_many is_of_feed so_far.entries)) plain)) (sym (ap one_if plain))
+          (told_by entry so_far.opened (with_call asked answered) refl more)
 
       by_makes : (m : Makes) → d.makes ≡ m → HasMade script m made later → IsDeclaring script (i + 1) later
       by_makes makes.Thread e has = none_more later e has
@@ -169,8 +188,8 @@ module _ (script : Lines) (known : IsKnown script) {i : ℕ} {made : Option Made
           let channel : Name = record { 0 = number_of script feed.channel } in
           let asked : Call ℕ = call.NewPort channel in
           let entry : Entry ℕ = record { who = Feed (how_many is_of_feed so_far.entries); call = asked; reply = reply.Made port } in
-          one_more asked entry later well (ap (making script) e) refl (sym (ap (λ t. by_feed t (how_many is_of_feed so_far.entries)) is_feed_one)) (sym (ap one_if is_feed_one))
-          (told_by entry (with_feed channel port) refl more)
+          one_more asked entry (feed.capacity ∷ so_far.opened) later (capacity_is feed e, so_far.so) (omega arith) well (ap (making script) e) refl (sym (ap (λ t. by_feed t (how_many is_of_feed so_far.entries)) is_feed_one)) (sym (ap one_if is_feed_one))
+          (told_by entry (feed.capacity ∷ so_far.opened) (with_feed channel feed.capacity port) refl more)
       by_makes makes.Mailbox e has = called makes.Mailbox e refl has
       by_makes makes.Channel e has = called makes.Channel e refl has
       by_makes (makes.Port channel) e has = called (makes.Port channel) e refl has
@@ -188,9 +207,9 @@ module _ (script : Lines) {i : ℕ} {made : Option Made} (so_far : IsDeclaring s
   pub declares : length script.declarations ≤ i → IfSome made (λ m. Declares script m (Ok tt))
   declares all = by_made made so_far.told
     where
-      by_made : (o : Option Made) → IfSome o (λ tells. tells ≡ record { seat = 0; entries = so_far.entries; apart = []; is_sending = false; refused = None }) → IfSome o (λ m. Declares script m (Ok tt))
+      by_made : (o : Option Made) → IfSome o (λ tells. tells ≡ record { seat = 0; entries = so_far.entries; opened = so_far.opened; apart = []; is_sending = false; refused = None }) → IfSome o (λ m. Declares script m (Ok tt))
       by_made None told = tt
-      by_made (Some tells) told = subst (λ (m : Made). Declares script m (Ok tt)) (sym told) (record { own = so_far.own; within = few; all = so_far.count ∙ ap (how_many (is_object script)) (take_all i script.declarations all); refused = refl })
+      by_made (Some tells) told = subst (λ (m : Made). Declares script m (Ok tt)) (sym told) (record { own = so_far.own; opened = so_far.so; fed = so_far.each; within = few; all = so_far.count ∙ ap (how_many (is_object script)) (take_all i script.declarations all); refused = refl })
 
   -- or one was refused
   pub refuses : (ended : Result (Unit {0}) Refusal) (refusal : Refusal) (later : Option Made) → IsErrAnd ended (λ e. e ≡ refusal) → later ≡ option_map (with_refused refusal) made → IfSome later (λ m. Declares script m ended)
@@ -202,9 +221,9 @@ module _ (script : Lines) {i : ℕ} {made : Option Made} (so_far : IsDeclaring s
       err_is (Ok done) is = absurd is
       err_is (Err e) is = ap Err is
 
-      by_made : (o : Option Made) → IfSome o (λ tells. tells ≡ record { seat = 0; entries = so_far.entries; apart = []; is_sending = false; refused = None }) → IfSome (option_map (with_refused refusal) o) (λ m. Declares script m (Err refusal))
+      by_made : (o : Option Made) → IfSome o (λ tells. tells ≡ record { seat = 0; entries = so_far.entries; opened = so_far.opened; apart = []; is_sending = false; refused = None }) → IfSome (option_map (with_refused refusal) o) (λ m. Declares script m (Err refusal))
       by_made None told = tt
-      by_made (Some tells) told = subst (λ (m : Made). Declares script m (Err refusal)) (sym (ap (with_refused refusal) told)) (record { own = so_far.own; within = few; all = tt; refused = refl })
+      by_made (Some tells) told = subst (λ (m : Made). Declares script m (Err refusal)) (sym (ap (with_refused refusal) told)) (record { own = so_far.own; opened = so_far.so; fed = so_far.each; within = few; all = tt; refused = refl })
 
 -- what is made well is made of declared names
 pub well_declared : (script : Lines) (i : ℕ) (m : Makes) → i < length script.declarations → IsMadeWell (names_of script) i m → IsMadeOfDeclared script m

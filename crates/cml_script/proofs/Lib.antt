@@ -31,3 +31,5 @@ pub mod CallLemmas
 pub mod WorkLemmas
 pub mod TurnLemmas
 pub mod DeclareLemmas
+pub mod HeldLemmas
+pub mod ConcludingLemmas

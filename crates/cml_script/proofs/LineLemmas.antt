@@ -24,10 +24,10 @@ use Rattle.cml_grammar.specs.Script.{SourceLine, Lines}
 use Rattle.cml_grammar.specs.Giving.{is_giving}
 use Rattle.cml_grammar.specs.Rings.{makes_feed}
 use Rattle.cml_grammar.specs.Reading.{source_of, ReadsDeclaration, ReadsStep, Gives, GivesAt, GivesNames, gives_name}
-use Rattle.cml_script.specs.declared.way.Way.TheVariants as way
+use Rattle.cml_script.specs.declared.route.Route.TheVariants as route
 use Rattle.cml_grammar.specs.declared.forms.Action.{Action}
 use Rattle.cml_grammar.specs.declared.forms.Action.TheVariants as action
-use Rattle.cml_script.specs.Schedule.{makes_object, is_object, is_feed, is_seated, is_called, is_apart, is_by_ring, way_of, way_of_line}
+use Rattle.cml_script.specs.Schedule.{makes_object, is_object, is_feed, is_seated, is_called, is_apart, is_by_ring, route_of, route_of_line}
 use Rattle.cml_script.proofs.ListLemmas.{mapped_at}
 
 pub all_at : {X : Type 0} (P : X → Type 0) (xs : List X) (i : ℕ) (x : X) → All P xs → slice_get xs i ≡ Some x → P x
@@ -68,19 +68,19 @@ pub step_seated : (script : Lines) (s : Step) (seat : ℕ) → ReadsStep (names_
 step_seated script s seat reads = ap (λ o. option_map_or (λ t. eqb t seat) o false) reads.seat
 
 -- and how it goes
-pub step_way : (script : Lines) (s : Step) → ReadsStep (names_of script) s → way_of_line script (source_of s.line) ≡ way_of script (Some s.seat) s.action
-step_way script s reads =
-    ap (λ o. option_map_or (way_of script o) (action_of (names_of script) (source_of s.line).words) way.Seat) reads.seat
-    ∙ ap (λ o. option_map_or (way_of script (Some s.seat)) o way.Seat) reads.action
+pub step_route : (script : Lines) (s : Step) → ReadsStep (names_of script) s → route_of_line script (source_of s.line) ≡ route_of script (Some s.seat) s.action
+step_route script s reads =
+    ap (λ o. option_map_or (route_of script o) (action_of (names_of script) (source_of s.line).words) route.Seat) reads.seat
+    ∙ ap (λ o. option_map_or (route_of script (Some s.seat)) o route.Seat) reads.action
 
-pub step_called : (script : Lines) (s : Step) (seat : ℕ) → ReadsStep (names_of script) s → is_by_ring (way_of script (Some s.seat) s.action) ≡ false → is_called script seat (source_of s.line) ≡ eqb s.seat seat
+pub step_called : (script : Lines) (s : Step) (seat : ℕ) → ReadsStep (names_of script) s → is_by_ring (route_of script (Some s.seat) s.action) ≡ false → is_called script seat (source_of s.line) ≡ eqb s.seat seat
 step_called script s seat reads apart =
-    ap (λ t. is_seated script seat (source_of s.line) && not t) (ap is_by_ring (step_way script s reads) ∙ apart)
+    ap (λ t. is_seated script seat (source_of s.line) && not t) (ap is_by_ring (step_route script s reads) ∙ apart)
     ∙ and_true (is_seated script seat (source_of s.line)) ∙ step_seated script s seat reads
 
-pub step_apart : (script : Lines) (s : Step) (seat : ℕ) → ReadsStep (names_of script) s → is_by_ring (way_of script (Some s.seat) s.action) ≡ true → is_called script seat (source_of s.line) ≡ false
+pub step_apart : (script : Lines) (s : Step) (seat : ℕ) → ReadsStep (names_of script) s → is_by_ring (route_of script (Some s.seat) s.action) ≡ true → is_called script seat (source_of s.line) ≡ false
 step_apart script s seat reads apart =
-    ap (λ t. is_seated script seat (source_of s.line) && not t) (ap is_by_ring (step_way script s reads) ∙ apart)
+    ap (λ t. is_seated script seat (source_of s.line) && not t) (ap is_by_ring (step_route script s reads) ∙ apart)
     ∙ and_false (is_seated script seat (source_of s.line))
 
 -- a step that a seat performs is that seat's
@@ -99,7 +99,7 @@ giving_called script i seat line asks found gives seated =
     seat_of : Option ℕ
     seat_of = seat_of_step (names_of script) line.words
 
-    not_apart : (a : Action) → gives_name a ≡ true → is_by_ring (way_of script seat_of a) ≡ false
+    not_apart : (a : Action) → gives_name a ≡ true → is_by_ring (route_of script seat_of a) ≡ false
     not_apart (action.Port at) e = refl
     not_apart (action.Copy at) e = refl
     not_apart (action.Send at message) e = absurd (false≢true e)
@@ -115,8 +115,8 @@ giving_called script i seat line asks found gives seated =
     not_apart (action.Swap at message) e = absurd (false≢true e)
 
     by_action : (o : Option Action) → action_of (names_of script) line.words ≡ o → is_apart script line ≡ false
-    by_action None e = ap (λ o. is_by_ring (option_map_or (way_of script seat_of) o way.Seat)) e
-    by_action (Some a) e = ap (λ o. is_by_ring (option_map_or (way_of script seat_of) o way.Seat)) e ∙ not_apart a (asks i line a found e ∙ gives)
+    by_action None e = ap (λ o. is_by_ring (option_map_or (route_of script seat_of) o route.Seat)) e
+    by_action (Some a) e = ap (λ o. is_by_ring (option_map_or (route_of script seat_of) o route.Seat)) e ∙ not_apart a (asks i line a found e ∙ gives)
 
 -- an element stands at each place of a list
 pub stands : {X : Type 0} (xs : List X) (i : ℕ) → i < length xs → (x : X) × (slice_get xs i ≡ Some x)

@@ -16,9 +16,9 @@ use Rattle.cml_grammar.specs.Forms.{declares_of}
 use Rattle.cml_grammar.specs.Script.{SourceLine, Lines}
 use Rattle.cml_grammar.specs.Meaning.{names_of, makes_of, makes_by, action_of, seat_of_step}
 use Rattle.cml_grammar.specs.Rings.{lesser, first_lane, first_feed, first_ring, declares_feed, makes_feed, is_feed as is_feed_word, capacity_of}
-use Rattle.cml_script.specs.declared.way.Way.TheVariants as way
+use Rattle.cml_script.specs.declared.route.Route.TheVariants as route
 use Rattle.cml_script.specs.Counting.{how_many}
-use Rattle.cml_script.specs.Schedule.{is_feed, is_seated, is_called, is_apart, is_by_ring, objects_of, is_object, maker, feed_at, feed_way, lane_way, way_of}
+use Rattle.cml_script.specs.Schedule.{is_feed, is_seated, is_called, is_apart, is_by_ring, objects_of, is_object, maker, feed_at, feed_route, lane_route, route_of}
 
 -- neither of two is there where the lesser isn't
 neither : (one other : Option ℕ) → lesser one other ≡ None → (one ≡ None) × (other ≡ None)
@@ -101,27 +101,27 @@ module _ (script : Lines) (plain : first_ring script ≡ None) where
           ∙ ap (λ t. cond t (Some (how_many (is_feed script) (take at script.declarations))) None) (plain_feed at line e)
 
   -- each step is performed by its thread's seat
-  no_way : (seat : Option ℕ) (a : Action) → is_by_ring (way_of script seat a) ≡ false
-  no_way seat (action.Send at message) = ap (λ o. is_by_ring (lane_way o)) (no_capacity seat at)
-  no_way seat (action.Multicast at message) = ap (λ o. is_by_ring (lane_way o)) (no_capacity seat at)
-  no_way seat (action.Poll at) = ap (λ o. is_by_ring (feed_way o)) (no_feed at)
-  no_way seat (action.Recv at) = refl
-  no_way seat (action.Port at) = refl
-  no_way seat (action.Copy at) = refl
-  no_way seat (action.Close at) = refl
-  no_way seat (action.Put at message) = refl
-  no_way seat (action.Get at) = refl
-  no_way seat (action.GetPoll at) = refl
-  no_way seat (action.Take at) = refl
-  no_way seat (action.TakePoll at) = refl
-  no_way seat (action.Swap at message) = refl
+  no_route : (seat : Option ℕ) (a : Action) → is_by_ring (route_of script seat a) ≡ false
+  no_route seat (action.Send at message) = ap (λ o. is_by_ring (lane_route o)) (no_capacity seat at)
+  no_route seat (action.Multicast at message) = ap (λ o. is_by_ring (lane_route o)) (no_capacity seat at)
+  no_route seat (action.Poll at) = ap (λ o. is_by_ring (feed_route o)) (no_feed at)
+  no_route seat (action.Recv at) = refl
+  no_route seat (action.Port at) = refl
+  no_route seat (action.Copy at) = refl
+  no_route seat (action.Close at) = refl
+  no_route seat (action.Put at message) = refl
+  no_route seat (action.Get at) = refl
+  no_route seat (action.GetPoll at) = refl
+  no_route seat (action.Take at) = refl
+  no_route seat (action.TakePoll at) = refl
+  no_route seat (action.Swap at message) = refl
 
   none_apart : (line : SourceLine) → is_apart script line ≡ false
   none_apart line = by_action (action_of (names_of script) line.words)
     where
-      by_action : (a : Option Action) → is_by_ring (option_map_or (way_of script (seat_of_step (names_of script) line.words)) a way.Seat) ≡ false
+      by_action : (a : Option Action) → is_by_ring (option_map_or (route_of script (seat_of_step (names_of script) line.words)) a route.Seat) ≡ false
       by_action None = refl
-      by_action (Some a) = no_way (seat_of_step (names_of script) line.words) a
+      by_action (Some a) = no_route (seat_of_step (names_of script) line.words) a
 
   pub plain_called : (seat : ℕ) (line : SourceLine) → is_called script seat line ≡ is_seated script seat line
   plain_called seat line = by_test (is_seated script seat line) (is_apart script line) (none_apart line)

@@ -13,26 +13,26 @@ use Rattle.cml_grammar.specs.declared.script.Step.{Step}
 use Rattle.cml_grammar.specs.Script.{SourceLine, Lines}
 use Rattle.cml_grammar.specs.Meaning.{names_of, action_of, seat_of_step}
 use Rattle.cml_grammar.specs.Reading.{source_of, ReadsStep, UsesWell}
-use Rattle.cml_script.specs.declared.way.Way.TheVariants as way
-use Rattle.cml_script.specs.Schedule.{feed_way, feed_at, way_of, way_of_line}
+use Rattle.cml_script.specs.declared.route.Route.TheVariants as route
+use Rattle.cml_script.specs.Schedule.{feed_route, feed_at, route_of, route_of_line}
 use Rattle.cml_script.specs.Apart.{by_feed, act_of, act_of_line}
-use Rattle.cml_script.specs.Plan.{IsKnown, IsObjectAt, way_at}
+use Rattle.cml_script.specs.Plan.{IsKnown, IsObjectAt, route_at}
 use Rattle.cml_script.proofs.ListLemmas.{mapped_at}
 use Rattle.cml_script.proofs.LineLemmas.{all_at}
 use Rattle.cml_script.proofs.UseLemmas.{given_port}
 
-step_way : (script : Lines) (items : List Step) (i : ℕ) (s : Step) → map (λ x. source_of x.line) items ≡ script.steps → All (ReadsStep (names_of script)) items → slice_get items i ≡ Some s
-    → way_at script i ≡ way_of script (seat_of_step (names_of script) (source_of s.line).words) s.action
-step_way script items i s lines reads found =
-    ap (λ l. option_map_or (way_of_line script) l way.Seat) (mapped_at (λ x. source_of x.line) items script.steps i s lines found)
-    ∙ ap (λ a. option_map_or (way_of script (seat_of_step (names_of script) (source_of s.line).words)) a way.Seat) (all_at (ReadsStep (names_of script)) items i s reads found).action
+step_route : (script : Lines) (items : List Step) (i : ℕ) (s : Step) → map (λ x. source_of x.line) items ≡ script.steps → All (ReadsStep (names_of script)) items → slice_get items i ≡ Some s
+    → route_at script i ≡ route_of script (seat_of_step (names_of script) (source_of s.line).words) s.action
+step_route script items i s lines reads found =
+    ap (λ l. option_map_or (route_of_line script) l route.Seat) (mapped_at (λ x. source_of x.line) items script.steps i s lines found)
+    ∙ ap (λ a. option_map_or (route_of script (seat_of_step (names_of script) (source_of s.line).words)) a route.Seat) (all_at (ReadsStep (names_of script)) items i s reads found).action
 
-no_lane : (o : Option ℕ) (capacity : ℕ) → feed_way o ≡ way.Lane capacity → ⊥
+no_lane : (o : Option ℕ) (capacity : ℕ) → feed_route o ≡ route.Lane capacity → ⊥
 no_lane None capacity e = cc
 no_lane (Some feed) capacity e = cc
 
 -- what goes by a lane is a send or a multicast
-lane_action : (script : Lines) (seat : Option ℕ) (a : Action) (capacity : ℕ) → way_of script seat a ≡ way.Lane capacity → ((at m : ℕ) → a ≡ action.Send at m → ⊥) → ((at m : ℕ) → a ≡ action.Multicast at m → ⊥) → ⊥
+lane_action : (script : Lines) (seat : Option ℕ) (a : Action) (capacity : ℕ) → route_of script seat a ≡ route.Lane capacity → ((at m : ℕ) → a ≡ action.Send at m → ⊥) → ((at m : ℕ) → a ≡ action.Multicast at m → ⊥) → ⊥
 lane_action script seat (action.Send at message) capacity e no_send no_multicast = no_send at message refl
 lane_action script seat (action.Multicast at message) capacity e no_send no_multicast = no_multicast at message refl
 lane_action script seat (action.Poll at) capacity e no_send no_multicast = no_lane (feed_at script at) capacity e
@@ -47,15 +47,15 @@ lane_action script seat (action.Take at) capacity e no_send no_multicast = cc
 lane_action script seat (action.TakePoll at) capacity e no_send no_multicast = cc
 lane_action script seat (action.Swap at message) capacity e no_send no_multicast = cc
 
-pub lane_sends : (script : Lines) (items : List Step) (i capacity : ℕ) (d : Step) → map (λ x. source_of x.line) items ≡ script.steps → All (ReadsStep (names_of script)) items → i < length items → way_at script i ≡ way.Lane capacity
+pub lane_sends : (script : Lines) (items : List Step) (i capacity : ℕ) (d : Step) → map (λ x. source_of x.line) items ≡ script.steps → All (ReadsStep (names_of script)) items → i < length items → route_at script i ≡ route.Lane capacity
     → ((at m : ℕ) → (get_or items i d).action ≡ action.Send at m → ⊥) → ((at m : ℕ) → (get_or items i d).action ≡ action.Multicast at m → ⊥) → ⊥
 lane_sends script items i capacity d lines reads within goes =
     let found = slice_get-get_or items i d within in
-    lane_action script (seat_of_step (names_of script) (source_of (get_or items i d).line).words) (get_or items i d).action capacity (sym (step_way script items i (get_or items i d) lines reads found) ∙ goes)
+    lane_action script (seat_of_step (names_of script) (source_of (get_or items i d).line).words) (get_or items i d).action capacity (sym (step_route script items i (get_or items i d) lines reads found) ∙ goes)
 
 -- what it does
 pub lane_acts : (script : Lines) (items : List Step) (i capacity : ℕ) (d : Step) (line : SourceLine) (a : Action) → map (λ x. source_of x.line) items ≡ script.steps → All (ReadsStep (names_of script)) items → i < length items → slice_get script.steps i ≡ Some line
-    → way_of_line script line ≡ way.Lane capacity → (get_or items i d).action ≡ a → act_of_line script line ≡ act_of script (way.Lane capacity) a
+    → route_of_line script line ≡ route.Lane capacity → (get_or items i d).action ≡ a → act_of_line script line ≡ act_of script (route.Lane capacity) a
 lane_acts script items i capacity d line a lines reads within found goes is =
     let s = get_or items i d in
     let here = slice_get-get_or items i d within in
@@ -65,10 +65,10 @@ lane_acts script items i capacity d line a lines reads within found goes is =
     ap₂ (λ w o. option_and_then (act_of script w) o) goes acts
 
 -- what goes by a feed polls it
-pub feed_acts : (script : Lines) (line : SourceLine) (feed : ℕ) → way_of_line script line ≡ way.Feed feed → act_of_line script line ≡ Some (by_feed feed)
+pub feed_acts : (script : Lines) (line : SourceLine) (feed : ℕ) → route_of_line script line ≡ route.Feed feed → act_of_line script line ≡ Some (by_feed feed)
 feed_acts script line feed goes = ap (λ w. option_and_then (act_of script w) (action_of (names_of script) line.words)) goes ∙ by_action (action_of (names_of script) line.words) goes
   where
-    by_action : (o : Option Action) → option_map_or (way_of script (seat_of_step (names_of script) line.words)) o way.Seat ≡ way.Feed feed → option_and_then (act_of script (way.Feed feed)) o ≡ Some (by_feed feed)
+    by_action : (o : Option Action) → option_map_or (route_of script (seat_of_step (names_of script) line.words)) o route.Seat ≡ route.Feed feed → option_and_then (act_of script (route.Feed feed)) o ≡ Some (by_feed feed)
     by_action None e = cc
     by_action (Some a) e = refl
 

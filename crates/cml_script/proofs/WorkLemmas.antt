@@ -20,17 +20,17 @@ use Rattle.cml_grammar.specs.Meaning.{names_of}
 use Rattle.cml_grammar.specs.Reading.{source_of, ReadsStep, UsesEarlier, used_by}
 use Rattle.cml_script.specs.declared.stop.Stop.{Stop}
 use Rattle.cml_script.specs.declared.binding.Binding.TheVariants as binding
-use Rattle.cml_script.specs.declared.way.Way.{Way}
-use Rattle.cml_script.specs.declared.way.Way.TheVariants as way
+use Rattle.cml_script.specs.declared.route.Route.{Route}
+use Rattle.cml_script.specs.declared.route.Route.TheVariants as route
 use Rattle.cml_script.specs.declared.running.worker.Course.{Course}
 use Rattle.cml_script.specs.Counting.{one_if, how_many}
-use Rattle.cml_script.specs.Schedule.{History, declared_count, maker, performed, is_seat, is_called, is_by_ring, way_of_line, earlier, next_position, given_by, step_call, bound_by, binding_of, port_bound}
+use Rattle.cml_script.specs.Schedule.{History, declared_count, maker, performed, is_seat, is_called, is_by_ring, route_of_line, earlier, next_position, given_by, step_call, bound_by, binding_of, port_bound}
 use Rattle.cml_script.specs.Apart.{Apart, is_by_lane, goes_apart, earlier_apart, act_of_line}
 use Rattle.cml_script.specs.Report.{is_of_thread}
-use Rattle.cml_script.specs.Plan.{IsKnown, HasSeats, AsksForPorts, way_at}
+use Rattle.cml_script.specs.Plan.{IsKnown, HasSeats, AsksForPorts, route_at}
 use Rattle.cml_script.specs.Bindings.{AreBindings, with_binding}
-use Rattle.cml_script.specs.Working.{Made, with_call, with_apart, with_closed, closed_if, waits, MayCall, BeginsAt, AreBySeat, AreByMakers, IsOpening, AreNextSteps, IsTurn, IsUnrefused, IsStop, Works, IsRefusedSo, with_refused, stop_of, ending_with}
-use Rattle.cml_script.specs.Course.{AreSuiting, IsUnderWay, HasTaken}
+use Rattle.cml_script.specs.Working.{Made, with_call, with_apart, with_closed, waits, MayCall, BeginsAt, AreBySeat, AreByMakers, IsOpening, AreNextSteps, IsTurn, IsUnrefused, IsStop, Works, with_refused, stop_of, ending_with}
+use Rattle.cml_script.specs.Course.{closed_if, IsRefusedSo, AreSuiting, IsUnderWay, HasTaken}
 use Rattle.cml_script.proofs.ListLemmas.{how_many-le, count_taken, taken_count}
 use Rattle.cml_script.proofs.GivingLemmas.{giver, next_at, none_other}
 use Rattle.cml_script.proofs.BindingLemmas.{AreSteps, asks_port, bound_more, maker_is_none, none_seated}
@@ -121,7 +121,7 @@ begins script seat course made known none count bound sends = record {
   way = record {
     entries = [];
     apart = [];
-    told = subst (λ t. IfSome made (λ tells. tells ≡ record { seat = seat; entries = []; apart = []; is_sending = t; refused = None })) (sym sends) none;
+    told = subst (λ t. IfSome made (λ tells. tells ≡ record { seat = seat; entries = []; opened = []; apart = []; is_sending = t; refused = None })) (sym sends) none;
     by = tt;
     count = count ∙ omega arith;
     called = refl;
@@ -173,11 +173,12 @@ module _ (script : Lines) (seat : ℕ) (low : 1 ≤ seat) (first : History) (ope
         let object = used_stands_for script so_far known items i seat s (all_steps under.entries (under.steps first opening) under.suiting) lines reads earlier item next (omega (arith, ge)) in
         subst IsSome (sym (step_calls script so_far items i (used_by s.action) s (named (Some object.0)) lines reads item refl (ap named (sym object.1)))) refl
 
-    pub works : (stop : Result Stop AllocError) → (sending : Bool) (refused : Option Refusal) → IsStop script seat place sending refused stop → Works script seat (record { seat = seat; entries = under.entries; apart = under.apart; is_sending = sending; refused = refused }) stop first
+    pub works : (stop : Result Stop AllocError) → (sending : Bool) (refused : Option Refusal) → IsStop script seat place sending refused stop → Works script seat (record { seat = seat; entries = under.entries; opened = []; apart = under.apart; is_sending = sending; refused = refused }) stop first
     works stop sending refused stops = record {
       by = under.by;
       steps = under.steps first opening;
       apart = under.does;
+      opens = refl;
       place = place;
       called = under.called;
       gone = under.gone;
@@ -199,13 +200,13 @@ module _ (script : Lines) (seat i : ℕ) (turn : IsTurn script seat i) where
   turn_within = slice_get_within script.steps i turn.line turn.found
 
   -- how it goes
-  pub turn_goes : (w : Way) → way_at script i ≡ w → way_of_line script turn.line ≡ w
-  turn_goes w is = sym (ap (λ l. option_map_or (way_of_line script) l way.Seat) turn.found) ∙ is
+  pub turn_goes : (w : Route) → route_at script i ≡ w → route_of_line script turn.line ≡ w
+  turn_goes w is = sym (ap (λ l. option_map_or (route_of_line script) l route.Seat) turn.found) ∙ is
 
-  pub turn_apart : (t : Bool) → is_by_ring (way_of_line script turn.line) ≡ t → goes_apart script seat turn.line ≡ t
+  pub turn_apart : (t : Bool) → is_by_ring (route_of_line script turn.line) ≡ t → goes_apart script seat turn.line ≡ t
   turn_apart t is = ap₂ (λ s a. s && a) turn.seated is
 
-  pub turn_called : (t : Bool) → is_by_ring (way_of_line script turn.line) ≡ t → is_called script seat turn.line ≡ not t
+  pub turn_called : (t : Bool) → is_by_ring (route_of_line script turn.line) ≡ t → is_called script seat turn.line ≡ not t
   turn_called t is = ap₂ (λ s a. s && not a) turn.seated is
 
   -- how many steps of its kinds stand behind it
@@ -242,7 +243,7 @@ pub kept : (script : Lines) (seat place : ℕ) {course : Course} {made : Option 
 kept script seat place {course} {made} t now under same = record {
   entries = under.entries;
   apart = under.apart;
-  told = told_closed t (record { seat = seat; entries = under.entries; apart = under.apart; is_sending = course.is_sending; refused = None }) made now under.told same;
+  told = told_closed t (record { seat = seat; entries = under.entries; opened = []; apart = under.apart; is_sending = course.is_sending; refused = None }) made now under.told same;
   by = under.by;
   count = under.count;
   called = under.called;
@@ -273,21 +274,21 @@ may_call script seat place {course} {made} sending w asked under closed is = by_
     none_open false true e = refl
     none_open s false e = absurd (false≢true e)
 
-    by_made : (o : Option Made) → IfSome o (λ tells. tells ≡ record { seat = seat; entries = under.entries; apart = under.apart; is_sending = course.is_sending; refused = None }) → MayCall asked o
+    by_made : (o : Option Made) → IfSome o (λ tells. tells ≡ record { seat = seat; entries = under.entries; opened = []; apart = under.apart; is_sending = course.is_sending; refused = None }) → MayCall asked o
     by_made None told = tt
     by_made (Some tells) told = λ wait. ap (λ (m : Made). m.is_sending) told ∙ closed ∙ none_open sending w (sym is ∙ wait)
 
 -- a turn that is the seat's was performed
 pub more_made : (script : Lines) (seat : ℕ) (low : 1 ≤ seat) (i : ℕ) {course : Course} {made : Option Made} (under : IsUnderWay script seat i course made) (known : IsKnown script) (turn : IsTurn script seat i) (asked : Call ℕ) (r : Reply ℕ) (g : Option ℕ) (next : Course) (later : Option Made)
-    → is_by_ring (way_of_line script turn.line) ≡ false → suits asked r ≡ true
+    → is_by_ring (route_of_line script turn.line) ≡ false → suits asked r ≡ true
     → ((history : History) → length history ≡ course.made → AreBindings script history course.bindings.items → step_call script history i ≡ Some asked)
     → g ≡ given_by script i → later ≡ option_map (with_call asked r) made → next.made ≡ course.made + 1 → next.bindings.items ≡ with_binding course.bindings.items g (bound_by asked r) → next.is_sending ≡ course.is_sending
     → IsUnderWay script seat (i + 1) next later
 more_made script seat low i {course} {made} under known turn asked r g next later seated suit calls gives more count bound sends = record {
   entries = entry ∷ under.entries;
   apart = under.apart;
-  told = subst (λ t. IfSome later (λ tells. tells ≡ record { seat = seat; entries = entry ∷ under.entries; apart = under.apart; is_sending = t; refused = None })) (sym sends)
-      (told_more (record { seat = seat; entries = under.entries; apart = under.apart; is_sending = course.is_sending; refused = None }) (with_call asked r) made later under.told more);
+  told = subst (λ t. IfSome later (λ tells. tells ≡ record { seat = seat; entries = entry ∷ under.entries; opened = []; apart = under.apart; is_sending = t; refused = None })) (sym sends)
+      (told_more (record { seat = seat; entries = under.entries; opened = []; apart = under.apart; is_sending = course.is_sending; refused = None }) (with_call asked r) made later under.told more);
   by = (refl, under.by);
   count = omega (arith, count, under.count);
   called = omega (arith, under.called, called_more script seat i turn true called);
@@ -316,13 +317,13 @@ more_made script seat low i {course} {made} under known turn asked r g next late
 
 -- a turn that goes by a lane or a feed
 pub more_gone : (script : Lines) (seat i : ℕ) {course : Course} {made : Option Made} (under : IsUnderWay script seat i course made) (turn : IsTurn script seat i) (done : Apart) (next : Course) (later : Option Made)
-    → is_by_ring (way_of_line script turn.line) ≡ true → act_of_line script turn.line ≡ Some done → later ≡ option_map (with_apart done) made
+    → is_by_ring (route_of_line script turn.line) ≡ true → act_of_line script turn.line ≡ Some done → later ≡ option_map (with_apart done) made
     → next.made ≡ course.made → next.bindings ≡ course.bindings → next.is_sending ≡ (is_by_lane done || course.is_sending) → IsUnderWay script seat (i + 1) next later
 more_gone script seat i {course} {made} under turn done next later by_ring does more count bound sends = record {
   entries = under.entries;
   apart = done ∷ under.apart;
-  told = subst (λ t. IfSome later (λ tells. tells ≡ record { seat = seat; entries = under.entries; apart = done ∷ under.apart; is_sending = t; refused = None })) (sym sends)
-      (told_more (record { seat = seat; entries = under.entries; apart = under.apart; is_sending = course.is_sending; refused = None }) (with_apart done) made later under.told more);
+  told = subst (λ t. IfSome later (λ tells. tells ≡ record { seat = seat; entries = under.entries; opened = []; apart = done ∷ under.apart; is_sending = t; refused = None })) (sym sends)
+      (told_more (record { seat = seat; entries = under.entries; opened = []; apart = under.apart; is_sending = course.is_sending; refused = None }) (with_apart done) made later under.told more);
   by = under.by;
   count = count ∙ under.count;
   called = omega (arith, under.called, called_more script seat i turn false (turn_called script seat i turn true by_ring));
@@ -350,10 +351,10 @@ more_gone script seat i {course} {made} under turn done next later by_ring does 
 
 -- what is told then
 pub ends_with : (script : Lines) (seat : ℕ) → 1 ≤ seat → (place : ℕ) {course : Course} {made : Option Made} (under : IsUnderWay script seat place course made) (stop : Result Stop AllocError) (sending : Bool) (refused : Option Refusal) (now : Option Made)
-    → IfSome now (λ tells. tells ≡ record { seat = seat; entries = under.entries; apart = under.apart; is_sending = sending; refused = refused }) → IsStop script seat place sending refused stop → (first : History) → IsOpening script first → IfSome now (λ m. Works script seat m stop first)
+    → IfSome now (λ tells. tells ≡ record { seat = seat; entries = under.entries; opened = []; apart = under.apart; is_sending = sending; refused = refused }) → IsStop script seat place sending refused stop → (first : History) → IsOpening script first → IfSome now (λ m. Works script seat m stop first)
 ends_with script seat low place under stop sending refused now told stops first opening = by_made now told
   where
-    by_made : (o : Option Made) → IfSome o (λ tells. tells ≡ record { seat = seat; entries = under.entries; apart = under.apart; is_sending = sending; refused = refused }) → IfSome o (λ m. Works script seat m stop first)
+    by_made : (o : Option Made) → IfSome o (λ tells. tells ≡ record { seat = seat; entries = under.entries; opened = []; apart = under.apart; is_sending = sending; refused = refused }) → IfSome o (λ m. Works script seat m stop first)
     by_made None told = tt
     by_made (Some tells) told = subst (λ (m : Made). Works script seat m stop first) (sym told) (works script seat low first opening under stop sending refused stops)
 
@@ -361,7 +362,7 @@ ends_with script seat low place under stop sending refused now told stops first 
 pub refused_at : (script : Lines) (seat : ℕ) → 1 ≤ seat → (place : ℕ) {course : Course} {made : Option Made} (under : IsUnderWay script seat place course made) (r : Refusal) (result : Result Stop AllocError) (now : Option Made) → result ≡ stop_of r → IsRefusedSo r made now → IsTurn script seat place
     → (first : History) → IsOpening script first → IfSome now (λ m. Works script seat m result first)
 refused_at script seat low place {course} {made} under r result now is (closes, same) turn =
-    let told : Made = record { seat = seat; entries = under.entries; apart = under.apart; is_sending = course.is_sending; refused = None } in
+    let told : Made = record { seat = seat; entries = under.entries; opened = []; apart = under.apart; is_sending = course.is_sending; refused = None } in
     ends_with script seat low place under result (cond closes false course.is_sending) (Some r) now
     (told_more (record told { is_sending = cond closes false course.is_sending }) (with_refused r) (closed_if closes made) now (told_closed closes told made (closed_if closes made) under.told refl) same)
     (inl (turn, is))
@@ -380,7 +381,7 @@ closes_with script seat low place {course} {made} under stop result now ends clo
 ]
   where
     told : Made
-    told = record { seat = seat; entries = under.entries; apart = under.apart; is_sending = course.is_sending; refused = None }
+    told = record { seat = seat; entries = under.entries; opened = []; apart = under.apart; is_sending = course.is_sending; refused = None }
 
     none_open : (t : Bool) → cond t false t ≡ false
     none_open true = refl

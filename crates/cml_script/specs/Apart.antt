@@ -6,10 +6,10 @@ use Rattle.cml_grammar.specs.declared.forms.Action.{Action}
 use Rattle.cml_grammar.specs.declared.forms.Action.TheVariants as action
 use Rattle.cml_grammar.specs.Script.{SourceLine, Lines}
 use Rattle.cml_grammar.specs.Meaning.{names_of, action_of}
-use Rattle.cml_script.specs.declared.way.Way.{Way}
-use Rattle.cml_script.specs.declared.way.Way.TheVariants as way
+use Rattle.cml_script.specs.declared.route.Route.{Route}
+use Rattle.cml_script.specs.declared.route.Route.TheVariants as route
 use Rattle.cml_script.specs.Counting.{how_many}
-use Rattle.cml_script.specs.Schedule.{number_of, is_seated, is_apart, way_of_line}
+use Rattle.cml_script.specs.Schedule.{number_of, is_seated, is_apart, route_of_line}
 
 -- a message sent by the lane to this object, which has room for so many, or a poll of the feed of this number
 pub data Apart : Type 0 where
@@ -29,14 +29,14 @@ abbrev pub earlier_apart : Lines → ℕ → ℕ → ℕ
 earlier_apart script seat i = how_many (goes_apart script seat) (take i script.steps)
 
 -- what an action does that goes this way
-abbrev pub act_of : Lines → Way → Action → Option Apart
-act_of script (way.Lane capacity) (action.Send at message) = Some (by_lane (record { 0 = number_of script at }) capacity message)
-act_of script (way.Lane capacity) (action.Multicast at message) = Some (by_lane (record { 0 = number_of script at }) capacity message)
-act_of script (way.Feed feed) _ = Some (by_feed feed)
+abbrev pub act_of : Lines → Route → Action → Option Apart
+act_of script (route.Lane capacity) (action.Send at message) = Some (by_lane (record { 0 = number_of script at }) capacity message)
+act_of script (route.Lane capacity) (action.Multicast at message) = Some (by_lane (record { 0 = number_of script at }) capacity message)
+act_of script (route.Feed feed) _ = Some (by_feed feed)
 act_of script _ _ = None
 
 abbrev pub act_of_line : Lines → SourceLine → Option Apart
-act_of_line script line = option_and_then (act_of script (way_of_line script line)) (action_of (names_of script) line.words)
+act_of_line script line = option_and_then (act_of script (route_of_line script line)) (action_of (names_of script) line.words)
 
 -- this is what the thread's step does that goes so behind so many
 pub record IsNextApart (script : Lines) (seat before : ℕ) (done : Apart) : Type 0 where

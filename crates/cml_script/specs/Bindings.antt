@@ -1,4 +1,4 @@
--- What steps gave their names, kept by name.
+-- The inside of `play`, `work`, `audit` and a report: what steps gave their names, kept by name.
 use Rattle.std.specs.Prelude.{ℕ, ◌≡◌, ◌<◌, List, length, slice_get, slice_set, Option, Some, None}
 use Rattle.cml_grammar.specs.Script.{Lines}
 use Rattle.cml_grammar.specs.Meaning.{names_of}

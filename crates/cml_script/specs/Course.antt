@@ -1,5 +1,9 @@
--- How far a thread has come.
-use Rattle.std.specs.Prelude.{ℕ, ◌≡◌, ◌+◌, List, true, [], ◌∷◌, ◌++◌, length, take, Option, None, IfSome, ⊤}
+-- The inside of `work`: how far a thread has come, and what one step does.
+use Rattle.std.specs.Prelude.{ℕ, ◌≡◌, ◌+◌, if◌then◌else◌, Bool, true, false, List, [], ◌∷◌, ◌++◌, length, take, Option, None, IfSome, ⊤}
+use Rattle.std.specs.Option.{option_map}
+use Rattle.cml_board.specs.declared.outcome.Refusal.{Refusal}
+use Rattle.cml_grammar.specs.declared.forms.Action.{Action}
+use Rattle.cml_grammar.specs.declared.forms.Action.TheVariants as action
 use Rattle.cml_board.specs.History.{entries_in}
 use Rattle.cml_threads.specs.Telling.{suits}
 use Rattle.cml_grammar.specs.Script.{Lines}
@@ -8,7 +12,23 @@ use Rattle.cml_script.specs.Counting.{how_many}
 use Rattle.cml_script.specs.Schedule.{History, declared_count, is_seated, earlier}
 use Rattle.cml_script.specs.Apart.{Apart, AreNextApart, earlier_apart}
 use Rattle.cml_script.specs.Bindings.{AreBindings}
-use Rattle.cml_script.specs.Working.{Made, IsOpening, AreBySeat, AreNextSteps}
+use Rattle.cml_script.specs.Working.{Made, with_closed, with_refused, IsOpening, AreBySeat, AreNextSteps}
+
+-- all its lanes are closed, if any are to be
+abbrev pub closed_if : Bool → Option Made → Option Made
+closed_if closes made = if closes then option_map with_closed made else made
+
+-- it was refused so, and at most its lanes were closed before
+abbrev pub IsRefusedSo : Refusal → Option Made → Option Made → Type 0
+IsRefusedSo refusal before after = (closes : Bool) × (after ≡ option_map (with_refused refusal) (closed_if closes before))
+
+-- a step that waits where it can't be answered
+abbrev pub may_wait : Action → Bool
+may_wait (action.Recv at) = true
+may_wait (action.Get at) = true
+may_wait (action.Take at) = true
+may_wait (action.Swap at message) = true
+may_wait _ = false
 
 -- each reply is one that its call may have
 abbrev pub AreSuiting : History → Type 0
@@ -20,7 +40,7 @@ AreSuiting (entry ∷ before) = (suits entry.call entry.reply ≡ true) × AreSu
 pub record IsUnderWay (script : Lines) (seat place : ℕ) (course : Course) (made : Option Made) : Type 0 where
   pub entries : History
   pub apart : List Apart
-  pub told : IfSome made (λ tells. tells ≡ record { seat = seat; entries = entries; apart = apart; is_sending = course.is_sending; refused = None })
+  pub told : IfSome made (λ tells. tells ≡ record { seat = seat; entries = entries; opened = []; apart = apart; is_sending = course.is_sending; refused = None })
   pub by : AreBySeat seat entries
   pub count : course.made ≡ declared_count script + entries_in entries
   pub called : entries_in entries ≡ earlier script seat place

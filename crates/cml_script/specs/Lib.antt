@@ -20,6 +20,7 @@ pub mod Audit
 pub mod Trail
 pub mod Scene
 pub mod Working
+pub mod Declaring
 pub mod Course
 pub mod Endings
 pub mod Replay

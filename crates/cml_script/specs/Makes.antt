@@ -1,4 +1,4 @@
--- What the declarations of a script make.
+-- The inside of `declare`, `audit` and a report: what the declarations of a script make.
 use Rattle.std.specs.Prelude.{◌≡◌, ◌<◌, List, All, length, map, filter, Some, ⊤}
 use Rattle.cml_grammar.specs.declared.forms.Makes.{Makes}
 use Rattle.cml_grammar.specs.declared.forms.Makes.TheVariants as makes

@@ -1,4 +1,4 @@
--- What is known of the objects that a script declares.
+-- The inside of `audit` and of a report: what is known of the objects that a script declares.
 use Rattle.std.specs.Prelude.{ℕ, ◌≡◌, ◌<◌, Bool, false, List, length, slice_get, Some}
 use Rattle.std.specs.Option.{option_map_or}
 use Rattle.std.specs.List.{list_any}

@@ -15,9 +15,9 @@ use Rattle.cml_grammar.specs.declared.forms.Action.{Action}
 use Rattle.cml_grammar.specs.Reading.{gives_name, IsCapacity}
 use Rattle.cml_grammar.specs.Giving.{is_giving, NamesAreGiven}
 use Rattle.cml_script.specs.Counting.{how_many}
-use Rattle.cml_script.specs.Schedule.{is_feed, number_of, is_seated, is_called, positions_where, way_of_line, given_by}
-use Rattle.cml_script.specs.declared.way.Way.{Way}
-use Rattle.cml_script.specs.declared.way.Way.TheVariants as way
+use Rattle.cml_script.specs.Schedule.{is_feed, number_of, is_seated, is_called, positions_where, route_of_line, given_by}
+use Rattle.cml_script.specs.declared.route.Route.{Route}
+use Rattle.cml_script.specs.declared.route.Route.TheVariants as route
 
 -- the kind of object that a name names, and that a declaration makes: a feed's is its port
 abbrev pub kind_named : Named → Option Kind
@@ -58,13 +58,13 @@ abbrev pub HasSeats : Lines → Type 0
 HasSeats script = (i : ℕ) (line : SourceLine) (seat : ℕ) → slice_get script.steps i ≡ Some line → is_seated script seat line ≡ true → (1 ≤ seat) × (seat ≤ 64)
 
 -- how the i-th step goes
-abbrev pub way_at : Lines → ℕ → Way
-way_at script i = option_map_or (way_of_line script) (slice_get script.steps i) way.Seat
+abbrev pub route_at : Lines → ℕ → Route
+route_at script i = option_map_or (route_of_line script) (slice_get script.steps i) route.Seat
 
 -- a lane has room for 1 to 1,024 messages
-abbrev pub HasRoom : Way → Type 0
-HasRoom (way.Lane capacity) = IsCapacity capacity
-HasRoom other = ⊤
+abbrev pub HasLaneRoom : Route → Type 0
+HasLaneRoom (route.Lane capacity) = IsCapacity capacity
+HasLaneRoom other = ⊤
 
 -- just the steps that ask for a port give a name
 abbrev pub AsksForPorts : Lines → Type 0

@@ -113,9 +113,13 @@ abbrev pub port_line : Lines → History → ℕ → List ℕ → List ℕ
 port_line script history at name =
     codes "port " ++ name ++ counts_or_not_made (port_counts history) (made_of script history at) ++ line_end
 
+-- how many messages a thread took of its feed, and none where there is no feed
+abbrev pub taken_from : Tallied → Option ℕ → ℕ
+taken_from tally feed = option_map_or (λ taken. taken) (option_and_then (slice_get tally.taken) feed) 0
+
 -- how many messages the thread of the feed with this name took
 abbrev pub taken_by : Lines → Tallied → ℕ → ℕ
-taken_by script tally at = option_map_or (λ taken. taken) (option_and_then (slice_get tally.taken) (feed_at script at)) 0
+taken_by script tally at = taken_from tally (feed_at script at)
 
 -- a feed's line is that of its port, with what was taken
 abbrev pub feed_counts : Lines → History → Tallied → ℕ → ℕ → List ℕ

@@ -1,27 +1,50 @@
 -- What a run reads and writes, by how it ends.
-use Rattle.std.specs.Prelude.{ℕ, ◌≡◌, ◌⊎◌, List, reverse, Option, ⊤}
+use Rattle.std.specs.Prelude.{ℕ, ◌≡◌, ◌<◌, ◌≤◌, ◌⊎◌, List, length, reverse, Option, Some, unwrap_or, ⊤}
 use Rattle.std.specs.Io.KnownBytes.{Consumes, IsAtEnd, Appends, Keeps}
-use Rattle.cml_board.specs.History.{Lawful}
+use Rattle.cml_board.specs.History.{entries_in, Lawful}
+use Rattle.cml_board.specs.Counts.{got_count}
 use Rattle.cml_grammar.specs.Script.{Lines, IsScript}
 use Rattle.cml_script.specs.declared.stop.Stop.{Stop}
 use Rattle.cml_script.specs.declared.stop.Stop.TheVariants as stop
 use Rattle.cml_script.specs.declared.ending.Ending.{Ending}
 use Rattle.cml_script.specs.declared.ending.Ending.TheVariants as ending
-use Rattle.cml_script.specs.Schedule.{History}
+use Rattle.cml_script.specs.Schedule.{History, feed_count, feed_at, declared_object}
 use Rattle.cml_script.specs.Audit.{IsOfScript, IsFirstForeign}
-use Rattle.cml_script.specs.Report.{Tallied, report}
+use Rattle.cml_script.specs.Report.{Tallied, taken_by, unperformed, report}
 use Rattle.cml_script.specs.Replay.{IsFaulty}
 use Rattle.cml_board.specs.Checking.{IsFirstUnlawful}
 
--- the history is a lawful one of the script: the declared objects, and then steps of its threads, each thread's in order, and
--- what lanes and feeds moved; and this is its report, with what went by lanes and feeds
-pub record IsReportOf (script : Lines) (history : History) (tally : Tallied) (stop : Stop) (text : List ℕ) : Type 0 where
+-- what is left where a run ends so: no step where it is done, and one at least where it is stalled or held; where it is full
+-- the journal is at its limit
+abbrev pub Leaves : Lines → ℕ → History → Tallied → Stop → Type 0
+Leaves script limit history tally stop.Done = unperformed script history tally ≡ 0
+Leaves script limit history tally stop.Stalled = 0 < unperformed script history tally
+Leaves script limit history tally stop.Held = 0 < unperformed script history tally
+Leaves script limit history tally stop.Full = entries_in history ≡ limit
+
+-- of the feed with the name at this position no more was taken than its port received
+abbrev pub IsTakenAt : Lines → History → Tallied → ℕ → Type 0
+IsTakenAt script history tally at = (feed object : ℕ) → feed_at script at ≡ Some feed → declared_object script history at ≡ Some object
+    → taken_by script tally at ≤ unwrap_or (got_count history object) 0
+
+-- the journal and the tally are those of a run that ends so: there is a count for each feed, and none is more than its port
+-- received
+pub record MayEnd (script : Lines) (limit : ℕ) (history : History) (tally : Tallied) (stop : Stop) : Type 0 where
+  pub leaves : Leaves script limit history tally stop
+  pub counts : length tally.taken ≡ feed_count script
+  pub taken : (at : ℕ) → at < length script.declarations → IsTakenAt script history tally at
+
+-- the history is a lawful one of the script, within the limit: the declared objects, and then steps of its threads, each
+-- thread's in order, and what lanes and feeds moved; it may end so, with what went by lanes and feeds; and this is its report
+pub record IsReportOf (script : Lines) (limit : ℕ) (history : History) (tally : Tallied) (stop : Stop) (text : List ℕ) : Type 0 where
   pub lawful : Lawful history
+  pub room : entries_in history ≤ limit
   pub own : IsOfScript script history
+  pub ends : MayEnd script limit history tally stop
   pub reported : text ≡ report script history tally stop
 
 -- all of the reader's bytes were read, they are a script, and this is the report of one of its histories
-pub record IsRunOf (old new : Option (List ℕ)) (stop : Stop) (text : List ℕ) : Type 0 where
+pub record IsRunOf (limit : ℕ) (old new : Option (List ℕ)) (stop : Stop) (text : List ℕ) : Type 0 where
   pub bytes : List ℕ
   pub read : Consumes old new bytes
   pub whole : IsAtEnd new
@@ -29,22 +52,22 @@ pub record IsRunOf (old new : Option (List ℕ)) (stop : Stop) (text : List ℕ)
   pub says : IsScript bytes script
   pub history : History
   pub tally : Tallied
-  pub told : IsReportOf script history tally stop text
+  pub told : IsReportOf script limit history tally stop text
 
 -- the same, and the report was written
-abbrev pub IsRun : Option (List ℕ) → Option (List ℕ) → Option (List ℕ) → Option (List ℕ) → Stop → Type 0
-IsRun old new held holds stop = (text : List ℕ) × IsRunOf old new stop text × Appends held holds text
+abbrev pub IsRun : ℕ → Option (List ℕ) → Option (List ℕ) → Option (List ℕ) → Option (List ℕ) → Stop → Type 0
+IsRun limit old new held holds stop = (text : List ℕ) × IsRunOf limit old new stop text × Appends held holds text
 
-abbrev pub Runs : Option (List ℕ) → Option (List ℕ) → Option (List ℕ) → Option (List ℕ) → Ending → Type 0
-Runs old new held holds ending.Done = IsRun old new held holds stop.Done
-Runs old new held holds ending.Stalled = IsRun old new held holds stop.Stalled
-Runs old new held holds ending.Full = IsRun old new held holds stop.Full
-Runs old new held holds ending.Held = IsRun old new held holds stop.Held
-Runs old new held holds (ending.Fault fault) = IsFaulty old new fault × Keeps held holds
-Runs old new held holds ending.ReadFault = Keeps held holds
-Runs old new held holds ending.NoMemory = Keeps held holds
-Runs old new held holds (ending.NotLawful at) = Keeps held holds
-Runs old new held holds ending.WriteFault = ⊤
+abbrev pub Runs : ℕ → Option (List ℕ) → Option (List ℕ) → Option (List ℕ) → Option (List ℕ) → Ending → Type 0
+Runs limit old new held holds ending.Done = IsRun limit old new held holds stop.Done
+Runs limit old new held holds ending.Stalled = IsRun limit old new held holds stop.Stalled
+Runs limit old new held holds ending.Full = IsRun limit old new held holds stop.Full
+Runs limit old new held holds ending.Held = IsRun limit old new held holds stop.Held
+Runs limit old new held holds (ending.Fault fault) = IsFaulty old new fault × Keeps held holds
+Runs limit old new held holds ending.ReadFault = Keeps held holds
+Runs limit old new held holds ending.NoMemory = Keeps held holds
+Runs limit old new held holds (ending.NotLawful at) = Keeps held holds
+Runs limit old new held holds ending.WriteFault = ⊤
 
 -- how it ends where nothing is told
 abbrev pub EndsUntold : Option (List ℕ) → Option (List ℕ) → Ending → Type 0
@@ -58,11 +81,12 @@ EndsUntold old new ending.Full = ⊥
 EndsUntold old new ending.Held = ⊥
 EndsUntold old new ending.WriteFault = ⊥
 
--- what an audit refuses
-abbrev pub IsRefused : Lines → History → Ending → Type 0
-IsRefused script history ending.NoMemory = ⊤
-IsRefused script history (ending.NotLawful at) = IsFirstUnlawful (reverse history) at ⊎ IsFirstForeign script (reverse history) at
-IsRefused script history _ = ⊥
+-- what is not reported: what an audit refuses, there, and what may not end so, behind all of its entries
+abbrev pub IsRefused : Lines → ℕ → History → Tallied → Stop → Ending → Type 0
+IsRefused script limit history tally stop ending.NoMemory = ⊤
+IsRefused script limit history tally stop (ending.NotLawful at) =
+    (IsFirstUnlawful (reverse history) at ⊎ IsFirstForeign script (reverse history) at) ⊎ ((at ≡ entries_in history) × (MayEnd script limit history tally stop → ⊥))
+IsRefused script limit history tally stop _ = ⊥
 
 -- how it ends where the switchboard is not settled
 abbrev pub IsUnsettled : Ending → Type 0

@@ -1,4 +1,4 @@
--- What a report tells of.
+-- The inside of a report: what it tells of.
 use Rattle.std.specs.Prelude.{◌≡◌}
 use Rattle.cml_board.specs.History.{Lawful}
 use Rattle.cml_grammar.specs.Script.{Lines}

@@ -20,8 +20,8 @@ use Rattle.cml_grammar.specs.Giving.{is_giving, names_before}
 use Rattle.cml_grammar.specs.Rings.{makes_feed, capacity_of, first_ring}
 use Rattle.cml_script.specs.declared.binding.Binding.{Binding}
 use Rattle.cml_script.specs.declared.binding.Binding.TheVariants as binding
-use Rattle.cml_script.specs.declared.way.Way.{Way}
-use Rattle.cml_script.specs.declared.way.Way.TheVariants as way
+use Rattle.cml_script.specs.declared.route.Route.{Route}
+use Rattle.cml_script.specs.declared.route.Route.TheVariants as route
 use Rattle.cml_script.specs.declared.stop.Stop.{Stop}
 use Rattle.cml_script.specs.declared.stop.Stop.TheVariants.{Done, Stalled, Full, Held}
 
@@ -42,6 +42,10 @@ is_object script line = option_map_or makes_object (makes_of (names_of script) l
 -- and that of a feed its port
 abbrev pub is_feed : Lines → SourceLine → Bool
 is_feed script line = option_map_or makes_feed (makes_of (names_of script) line.words) false
+
+-- how many feeds are declared
+abbrev pub feed_count : Lines → ℕ
+feed_count script = how_many (is_feed script) script.declarations
 
 -- the declarations of objects, and how many they are
 abbrev pub objects_of : Lines → List SourceLine
@@ -90,34 +94,34 @@ abbrev pub feed_at : Lines → ℕ → Option ℕ
 feed_at script at =
     if option_map_or (is_feed script) (slice_get script.declarations at) false then Some (how_many (is_feed script) (take at script.declarations)) else None
 
-abbrev pub lane_way : Option ℕ → Way
-lane_way None = way.Seat
-lane_way (Some capacity) = way.Lane capacity
+abbrev pub lane_route : Option ℕ → Route
+lane_route None = route.Seat
+lane_route (Some capacity) = route.Lane capacity
 
-abbrev pub feed_way : Option ℕ → Way
-feed_way None = way.Seat
-feed_way (Some feed) = way.Feed feed
+abbrev pub feed_route : Option ℕ → Route
+feed_route None = route.Seat
+feed_route (Some feed) = route.Feed feed
 
 -- how a step of this seat goes: a send or a multicast by the seat's lane to the object, where a line lays one, a poll of a
 -- feed by that feed, and all else by the seat
-abbrev pub way_of : Lines → Option ℕ → Action → Way
-way_of script seat (action.Send at message) = lane_way (option_and_then (λ s. capacity_of (names_of script) script.lanes (s, at)) seat)
-way_of script seat (action.Multicast at message) = lane_way (option_and_then (λ s. capacity_of (names_of script) script.lanes (s, at)) seat)
-way_of script seat (action.Poll at) = feed_way (feed_at script at)
-way_of script seat _ = way.Seat
+abbrev pub route_of : Lines → Option ℕ → Action → Route
+route_of script seat (action.Send at message) = lane_route (option_and_then (λ s. capacity_of (names_of script) script.lanes (s, at)) seat)
+route_of script seat (action.Multicast at message) = lane_route (option_and_then (λ s. capacity_of (names_of script) script.lanes (s, at)) seat)
+route_of script seat (action.Poll at) = feed_route (feed_at script at)
+route_of script seat _ = route.Seat
 
-abbrev pub way_of_line : Lines → SourceLine → Way
-way_of_line script line =
-    option_map_or (way_of script (seat_of_step (names_of script) line.words)) (action_of (names_of script) line.words) way.Seat
+abbrev pub route_of_line : Lines → SourceLine → Route
+route_of_line script line =
+    option_map_or (route_of script (seat_of_step (names_of script) line.words)) (action_of (names_of script) line.words) route.Seat
 
-abbrev pub is_by_ring : Way → Bool
-is_by_ring way.Seat = false
-is_by_ring (way.Lane capacity) = true
-is_by_ring (way.Feed feed) = true
+abbrev pub is_by_ring : Route → Bool
+is_by_ring route.Seat = false
+is_by_ring (route.Lane capacity) = true
+is_by_ring (route.Feed feed) = true
 
 -- a step that goes by a ring of its thread, a lane or a feed
 abbrev pub is_apart : Lines → SourceLine → Bool
-is_apart script line = is_by_ring (way_of_line script line)
+is_apart script line = is_by_ring (route_of_line script line)
 
 -- a step that the seat of its thread performs
 abbrev pub is_called : Lines → ℕ → SourceLine → Bool

@@ -1,4 +1,4 @@
--- A script under way: what its stage shows, and what it keeps.
+-- The inside of `play`: a script under way, what its stage shows, and what it keeps.
 use Rattle.std.specs.Prelude.{ℕ, ◌≡◌, ◌+◌, ◌<◌, List, ◌∷◌, ◌≤◌, ◌^◌, length, min, slice_get, Option, Some, None, ⊤}
 use Rattle.std.specs.Option.{option_and_then}
 use Rattle.cml_board.specs.declared.call.Name.{Name}

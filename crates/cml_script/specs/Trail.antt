@@ -1,4 +1,4 @@
--- A journal that is followed entry by entry beside a script, and what is kept of it.
+-- The inside of `audit` and of a report: a journal that is followed entry by entry beside a script, and what is kept of it.
 use Rattle.std.specs.Prelude.{ℕ, ◌≡◌, ◌≢◌, ◌+◌, ◌^◌, ◌<◌, ◌≤◌, List, [], ◌∷◌, length, slice_get, Option}
 use Rattle.std.specs.Option.{option_map_or, option_and_then}
 use Rattle.cml_board.specs.declared.call.Call.{Call}

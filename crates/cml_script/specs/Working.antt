@@ -1,6 +1,6 @@
 -- What one thread performs of a script, whoever makes its calls.
-use Rattle.std.specs.Prelude.{ℕ, ◌≡◌, ◌<◌, ◌≤◌, ◌⊎◌, ◌||◌, if◌then◌else◌, Bool, true, false, List, [], ◌∷◌, ◌++◌, length, slice_get, Option, Some, None, Result, Ok, Err, IfSome, OnOk, ⊤}
-use Rattle.std.specs.Option.{option_map}
+use Rattle.std.specs.Prelude.{ℕ, ◌≡◌, ◌≢◌, ◌<◌, ◌≤◌, ◌⊎◌, ◌||◌, Bool, true, false, List, [], ◌∷◌, ◌++◌, length, filter, slice_get, Option, Some, None, Result, Ok, Err, IfSome, OnOk, ⊤}
+use Rattle.std.specs.Option.{option_map, option_and_then}
 use Rattle.std.specs.Result.{result_err}
 use Rattle.std.specs.declared.alloc.AllocError.{AllocError}
 use Rattle.cml_board.specs.declared.call.Name.{Name}
@@ -16,25 +16,24 @@ use Rattle.cml_board.specs.declared.outcome.Refusal.{Refusal}
 use Rattle.cml_board.specs.declared.outcome.Refusal.TheVariants.{JournalFull, NoMemory}
 use Rattle.cml_board.specs.History.{entries_in}
 use Rattle.cml_grammar.specs.Script.{SourceLine, Lines}
-use Rattle.cml_grammar.specs.declared.forms.Action.{Action}
-use Rattle.cml_grammar.specs.declared.forms.Action.TheVariants as action
+use Rattle.cml_grammar.specs.Meaning.{names_of, makes_of}
 use Rattle.cml_grammar.specs.declared.forms.Makes.{Makes}
 use Rattle.cml_grammar.specs.declared.forms.Makes.TheVariants as makes
-use Rattle.cml_grammar.specs.Reading.{IsCapacity}
 use Rattle.cml_script.specs.declared.stop.Stop.{Stop}
 use Rattle.cml_script.specs.declared.stop.Stop.TheVariants.{Done, Stalled, Full, Held}
 use Rattle.cml_script.specs.Counting.{how_many}
-use Rattle.cml_script.specs.Schedule.{History, declared_count, number_of, maker, is_seated, earlier, making_call}
+use Rattle.cml_script.specs.Schedule.{History, declared_count, is_feed, maker, is_seated, earlier}
 use Rattle.cml_script.specs.Apart.{Apart, is_by_lane, AreNextApart, earlier_apart}
 use Rattle.cml_script.specs.Audit.{IsNextOfThread, IsOfScript}
 
 -- What a caller made.
 
--- its seat, the entries that it made, and what went by its lanes and feeds, newest first; whether a lane that it sent by may
--- be open; and what refused it something, if anything did
+-- its seat, the entries that it made, the capacities that it opened its feeds with, and what went by its lanes and feeds,
+-- newest first; whether a lane that it sent by may be open; and what refused it something, if anything did
 pub record Made : Type 0 where
   pub seat : ℕ
   pub entries : History
+  pub opened : List ℕ
   pub apart : List Apart
   pub is_sending : Bool
   pub refused : Option Refusal
@@ -51,9 +50,9 @@ is_of_feed entry = is_feed_of entry.who
     is_feed_of (Lane lane) = false
     is_feed_of (Feed feed) = true
 
--- with the port of a feed, whose number is how many it opened before
-abbrev pub with_feed : Name → Name → Made → Made
-with_feed channel port made = record made { entries = (record { who = Feed (how_many is_of_feed made.entries); call = NewPort channel; reply = reply.Made port }) ∷ made.entries }
+-- with a feed of this capacity and its port: its number is how many it opened before
+abbrev pub with_feed : Name → ℕ → Name → Made → Made
+with_feed channel capacity port made = record made { entries = (record { who = Feed (how_many is_of_feed made.entries); call = NewPort channel; reply = reply.Made port }) ∷ made.entries; opened = capacity ∷ made.opened }
 
 -- with what went by a lane or a feed
 abbrev pub with_apart : Apart → Made → Made
@@ -63,16 +62,9 @@ with_apart done made = record made { apart = done ∷ made.apart; is_sending = i
 abbrev pub with_closed : Made → Made
 with_closed made = record made { is_sending = false }
 
-abbrev pub closed_if : Bool → Option Made → Option Made
-closed_if closes made = if closes then option_map with_closed made else made
-
 -- with a refusal
 abbrev pub with_refused : Refusal → Made → Made
 with_refused refusal made = record made { refused = Some refusal }
-
--- it was refused so, and at most its lanes were closed before
-abbrev pub IsRefusedSo : Refusal → Option Made → Option Made → Type 0
-IsRefusedSo refusal before after = (closes : Bool) × (after ≡ option_map (with_refused refusal) (closed_if closes before))
 
 -- a call that waits where it can't be answered
 abbrev pub waits : Call ℕ → Bool
@@ -88,28 +80,31 @@ MayCall asked made = IfSome made (λ made. waits asked ≡ true → made.is_send
 
 -- it has this seat, and made nothing yet, where it tells what it makes
 abbrev pub BeginsAt : ℕ → Option Made → Type 0
-BeginsAt seat made = IfSome made (λ made. made ≡ record { seat = seat; entries = []; apart = []; is_sending = false; refused = None })
+BeginsAt seat made = IfSome made (λ made. made ≡ record { seat = seat; entries = []; opened = []; apart = []; is_sending = false; refused = None })
 
 -- What declares.
 
--- the call that makes this, where each declared object has the number of its declaration among them
-abbrev pub making : Lines → Makes → Option (Call ℕ)
-making script makes = making_call (λ at. Some (number_of script at)) makes
+-- the capacity of the feed that a declaration makes
+abbrev pub capacity_made : Makes → Option ℕ
+capacity_made (makes.Feed feed) = Some feed.capacity
+capacity_made _ = None
 
--- a feed has room for 1 to 1,024 messages
-abbrev pub HasCapacity : Makes → Type 0
-HasCapacity (makes.Feed feed) = IsCapacity feed.capacity
-HasCapacity m = ⊤
+-- the capacity of the feed of this number: feeds are counted from 0 in text order
+abbrev pub feed_capacity : Lines → ℕ → Option ℕ
+feed_capacity script feed =
+    option_and_then (λ (line : SourceLine). option_and_then capacity_made (makes_of (names_of script) line.words)) (slice_get (filter (is_feed script) script.declarations) feed)
 
--- what a caller made later has this besides: nothing for a thread, the port of a feed, or what its seat was answered
-abbrev pub HasMade : Lines → Makes → Option Made → Option Made → Type 0
-HasMade script makes.Thread before after = after ≡ before
-HasMade script (makes.Feed feed) before after = (port : Name) × (after ≡ option_map (with_feed (record { 0 = number_of script feed.channel }) port) before)
-HasMade script m before after = (asked : Call ℕ) × (answered : Reply ℕ) × (making script m ≡ Some asked) × (after ≡ option_map (with_call asked answered) before)
+-- each feed was opened with the capacity of its line, in text order: the newest comes first
+abbrev pub AreOpened : Lines → List ℕ → Type 0
+AreOpened script [] = ⊤
+AreOpened script (capacity ∷ before) = (feed_capacity script (length before) ≡ Some capacity) × AreOpened script before
 
--- these are the declared objects, in text order, each made by seat 0 or by its feed; all of them, where none was refused
+-- these are the declared objects, in text order, each made by seat 0 or by its feed, which has the capacity of its line; all of
+-- them, where none was refused
 pub record Declares (script : Lines) (made : Made) (ended : Result (Unit {0}) Refusal) : Type 0 where
   pub own : IsOfScript script made.entries
+  pub opened : AreOpened script made.opened
+  pub fed : length made.opened ≡ how_many is_of_feed made.entries
   pub within : entries_in made.entries ≤ declared_count script
   pub all : OnOk ended (entries_in made.entries ≡ declared_count script)
   pub refused : made.refused ≡ result_err ended
@@ -142,14 +137,6 @@ pub record IsTurn (script : Lines) (seat i : ℕ) : Type 0 where
   pub found : slice_get script.steps i ≡ Some line
   pub seated : is_seated script seat line ≡ true
 
--- a step that waits where it can't be answered
-abbrev pub may_wait : Action → Bool
-may_wait (action.Recv at) = true
-may_wait (action.Get at) = true
-may_wait (action.Take at) = true
-may_wait (action.Swap at message) = true
-may_wait _ = false
-
 -- what a refusal stops a thread with: what isn't want of room or of memory leaves it waiting for good
 abbrev pub stop_of : Refusal → Result Stop AllocError
 stop_of JournalFull = Ok Full
@@ -171,17 +158,21 @@ first_of (Err error) other = Err error
 first_of (Ok one) (Err error) = Err error
 first_of (Ok one) (Ok other) = Ok (first_stop one other)
 
+-- no gate held it
+abbrev pub IsUnheld : Result Stop AllocError → Type 0
+IsUnheld stop = stop ≢ Ok Held
+
 -- how a thread ends that would end so but for a lane that this refusal kept from closing
 abbrev pub ending_with : Stop → Refusal → Result Stop AllocError
 ending_with stop refusal = first_of (Ok stop) (stop_of refusal)
 
 -- where nothing is refused a thread is done, and has no step from this place on, or it is held, and has its next one there;
--- or it never began, for want of memory
+-- or it never began, for want of memory, and its place is before the first step
 abbrev pub IsUnrefused : Lines → ℕ → ℕ → Result Stop AllocError → Type 0
 IsUnrefused script seat place (Ok Done) = (i : ℕ) → IsTurn script seat i → i < place
 IsUnrefused script seat place (Ok Held) = IsTurn script seat place
 IsUnrefused script seat place (Ok stop) = ⊥
-IsUnrefused script seat place (Err error) = ⊤
+IsUnrefused script seat place (Err error) = place ≡ 0
 
 -- then its lanes are closed. A refusal stops it at its next step, or it comes from a lane that could not be closed where it
 -- would have ended otherwise
@@ -193,11 +184,12 @@ IsStop script seat place sending (Some refusal) stop =
 
 -- whatever made the declared objects: the entries of the thread with this seat are the steps that its seat performs, each on
 -- the objects that its names stand for, and what went by its lanes and feeds are its other steps, from the first one on, in
--- order; all of both before a place of the text, and none from there on; and this is why it stopped
+-- order; all of both before a place of the text, and none from there on; it opens no feed; and this is why it stopped
 pub record Works (script : Lines) (seat : ℕ) (made : Made) (stop : Result Stop AllocError) (first : History) : Type 0 where
   pub by : AreBySeat seat made.entries
   pub steps : AreNextSteps script first made.entries
   pub apart : AreNextApart script seat made.apart
+  pub opens : made.opened ≡ []
   pub place : ℕ
   pub called : entries_in made.entries ≡ earlier script seat place
   pub gone : length made.apart ≡ earlier_apart script seat place

@@ -14,6 +14,7 @@ mod plan;
 mod read;
 mod replaying;
 mod report;
+mod route;
 mod running;
 mod scene;
 mod stage;
@@ -21,7 +22,6 @@ mod stop;
 mod tally;
 mod trail;
 mod verdict;
-mod way;
 mod writing;
 
 pub use asked::Order;
@@ -35,10 +35,10 @@ pub use laws::{
 pub use perform::{Played, play};
 pub use plan::Plan;
 pub use replaying::replay;
+pub use route::Route;
 pub use running::{
     Caller, Ended, Gate, OpenGate, Seated, conclude, declare, perform_in_threads, run, work,
 };
 pub use stop::Stop;
 pub use tally::Tally;
 pub use verdict::Verdict;
-pub use way::Way;

@@ -4,13 +4,13 @@ ghost use Rattle.std.specs.Option.{option_map};
 ghost use Rattle.cml_board.specs.History.{no_entries, entries_in};
 ghost use Rattle.cml_grammar.specs.Rings.{makes_feed};
 ghost use Rattle.cml_script.specs.Counting.{how_many};
-ghost use Rattle.cml_script.specs.Schedule.{History, makes_object, is_object, is_feed, is_seated, is_called, number_of, feed_at, declared_count, positions_where, positions_from, lane_way, feed_way, way_of, given_by, object_of};
+ghost use Rattle.cml_script.specs.Schedule.{History, makes_object, is_object, is_feed, is_seated, is_called, number_of, feed_at, declared_count, feed_count, positions_where, positions_from, lane_route, feed_route, route_of, given_by, object_of};
 ghost use Rattle.cml_grammar.specs.Reading.{gives_name, IsCapacity};
-ghost use Rattle.cml_script.specs.Plan.{IsKnown, AreNumbers, AreFeedNumbers, AreQueues, AreGivings, NamesObjects, HasSeats, AsksForPorts, items_of, object_among, way_at, HasRoom};
+ghost use Rattle.cml_script.specs.Plan.{IsKnown, AreNumbers, AreFeedNumbers, AreQueues, AreGivings, NamesObjects, HasSeats, AsksForPorts, items_of, object_among, route_at, HasLaneRoom};
 ghost use Rattle.cml_script.specs.Bindings.{AreBindings};
 
 use crate::binding::Binding;
-use crate::way::Way;
+use crate::route::Route;
 use cml_board::Name;
 use cml_grammar::{Action, Makes, Script, Step};
 use std::alloc::{AllocError, Global};
@@ -105,12 +105,12 @@ impl<'a> Plan<'a> {
     }
 
     /// How a step goes.
-    pub fn way(&self, step: usize) -> Way
+    pub fn route(&self, step: usize) -> Route
         requires { step < length self.now.steps }
-        ensures way { result ≡ way_at self.now step }
-        ensures fits { HasRoom result }
+        ensures route { result ≡ route_at self.now step }
+        ensures fits { HasLaneRoom result }
     {
-        way_of(self.script, &self.feeds, &self.script.steps()[step])
+        route_of(self.script, &self.feeds, &self.script.steps()[step])
     }
 
     /// The number of the feed that the name at this position is, if it is one: feeds are counted from 0 in text order.
@@ -193,6 +193,17 @@ pub fn count_objects(script: &Script) -> usize
     objects
 }
 
+/// How many feeds are declared.
+pub fn count_feeds(script: &Script) -> usize
+    ensures { result ≡ feed_count script.now }
+{
+    let mut feeds = 0;
+    for declaration in script.declarations() {
+        feeds += usize::from(makes_feed(declaration.makes));
+    }
+    feeds
+}
+
 pub fn makes_object(makes: Makes) -> bool
     ensures { result ≡ makes_object makes }
 {
@@ -232,14 +243,14 @@ fn feed_at(script: &Script, feeds: &[usize], at: usize) -> Option<usize>
 }
 
 /// How a step of the script goes, where by name so many feeds are declared before it.
-fn way_of(script: &Script, feeds: &[usize], step: &Step) -> Way
+fn route_of(script: &Script, feeds: &[usize], step: &Step) -> Route
     requires { AreFeedNumbers script.now feeds.now }
-    ensures way { result ≡ way_of script.now (Some step.now.seat) step.now.action }
-    ensures fits { HasRoom result }
+    ensures route { result ≡ route_of script.now (Some step.now.seat) step.now.action }
+    ensures fits { HasLaneRoom result }
 {
     match step.action {
-        Action::Send(at, _) | Action::Multicast(at, _) => lane_way(script.lane_of(step.seat, at)),
-        Action::Poll(at) => feed_way(feed_at(script, feeds, at)),
+        Action::Send(at, _) | Action::Multicast(at, _) => lane_route(script.lane_of(step.seat, at)),
+        Action::Poll(at) => feed_route(feed_at(script, feeds, at)),
         Action::Recv(_)
         | Action::Port(_)
         | Action::Copy(_)
@@ -249,28 +260,28 @@ fn way_of(script: &Script, feeds: &[usize], step: &Step) -> Way
         | Action::GetPoll(_)
         | Action::Take(_)
         | Action::TakePoll(_)
-        | Action::Swap(_, _) => Way::Seat,
+        | Action::Swap(_, _) => Route::Seat,
     }
 }
 
-fn lane_way(capacity: Option<usize>) -> Way
+fn lane_route(capacity: Option<usize>) -> Route
     requires { IfSome capacity IsCapacity }
-    ensures way { result ≡ lane_way capacity }
-    ensures fits { HasRoom result }
+    ensures route { result ≡ lane_route capacity }
+    ensures fits { HasLaneRoom result }
 {
     match capacity {
-        Some(capacity) => Way::Lane(capacity),
-        None => Way::Seat,
+        Some(capacity) => Route::Lane(capacity),
+        None => Route::Seat,
     }
 }
 
-fn feed_way(feed: Option<usize>) -> Way
-    ensures way { result ≡ feed_way feed }
-    ensures fits { HasRoom result }
+fn feed_route(feed: Option<usize>) -> Route
+    ensures route { result ≡ feed_route feed }
+    ensures fits { HasLaneRoom result }
 {
     match feed {
-        Some(feed) => Way::Feed(feed),
-        None => Way::Seat,
+        Some(feed) => Route::Feed(feed),
+        None => Route::Seat,
     }
 }
 
@@ -307,7 +318,7 @@ fn queue_calls(
     let steps = script.steps();
     let mut queues = empty_queues(alloc)?;
     for (i, step) in steps.iter().enumerate() {
-        if !way_of(script, feeds, step).is_by_ring() {
+        if !route_of(script, feeds, step).is_by_ring() {
             queues[step.seat as usize - 1].push(i)?;
         }
     }

@@ -1,27 +1,27 @@
 //! A script whose threads are real threads, from the reader's bytes to the report's.
-ghost use Rattle.std.specs.Prelude.{◌≡◌, ◌≤◌, ◌^◌, IfOk, IfErr, string_bytes};
-ghost use Rattle.cml_script.specs.Running.{IsReportOf, IsRunOf, IsRefused, IsUnsettled, EndsUntold, Runs};
+ghost use Rattle.std.specs.Prelude.{◌≡◌, ◌≢◌, ◌≤◌, ◌^◌, true, IfOk, IfErr, string_bytes};
+ghost use Rattle.cml_script.specs.Running.{IsRunOf, IsUnsettled, EndsUntold, Runs};
 
 mod caller;
+mod concluding;
 mod crew;
 mod declaring;
 mod gate;
 mod rings;
 mod worker;
 
-use crate::auditing::audit;
 use crate::ending::Ending;
 use crate::perform::Played;
 use crate::read::{Unread, read_all};
-use crate::report::report;
 use crate::stop::Stop;
 use crate::tally::Tally;
-use crate::verdict::Verdict;
 use crate::writing::write_report;
 pub use caller::{Caller, Seated};
-use cml_board::{Board, BoardLog};
+use cml_board::BoardLog;
 use cml_grammar::{Script, read_script};
 use cml_threads::{PARTS, Settled, Switchboard};
+pub use concluding::conclude;
+use concluding::conclude_under;
 pub use crew::{Ended, perform_in_threads};
 pub use declaring::declare;
 pub use gate::{Gate, OpenGate};
@@ -45,7 +45,8 @@ pub fn run<I: Read, W: Write, R: Threads + Wait + Sync, G: Gate + Sync>(
 ) -> Ending
     requires least { 1 ≤ limit }
     requires most { limit ≤ 2 ^ 32 }
-    ensures { Runs (I.remaining reader.old) (I.remaining reader.new) (W.contents writer.old) (W.contents writer.new) result }
+    ensures runs { Runs limit (I.remaining reader.old) (I.remaining reader.new) (W.contents writer.old) (W.contents writer.new) result }
+    ensures open { G.opens gate.now ≡ true → result ≢ Ending.Held }
 {
     match run_text(rt, alloc, reader, limit, gate) {
         Ok(played) => write_report(writer, &played),
@@ -63,14 +64,16 @@ fn run_text<I: Read, R: Threads + Wait + Sync, G: Gate + Sync>(
 ) -> Result<Played, Ending>
     requires least { 1 ≤ limit }
     requires most { limit ≤ 2 ^ 32 }
-    ensures told { IfOk result (λ played. IsRunOf (I.remaining reader.old) (I.remaining reader.new) played.stop (string_bytes played.report)) }
+    ensures told { IfOk result (λ played. IsRunOf limit (I.remaining reader.old) (I.remaining reader.new) played.stop (string_bytes played.report)) }
     ensures untold { IfErr result (λ ending. EndsUntold (I.remaining reader.old) (I.remaining reader.new) ending) }
+    ensures open { IfOk result (λ played. G.opens gate.now ≡ true → played.stop ≢ Stop.Held) }
 {
     let text = read_all(alloc, reader)?;
     let script = read_script(alloc, &text)?;
     let blank = Blank::new(PARTS);
     let ran = settle_script::<Brand, R, G>(rt, alloc, &script, limit, gate, blank)?;
-    conclude(alloc, &script, ran.settled.board(), &ran.tally, ran.stop)
+    let board = ran.settled.board();
+    conclude_under(alloc, &script, board, limit, &ran.tally, ran.stop)
 }
 
 /// What a run leaves.
@@ -95,7 +98,8 @@ fn settle_script<Led: Ledger + Send + Sync, R: Threads + Wait + Sync, G: Gate + 
     requires name { blank.name ≡ Led.name }
     requires parts { blank.parts ≡ Led.parts }
     requires enough { blank.parts ≡ 2 ^ 63 }
-    ensures { IfErr result (λ ending. IsUnsettled ending) }
+    ensures unsettled { IfErr result (λ ending. IsUnsettled ending) }
+    ensures open { IfOk result (λ ran. G.opens gate.now ≡ true → ran.stop ≢ Stop.Held) }
 {
     let switchboard = Switchboard::<u64, BoardLog<u64>, Led>::new(alloc, limit, blank)?;
     let ended = perform_in_threads(rt, alloc, script, &switchboard, gate)?;
@@ -112,27 +116,4 @@ fn settle_script<Led: Ledger + Send + Sync, R: Threads + Wait + Sync, G: Gate + 
 /// How many entries there are where not all answers are accounted for: what is not lawful comes behind them.
 fn entries_of<Led: Ledger>(switchboard: Switchboard<u64, BoardLog<u64>, Led>) -> usize {
     switchboard.into_hall().board().journal().len()
-}
-
-/// The report of a script's journal, once it is audited.
-pub fn conclude(
-    alloc: Global,
-    script: &Script,
-    board: &Board<u64, BoardLog<u64>>,
-    tally: &Tally,
-    stop: Stop,
-) -> Result<Played, Ending>
-    ensures stop { IfOk result (λ played. played.stop ≡ stop) }
-    ensures report { IfOk result (λ played. IsReportOf script.now board.now.history tally.now stop (string_bytes played.report)) }
-    ensures refused { IfErr result (λ ending. IsRefused script.now board.now.history ending) }
-{
-    // That no journal has more entries than an audit takes is what the limit's reader tells.
-    let _limit = board.limit();
-    match audit(alloc, script, board.journal())? {
-        Verdict::Lawful => {
-            let report = report(alloc, script, board, tally, stop)?;
-            Ok(Played { report, stop })
-        }
-        Verdict::Unlawful(k) | Verdict::Foreign(k) => Err(Ending::NotLawful(k)),
-    }
 }

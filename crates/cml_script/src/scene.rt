@@ -83,21 +83,14 @@ impl<'a> Scene<'a> {
     pub fn unperformed(&self) -> usize
         ensures { result ≡ unperformed self.now.script self.now.history self.now.tally }
     {
-        let called = count_calls(self.board.journal());
-        let tally = self.tally;
-        let rest = self.script().steps().len().saturating_sub(called);
-        rest.saturating_sub(tally.apart)
+        unperformed(self.script(), self.board, self.tally)
     }
 
     /// How many messages the thread of the feed with this name took.
     pub fn taken(&self, at: usize) -> u64
         ensures { result ≡ taken_by self.now.script self.now.tally at }
     {
-        let tally = self.tally;
-        match self.trail.feed(at) {
-            Some(feed) => tally.taken.get(feed).copied().unwrap_or(0),
-            None => 0,
-        }
+        self.tally.taken_from(self.trail.feed(at))
     }
 
     /// The object that was made for a name.
@@ -108,6 +101,15 @@ impl<'a> Scene<'a> {
     {
         self.trail.made(at)
     }
+}
+
+/// How many steps were not performed, by what a board's journal and a tally tell.
+pub fn unperformed(script: &Script, board: &Board<u64, BoardLog<u64>>, tally: &Tally) -> usize
+    ensures { result ≡ unperformed script.now board.now.history tally.now }
+{
+    let called = count_calls(board.journal());
+    let rest = script.steps().len().saturating_sub(called);
+    rest.saturating_sub(tally.apart)
 }
 
 /// How many entries are steps that threads' seats made.

@@ -1,6 +1,6 @@
 //! What a run counts beside its journal.
 ghost use Rattle.std.specs.Prelude.{◌≡◌, IfOk, replicate, slice_set};
-ghost use Rattle.cml_script.specs.Report.{no_rings};
+ghost use Rattle.cml_script.specs.Report.{no_rings, taken_from};
 
 use std::alloc::{AllocError, Global};
 use std::marker::Model;
@@ -42,6 +42,16 @@ impl Tally {
             apart: 0,
             taken: vec![in alloc; 0; feeds]?,
         })
+    }
+
+    /// How many messages were taken of the feed of this number, and none of no feed.
+    pub(crate) fn taken_from(&self, feed: Option<usize>) -> u64
+        ensures { result ≡ taken_from self.now feed }
+    {
+        match feed {
+            Some(feed) => self.taken.get(feed).copied().unwrap_or(0),
+            None => 0,
+        }
     }
 
     /// Adds steps that went by lanes and feeds.

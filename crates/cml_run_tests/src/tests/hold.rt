@@ -1,3 +1,5 @@
+ghost use Rattle.std.specs.Prelude.{false};
+
 use cml_script::Gate;
 use std::sync::atomic::{AtomicBool, Ordering};
 
@@ -21,6 +23,8 @@ impl Hold {
 }
 
 impl Gate for Hold {
+    ghost opens = { λ _. false };
+
     fn before(&self, thread: usize, _step: usize) -> bool {
         if self.held != Some(thread) {
             return true;

@@ -37,7 +37,7 @@ pub trait Caller {
         requires goes_on { goes_on self.old ≡ true }
         requires capacity { IsCapacity capacity }
         ensures goes_on { IfOk result (λ _. goes_on self.new ≡ true) }
-        ensures made { IfOk result (λ port. made self.new ≡ option_map (with_feed channel port) (made self.old)) }
+        ensures made { IfOk result (λ port. made self.new ≡ option_map (with_feed channel capacity port) (made self.old)) }
         ensures refused { IfErr result (λ refusal. made self.new ≡ option_map (with_refused refusal) (made self.old)) };
 
     /// Sends a message by a lane to this object, which has room for so many.

@@ -1,18 +1,20 @@
 //! The threads of a script.
-ghost use Rattle.std.specs.Prelude.{◌≡◌, ◌+◌, ◌<◌, ◌≤◌, length, vec_len, vec_capacity, IfOk};
+ghost use Rattle.std.specs.Prelude.{◌≡◌, ◌≢◌, ◌+◌, ◌<◌, ◌≤◌, true, length, vec_len, vec_capacity, IfOk};
+ghost use Rattle.cml_script.specs.Working.{IsUnheld};
 
 use super::caller::Seated;
 use super::declaring::declare;
-use super::gate::Gate;
+use super::gate::{Gate, Passage};
 use super::rings::{Rings, Subscription};
 use super::worker::{first_of, stop_of, work};
-use crate::plan::{Plan, THREADS};
+use crate::plan::{Plan, THREADS, count_feeds};
 use crate::stop::Stop;
 use crate::tally::Tally;
 use cml_board::BoardLog;
 use cml_grammar::{Makes, Script};
 use cml_threads::{Left, Switchboard};
 use std::alloc::{AllocError, Global};
+use std::marker::{Brand, PhantomData};
 use std::sync::Wait;
 use std::sync::atomic::{AtomicBool, Ordering};
 use std::sync::ledger::Ledger;
@@ -30,10 +32,12 @@ pub struct Ended<Led: Ledger> {
 
 /// What is left of one thread.
 #[derive(Drop)]
-struct Worked<Led: Ledger> {
+struct Worked<Led: Ledger, P: Passage> {
     left: Left<Led>,
     rings: Rings,
     stop: Result<Stop, AllocError>,
+    passage: PhantomData<P>,
+    ghost unheld: { P.opens ≡ true → IsUnheld stop },
 }
 
 /// Performs a script on a switchboard that has no objects and no seats: one operating-system thread for each of the
@@ -45,22 +49,43 @@ pub fn perform_in_threads<Led: Ledger + Send + Sync, R: Threads + Wait + Sync, G
     script: &Script,
     switchboard: &Switchboard<u64, BoardLog<u64>, Led>,
     gate: &G,
-) -> Result<Ended<Led>, AllocError> {
+) -> Result<Ended<Led>, AllocError>
+    ensures { IfOk result (λ ended. G.opens gate.now ≡ true → ended.stop ≢ Stop.Held) }
+{
+    perform_by::<Brand, Led, R, G>(rt, alloc, script, switchboard, gate)
+}
+
+/// Performs a script by a gate that is this passage.
+fn perform_by<
+    P: Passage + Send,
+    Led: Ledger + Send + Sync,
+    R: Threads + Wait + Sync,
+    G: Gate + Sync,
+>(
+    rt: &R,
+    alloc: Global,
+    script: &Script,
+    switchboard: &Switchboard<u64, BoardLog<u64>, Led>,
+    gate: &G,
+) -> Result<Ended<Led>, AllocError>
+    requires { P.opens ≡ G.opens gate.now }
+    ensures { IfOk result (λ ended. P.opens ≡ true → ended.stop ≢ Stop.Held) }
+{
     let plan = Plan::new(alloc, script)?;
     let mut maker = take_seat(rt, alloc, switchboard)?;
     let mut crew = take_seats(rt, alloc, switchboard, count_threads(script))?;
     let declared = declare(&plan, &mut maker);
     let feeds = maker.hand_feeds(alloc);
-    let tally = Tally::new(alloc, feeds.len())?;
+    let tally = Tally::new(alloc, count_feeds(script))?;
     deal(script, feeds, &mut crew)?;
     let (first, _) = maker.leave();
     match declared {
         Ok(()) => {
-            let ended = start(rt, alloc, &plan, gate, crew)?;
+            let ended = start::<P, Led, R, G>(rt, alloc, &plan, gate, crew)?;
             gather(alloc, first, tally, Ok(Stop::Done), ended)
         }
         Err(refusal) => {
-            let ended = leave_all(alloc, crew)?;
+            let ended = leave_all::<P, Led, R>(alloc, crew)?;
             gather(alloc, first, tally, stop_of(refusal), ended)
         }
     }
@@ -128,14 +153,15 @@ fn deal<Led: Ledger, R: Wait>(
 
 /// Starts a thread for each seat, and joins them all. What is needed for them is reserved before the first is started, so
 /// that none is lost.
-fn start<Led: Ledger + Send + Sync, R: Threads + Wait + Sync, G: Gate + Sync>(
+fn start<P: Passage + Send, Led: Ledger + Send + Sync, R: Threads + Wait + Sync, G: Gate + Sync>(
     rt: &R,
     alloc: Global,
     plan: &Plan<'_>,
     gate: &G,
     crew: Vec<Seated<'_, Led, R>>,
-) -> Result<Vec<Worked<Led>>, AllocError>
-    requires { vec_len crew ≤ 64 }
+) -> Result<Vec<Worked<Led, P>>, AllocError>
+    requires few { vec_len crew ≤ 64 }
+    requires passage { P.opens ≡ G.opens gate.now }
 {
     let started = flags(alloc, crew.len())?;
     let running = Vec::with_capacity(alloc, crew.len())?;
@@ -144,7 +170,8 @@ fn start<Led: Ledger + Send + Sync, R: Threads + Wait + Sync, G: Gate + Sync>(
     Ok(thread::scope(
         thread::scope_env(),
         rt,
-        move |scope| -> Vec<Worked<Led>>
+        move |scope| -> Vec<Worked<Led, P>>
+            requires passage { P.opens ≡ G.opens gate.now }
             requires all { (vec_len crew ≤ 64) × (vec_len crew ≡ length flags.now) }
             requires none { (vec_len running ≡ 0) × (vec_len ended ≡ 0) }
             requires room { (vec_len crew ≤ vec_capacity running) × (vec_len crew ≤ vec_capacity ended) }
@@ -153,7 +180,9 @@ fn start<Led: Ledger + Send + Sync, R: Threads + Wait + Sync, G: Gate + Sync>(
             while let Some(member) = crew.pop() {
                 let thread = crew.len();
                 let flag = &flags[thread];
-                match scope.spawn(move || work_seated(alloc, plan, gate, thread, member, flag)) {
+                match scope.spawn(move || work_seated::<P, Led, R, G>(
+                    alloc, plan, gate, thread, member, flag,
+                )) {
                     Ok(handle) => running.push_reserved(handle),
                     Err(refused) => {
                         flag.store(false, Ordering::SeqCst);
@@ -178,11 +207,11 @@ fn flags(alloc: Global, count: usize) -> Result<Vec<AtomicBool>, AllocError>
 }
 
 /// Joins all that run, beside those that ended.
-fn join_all<Led: Ledger, R: Threads>(
+fn join_all<P: Passage, Led: Ledger, R: Threads>(
     rt: &R,
-    running: Vec<JoinHandle<Worked<Led>>>,
-    ended: Vec<Worked<Led>>,
-) -> Vec<Worked<Led>>
+    running: Vec<JoinHandle<Worked<Led, P>>>,
+    ended: Vec<Worked<Led, P>>,
+) -> Vec<Worked<Led, P>>
     requires { vec_len ended + vec_len running ≤ vec_capacity ended }
 {
     let (mut running, mut ended) = (running, ended);
@@ -193,15 +222,16 @@ fn join_all<Led: Ledger, R: Threads>(
 }
 
 /// What a thread runs. It leaves its seat whatever stopped it. One that was not started makes no step.
-fn work_seated<Led: Ledger, R: Wait, G: Gate>(
+fn work_seated<P: Passage, Led: Ledger, R: Wait, G: Gate>(
     alloc: Global,
     plan: &Plan<'_>,
     gate: &G,
     thread: usize,
     member: Seated<'_, Led, R>,
     flag: &AtomicBool,
-) -> Worked<Led>
-    requires { thread < 64 }
+) -> Worked<Led, P>
+    requires thread { thread < 64 }
+    requires passage { P.opens ≡ G.opens gate.now }
 {
     let mut member = member;
     let stop = if flag.load(Ordering::SeqCst) {
@@ -210,14 +240,19 @@ fn work_seated<Led: Ledger, R: Wait, G: Gate>(
         Err(AllocError)
     };
     let (left, rings) = member.leave();
-    Worked { left, rings, stop }
+    Worked {
+        left,
+        rings,
+        stop,
+        passage: PhantomData,
+    }
 }
 
 /// All seats leave at once, since the declared objects could not be made.
-fn leave_all<Led: Ledger, R: Wait>(
+fn leave_all<P: Passage, Led: Ledger, R: Wait>(
     alloc: Global,
     crew: Vec<Seated<'_, Led, R>>,
-) -> Result<Vec<Worked<Led>>, AllocError> {
+) -> Result<Vec<Worked<Led, P>>, AllocError> {
     let mut ended = Vec::with_capacity(alloc, crew.len())?;
     let mut crew = crew;
     while let Some(member) = crew.pop() {
@@ -226,19 +261,23 @@ fn leave_all<Led: Ledger, R: Wait>(
             left,
             rings,
             stop: Ok(Stop::Done),
+            passage: PhantomData,
         });
     }
     Ok(ended)
 }
 
 /// The lefts of all, what went by lanes and feeds, and how they ended.
-fn gather<Led: Ledger>(
+fn gather<P: Passage, Led: Ledger>(
     alloc: Global,
     first: Left<Led>,
     tally: Tally,
     stopped: Result<Stop, AllocError>,
-    ended: Vec<Worked<Led>>,
-) -> Result<Ended<Led>, AllocError> {
+    ended: Vec<Worked<Led, P>>,
+) -> Result<Ended<Led>, AllocError>
+    requires { P.opens ≡ true → IsUnheld stopped }
+    ensures { IfOk result (λ ended. P.opens ≡ true → ended.stop ≢ Stop.Held) }
+{
     let mut lefts = Vec::new(alloc);
     lefts.push(first)?;
     let (mut tally, mut stop) = (tally, stopped);

@@ -3,7 +3,8 @@ ghost use Rattle.std.specs.Prelude.{◌≡◌, ◌<◌, true, Some, None, length
 ghost use Rattle.std.specs.Option.{option_map};
 ghost use Rattle.cml_script.specs.Plan.{IsKnown};
 ghost use Rattle.cml_script.specs.Makes.{IsMadeOfDeclared};
-ghost use Rattle.cml_script.specs.Working.{BeginsAt, Declares, HasCapacity, HasMade, making, with_refused};
+ghost use Rattle.cml_script.specs.Working.{BeginsAt, Declares, with_refused};
+ghost use Rattle.cml_script.specs.Declaring.{HasCapacity, HasMade, making};
 
 use super::caller::Caller;
 use crate::plan::Plan;

@@ -13,8 +13,8 @@ use std::sync::ledger::Ledger;
 /// As many messages as a feed's ring has room for at most.
 const MOST: usize = 1_024;
 
-/// The switchboard of a run.
-pub type Board<Led> = Switchboard<u64, BoardLog<u64>, Led>;
+/// The switchboard of a run, whose messages are numbers.
+pub type Numbers<Led> = Switchboard<u64, BoardLog<u64>, Led>;
 
 /// A lane that is open, and the object that it goes to.
 #[derive(Drop)]
@@ -69,7 +69,7 @@ impl Rings {
     pub fn open_feed<Led: Ledger, R: Wait>(
         &mut self,
         rt: &R,
-        board: &Board<Led>,
+        switchboard: &Numbers<Led>,
         channel: Name,
         capacity: usize,
     ) -> Result<Name, Refusal>
@@ -79,7 +79,7 @@ impl Rings {
         if self.feeds.reserve(1).is_err() {
             return Err(Refusal::NoMemory);
         }
-        let (feed, _) = board.open_feed(rt, channel, capacity)?;
+        let (feed, _) = switchboard.open_feed(rt, channel, capacity)?;
         let port = feed.port();
         self.feeds.push_reserved(Subscription { feed, taken: 0 });
         Ok(port)
@@ -90,7 +90,7 @@ impl Rings {
     pub fn send<Led: Ledger, R: Wait>(
         &mut self,
         rt: &R,
-        board: &Board<Led>,
+        switchboard: &Numbers<Led>,
         target: Name,
         capacity: usize,
         message: u64,
@@ -99,11 +99,11 @@ impl Rings {
         requires most { capacity ≤ 1024 }
     {
         let is_sent = match self.lanes.iter().position(|open| open.target == target) {
-            Some(at) => self.send_on(rt, board, at, message)?,
+            Some(at) => self.send_on(rt, switchboard, at, message)?,
             None => false,
         };
         if !is_sent {
-            self.send_first(rt, board, target, capacity, message)?;
+            self.send_first(rt, switchboard, target, capacity, message)?;
         }
         self.performed = self.performed.saturating_add(1);
         Ok(())
@@ -113,7 +113,7 @@ impl Rings {
     fn send_on<Led: Ledger, R: Wait>(
         &mut self,
         rt: &R,
-        board: &Board<Led>,
+        switchboard: &Numbers<Led>,
         at: usize,
         message: u64,
     ) -> Result<bool, Refusal>
@@ -122,12 +122,12 @@ impl Rings {
         if self.lanes[at].lane.send(message).is_ok() {
             return Ok(true);
         }
-        board.drain(rt, self.lanes[at].lane.number())?;
+        switchboard.drain(rt, self.lanes[at].lane.number())?;
         if self.lanes[at].lane.send(message).is_ok() {
             return Ok(true);
         }
         let full = self.lanes.swap_remove(at);
-        close(rt, board, full.lane)?;
+        close(rt, switchboard, full.lane)?;
         Ok(false)
     }
 
@@ -135,7 +135,7 @@ impl Rings {
     fn send_first<Led: Ledger, R: Wait>(
         &mut self,
         rt: &R,
-        board: &Board<Led>,
+        switchboard: &Numbers<Led>,
         target: Name,
         capacity: usize,
         message: u64,
@@ -146,7 +146,7 @@ impl Rings {
         if self.lanes.reserve(1).is_err() {
             return Err(Refusal::NoMemory);
         }
-        let (mut lane, _) = board.open_lane(rt, target, capacity)?;
+        let (mut lane, _) = switchboard.open_lane(rt, target, capacity)?;
         if lane.send(message).is_err() {
             unreachable!();
         }
@@ -158,13 +158,13 @@ impl Rings {
     pub fn poll<Led: Ledger, R: Wait>(
         &mut self,
         rt: &R,
-        board: &Board<Led>,
+        switchboard: &Numbers<Led>,
         number: u64,
     ) -> Result<(), Refusal> {
         for subscription in self.feeds.iter_mut() {
             if subscription.feed.number() == number {
                 if !subscription.take() {
-                    board.pump(rt, number)?;
+                    switchboard.pump(rt, number)?;
                     subscription.take();
                 }
                 self.performed = self.performed.saturating_add(1);
@@ -178,32 +178,32 @@ impl Rings {
     pub fn close_lanes<Led: Ledger, R: Wait>(
         &mut self,
         rt: &R,
-        board: &Board<Led>,
+        switchboard: &Numbers<Led>,
     ) -> Result<(), Refusal> {
         while let Some(open) = self.lanes.pop() {
-            close(rt, board, open.lane)?;
+            close(rt, switchboard, open.lane)?;
         }
         Ok(())
     }
 
     /// Ends what is left at a thread's end: lanes that are open are abandoned, and feeds ended.
-    pub fn end<Led: Ledger, R: Wait>(mut self, rt: &R, board: &Board<Led>) -> Rings {
-        self.abandon_lanes(rt, board);
-        self.end_feeds(rt, board);
+    pub fn end<Led: Ledger, R: Wait>(mut self, rt: &R, switchboard: &Numbers<Led>) -> Rings {
+        self.abandon_lanes(rt, switchboard);
+        self.end_feeds(rt, switchboard);
         self
     }
 
     /// Abandons all lanes that are open: what they have in their rings is lost.
-    fn abandon_lanes<Led: Ledger, R: Wait>(&mut self, rt: &R, board: &Board<Led>) {
+    fn abandon_lanes<Led: Ledger, R: Wait>(&mut self, rt: &R, switchboard: &Numbers<Led>) {
         while let Some(open) = self.lanes.pop() {
-            let _ = board.abandon_lane(rt, open.lane.number());
+            let _ = switchboard.abandon_lane(rt, open.lane.number());
         }
     }
 
     /// Ends all feeds, and takes what is left in their rings.
-    fn end_feeds<Led: Ledger, R: Wait>(&mut self, rt: &R, board: &Board<Led>) {
+    fn end_feeds<Led: Ledger, R: Wait>(&mut self, rt: &R, switchboard: &Numbers<Led>) {
         for subscription in self.feeds.iter_mut() {
-            let _ = board.end_feed(rt, subscription.feed.number());
+            let _ = switchboard.end_feed(rt, subscription.feed.number());
             subscription.take_rest();
         }
     }
@@ -229,11 +229,15 @@ impl Rings {
 }
 
 /// Closes a lane. Where that is refused it is abandoned: what it has left in its ring is lost.
-fn close<Led: Ledger, R: Wait>(rt: &R, board: &Board<Led>, lane: Lane<u64>) -> Result<(), Refusal> {
+fn close<Led: Ledger, R: Wait>(
+    rt: &R,
+    switchboard: &Numbers<Led>,
+    lane: Lane<u64>,
+) -> Result<(), Refusal> {
     let number = lane.number();
-    let told = finish(rt, board, lane);
+    let told = finish(rt, switchboard, lane);
     if told.is_err() {
-        let _ = board.abandon_lane(rt, number);
+        let _ = switchboard.abandon_lane(rt, number);
     }
     told
 }
@@ -241,24 +245,28 @@ fn close<Led: Ledger, R: Wait>(rt: &R, board: &Board<Led>, lane: Lane<u64>) -> R
 /// Finishes a lane, and closes it.
 fn finish<Led: Ledger, R: Wait>(
     rt: &R,
-    board: &Board<Led>,
+    switchboard: &Numbers<Led>,
     lane: Lane<u64>,
 ) -> Result<(), Refusal> {
     let number = lane.number();
     let Some(end) = lane.finish() else {
-        return drop_lane(rt, board, number);
+        return drop_lane(rt, switchboard, number);
     };
-    match board.close_lane(rt, end) {
+    match switchboard.close_lane(rt, end) {
         Ok(()) => Ok(()),
-        Err((_, Refusal::Unseen)) => drop_lane(rt, board, number),
+        Err((_, Refusal::Unseen)) => drop_lane(rt, switchboard, number),
         Err((_, refusal)) => Err(refusal),
     }
 }
 
 /// Closes a lane without its end. Each turn but the last moves what it can.
-fn drop_lane<Led: Ledger, R: Wait>(rt: &R, board: &Board<Led>, number: u64) -> Result<(), Refusal> {
+fn drop_lane<Led: Ledger, R: Wait>(
+    rt: &R,
+    switchboard: &Numbers<Led>,
+    number: u64,
+) -> Result<(), Refusal> {
     for _ in rt.forever() {
-        let (_, is_closed) = board.drop_lane(rt, number)?;
+        let (_, is_closed) = switchboard.drop_lane(rt, number)?;
         if is_closed {
             return Ok(());
         }

@@ -1,21 +1,21 @@
 //! What a thread does.
-ghost use Rattle.std.specs.Prelude.{◌≡◌, ◌+◌, ◌<◌, ◌^◌, ◌⊎◌, ◌&&◌, not, true, Some, length, IfSome, IfErr, IsSome, OnOk};
+ghost use Rattle.std.specs.Prelude.{◌≡◌, ◌+◌, ◌<◌, ◌^◌, ◌⊎◌, ◌&&◌, not, true, Some, Ok, length, IfSome, IfErr, IsSome, OnOk};
 ghost use Rattle.std.specs.Option.{option_map};
 ghost use Rattle.cml_board.specs.History.{entries_in};
 ghost use Rattle.cml_script.specs.Schedule.{History, step_call};
 ghost use Rattle.cml_script.specs.Bindings.{AreBindings};
-ghost use Rattle.cml_script.specs.Working.{BeginsAt, IsOpening, IsTurn, Works, IsRefusedSo, with_refused, closed_if, may_wait, stop_of, first_of, ending_with};
-ghost use Rattle.cml_script.specs.Plan.{IsKnown, way_at};
+ghost use Rattle.cml_script.specs.Working.{BeginsAt, IsOpening, IsTurn, IsUnheld, Works, with_refused, stop_of, first_of, ending_with};
+ghost use Rattle.cml_script.specs.Plan.{IsKnown, route_at};
 ghost use Rattle.cml_grammar.specs.Reading.{IsCapacity};
-ghost use Rattle.cml_script.specs.Course.{IsUnderWay};
+ghost use Rattle.cml_script.specs.Course.{IsUnderWay, IsRefusedSo, closed_if, may_wait};
 
 use super::caller::Caller;
 use super::gate::Gate;
 use crate::binding::{Binding, bind};
 use crate::calls::{call_on, used_by};
 use crate::plan::Plan;
+use crate::route::Route;
 use crate::stop::Stop;
-use crate::way::Way;
 use cml_board::{Call, Refusal};
 use cml_grammar::Action;
 use std::alloc::{AllocError, Global};
@@ -44,8 +44,9 @@ pub fn work<C: Caller, G: Gate>(
     requires thread { thread < 64 }
     requires goes_on { C.goes_on caller.old ≡ true }
     requires begins { BeginsAt (thread + 1) (C.made caller.old) }
-    ensures { (first : History) → IsOpening plan.now first
+    ensures works { (first : History) → IsOpening plan.now first
         → IfSome (C.made caller.new) (λ made. Works plan.now (thread + 1) made result first) }
+    ensures open { G.opens gate.now ≡ true → IsUnheld result }
 {
     let mut course = Course {
         bindings: plan.unbound(alloc)?,
@@ -70,7 +71,8 @@ pub fn work<C: Caller, G: Gate>(
 /// Closes what lanes are open where a thread ends. A refusal may make that another end.
 fn close<C: Caller>(course: &Course, caller: &mut C, stop: Stop) -> Result<Stop, AllocError>
     requires { C.goes_on caller.old ≡ true }
-    ensures { ((result ≡ Ok stop) × (C.made caller.new ≡ closed_if course.now.is_sending (C.made caller.old)))
+    ensures held { IsUnheld (Ok stop) → IsUnheld result }
+    ensures ends { ((result ≡ Ok stop) × (C.made caller.new ≡ closed_if course.now.is_sending (C.made caller.old)))
         ⊎ ((course.now.is_sending ≡ true) × ((refusal : Refusal) × (C.made caller.new ≡ option_map (with_refused refusal) (C.made caller.old)) × (result ≡ ending_with stop refusal))) }
 {
     if !course.is_sending {
@@ -100,10 +102,10 @@ fn perform<C: Caller>(
     ensures way { OnOk result (IsUnderWay plan.now (thread + 1) (step + 1) course.new (C.made caller.new)) }
     ensures refused { IfErr result (λ refusal. IsRefusedSo refusal (C.made caller.old) (C.made caller.new)) }
 {
-    match plan.way(step) {
-        Way::Seat => perform_seated(plan, thread, step, course, caller),
-        Way::Lane(capacity) => send_apart(plan, thread, step, capacity, course, caller),
-        Way::Feed(feed) => caller.poll_apart(feed),
+    match plan.route(step) {
+        Route::Seat => perform_seated(plan, thread, step, course, caller),
+        Route::Lane(capacity) => send_apart(plan, thread, step, capacity, course, caller),
+        Route::Feed(feed) => caller.poll_apart(feed),
     }
 }
 
@@ -120,7 +122,7 @@ fn perform_seated<C: Caller>(
     requires goes_on { C.goes_on caller.old ≡ true }
     requires turn { IsTurn plan.now (thread + 1) step }
     requires room { course.old.made < 2 ^ 63 }
-    requires called { way_at plan.now step ≡ Way.Seat }
+    requires called { route_at plan.now step ≡ Route.Seat }
     requires way { IsUnderWay plan.now (thread + 1) step course.old (C.made caller.old) }
     ensures goes_on { OnOk result (C.goes_on caller.new ≡ true) }
     ensures way { OnOk result (IsUnderWay plan.now (thread + 1) (step + 1) course.new (C.made caller.new)) }
@@ -177,7 +179,7 @@ fn send_apart<C: Caller>(
     requires known { IsKnown plan.now }
     requires goes_on { C.goes_on caller.old ≡ true }
     requires turn { IsTurn plan.now (thread + 1) step }
-    requires laid { way_at plan.now step ≡ Way.Lane capacity }
+    requires laid { route_at plan.now step ≡ Route.Lane capacity }
     requires capacity { IsCapacity capacity }
     requires way { IsUnderWay plan.now (thread + 1) step course.old (C.made caller.old) }
     ensures goes_on { OnOk result (C.goes_on caller.new ≡ true) }

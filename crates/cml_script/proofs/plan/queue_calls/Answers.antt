@@ -23,7 +23,7 @@ loop-i-preserved c =
     let s = c.index-steps-i.result in
     let found = read_at items i s c.loop-i-test.true c.index-steps-i.is in
     let reads = all_at (ReadsStep (names_of script)) items i s told.asked found in
-    let ring = c.is_by_ring.ensures ∙ ap is_by_ring c.way_of.ensures.way in
+    let ring = c.is_by_ring.ensures ∙ ap is_by_ring c.route_of.ensures.route in
     elim c.if-not-is_by_ring.branch [
       | then-not-is_by_ring+in_ok-push w ↦
           let called = λ (seat : ℕ). step_called script s seat reads (sym ring ∙ w.if-not-is_by_ring.true) in

@@ -1,12 +1,16 @@
 use Rattle.std.proofs.Common.{List, ℕ, subst}
 use Rattle.cml_grammar.specs.Script.{IsScript}
-use Rattle.cml_script.proofs.ReplayLemmas.{run_of, refused_untold}
+use Rattle.cml_script.proofs.ReplayLemmas.{run_of, unsettled_untold}
+use Rattle.cml_script.proofs.HeldLemmas.{kept_unheld}
 use Rattle.cml_script.proofs.running.run_text.Goals as goal
 
 pub returns-clause-told : goal.returns-clause-told
 returns-clause-told g c =
     let says = subst (λ (t : List ℕ). IsScript t c.in_ok-script.script) c.deref.ensures.value c.in_ok-script.ensures.script in
-    run_of _ _ c.in_ok-text.text.items c.in_ok-script.script _ _ _ c.conclude.result c.in_ok-text.ensures says c.conclude.ensures.stop c.conclude.ensures.report
+    run_of c.args.limit _ _ c.in_ok-text.text.items c.in_ok-script.script _ _ _ c.conclude_under.result c.in_ok-text.ensures says c.conclude_under.ensures.stop c.conclude_under.ensures.report
 
 pub returns-clause-untold : goal.returns-clause-untold
-returns-clause-untold g c = refused_untold _ _ c.in_ok-script.script c.board.result.now.history c.conclude.result c.conclude.ensures.refused
+returns-clause-untold g c = unsettled_untold _ _ c.conclude_under.result c.conclude_under.ensures.untold
+
+pub returns-clause-open : goal.returns-clause-open
+returns-clause-open g c = kept_unheld _ c.in_ok-ran.ran.stop c.conclude_under.result c.in_ok-ran.ensures.open c.conclude_under.ensures.stop

@@ -2,7 +2,7 @@ use Rattle.std.proofs.Common.{◌≡◌, ◌+◌, ◌++◌, ◌∙◌, Some, ref
 use Rattle.std.proofs.lemmas.List.{length-map}
 use Rattle.cml_grammar.specs.declared.script.Step.{Step}
 use Rattle.cml_grammar.specs.Reading.{source_of}
-use Rattle.cml_script.specs.declared.way.Way.TheVariants as way
+use Rattle.cml_script.specs.declared.route.Route.TheVariants as route
 use Rattle.cml_script.specs.declared.running.worker.Course.{Course}
 use Rattle.cml_script.specs.Schedule.{bound_by, is_by_ring, is_called, step_call}
 use Rattle.cml_script.specs.Bindings.{AreBindings, with_binding}
@@ -21,7 +21,7 @@ call_of-call-requires-clause-stands g c =
     let told = c.in_ok-close_before.ensures in
     let under : IsUnderWay script seat c.args.step c.close_before.new.course (g.C.Caller.made c.close_before.new.caller) =
     closed_before script seat c.args.step _ c.close_before.new.course (g.C.Caller.made c.close_before.new.caller) c.requires.way told.made told.course in
-    let called : is_called script seat turn.line ≡ true = turn_called script seat c.args.step turn false (ap is_by_ring (turn_goes script seat c.args.step turn way.Seat c.requires.called)) in
+    let called : is_called script seat turn.line ≡ true = turn_called script seat c.args.step turn false (ap is_by_ring (turn_goes script seat c.args.step turn route.Seat c.requires.called)) in
     let first = an_opening script in
     let opening = is_opening script in
     let next = next_called script seat (omega arith) first opening under turn called in
@@ -76,7 +76,7 @@ returns-clause-way g c =
     let told = c.in_ok-close_before.ensures in
     let under : IsUnderWay script seat c.args.step c.close_before.new.course (g.C.Caller.made c.close_before.new.caller) =
     closed_before script seat c.args.step _ c.close_before.new.course (g.C.Caller.made c.close_before.new.caller) c.requires.way told.made told.course in
-    let seated = ap is_by_ring (turn_goes script seat c.args.step turn way.Seat c.requires.called) in
+    let seated = ap is_by_ring (turn_goes script seat c.args.step turn route.Seat c.requires.called) in
     let bound = c.bind.ensures ∙ ap₂ (λ a r. with_binding c.close_before.new.course.bindings.items c.given-given.result (bound_by a r)) (c.call-2.ensures ∙ c.in_ok-answer.ensures.call) c.reply.ensures in
     more_made script seat (omega arith) c.args.step under c.requires.known turn c.call_of-call.result c.in_ok-answer.answer.reply c.given-given.result _ _ seated c.in_ok-answer.ensures.reply
     (λ history long is. c.call_of-call.ensures history long (subst (AreBindings script history) (sym c.deref.ensures.value) is))

@@ -3,7 +3,7 @@ use Rattle.std.proofs.lemmas.List.{length-map}
 use Rattle.cml_grammar.specs.declared.forms.Action.TheVariants as action
 use Rattle.cml_grammar.specs.declared.script.Step.{Step}
 use Rattle.cml_grammar.specs.Reading.{source_of}
-use Rattle.cml_script.specs.declared.way.Way.TheVariants as way
+use Rattle.cml_script.specs.declared.route.Route.TheVariants as route
 use Rattle.cml_script.specs.Apart.{by_lane, act_of_line}
 use Rattle.cml_script.specs.Schedule.{is_by_ring}
 use Rattle.cml_script.proofs.WorkLemmas.{on_ok, turn_within, turn_goes, more_gone}
@@ -35,7 +35,7 @@ returns-clause-way g c =
     let steps = rw c.script.ensures at c.steps.ensures in
     let items = c.steps.result.now in
     let within : c.args.step < length items = omega (arith, turn_within script seat c.args.step turn, ap length steps.lines, length-map items (λ (x : Step). source_of x.line)) in
-    let goes = turn_goes script seat c.args.step turn (way.Lane c.args.capacity) c.requires.laid in
+    let goes = turn_goes script seat c.args.step turn (route.Lane c.args.capacity) c.requires.laid in
     let at = c.in-Send.at in
     let message = c.in-Send.message in
     let acts = lane_acts script items c.args.step c.args.capacity _ turn.line in

@@ -1,8 +1,10 @@
-use Rattle.std.proofs.Common.{◌+◌, ◌∙◌, refl, ap, sym, length, arith}
+use Rattle.std.proofs.Common.{◌+◌, ◌∙◌, refl, ap, sym, subst, length, arith}
 use Rattle.std.proofs.lemmas.List.{length-map}
 use Rattle.cml_grammar.specs.declared.script.Step.{Step}
 use Rattle.cml_grammar.specs.Reading.{source_of}
 use Rattle.cml_script.specs.declared.stop.Stop.TheVariants.{Done, Held}
+use Rattle.cml_script.specs.Working.{IsUnheld}
+use Rattle.cml_script.proofs.HeldLemmas.{stop_unheld}
 use Rattle.cml_script.proofs.WorkLemmas.{begins, under_way_few, closes_with, refused_at}
 use Rattle.cml_script.proofs.TurnLemmas.{turn_at, turns_before, one_taken, under_way_at, past_turns, past_steps, none_past}
 use Rattle.cml_script.proofs.running.worker.work.Goals as goal
@@ -13,21 +15,21 @@ loop-nth-init g c = record {
   way = begins c.args.plan.now (c.args.thread + 1) _ _ c.declared.ensures.known c.requires.begins c.declared.ensures.count c.in_ok-unbound.ensures refl;
 }
 
-pub returns-in_default : goal.returns-in_default
-returns-in_default g c =
+pub returns-in_default-clause-works : goal.returns-in_default-clause-works
+returns-in_default-clause-works g c =
     let script = c.args.plan.now in
     let seat = c.args.thread + 1 in
     let under = past_turns script seat c.loop-nth.nth c.loop-nth.invariant.way (sym c.turn.ensures ∙ c.in_default.is) in
-    closes_with script seat (omega arith) (length script.steps) under Done c.close.result (g.C.Caller.made c.close.new.caller) (none_past script seat) c.close.ensures
+    closes_with script seat (omega arith) (length script.steps) under Done c.close.result (g.C.Caller.made c.close.new.caller) (none_past script seat) c.close.ensures.ends
 
-pub returns-then-not-before : goal.returns-then-not-before
-returns-then-not-before g c =
+pub returns-then-not-before-clause-works : goal.returns-then-not-before-clause-works
+returns-then-not-before-clause-works g c =
     let script = c.args.plan.now in
     let seat = c.args.thread + 1 in
     let next = sym c.in-Some.ensures in
     let under = under_way_at script seat c.loop-nth.nth c.loop-nth.invariant.way c.in-Some.step (turns_before script seat c.loop-nth.nth c.in-Some.step next) in
     closes_with script seat (omega arith) c.in-Some.step under Held c.close-then-not-before.result (g.C.Caller.made c.close-then-not-before.new.caller)
-    (turn_at script seat c.loop-nth.nth c.in-Some.step next) c.close-then-not-before.ensures
+    (turn_at script seat c.loop-nth.nth c.in-Some.step next) c.close-then-not-before.ensures.ends
 
 pub perform-requires-clause-turn : goal.perform-requires-clause-turn
 perform-requires-clause-turn g c = turn_at c.args.plan.now (c.args.thread + 1) c.loop-nth.nth c.in-Some.step (sym c.in-Some.ensures)
@@ -46,8 +48,11 @@ perform-requires-clause-way g c =
     let seat = c.args.thread + 1 in
     under_way_at script seat c.loop-nth.nth c.loop-nth.invariant.way c.in-Some.step (turns_before script seat c.loop-nth.nth c.in-Some.step (sym c.in-Some.ensures))
 
-pub returns-in-Err : goal.returns-in-Err
-returns-in-Err g c =
+pub returns-in-Err-clause-open : goal.returns-in-Err-clause-open
+returns-in-Err-clause-open g c = λ opens. subst IsUnheld (sym c.stop_of.ensures) (stop_unheld c.in-Err.refusal)
+
+pub returns-in-Err-clause-works : goal.returns-in-Err-clause-works
+returns-in-Err-clause-works g c =
     let script = c.args.plan.now in
     let seat = c.args.thread + 1 in
     let next = sym c.in-Some.ensures in
@@ -62,10 +67,10 @@ loop-nth-preserved g c =
       way = one_taken c.args.plan.now (c.args.thread + 1) c.loop-nth.nth c.in-Some.step (sym c.in-Some.ensures) told.way;
     }
 
-pub returns : goal.returns
-returns g c =
+pub returns-clause-works : goal.returns-clause-works
+returns-clause-works g c =
     let script = c.args.plan.now in
     let seat = c.args.thread + 1 in
     let steps = rw c.script.ensures at c.steps-nth-end.ensures in
     let under = past_steps script seat c.loop-nth.nth c.loop-nth.invariant.way (omega (arith, c.loop-nth-test.false, ap length steps.lines, length-map c.steps-nth-end.result.now (λ (x : Step). source_of x.line))) in
-    closes_with script seat (omega arith) (length script.steps) under Done c.close-2.result (g.C.Caller.made c.close-2.new.caller) (none_past script seat) c.close-2.ensures
+    closes_with script seat (omega arith) (length script.steps) under Done c.close-2.result (g.C.Caller.made c.close-2.new.caller) (none_past script seat) c.close-2.ensures.ends

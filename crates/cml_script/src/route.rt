@@ -4,7 +4,7 @@ ghost use Rattle.cml_script.specs.Schedule.{is_by_ring};
 
 /// How a step goes.
 #[derive(Clone, Copy, Debug, PartialEq, Eq)]
-pub enum Way {
+pub enum Route {
     /// By a call of its thread's seat.
     Seat,
     /// By its thread's lane to what it sends to, which has this capacity.
@@ -13,10 +13,10 @@ pub enum Way {
     Feed(usize),
 }
 
-impl Way {
+impl Route {
     pub fn is_by_ring(self) -> bool
         ensures { result ≡ is_by_ring self }
     {
-        matches!(self, Way::Lane(_) | Way::Feed(_))
+        matches!(self, Route::Lane(_) | Route::Feed(_))
     }
 }

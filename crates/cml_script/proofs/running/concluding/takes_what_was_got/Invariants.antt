@@ -1,0 +1,6 @@
+use Rattle.std.proofs.Common.{ℕ, ◌<◌}
+use Rattle.cml_script.specs.Running.{IsTakenAt}
+use Rattle.cml_script.proofs.running.concluding.takes_what_was_got.Given as goal
+
+abbrev pub invariant-loop-at : goal.invariant-loop-at
+invariant-loop-at l = (k : ℕ) → k < l.at → IsTakenAt l.plan l.board.history l.tally k

@@ -1,0 +1,130 @@
+//! What a run told, before it is reported.
+ghost use Rattle.std.specs.Prelude.{◌≡◌, ◌↔◌, ◌<◌, ℕ, length, IsTrue, IfOk, IfErr, string_bytes};
+ghost use Rattle.cml_script.specs.Audit.{IsOfScript};
+ghost use Rattle.cml_script.specs.Running.{IsReportOf, IsRefused, IsUnsettled, IsTakenAt, Leaves, MayEnd};
+
+use crate::auditing::audit;
+use crate::ending::Ending;
+use crate::perform::Played;
+use crate::plan::{Plan, count_feeds};
+use crate::report::report;
+use crate::scene::unperformed;
+use crate::stop::Stop;
+use crate::tally::Tally;
+use crate::verdict::Verdict;
+use cml_board::{Board, BoardLog};
+use cml_grammar::Script;
+use std::alloc::Global;
+
+/// The report of a script's journal, once it is audited, and where it may end so with this tally.
+pub fn conclude(
+    alloc: Global,
+    script: &Script,
+    board: &Board<u64, BoardLog<u64>>,
+    tally: &Tally,
+    stop: Stop,
+) -> Result<Played, Ending>
+    ensures stop { IfOk result (λ played. played.stop ≡ stop) }
+    ensures report { IfOk result (λ played. IsReportOf script.now board.now.limit board.now.history tally.now stop (string_bytes played.report)) }
+    ensures refused { IfErr result (λ ending. IsRefused script.now board.now.limit board.now.history tally.now stop ending) }
+{
+    // That no journal has more entries than an audit takes is what the limit's reader tells.
+    let _limit = board.limit();
+    match audit(alloc, script, board.journal())? {
+        Verdict::Lawful => tell(alloc, script, board, tally, stop),
+        Verdict::Unlawful(k) | Verdict::Foreign(k) => Err(Ending::NotLawful(k)),
+    }
+}
+
+/// The same of a board whose journal has this limit, and no other.
+pub(super) fn conclude_under(
+    alloc: Global,
+    script: &Script,
+    board: &Board<u64, BoardLog<u64>>,
+    limit: u64,
+    tally: &Tally,
+    stop: Stop,
+) -> Result<Played, Ending>
+    ensures stop { IfOk result (λ played. played.stop ≡ stop) }
+    ensures report { IfOk result (λ played. IsReportOf script.now limit board.now.history tally.now stop (string_bytes played.report)) }
+    ensures untold { IfErr result (λ ending. IsUnsettled ending) }
+{
+    if board.limit() != limit {
+        return Err(Ending::NotLawful(board.journal().len()));
+    }
+    conclude(alloc, script, board, tally, stop)
+}
+
+/// The report of a script's own journal, where it may end so.
+fn tell(
+    alloc: Global,
+    script: &Script,
+    board: &Board<u64, BoardLog<u64>>,
+    tally: &Tally,
+    stop: Stop,
+) -> Result<Played, Ending>
+    requires { IsOfScript script.now board.now.history }
+    ensures stop { IfOk result (λ played. played.stop ≡ stop) }
+    ensures report { IfOk result (λ played. IsReportOf script.now board.now.limit board.now.history tally.now stop (string_bytes played.report)) }
+    ensures refused { IfErr result (λ ending. IsRefused script.now board.now.limit board.now.history tally.now stop ending) }
+{
+    // That the history is lawful and within the limit is what the journal's reader tells.
+    let entries = board.journal().len();
+    let plan = Plan::new(alloc, script)?;
+    if !may_end(&plan, board, tally, stop) {
+        return Err(Ending::NotLawful(entries));
+    }
+    let report = report(alloc, script, board, tally, stop)?;
+    Ok(Played { report, stop })
+}
+
+/// Whether a run may end so with this journal and this tally.
+fn may_end(plan: &Plan<'_>, board: &Board<u64, BoardLog<u64>>, tally: &Tally, stop: Stop) -> bool
+    ensures { IsTrue result ↔ MayEnd plan.now board.now.limit board.now.history tally.now stop }
+{
+    if !leaves(plan.script(), board, tally, stop) {
+        return false;
+    }
+    if tally.taken.len() != count_feeds(plan.script()) {
+        return false;
+    }
+    takes_what_was_got(plan, board, tally)
+}
+
+/// Whether so much is left.
+fn leaves(script: &Script, board: &Board<u64, BoardLog<u64>>, tally: &Tally, stop: Stop) -> bool
+    ensures { IsTrue result ↔ Leaves script.now board.now.limit board.now.history tally.now stop }
+{
+    match stop {
+        Stop::Done => unperformed(script, board, tally) == 0,
+        Stop::Stalled | Stop::Held => 0 < unperformed(script, board, tally),
+        Stop::Full => board.journal().len() as u64 == board.limit(),
+    }
+}
+
+/// Whether of no feed more was taken than its port received.
+fn takes_what_was_got(plan: &Plan<'_>, board: &Board<u64, BoardLog<u64>>, tally: &Tally) -> bool
+    ensures { IsTrue result ↔ ((at : ℕ) → at < length plan.now.declarations → IsTakenAt plan.now board.now.history tally.now at) }
+{
+    for at in 0..plan.script().declarations().len() {
+        if !is_taken(plan, board, tally, at) {
+            return false;
+        }
+    }
+    true
+}
+
+/// Whether of the feed with this name, if it is one that was opened, no more was taken than its port received.
+fn is_taken(plan: &Plan<'_>, board: &Board<u64, BoardLog<u64>>, tally: &Tally, at: usize) -> bool
+    requires { at < length plan.now.declarations }
+    ensures { IsTrue result ↔ IsTakenAt plan.now board.now.history tally.now at }
+{
+    let feed = plan.feed(at);
+    if feed.is_none() {
+        return true;
+    }
+    let Some(port) = plan.declared_object(at, board.journal().len() as u64) else {
+        return true;
+    };
+    tally.taken_from(feed) <= board.got_count(port).unwrap_or(0)
+}
