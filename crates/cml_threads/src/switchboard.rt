@@ -80,8 +80,10 @@ impl<M: Message, L: MessageLog<M>, Led: Ledger> Switchboard<M, L, Led> {
     /// for. What is refused is handed back, and did nothing.
     ///
     /// `Stalled` means that the call would wait, that each other seat waits too or has left, and that no lane is open, so
-    /// that nobody could ever answer it. The seat is free then: make another call, which may let others go on, or leave.
-    /// Those who wait are told the same when next something changes, unless they can go on by then.
+    /// that nobody who has a seat or a lane by then could ever answer it. The seat is free then: make another call, which may
+    /// let others go on, or leave. Those who wait are told the same when next something changes, unless they can go on by then.
+    ///
+    /// Close your own lanes before you wait: while one is open nobody is told of a stall, and who waits may wait for ever.
     pub fn call<R: Wait>(
         &self,
         rt: &R,
