@@ -1,16 +1,13 @@
 -- How many entries a call on lanes or feeds adds, and that all of them are of lanes and feeds.
-use Rattle.std.proofs.Common.{◌≡◌, ℕ, ◌+◌, ◌≤◌, List, [], ◌∷◌, length, reverse, subst, sym, ap, ◌∙◌, arith}
+use Rattle.std.proofs.Common.{◌≡◌, ℕ, ◌+◌, ◌≤◌, List, [], ◌∷◌, length, reverse, ap, ◌∙◌, arith}
 use Rattle.std.proofs.lemmas.List.{length-reverse}
 use Rattle.cml_board.specs.declared.call.Name.{Name}
 use Rattle.cml_board.specs.declared.entry.Entry.{Entry}
 use Rattle.cml_board.specs.History.{entries_in, rings_in}
 use Rattle.cml_board.specs.Shown.{Shown}
 use Rattle.cml_lanes.specs.declared.way.Way.{Way}
-use Rattle.cml_lanes.specs.Sides.{LaneSide, FeedSide}
 use Rattle.cml_lanes.specs.Laned.{lane_entry, with_lane}
 use Rattle.cml_lanes.specs.Fed.{feed_entry, with_feed}
-use Rattle.cml_lanes.specs.Moving.{MovesOut}
-use Rattle.cml_lanes.specs.Pumping.{PumpsIn}
 use Rattle.cml_lanes.specs.Floor.{FloorShown}
 use Rattle.cml_lanes.proofs.Deeds.{Deed, as_it_was, lane_drained, lane_gone, lane_opened, feed_pumped, feed_gone, feed_opened}
 use Rattle.cml_threads.specs.Hosting.{IsCounted}
@@ -108,8 +105,3 @@ module _ {M : Type 0} where
         own_parts = omega (arith, same_parts, counted.own_parts);
         bounded = omega (arith, added.limit, counted.bounded);
       }
-
-  -- nothing was counted, and no entry was added
-  pub still_counted : (old new : FloorShown M) (seats book own parts whole : ℕ) → new.board ≡ old.board → IsCounted old.board seats book own parts whole
-      → IsCounted new.board seats book own parts whole
-  still_counted old new seats book own parts whole same counted = subst (λ (b : Shown M). IsCounted b seats book own parts whole) (sym same) counted
