@@ -1,0 +1,53 @@
+-- What a board answers suits the call.
+use Rattle.std.proofs.Common.{◌≡◌, ℕ, Bool, true, false, cond, List, slice_get, Option, Some, None, refl, sym, ap, ◌∙◌}
+use Rattle.std.specs.Prelude.{unwrap_or, is_some}
+use Rattle.std.specs.Option.{option_map}
+use Rattle.std.proofs.lemmas.Option.{same_Some, none-some}
+use Rattle.cml_board.specs.declared.call.Call.{Call}
+use Rattle.cml_board.specs.declared.call.Call.TheVariants as call
+use Rattle.cml_board.specs.declared.entry.Reply.{Reply}
+use Rattle.cml_board.specs.declared.entry.Reply.TheVariants as reply
+use Rattle.cml_board.specs.History.{answer, is_open, owed}
+use Rattle.cml_board.specs.Held.{held}
+use Rattle.cml_threads.specs.Telling.{suits}
+use Rattle.cml_script.specs.Schedule.{History}
+
+module _ (c : Call ℕ) (r : Reply ℕ) where
+  just : (x : Reply ℕ) → suits c x ≡ true → Some x ≡ Some r → suits c r ≡ true
+  just x suit e = ap (suits c) (sym (same_Some _ _ e)) ∙ suit
+
+  where_it_is_open : (t : Bool) (x : Option (Reply ℕ)) → (x ≡ Some r → suits c r ≡ true) → suits c reply.Closed ≡ true → cond t x (Some reply.Closed) ≡ Some r → suits c r ≡ true
+  where_it_is_open true x opened closed e = opened e
+  where_it_is_open false x opened closed e = just reply.Closed closed e
+
+  got_some : ((m : ℕ) → suits c (reply.Got m) ≡ true) → (o : Option ℕ) → option_map reply.Got o ≡ Some r → suits c r ≡ true
+  got_some suit None e = absurd (none-some r e)
+  got_some suit (Some m) e = just (reply.Got m) (suit m) e
+
+  got_or_nothing : ((m : ℕ) → suits c (reply.Got m) ≡ true) → suits c reply.Nothing ≡ true → (o : Option ℕ) → Some (unwrap_or (option_map reply.Got o) reply.Nothing) ≡ Some r → suits c r ≡ true
+  got_or_nothing suit nothing None e = just reply.Nothing nothing e
+  got_or_nothing suit nothing (Some m) e = just (reply.Got m) (suit m) e
+
+  put_or_done : suits c reply.Put ≡ true → suits c reply.Done ≡ true → (t : Bool) → Some (cond t reply.Put reply.Done) ≡ Some r → suits c r ≡ true
+  put_or_done put done true e = just reply.Put put e
+  put_or_done put done false e = just reply.Done done e
+
+pub answer_suits : (history : History) (c : Call ℕ) (r : Reply ℕ) → answer history c ≡ Some r → suits c r ≡ true
+answer_suits history call.NewMailbox r e = just call.NewMailbox r _ refl e
+answer_suits history call.NewChannel r e = just call.NewChannel r _ refl e
+answer_suits history (call.NewPort name) r e = just (call.NewPort name) r _ refl e
+answer_suits history call.NewIVar r e = just call.NewIVar r _ refl e
+answer_suits history call.NewMVar r e = just call.NewMVar r _ refl e
+answer_suits history (call.MVarInit message) r e = just (call.MVarInit message) r _ refl e
+answer_suits history (call.CopyPort name) r e = where_it_is_open (call.CopyPort name) r (is_open history name.0) _ (λ is. just (call.CopyPort name) r _ refl is) refl e
+answer_suits history (call.ClosePort name) r e = where_it_is_open (call.ClosePort name) r (is_open history name.0) _ (λ is. just (call.ClosePort name) r _ refl is) refl e
+answer_suits history (call.Send name message) r e = just (call.Send name message) r _ refl e
+answer_suits history (call.Cast name message) r e = just (call.Cast name message) r _ refl e
+answer_suits history (call.Recv name) r e = where_it_is_open (call.Recv name) r (is_open history name.0) _ (λ is. got_some (call.Recv name) r (λ m. refl) (slice_get (owed history name.0) 0) is) refl e
+answer_suits history (call.Poll name) r e = where_it_is_open (call.Poll name) r (is_open history name.0) _ (λ is. got_or_nothing (call.Poll name) r (λ m. refl) refl (slice_get (owed history name.0) 0) is) refl e
+answer_suits history (call.Put name message) r e = put_or_done (call.Put name message) r refl refl (is_some (held history name.0)) e
+answer_suits history (call.Get name) r e = got_some (call.Get name) r (λ m. refl) (held history name.0) e
+answer_suits history (call.GetPoll name) r e = got_or_nothing (call.GetPoll name) r (λ m. refl) refl (held history name.0) e
+answer_suits history (call.Take name) r e = got_some (call.Take name) r (λ m. refl) (held history name.0) e
+answer_suits history (call.TakePoll name) r e = got_or_nothing (call.TakePoll name) r (λ m. refl) refl (held history name.0) e
+answer_suits history (call.Swap name message) r e = got_some (call.Swap name message) r (λ m. refl) (held history name.0) e

@@ -1,0 +1,12 @@
+-- What was performed of a script by a teller.
+use Rattle.std.specs.Prelude.{Ok, Err}
+use Rattle.cml_grammar.specs.Script.{Lines}
+use Rattle.cml_script.specs.Working.{Made, Declares, Works}
+use Rattle.cml_caller_tests.specs.declared.performing.Performed.{Performed}
+use Rattle.cml_caller_tests.specs.declared.performing.Performed.TheVariants.{Undeclared, Stopped}
+
+-- the declared objects were made, but for those behind one that was refused; or all of them, and then the first thread's steps
+-- behind just these
+abbrev pub IsPerformed : Lines → Performed → Type 0
+IsPerformed script (Undeclared teller refusal) = Declares script teller (Err refusal)
+IsPerformed script (Stopped teller stop) = (declared : Made) × Declares script declared (Ok tt) × Works script 1 teller stop declared.entries
