@@ -1,5 +1,5 @@
 -- When no more was taken of a feed than its port received.
-use Rattle.std.proofs.Common.{◌≡◌, ℕ, ◌≤◌, Bool, false, length, Option, Some, None, refl, sym, ap, ◌∙◌, arith}
+use Rattle.std.proofs.Common.{◌≡◌, ℕ, ◌≤◌, Bool, false, Option, Some, None, sym, ap, ◌∙◌, arith}
 use Rattle.std.specs.Prelude.{◌↔◌, IsTrue, unwrap_or, is_none}
 use Rattle.std.specs.Option.{option_map}
 use Rattle.std.proofs.lemmas.Option.{same_Some, none-some}
