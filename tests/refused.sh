@@ -59,14 +59,14 @@ while [ "$number" -le 10000 ]; do
     status=$?
     [ -e "$work/told" ] || break
     # A line that isn't what is printed with memory, nor tells what was refused or what that came to.
-    other=$(grep -vxF -f "$expected" "$work/printed" | grep -v 'NoMemory\|Stalled' | head -n 1)
+    other=$(grep -vxF -f "$expected" "$work/printed" | grep -v 'NoMemory\|AllocError\|Stalled' | head -n 1)
     if [ "$status" -ne 124 ] && [ -z "$other" ]; then
         passed=$((passed + 1))
     else
         failed=$((failed + 1))
         echo "failed: with request $number refused: status $status, $other"
     fi
-    grep -q NoMemory "$work/printed" && refused=$((refused + 1))
+    grep -q 'NoMemory\|AllocError' "$work/printed" && refused=$((refused + 1))
     number=$((number + 1))
 done
 echo "an example met the refusal in $refused of $((number - 1)) runs"

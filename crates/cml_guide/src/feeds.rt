@@ -53,10 +53,10 @@ fn tell_and_show<Led: Ledger + Send + Sync, R: Threads + Wait + Sync>(
     let (feed, number) = board.open_feed(rt, prices, ROOM)?;
     let over = AtomicBool::new(false);
     let is_over = &over;
-    let ((told, left), sum) = thread::join(
+    let (sum, (told, left)) = thread::join(
         rt,
-        move || tell_and_leave(rt, board, ticker, prices, number, is_over),
         move || show_all(rt, feed, is_over),
+        move || tell_and_leave(rt, board, ticker, prices, number, is_over),
     );
     told?;
     Ok((sum, left))
