@@ -1,7 +1,7 @@
 #!/bin/sh
-# Everything: every crate is proved from nothing, its wrong edits are refused and its tests run; then the tables of calls
-# are performed, the guide's code is compared with the sources and run with memory refused, the logs are seen not to grow,
-# and the built program is tried from outside. The last line is `N passed, M failed`.
+# Everything: every crate is proved and its wrong edits are refused, but for what was so on this machine before, and its
+# tests run; then the tables of calls are performed, the guide's code is compared with the sources and run with memory
+# refused, the logs are seen not to grow, and the built program is tried from outside. The last line is `N passed, M failed`.
 cd "$(dirname "$0")/.." || exit 1
 work=$(mktemp -d) || exit 1
 trap 'rm -rf "$work"' EXIT
