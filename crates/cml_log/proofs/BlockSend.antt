@@ -11,8 +11,8 @@ use denote.Param.Send.{IsSend, AllSend, owning_send, struct_send, sendable}
 use Rattle.std.proofs.Crossing.{frees}
 use Rattle.std_alloc.proofs.SendSync.{quiet, lies}
 use Rattle.cml_log.specs.Blocks.{heap, right_owns, block_owns, blocks_own}
-use Rattle.cml_log.specs.contracts.raw.Blocks as Blocks
-use Rattle.cml_log.specs.contracts.raw.Right as Right
+use Rattle.cml_log.specs.contracts.chunk.raw.Blocks as Blocks
+use Rattle.cml_log.specs.contracts.chunk.raw.Right as Right
 
 module _ (R : RattleType) (s : IsSend R) where
   right-Keyless : (at : Ptr) (content : R.Denot) → Keyless (right_owns R at content)

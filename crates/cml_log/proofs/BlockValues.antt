@@ -24,11 +24,11 @@ use Rattle.core.proofs.alloc.Calls.{Al, handle_tells}
 use Rattle.std_alloc.specs.Box.Ownership.{box_owns}
 use Rattle.std_alloc.proofs.RcSteps.{Good, word}
 use Rattle.std_alloc.proofs.ResultValues.{and_tt}
-use Rattle.cml_log.specs.contracts.raw.Address as address
-use Rattle.cml_log.specs.contracts.raw.Blocks as blocks
-use Rattle.cml_log.specs.contracts.raw.Count as count
-use Rattle.cml_log.specs.contracts.raw.Loose as loose
-use Rattle.cml_log.specs.contracts.raw.Right as right
+use Rattle.cml_log.specs.contracts.chunk.raw.Address as address
+use Rattle.cml_log.specs.contracts.chunk.raw.Blocks as blocks
+use Rattle.cml_log.specs.contracts.chunk.raw.Counter as counter
+use Rattle.cml_log.specs.contracts.chunk.raw.Loose as loose
+use Rattle.cml_log.specs.contracts.chunk.raw.Right as right
 
 -- a struct with no bytes but its mark, and one of two fields
 abbrev pub mark : Val
@@ -43,7 +43,7 @@ address_made 𝓛 at number fits = makes_shadow 𝓛 (address.the_row.own_val (r
     (λ vss. (tt, (tt, ((tt, tt), tt)))) ((ptr_val at ∷ [], (vint w64 number ∷ [], tt)), (refl, (refl, ((refl, fits), tt))))
 
 abbrev pub Counting : RattleType
-Counting = Struct (shape count.the_type)
+Counting = Struct (shape counter.the_type)
 
 pub count_made : {M : Type 1} {𝓤 : Ura M} (𝓛 : Logic 𝓤) → ent 𝓤 (emp 𝓤) (sem 𝓛 (Counting.own_val (tt, tt) (mark ∷ [])))
 count_made 𝓛 = makes_shadow 𝓛 (Counting.own_val (tt, tt) (mark ∷ [])) (λ vss. (tt, ((λ uss. (tt, tt)), tt))) ((vstruct vnil ∷ [], tt), (refl, ((tt, (refl, tt)), tt)))

@@ -5,8 +5,8 @@ use Rattle.std.proofs.lemmas.List.{get_or_past, length-set, length-append, lengt
 use Rattle.std.proofs.Math.Nat.{mul-add, mul-one, mul-zero, mul-le-mul_left}
 use Rattle.std.proofs.Math.Seq.{get_or-append_seam}
 use denote.RawPtr.{Ptr}
-use Rattle.cml_log.specs.declared.raw.Address.{Address}
-use Rattle.cml_log.specs.declared.raw.chunk.Chunk.{Chunk}
+use Rattle.cml_log.specs.declared.chunk.raw.Address.{Address}
+use Rattle.cml_log.specs.declared.chunk.Chunk.{Chunk}
 use Rattle.cml_log.specs.Blocks.{block_at, IsKept}
 use Rattle.cml_log.specs.Contents.{row_of, link_of, row_at, link_at, items_of}
 use Rattle.cml_log.specs.Linked.{IsLinked}

@@ -5,7 +5,7 @@ use Rattle.std.proofs.lemmas.Bool.{cases_eq, lt-ltb, eq-eqb, false_from_ne_true}
 use Rattle.std.proofs.lemmas.Nat.{div-mul-add, mod-mul-add, div-add-mod'}
 use Rattle.std.proofs.lemmas.List.{get_or-set_same, get_or-set_other}
 use denote.RawPtr.{Ptr}
-use Rattle.cml_log.specs.declared.raw.Address.{Address}
+use Rattle.cml_log.specs.declared.chunk.raw.Address.{Address}
 use Rattle.cml_log.specs.declared.chunk_log.Cursor.{Cursor}
 use Rattle.cml_log.specs.Log.{Opens}
 use Rattle.cml_log.specs.Chain.{Chunks, count_at, LiesAt, end_of, is_idle, passed, with_count, Passed}

@@ -1,9 +1,9 @@
 -- What the chunk in the block of a number shows, and a change of one chunk.
 use Rattle.std.specs.Prelude.{◌≡◌, ℕ, List, [], ◌∷◌, ◌++◌, Option, Some, None, slice_set}
 use denote.RawPtr.{Ptr}
-use Rattle.cml_log.specs.declared.raw.Address.{Address}
-use Rattle.cml_log.specs.declared.raw.chunk.Chunk.{Chunk}
-use Rattle.cml_log.specs.declared.raw.chunk.KeptChunks.{KeptChunks}
+use Rattle.cml_log.specs.declared.chunk.raw.Address.{Address}
+use Rattle.cml_log.specs.declared.chunk.Chunk.{Chunk}
+use Rattle.cml_log.specs.declared.chunk.KeptChunks.{KeptChunks}
 use Rattle.cml_log.specs.Blocks.{block_at}
 
 module _ {T : Type 0} {N : ℕ} where

@@ -2,8 +2,8 @@
 use Rattle.std.specs.Prelude.{ℕ, Some, slice_set}
 use Rattle.std.specs.Borrow.{Fml, RattleType, MutBor, Lends}
 use denote.RawPtr.{Ptr}
-use Rattle.cml_log.specs.declared.raw.Blocks.{Blocks}
-use Rattle.cml_log.specs.contracts.raw.Blocks.{the_row}
+use Rattle.cml_log.specs.declared.chunk.raw.Blocks.{Blocks}
+use Rattle.cml_log.specs.contracts.chunk.raw.Blocks.{the_row}
 
 -- the same blocks, with this content in the one of this number
 abbrev pub with_content : {C : Type 0} → Blocks C → ℕ → Ptr → C → Blocks C

@@ -1,8 +1,8 @@
 -- What holds of the fields of each chain of chunks.
 use Rattle.std.specs.Prelude.{◌≡◌, ℕ, ◌+◌, ◌-◌, ◌*◌, ◌/◌, ◌<◌, ◌≤◌, List, length, take, drop, Option, Some, None}
 use denote.RawPtr.{Ptr}
-use Rattle.cml_log.specs.declared.raw.Address.{Address}
-use Rattle.cml_log.specs.declared.raw.chunk.Chunk.{Chunk}
+use Rattle.cml_log.specs.declared.chunk.raw.Address.{Address}
+use Rattle.cml_log.specs.declared.chunk.Chunk.{Chunk}
 use Rattle.cml_log.specs.Blocks.{block_at}
 use Rattle.cml_log.specs.Contents.{row_at, link_at, items_of}
 

@@ -1,7 +1,7 @@
 ghost use Rattle.std.specs.Prelude.{◌≡◌, ℕ, ◌+◌, ◌-◌, ◌*◌, ◌/◌, ◌%◌, ◌^◌, ◌<◌, ◌≤◌, [], ◌∷◌, ◌++◌, Some, length, drop, false, option_copied, slice_get, ltb, IfOk, OnOk, OnErr, IfErr};
 
 use crate::Back;
-use crate::raw::{Address, KeptChunks};
+use crate::chunk::{Address, KeptChunks};
 use std::alloc::{AllocError, Global};
 use std::marker::Model;
 

@@ -4,7 +4,7 @@ ghost use Rattle.slab.specs.Slab.{ContainsKey};
 ghost use Rattle.cml_log.specs.PlainLog.{chunk_of};
 
 use crate::chain::Chain;
-use crate::raw::Address;
+use crate::chunk::Address;
 use crate::{Back, Key, MessageLog};
 use slab::Slab;
 use std::alloc::{AllocError, Global};

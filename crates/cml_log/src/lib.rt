@@ -3,12 +3,12 @@
 
 mod back;
 mod chain;
+mod chunk;
 mod chunk_log;
 mod key;
 mod message_log;
 mod places;
 mod plain_log;
-mod raw;
 mod row;
 
 pub use back::Back;
