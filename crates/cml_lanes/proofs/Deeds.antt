@@ -11,6 +11,7 @@ use Rattle.cml_lanes.specs.Moving.{DrainsRing}
 use Rattle.cml_lanes.specs.Floor.{FloorShown, FindsNoLane, FindsNoFeed, GivesAll, stays, goes, OnLane, OnFeed}
 use Rattle.cml_lanes.specs.Lanes.{OpensALane, EmptiesLane, HoldsUp, HoldsUpSome, DropsLane, Drains, Drops, Abandons, Closes, CountRefused, ClosesCounted}
 use Rattle.cml_lanes.specs.Feeds.{MakesPort, OpensAFeed, FillsFeed, Starves, Pumps, Ends}
+use Rattle.cml_lanes.specs.Reserving.{Reserves}
 use Rattle.cml_lanes.proofs.Moves.{until_drains, unchanged}
 use Rattle.cml_lanes.proofs.Pumps.{PumpsRing, until_pumps}
 use Rattle.cml_lanes.proofs.Places.{does_so}
@@ -58,6 +59,10 @@ module _ {M : Type 0} where
       })
 
   -- by each call
+  pub reserves : (old new : FloorShown M) (n : ℕ) (result : Result ⊤ Refusal) → Reserves old new n result → Deed old new
+  reserves old new n (Ok done) told = as_it_was told.0.board told.0.lanes told.0.feeds
+  reserves old new n (Err refusal) told = as_it_was told.0.board told.0.lanes told.0.feeds
+
   pub opens_lane : (old new : FloorShown M) (target : Name) (capacity : ℕ) (result : Result (LaneShown M × ℕ) Refusal) → OpensALane old new target capacity result → Deed old new
   opens_lane old new target capacity (Ok lane) told = lane_opened _ told.board told.lanes told.feeds
   opens_lane old new target capacity (Err refusal) told = still old new told.1

@@ -15,12 +15,12 @@ use Rattle.cml_lanes.specs.Laned.{laned}
 use Rattle.cml_lanes.specs.Fed.{fed}
 use Rattle.cml_lanes.specs.Floor.{FloorShown, is_taken, is_open_lane, is_open_feed, OnPlace}
 use Rattle.cml_lanes.specs.Barring.{is_barred}
-use Rattle.cml_lanes.specs.Steps.{FloorCall, Apply, OpenLane, Drain, CloseLane, CloseCounted, DropLane, AbandonLane, OpenFeed, Pump, EndFeed, AppliesSeat, IsCalled, AreCalled}
+use Rattle.cml_lanes.specs.Steps.{FloorCall, Apply, Reserve, OpenLane, Drain, CloseLane, CloseCounted, DropLane, AbandonLane, OpenFeed, Pump, EndFeed, AppliesSeat, IsCalled, AreCalled}
 use Rattle.cml_lanes.proofs.Slots.{same_length}
 use Rattle.cml_lanes.proofs.Laning.{laned_other, laned_apart}
 use Rattle.cml_lanes.proofs.Feeding.{fed_other, fed_apart, laned_fed, fed_laned}
 use Rattle.cml_lanes.proofs.FeedOpens.{none_fed}
-use Rattle.cml_lanes.proofs.Deeds.{Deed, as_it_was, lane_drained, lane_gone, lane_opened, feed_pumped, feed_gone, feed_opened, opens_lane, drains, drops, abandons, closes, closes_counted, opens_feed, pumps, ends}
+use Rattle.cml_lanes.proofs.Deeds.{Deed, as_it_was, lane_drained, lane_gone, lane_opened, feed_pumped, feed_gone, feed_opened, reserves, opens_lane, drains, drops, abandons, closes, closes_counted, opens_feed, pumps, ends}
 
 module _ {Side : Type 0} where
   -- nothing comes to be in a place that was emptied, or in one that is another
@@ -170,6 +170,7 @@ module _ {M : Type 0} where
     same = (seat_same chunk sure old new seat call outcome k (is_barred old.feeds call) refl applies).0;
     many = omega (arith, ap length applies.lanes);
   }
+  lane_once chunk sure k (Reserve n result) old new within free told = lane_lasts k old new within free (reserves old new n result told)
   lane_once chunk sure k (OpenLane target capacity result) old new within free told = lane_lasts k old new within free (opens_lane old new target capacity result told)
   lane_once chunk sure k (Drain lane result) old new within free told = lane_lasts k old new within free (drains chunk sure lane old new result told)
   lane_once chunk sure k (CloseLane end result) old new within free told = lane_lasts k old new within free (closes chunk sure old new end result told)
@@ -187,6 +188,7 @@ module _ {M : Type 0} where
     same = (seat_same chunk sure old new seat call outcome k (is_barred old.feeds call) refl applies).1;
     many = omega (arith, ap length applies.feeds);
   }
+  feed_once chunk sure k (Reserve n result) old new within free told = feed_lasts k old new within free (reserves old new n result told)
   feed_once chunk sure k (OpenLane target capacity result) old new within free told = feed_lasts k old new within free (opens_lane old new target capacity result told)
   feed_once chunk sure k (Drain lane result) old new within free told = feed_lasts k old new within free (drains chunk sure lane old new result told)
   feed_once chunk sure k (CloseLane end result) old new within free told = feed_lasts k old new within free (closes chunk sure old new end result told)

@@ -16,3 +16,4 @@ pub mod Deeds
 pub mod Opens
 pub mod FeedOpens
 pub mod Lasting
+pub mod Reserving

@@ -10,4 +10,5 @@ pub mod Lanes
 pub mod Barring
 pub mod Slots
 pub mod Feeds
+pub mod Reserving
 pub mod Steps

@@ -13,10 +13,12 @@ use Rattle.cml_lanes.specs.Floor.{FloorShown}
 use Rattle.cml_lanes.specs.Barring.{is_barred}
 use Rattle.cml_lanes.specs.Lanes.{OpensALane, Drains, Closes, ClosesCounted, Drops, Abandons}
 use Rattle.cml_lanes.specs.Feeds.{OpensAFeed, Pumps, Ends}
+use Rattle.cml_lanes.specs.Reserving.{Reserves}
 
 -- a call of a floor, what it was given, and what it told
 pub data FloorCall (M : Type 0) : Type 0 where
   Apply : ℕ → Call M → Outcome M → FloorCall M
+  Reserve : ℕ → Result ⊤ Refusal → FloorCall M
   OpenLane : Name → ℕ → Result (LaneShown M × ℕ) Refusal → FloorCall M
   Drain : ℕ → Result ℕ Refusal → FloorCall M
   CloseLane : Ended M → Result ⊤ (Ended M × Refusal) → FloorCall M
@@ -38,6 +40,7 @@ module _ {M : Type 0} where
   -- the call was made, and this became of the floor
   abbrev pub IsCalled : ℕ → Bool → FloorCall M → FloorShown M → FloorShown M → Type 0
   IsCalled chunk sure (Apply seat call outcome) old new = AppliesSeat chunk sure seat call old new outcome
+  IsCalled chunk sure (Reserve n result) old new = Reserves old new n result
   IsCalled chunk sure (OpenLane target capacity result) old new = OpensALane old new target capacity result
   IsCalled chunk sure (Drain lane result) old new = Drains chunk sure lane old new result
   IsCalled chunk sure (CloseLane end result) old new = Closes chunk sure old new end result

@@ -8,6 +8,7 @@ ghost use Rattle.cml_lanes.specs.Laned.{laned};
 ghost use Rattle.cml_lanes.specs.Floor.{is_open_lane, is_open_feed, stays, OnLane, KeepsLanes, KeepsFeeds, KeepsRings, IsOfRing, GivesAll};
 ghost use Rattle.cml_lanes.specs.Slots.{DrainsUntil};
 ghost use Rattle.cml_lanes.specs.Barring.{is_barred};
+ghost use Rattle.cml_lanes.specs.Reserving.{Reserves};
 
 mod feeds;
 mod lanes;
@@ -104,6 +105,19 @@ impl<M: Message, L: MessageLog<M>> Floor<M, L> {
             return Outcome::Refused(Refusal::WrongKind, call);
         }
         self.board.apply(Who::Seat(seat), call)
+    }
+
+    /// Takes memory for `n` more entries. Until `n` entries were added, no call is refused for want of memory whose next
+    /// entry makes no object, fills no chunk, and shares no message whose share can be refused; but to open a lane or a
+    /// feed takes memory of its own. The only refusal is `NoMemory`.
+    pub fn reserve(&mut self, n: usize) -> Result<(), Refusal>
+        ensures reserves { Reserves self.old self.new n result }
+        ensures rings { KeepsRings self.old self.new }
+    {
+        match self.board.reserve(n) {
+            Ok(()) => Ok(()),
+            Err(_) => Err(Refusal::NoMemory),
+        }
     }
 
     fn has_lane(&self, lane: u64) -> bool

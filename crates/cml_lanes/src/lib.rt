@@ -17,7 +17,7 @@ mod way;
 pub use feed::{Feed, FeedEnd, Taken};
 pub use floor::Floor;
 pub use lane::{Lane, LaneEnd, LaneFull};
-pub use laws::{closed_lanes_get_no_entry, ended_feeds_get_no_entry};
+pub use laws::{closed_lanes_get_no_entry, ended_feeds_get_no_entry, reserved_lasts_on_a_floor};
 
 /// For how many messages a ring may have room, that of a lane or of a feed.
 pub const MAX_CAPACITY: usize = 1024;

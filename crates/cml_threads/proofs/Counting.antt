@@ -10,6 +10,7 @@ use Rattle.cml_lanes.specs.Laned.{lane_entry, with_lane}
 use Rattle.cml_lanes.specs.Fed.{feed_entry, with_feed}
 use Rattle.cml_lanes.specs.Floor.{FloorShown}
 use Rattle.cml_lanes.proofs.Deeds.{Deed, as_it_was, lane_drained, lane_gone, lane_opened, feed_pumped, feed_gone, feed_opened}
+use Rattle.cml_lanes.proofs.Reserving.{lane_entries, feed_entries}
 use Rattle.cml_threads.specs.Hosting.{IsCounted}
 
 -- some entries were added, each of a lane or a feed
@@ -19,23 +20,11 @@ record AddsRings {M : Type 0} (old new : Shown M) : Type 0 where
   pub limit : new.limit ≡ old.limit
 
 module _ {M : Type 0} where
-  lane_entries : (number : ℕ) (way : Way) (target : Name) (messages : List M) (history : List (Entry M))
-      → entries_in (with_lane number way target messages history) ≡ entries_in history + length messages
-  lane_entries number way target [] history = omega arith
-  lane_entries number way target (message ∷ messages) history =
-      omega (arith, lane_entries number way target messages (lane_entry number way target message ∷ history))
-
   lane_rings : (number : ℕ) (way : Way) (target : Name) (messages : List M) (history : List (Entry M))
       → rings_in (with_lane number way target messages history) ≡ rings_in history + length messages
   lane_rings number way target [] history = omega arith
   lane_rings number way target (message ∷ messages) history =
       omega (arith, lane_rings number way target messages (lane_entry number way target message ∷ history))
-
-  feed_entries : (number : ℕ) (port : Name) (messages : List M) (history : List (Entry M))
-      → entries_in (with_feed number port messages history) ≡ entries_in history + length messages
-  feed_entries number port [] history = omega arith
-  feed_entries number port (message ∷ messages) history =
-      omega (arith, feed_entries number port messages (feed_entry number port message ∷ history))
 
   feed_rings : (number : ℕ) (port : Name) (messages : List M) (history : List (Entry M))
       → rings_in (with_feed number port messages history) ≡ rings_in history + length messages

@@ -1,3 +1,4 @@
 pub mod Counting
 pub mod Idling
 pub mod Turning
+pub mod Lasting

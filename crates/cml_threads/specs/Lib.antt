@@ -2,5 +2,6 @@ pub mod Seating
 pub mod Stalling
 pub mod Hosting
 pub mod Asking
+pub mod Running
 pub mod Settling
 pub mod Telling

@@ -2,9 +2,10 @@ ghost use Rattle.std.specs.Prelude.{◌≡◌, ◌^◌, ◌≤◌, [], ◌∷◌
 ghost use Rattle.cml_board.specs.declared.outcome.Refusal.TheVariants.{Gone, NoMemory};
 ghost use Rattle.cml_board.specs.History.{no_entries, entries_in, Lawful};
 ghost use Rattle.cml_board.specs.Shown.{KeepsMailboxes, KeepsPorts, KeepsClosed, KeepsVariables, KeepsLogs};
-ghost use Rattle.cml_lanes.specs.Floor.{KeepsLanes, KeepsFeeds};
+ghost use Rattle.cml_lanes.specs.Floor.{KeepsLanes, KeepsFeeds, KeepsRings};
+ghost use Rattle.cml_lanes.specs.Reserving.{Reserves};
 ghost use Rattle.cml_threads.specs.Seating.{Sitting};
-ghost use Rattle.cml_threads.specs.Hosting.{MayAsk, with_state};
+ghost use Rattle.cml_threads.specs.Hosting.{floor_of, MayAsk, with_state};
 
 mod asking;
 mod counting;
@@ -106,6 +107,16 @@ impl<M: Message, L: MessageLog<M>, Led: Ledger> Hall<M, L, Led> {
         let board = self.floor.board();
         let _journal = board.journal();
         board
+    }
+
+    /// Takes memory for `n` more entries, as `Floor::reserve` does, whoever's they are. The only refusal is `NoMemory`.
+    pub fn reserve(&mut self, n: usize) -> Result<(), Refusal>
+        ensures reserves { Reserves (floor_of self.old) (floor_of self.new) n result }
+        ensures rings { KeepsRings (floor_of self.old) (floor_of self.new) }
+        ensures seats { self.new.seats ≡ self.old.seats }
+        ensures book { self.new.book ≡ self.old.book }
+    {
+        self.floor.reserve(n)
     }
 
     /// A new seat, which is free and has the next number. Only want of memory refuses it.

@@ -4,6 +4,7 @@
 
 mod asked;
 mod hall;
+mod laws;
 mod seat;
 mod seats;
 mod settled;
@@ -13,6 +14,7 @@ mod waiting;
 
 pub use asked::Asked;
 pub use hall::{Hall, PARTS};
+pub use laws::{halls_call_their_floor, reserved_lasts_in_a_hall};
 pub use seat::{Left, Seat};
 pub use settled::{Count, Settled};
 pub use state::State;

@@ -76,6 +76,15 @@ impl<M: Message, L: MessageLog<M>, Led: Ledger> Switchboard<M, L, Led> {
         self.locked.lock(rt).hall.new_seat()
     }
 
+    /// Takes memory for `n` more entries, as `Hall::reserve` does: it may be refused, `NoMemory`, and for nothing else. Who
+    /// uses it nobody can say: any thread's entries do, those of lanes and feeds too, and some may be added before the
+    /// caller's next call.
+    pub fn reserve<R: Wait>(&self, rt: &R, n: usize) -> Result<(), Refusal>
+        ensures { IfErr result (λ refusal. refusal ≡ NoMemory) }
+    {
+        self.locked.lock(rt).hall.reserve(n)
+    }
+
     /// Makes a call, and waits until it is answered or refused: it may never return, if nobody ever sends what it waits
     /// for. What is refused is handed back, and did nothing.
     ///
