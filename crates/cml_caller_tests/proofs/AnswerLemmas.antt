@@ -1,4 +1,4 @@
--- What a board answers suits the call.
+-- What a board answers suits the call, and so does what a floor answers.
 use Rattle.std.proofs.Common.{◌≡◌, ℕ, Bool, true, false, cond, slice_get, Option, Some, None, refl, sym, ap, ◌∙◌}
 use Rattle.std.specs.Prelude.{unwrap_or, is_some}
 use Rattle.std.specs.Option.{option_map}
@@ -7,8 +7,13 @@ use Rattle.cml_board.specs.declared.call.Call.{Call}
 use Rattle.cml_board.specs.declared.call.Call.TheVariants as call
 use Rattle.cml_board.specs.declared.entry.Reply.{Reply}
 use Rattle.cml_board.specs.declared.entry.Reply.TheVariants as reply
+use Rattle.cml_board.specs.Answered.{Answered}
+use Rattle.cml_board.specs.declared.outcome.Outcome.TheVariants as outcome
+use Rattle.cml_board.specs.declared.outcome.Refusal.TheVariants.{WrongKind}
 use Rattle.cml_board.specs.History.{answer, is_open, owed}
 use Rattle.cml_board.specs.Held.{held}
+use Rattle.cml_lanes.specs.Floor.{FloorShown}
+use Rattle.cml_lanes.specs.Barring.{is_barred}
 use Rattle.cml_threads.specs.Telling.{suits}
 use Rattle.cml_script.specs.Schedule.{History}
 
@@ -51,3 +56,16 @@ answer_suits history (call.GetPoll name) r e = got_or_nothing (call.GetPoll name
 answer_suits history (call.Take name) r e = got_some (call.Take name) r (λ m. refl) (held history name.0) e
 answer_suits history (call.TakePoll name) r e = got_or_nothing (call.TakePoll name) r (λ m. refl) refl (held history name.0) e
 answer_suits history (call.Swap name message) r e = got_some (call.Swap name message) r (λ m. refl) (held history name.0) e
+
+where_it_is_not : {A : Type 0} (t : Bool) → (t ≡ true → ⊥) → (t ≡ false → A) → A
+where_it_is_not true is isnt = absurd (is refl)
+where_it_is_not false is isnt = isnt refl
+
+-- what a floor answers suits the call too: a call that a feed's port bars is refused
+pub floor_suits : (old new : FloorShown ℕ) (c : Call ℕ) (a : Answered ℕ)
+    → (is_barred old.feeds c ≡ true → (outcome.Answered a ≡ outcome.Refused WrongKind c) × (new ≡ old))
+    → (is_barred old.feeds c ≡ false → answer old.board.history c ≡ Some a.reply) → suits c a.reply ≡ true
+floor_suits old new c a barred answered =
+    where_it_is_not (is_barred old.feeds c)
+    (λ is. let none : outcome.Answered a ≡ outcome.Refused WrongKind c = (barred is).0 in cc)
+    (λ isnt. answer_suits old.board.history c a.reply (answered isnt))

@@ -1,2 +1,3 @@
 pub mod AnswerLemmas
-pub mod TellerLemmas
+pub mod OpeningLemmas
+pub mod FloorLemmas

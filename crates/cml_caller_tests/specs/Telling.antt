@@ -1,18 +1,31 @@
 -- What a teller made.
-use Rattle.std.specs.Prelude.{ℕ, Bool, false, List, [], map, reverse, Option, None}
+use Rattle.std.specs.Prelude.{ℕ, ◌≡◌, Bool, false, List, [], ◌++◌, map, reverse, Option, None}
 use Rattle.cml_board.specs.declared.entry.Entry.{Entry}
 use Rattle.cml_board.specs.declared.outcome.Refusal.{Refusal}
-use Rattle.cml_script.specs.Apart.{Apart, by_lane}
-use Rattle.cml_script.specs.Working.{Made}
-use Rattle.cml_caller_tests.specs.declared.teller.Sent.{Sent}
+use Rattle.cml_script.specs.Counting.{how_many}
+use Rattle.cml_script.specs.Schedule.{History}
+use Rattle.cml_script.specs.Apart.{Apart, by_lane, by_feed}
+use Rattle.cml_script.specs.Working.{Made, is_of_feed}
+use Rattle.cml_caller_tests.specs.declared.teller.Went.{Went}
+use Rattle.cml_caller_tests.specs.declared.teller.Went.TheVariants.{Sent, Polled}
 
--- a message that went by a lane
-abbrev pub sent_so : Sent → Apart
-sent_so sent = by_lane sent.target sent.capacity sent.message
+abbrev pub went_so : Went → Apart
+went_so (Sent sent) = by_lane sent.target sent.capacity sent.message
+went_so (Polled feed) = by_feed feed
 
--- what a seat made: what it was answered, and what it sent by lanes, both kept oldest first
-abbrev pub made_by : ℕ → List (Entry ℕ) → List Sent → Bool → Option Refusal → Made
-made_by seat entries sent sending refused = record { seat = seat; entries = reverse entries; opened = []; apart = map sent_so (reverse sent); is_sending = sending; refused = refused }
+-- what a seat made: what it was answered, the capacities that it opened its feeds with, and what went by its lanes and feeds,
+-- all kept oldest first
+abbrev pub made_by : ℕ → List (Entry ℕ) → List ℕ → List Went → Bool → Option Refusal → Made
+made_by seat entries opened went sending refused =
+    record { seat = seat; entries = reverse entries; opened = reverse opened; apart = map went_so (reverse went); is_sending = sending; refused = refused }
+
+-- how many feeds these entries open
+abbrev pub feeds_told : List (Entry ℕ) → ℕ
+feeds_told entries = how_many is_of_feed (reverse entries)
+
+-- the newest entries of a history are these
+abbrev pub EndsWith : History → History → Type 0
+EndsWith newest history = (before : History) × (history ≡ newest ++ before)
 
 -- a seat that made nothing
 abbrev pub unmade : ℕ → Made

@@ -2,9 +2,10 @@
 #![tactic(auto)]
 
 mod performing;
+mod rings;
 mod teller;
 #[cfg(test)]
 mod tests;
 
 pub use performing::{Performed, perform};
-pub use teller::{Sent, Teller};
+pub use teller::{Sent, Teller, Went};

@@ -18,7 +18,7 @@ pub enum Performed {
     Stopped(Teller, Result<Stop, AllocError>),
 }
 
-/// Makes a script's declared objects on a board of its own, and performs its first thread's steps.
+/// Makes a script's declared objects on a floor of its own, and performs its first thread's steps.
 pub fn perform(alloc: Global, script: &Script, limit: u64) -> Result<Performed, AllocError>
     requires least { 1 ≤ limit }
     requires most { limit ≤ 2 ^ 32 }

@@ -1,9 +1,10 @@
-//! A caller on a board of its own.
+//! A caller on a floor of its own.
 ghost use Rattle.std.specs.Prelude.{◌≡◌, ◌≤◌, ◌^◌, true, Some, IfOk};
-ghost use Rattle.cml_threads.specs.Telling.{suits};
-ghost use Rattle.cml_caller_tests.specs.Telling.{unmade};
+ghost use Rattle.cml_caller_tests.specs.Rings.{asked};
+ghost use Rattle.cml_caller_tests.specs.Telling.{unmade, EndsWith};
 
-use cml_board::{Answer, Board, BoardLog, Call, Entry, Kind, Name, Outcome, Refusal, Reply, Who};
+use crate::rings::Rings;
+use cml_board::{Answer, Board, BoardLog, Call, Entry, Name, Refusal, Reply, Who};
 use cml_script::Caller;
 use std::alloc::{AllocError, Global};
 use std::marker::Model;
@@ -16,15 +17,25 @@ pub struct Sent {
     pub message: u64,
 }
 
-/// Who makes the calls of one seat after the other, alone on a board, and tells what the present one made: what it was
-/// answered, and what it sent by lanes. It has no feeds, and a message that it sends by a lane is moved at once.
+/// What went by a lane or a feed.
+#[derive(Drop)]
+pub enum Went {
+    Sent(Sent),
+    /// A poll of the feed with this number.
+    Polled(usize),
+}
+
+/// Who makes the calls of one seat after the other, alone on a floor, and tells what the present one made: what it was
+/// answered, which feeds it opened, and what it sent by lanes and polled of feeds. What lanes and feeds move stands in the
+/// floor's journal alone.
 #[derive(Drop)]
 pub struct Teller {
     alloc: Global,
-    board: Board<u64, BoardLog<u64>>,
+    rings: Rings,
     seat: u64,
     entries: Vec<Entry<u64>>,
-    sent: Vec<Sent>,
+    opened: Vec<usize>,
+    went: Vec<Went>,
     is_sending: bool,
     refused: Option<Refusal>,
 }
@@ -35,43 +46,58 @@ impl Model for Teller {
 
     ghost Value = { Made };
 
-    ghost view = { λ t. made_by t.seat t.entries.items t.sent.items t.is_sending t.refused };
+    ghost use Rattle.std.specs.Prelude.{◌≡◌, false, length, reverse};
+    ghost use Rattle.cml_caller_tests.specs.Telling.{feeds_told, EndsWith};
+
+    ghost view = { λ t. made_by t.seat t.entries.items t.opened.items t.went.items t.is_sending t.refused };
+
+    // Where it tells that no lane is open none is; it tells of a feed for each that it opened; and what it tells stands in
+    // the journal.
+    ghost invariant = { λ t. (t.is_sending ≡ false → t.rings.lanes ≡ 0) × (feeds_told t.entries.items ≡ length t.opened.items)
+        × EndsWith (reverse t.entries.items) t.rings.asked };
 }
 
 impl Teller {
-    /// The first seat of a board on which nothing was done.
+    /// The first seat of a floor on which nothing was done.
     pub fn new(alloc: Global, limit: u64) -> Result<Teller, AllocError>
         requires least { 1 ≤ limit }
         requires most { limit ≤ 2 ^ 32 }
         ensures { IfOk result (λ teller. teller ≡ unmade 0) }
     {
-        let board = Board::new(alloc, limit)?;
-        Ok(Teller::seated(alloc, board, 0))
+        let rings = Rings::new(alloc, limit)?;
+        Ok(Teller::seated(alloc, rings, 0))
     }
 
-    /// Another seat of the board, where this one is done.
+    /// Another seat of the floor, where this one is done. What this one left in its lanes is lost.
     pub fn at_seat(self, seat: u64) -> Teller
         ensures { result ≡ unmade seat }
     {
-        Teller::seated(self.alloc, self.board, seat)
+        let mut rings = self.rings;
+        rings.abandon_lanes();
+        Teller::seated(self.alloc, rings, seat)
     }
 
-    fn seated(alloc: Global, board: Board<u64, BoardLog<u64>>, seat: u64) -> Teller
+    fn seated(alloc: Global, rings: Rings, seat: u64) -> Teller
+        requires { rings.lanes ≡ 0 }
         ensures { result ≡ unmade seat }
     {
         Teller {
             alloc,
-            board,
+            rings,
             seat,
             entries: Vec::new(alloc),
-            sent: Vec::new(alloc),
+            opened: Vec::new(alloc),
+            went: Vec::new(alloc),
             is_sending: false,
             refused: None,
         }
     }
 
-    pub fn board(&self) -> &Board<u64, BoardLog<u64>> {
-        &self.board
+    /// The board. But for what lanes and feeds moved its journal ends with what this seat made.
+    pub fn board(&self) -> &Board<u64, BoardLog<u64>>
+        ensures { EndsWith self.now.entries (asked result.now.history) }
+    {
+        self.rings.board()
     }
 
     /// Keeps what refused it something.
@@ -96,7 +122,7 @@ impl Caller for Teller {
         let Ok(asked) = call.share(self.alloc) else {
             return Err(self.refuse(Refusal::NoMemory));
         };
-        match apply(&mut self.board, Who::Seat(self.seat), call) {
+        match self.rings.apply(self.seat, call) {
             Ok(answer) => {
                 self.entries.push_reserved(Entry {
                     who: Who::Seat(self.seat),
@@ -109,22 +135,39 @@ impl Caller for Teller {
         }
     }
 
-    fn open_feed(&mut self, _channel: Name, _capacity: usize) -> Result<Name, Refusal> {
-        Err(self.refuse(Refusal::NoSuch))
+    fn open_feed(&mut self, channel: Name, capacity: usize) -> Result<Name, Refusal> {
+        // A seat tells a feed by how many it opened before, so none is opened behind another seat's.
+        if self.rings.feeds() != self.opened.len() {
+            return Err(self.refuse(Refusal::Busy));
+        }
+        if self.entries.reserve(1).is_err() || self.opened.reserve(1).is_err() {
+            return Err(self.refuse(Refusal::NoMemory));
+        }
+        match self.rings.open_feed(channel, capacity) {
+            Ok((port, number)) => {
+                self.entries.push_reserved(Entry {
+                    who: Who::Feed(number),
+                    call: Call::NewPort(channel),
+                    reply: Reply::Made(port),
+                });
+                self.opened.push_reserved(capacity);
+                Ok(port)
+            }
+            Err(refusal) => Err(self.refuse(refusal)),
+        }
     }
 
     fn send_apart(&mut self, target: Name, capacity: usize, message: u64) -> Result<(), Refusal> {
-        if self.sent.reserve(1).is_err() {
+        if self.went.reserve(1).is_err() {
             return Err(self.refuse(Refusal::NoMemory));
         }
-        let call = call_to(self.board.kind(target), target, message);
-        match apply(&mut self.board, Who::Lane(0), call) {
-            Ok(_) => {
-                self.sent.push_reserved(Sent {
+        match self.rings.send(target, capacity, message) {
+            Ok(()) => {
+                self.went.push_reserved(Went::Sent(Sent {
                     target,
                     capacity,
                     message,
-                });
+                }));
                 self.is_sending = true;
                 Ok(())
             }
@@ -132,37 +175,27 @@ impl Caller for Teller {
         }
     }
 
-    fn poll_apart(&mut self, _feed: usize) -> Result<(), Refusal> {
-        Err(self.refuse(Refusal::NoSuch))
+    fn poll_apart(&mut self, feed: usize) -> Result<(), Refusal> {
+        if self.went.reserve(1).is_err() {
+            return Err(self.refuse(Refusal::NoMemory));
+        }
+        match self.rings.poll(feed) {
+            Ok(()) => {
+                self.went.push_reserved(Went::Polled(feed));
+                Ok(())
+            }
+            Err(refusal) => Err(self.refuse(refusal)),
+        }
     }
 
     fn close_lanes(&mut self) -> Result<(), Refusal> {
-        self.is_sending = false;
-        Ok(())
-    }
-}
-
-/// Makes a call on a board on which nobody else is: one that would wait is stalled.
-fn apply(
-    board: &mut Board<u64, BoardLog<u64>>,
-    who: Who,
-    call: Call<u64>,
-) -> Result<Answer<u64>, Refusal>
-    ensures call { IfOk result (λ answer. answer.call ≡ call) }
-    ensures reply { IfOk result (λ answer. suits call answer.reply ≡ true) }
-{
-    match board.apply(who, call) {
-        Outcome::Answered(answer) => Ok(answer),
-        Outcome::WouldWait(_) => Err(Refusal::Stalled),
-        Outcome::Refused(refusal, _) => Err(refusal),
-    }
-}
-
-/// What a lane makes of a message.
-fn call_to(kind: Option<Kind>, target: Name, message: u64) -> Call<u64> {
-    match kind {
-        Some(Kind::Channel) => Call::Cast(target, message),
-        _ => Call::Send(target, message),
+        match self.rings.close_lanes() {
+            Ok(()) => {
+                self.is_sending = false;
+                Ok(())
+            }
+            Err(refusal) => Err(self.refuse(refusal)),
+        }
     }
 }
 

@@ -7,9 +7,11 @@ use cml_script::{Fault, Stop, read_script};
 use std::alloc::{AllocError, Global};
 use std::process::Abort;
 
-/// A thread that sends by a lane, and then receives what it sent; and another's step, which nobody performs.
-const SCRIPT: &str =
-    "cml 1\nmailbox m\nthread A\nthread B\nlane A m 2\nA send m 5\nA recv m\nB send m 6\n";
+/// A thread that sends more by a lane than that has room for, and receives one message; and that polls a feed with room for
+/// one, before it is owed anything and for each of two. And another's step, which nobody performs.
+const SCRIPT: &str = "cml 1\nmailbox m\nchannel c\nthread A\nthread B\nfeed A f c 1\nlane A m 2\n\
+    A send m 5\nA send m 6\nA send m 7\nA recv m\n\
+    A poll f\nA multicast c 8\nA multicast c 9\nA poll f\nA poll f\nB send m 1\n";
 
 /// What the journal of the script has.
 const JOURNAL: &[Entry<u64>] = &[
@@ -19,14 +21,54 @@ const JOURNAL: &[Entry<u64>] = &[
         reply: Reply::Made(Name(0)),
     },
     Entry {
+        who: Who::Seat(0),
+        call: Call::NewChannel,
+        reply: Reply::Made(Name(1)),
+    },
+    Entry {
+        who: Who::Feed(0),
+        call: Call::NewPort(Name(1)),
+        reply: Reply::Made(Name(2)),
+    },
+    Entry {
         who: Who::Lane(0),
         call: Call::Send(Name(0), 5),
+        reply: Reply::Done,
+    },
+    Entry {
+        who: Who::Lane(0),
+        call: Call::Send(Name(0), 6),
+        reply: Reply::Done,
+    },
+    Entry {
+        who: Who::Lane(0),
+        call: Call::Send(Name(0), 7),
         reply: Reply::Done,
     },
     Entry {
         who: Who::Seat(1),
         call: Call::Recv(Name(0)),
         reply: Reply::Got(5),
+    },
+    Entry {
+        who: Who::Seat(1),
+        call: Call::Cast(Name(1), 8),
+        reply: Reply::Done,
+    },
+    Entry {
+        who: Who::Seat(1),
+        call: Call::Cast(Name(1), 9),
+        reply: Reply::Done,
+    },
+    Entry {
+        who: Who::Feed(0),
+        call: Call::Recv(Name(2)),
+        reply: Reply::Got(8),
+    },
+    Entry {
+        who: Who::Feed(0),
+        call: Call::Recv(Name(2)),
+        reply: Reply::Got(9),
     },
 ];
 
@@ -91,5 +133,9 @@ fn is_same(rt: &impl Abort, word: &str, expected: &str) {
 #[test]
 fn performs_the_first_thread_of_a_script(rt: HostRuntime) {
     is_same(&rt, word(rt.alloc(), 100), "done");
-    is_same(&rt, word(rt.alloc(), 2), "full");
+    is_same(&rt, word(rt.alloc(), 2), "undeclared");
+
+    // The drain of the full lane is refused, and then the pump for the last poll.
+    is_same(&rt, word(rt.alloc(), 3), "full");
+    is_same(&rt, word(rt.alloc(), 10), "full");
 }

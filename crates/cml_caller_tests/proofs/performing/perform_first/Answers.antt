@@ -1,4 +1,4 @@
-use Rattle.cml_caller_tests.proofs.TellerLemmas.{opens}
+use Rattle.cml_caller_tests.proofs.OpeningLemmas.{opens}
 use Rattle.cml_caller_tests.proofs.performing.perform_first.Goals as goal
 
 pub returns : goal.returns

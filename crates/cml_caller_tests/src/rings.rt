@@ -1,0 +1,231 @@
+//! A floor of one's own, and the ends of its rings that threads would have.
+ghost use Rattle.std.specs.Prelude.{◌≡◌, ◌^◌, ◌<◌, ◌≤◌, true, [], length, OnOk, OnErr, IfOk};
+ghost use Rattle.cml_caller_tests.specs.Rings.{asked, with_call, with_feed, IsUnasked};
+ghost use Rattle.cml_threads.specs.Telling.{suits};
+ghost use Rattle.cml_grammar.specs.Reading.{IsCapacity};
+
+use cml_board::{Answer, Board, BoardLog, Call, Name, Outcome, Refusal};
+use cml_lanes::{Feed, Floor, Lane};
+use std::alloc::{AllocError, Global};
+use std::marker::Model;
+
+/// A lane that is open, and the object that it goes to.
+#[derive(Drop)]
+struct OpenLane {
+    target: Name,
+    lane: Lane<u64>,
+}
+
+/// A floor, the lanes that are open on it, and its feeds, by their numbers. Nobody else is there: a call that would wait is
+/// stalled.
+#[derive(Drop)]
+pub struct Rings {
+    floor: Floor<u64, BoardLog<u64>>,
+    lanes: Vec<OpenLane>,
+    feeds: Vec<Feed<u64>>,
+}
+
+impl Model for Rings {
+    ghost use Rattle.cml_caller_tests.specs.Rings.{RingsShown, asked};
+
+    ghost Value = { RingsShown };
+
+    ghost use Rattle.std.specs.Prelude.{◌≡◌, length};
+
+    ghost view = { λ r. record { asked = asked r.floor.board.history; lanes = length r.lanes.items; feeds = length r.feeds.items } };
+
+    ghost invariant = { λ r. length r.floor.feeds ≡ length r.feeds.items };
+}
+
+impl Rings {
+    /// A floor on which nothing was done.
+    pub fn new(alloc: Global, limit: u64) -> Result<Rings, AllocError>
+        requires least { 1 ≤ limit }
+        requires most { limit ≤ 2 ^ 32 }
+        ensures { IfOk result (λ rings. rings ≡ record { asked = []; lanes = 0; feeds = 0 }) }
+    {
+        let board = Board::new(alloc, limit)?;
+        Ok(Rings {
+            floor: Floor::new(alloc, board),
+            lanes: Vec::new(alloc),
+            feeds: Vec::new(alloc),
+        })
+    }
+
+    pub fn board(&self) -> &Board<u64, BoardLog<u64>>
+        ensures { asked result.now.history ≡ self.now.asked }
+    {
+        self.floor.board()
+    }
+
+    /// How many feeds were opened.
+    pub fn feeds(&self) -> usize
+        ensures { result ≡ self.now.feeds }
+    {
+        self.feeds.len()
+    }
+
+    /// Makes a call of a seat.
+    pub fn apply(&mut self, seat: u64, call: Call<u64>) -> Result<Answer<u64>, Refusal>
+        ensures made { IfOk result (λ answer. self.new ≡ with_call seat call answer.reply self.old) }
+        ensures refused { OnErr result (self.new ≡ self.old) }
+        ensures call { IfOk result (λ answer. answer.call ≡ call) }
+        ensures reply { IfOk result (λ answer. suits call answer.reply ≡ true) }
+    {
+        match self.floor.apply(seat, call) {
+            Outcome::Answered(answer) => Ok(answer),
+            Outcome::WouldWait(_) => Err(Refusal::Stalled),
+            Outcome::Refused(refusal, _) => Err(refusal),
+        }
+    }
+
+    /// Opens a feed from a channel, and tells its port and its number, which is how many were opened before.
+    pub fn open_feed(&mut self, channel: Name, capacity: usize) -> Result<(Name, u64), Refusal>
+        requires { IsCapacity capacity }
+        ensures opened { IfOk result (λ opened. self.new ≡ with_feed channel opened.0 self.old) }
+        ensures number { IfOk result (λ opened. opened.1 ≡ self.old.feeds) }
+        ensures refused { OnErr result (self.new ≡ self.old) }
+    {
+        if self.feeds.reserve(1).is_err() {
+            return Err(Refusal::NoMemory);
+        }
+        let (feed, number) = self.floor.open_feed(channel, capacity)?;
+        let port = feed.port();
+        self.feeds.push_reserved(feed);
+        Ok((port, number))
+    }
+
+    /// Sends a message by the lane to this object, which is opened where none is open. A lane that has no room for it is
+    /// drained; where it has none then, it is closed, and another is opened.
+    pub fn send(&mut self, target: Name, capacity: usize, message: u64) -> Result<(), Refusal>
+        requires { IsCapacity capacity }
+        ensures same { self.new ≡ record self.old { lanes = self.new.lanes } }
+        ensures refused { OnErr result (self.new.lanes ≤ self.old.lanes) }
+    {
+        let is_sent = match self.lanes.iter().position(|open| open.target == target) {
+            Some(at) => self.send_on(at, message)?,
+            None => false,
+        };
+        if is_sent {
+            return Ok(());
+        }
+        self.send_first(target, capacity, message)
+    }
+
+    /// Sends a message on an open lane: whether it had room for it. Where it has none though it was drained, it is closed.
+    fn send_on(&mut self, at: usize, message: u64) -> Result<bool, Refusal>
+        requires { at < self.old.lanes }
+        ensures same { self.new ≡ record self.old { lanes = self.new.lanes } }
+        ensures lanes { self.new.lanes ≤ self.old.lanes }
+    {
+        if self.lanes[at].lane.send(message).is_ok() {
+            return Ok(true);
+        }
+        drain(&mut self.floor, self.lanes[at].lane.number())?;
+        if self.lanes[at].lane.send(message).is_ok() {
+            return Ok(true);
+        }
+        let full = self.lanes.swap_remove(at);
+        close(&mut self.floor, full.lane)?;
+        Ok(false)
+    }
+
+    /// Opens a lane, and sends its first message.
+    fn send_first(&mut self, target: Name, capacity: usize, message: u64) -> Result<(), Refusal>
+        requires { IsCapacity capacity }
+        ensures same { self.new ≡ record self.old { lanes = self.new.lanes } }
+        ensures refused { OnErr result (self.new.lanes ≡ self.old.lanes) }
+    {
+        if self.lanes.reserve(1).is_err() {
+            return Err(Refusal::NoMemory);
+        }
+        let (mut lane, _) = self.floor.open_lane(target, capacity)?;
+        if lane.send(message).is_err() {
+            unreachable!();
+        }
+        self.lanes.push_reserved(OpenLane { target, lane });
+        Ok(())
+    }
+
+    /// Takes the next message of a feed. Where its ring has none, what the feed is owed is pumped once.
+    pub fn poll(&mut self, feed: usize) -> Result<(), Refusal>
+        ensures { self.new ≡ self.old }
+    {
+        if feed >= self.feeds.len() {
+            return Err(Refusal::NoSuch);
+        }
+        if self.feeds[feed].recv().is_some() {
+            return Ok(());
+        }
+        pump(&mut self.floor, self.feeds[feed].number())?;
+        let _ = self.feeds[feed].recv();
+        Ok(())
+    }
+
+    /// Closes all lanes. Where one is refused the others stay open.
+    pub fn close_lanes(&mut self) -> Result<(), Refusal>
+        ensures closed { OnOk result (self.new.lanes ≡ 0) }
+        ensures refused { OnErr result (self.new.lanes ≤ self.old.lanes) }
+        ensures same { self.new ≡ record self.old { lanes = self.new.lanes } }
+    {
+        while let Some(open) = self.lanes.pop() {
+            close(&mut self.floor, open.lane)?;
+        }
+        Ok(())
+    }
+
+    /// Abandons all lanes that are open: what they have in their rings is lost.
+    pub fn abandon_lanes(&mut self)
+        ensures { self.new ≡ record self.old { lanes = 0 } }
+    {
+        while let Some(open) = self.lanes.pop() {
+            abandon(&mut self.floor, open.lane.number());
+        }
+    }
+}
+
+/// Moves what is in a lane's ring.
+fn drain(floor: &mut Floor<u64, BoardLog<u64>>, lane: u64) -> Result<usize, Refusal>
+    ensures { IsUnasked floor.old floor.new }
+{
+    floor.drain(lane)
+}
+
+/// Pumps a feed.
+fn pump(floor: &mut Floor<u64, BoardLog<u64>>, feed: u64) -> Result<usize, Refusal>
+    ensures { IsUnasked floor.old floor.new }
+{
+    floor.pump(feed)
+}
+
+/// Closes a lane. Where that is refused it is abandoned: what it has left in its ring is lost.
+fn close(floor: &mut Floor<u64, BoardLog<u64>>, lane: Lane<u64>) -> Result<(), Refusal>
+    ensures { IsUnasked floor.old floor.new }
+{
+    let number = lane.number();
+    let told = finish(floor, lane);
+    if told.is_err() {
+        abandon(floor, number);
+    }
+    told
+}
+
+/// Finishes a lane, and closes it where all that was sent on it is moved.
+fn finish(floor: &mut Floor<u64, BoardLog<u64>>, lane: Lane<u64>) -> Result<(), Refusal>
+    ensures { IsUnasked floor.old floor.new }
+{
+    let Some(end) = lane.finish() else {
+        return Err(Refusal::NoSuch);
+    };
+    match floor.close_counted(end) {
+        Ok(()) => Ok(()),
+        Err((_, refusal)) => Err(refusal),
+    }
+}
+
+/// Closes a lane at once.
+fn abandon(floor: &mut Floor<u64, BoardLog<u64>>, lane: u64)
+    ensures { IsUnasked floor.old floor.new }
+{
+    let _ = floor.abandon_lane(lane);
+}
