@@ -1,34 +1,13 @@
 mod across;
 mod closing;
 mod ending;
-mod feeding;
 mod floors;
-mod steps;
 
 use std::process::Abort;
 use std::test::Fail;
 
-fn are_as_told(rt: &impl Abort, count: usize, steps: usize) {
-    assert_eq!(rt;
-        count,
-        steps,
-        "so many steps before the first that is otherwise"
-    );
-}
-
 fn is_so(rt: &impl Abort, told: bool, what: &str) {
     assert!(rt; told, "{what}");
-}
-
-#[test]
-fn tells_what_becomes_of_lanes(rt: HostRuntime) -> Result<(), Fail> {
-    for row in steps::ROWS.iter() {
-        let told = floors::performed(rt.alloc(), row)?;
-        are_as_told(&rt, told.steps, row.steps.len());
-        is_so(&rt, told.journal, "the journal is otherwise");
-        is_so(&rt, told.opened == row.opened, "other lanes are open");
-    }
-    Ok(())
 }
 
 #[test]
@@ -54,16 +33,12 @@ fn moves_what_another_thread_sends(rt: HostRuntime) -> Result<(), Fail> {
 }
 
 #[test]
-fn tells_what_becomes_of_feeds(rt: HostRuntime) -> Result<(), Fail> {
-    for row in feeding::ROWS.iter() {
-        let told = feeding::performed(rt.alloc(), row)?;
-        are_as_told(&rt, told.steps, row.steps.len());
-        is_so(
-            &rt,
-            told.left,
-            "the journal is otherwise, or other feeds are open",
-        );
-    }
+fn closes_no_lane_by_the_end_of_another_floor(rt: HostRuntime) -> Result<(), Fail> {
+    is_so(
+        &rt,
+        closing::is_closed_by_its_own_count(rt.alloc())?,
+        "closed otherwise",
+    );
     Ok(())
 }
 

@@ -1,7 +1,5 @@
 mod crew;
 mod forms;
-mod hall;
-mod lane_rows;
 mod refusing;
 mod rings;
 mod scene;
@@ -27,32 +25,12 @@ const SCENES: &[(Scene, &str)] = &[
     (Scene::Senders, "each once, in its lane's order"),
 ];
 
-fn are_as_told(rt: &impl Abort, count: usize, steps: usize) {
-    assert_eq!(rt;
-        count,
-        steps,
-        "so many steps before the first that is otherwise"
-    );
-}
-
 fn is_counted(rt: &impl Abort, count: Option<Count>, expected: Count) {
     assert_eq!(rt; count, Some(expected), "the counts of what was settled");
 }
 
 fn is_same(rt: &impl Abort, word: &str, expected: &str) {
     assert_eq!(rt; word, expected);
-}
-
-#[test]
-fn tells_who_waits_and_who_is_stalled(rt: HostRuntime) -> Result<(), Fail> {
-    for (limit, steps) in hall::ROWS.iter().chain(lane_rows::ROWS.iter()) {
-        are_as_told(
-            &rt,
-            hall::count_as_told(rt.alloc(), *limit, steps)?,
-            steps.len(),
-        );
-    }
-    Ok(())
 }
 
 #[test]

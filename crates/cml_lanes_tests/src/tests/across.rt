@@ -2,8 +2,7 @@
 ghost use Rattle.std.specs.Prelude.{◌≡◌, IfSome};
 ghost use Rattle.cml_lanes.specs.Floor.{SameRing};
 
-use super::floors::{Numbers, floor};
-use super::steps::SEAT;
+use super::floors::{Numbers, SEAT, floor};
 use cml_board::{Call, Entry, Name, Reply, Who};
 use cml_lanes::{Feed, Lane, LaneEnd};
 use std::alloc::{AllocError, Global};

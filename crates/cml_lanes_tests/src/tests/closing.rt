@@ -1,7 +1,7 @@
-//! Lanes that are closed by their own ends.
-use super::floors::{floor, is_journal};
-use super::steps::SEAT;
+//! Lanes that are closed by their own ends, or by the count of another's.
+use super::floors::{Numbers, SEAT, floor, is_journal};
 use cml_board::{Call, Name, Refusal, Reply, Who};
+use cml_lanes::LaneEnd;
 use std::alloc::{AllocError, Global};
 
 /// A floor and a lane onto it, on which 5, 6 and 7 are sent.
@@ -73,4 +73,43 @@ pub fn is_closed_so(alloc: Global, row: &Closing) -> Result<bool, AllocError> {
             && taken == row.taken
             && is_journal(floor.board().journal(), FIVE_AND_SIX),
     )
+}
+
+/// Whether the end of another floor's lane of the same number, of which as many were sent as this one has not, closes
+/// nothing; and the own end then closes the lane.
+pub fn is_closed_by_its_own_count(alloc: Global) -> Result<bool, AllocError> {
+    let mut first = floor(alloc, 100)?;
+    let mut second = floor(alloc, 100)?;
+    let Some(other) = end_of(&mut second, &[7, 8]) else {
+        return Ok(false);
+    };
+    first.apply(SEAT, Call::NewMailbox);
+    let Ok((mut lane, number)) = first.open_lane(MAILBOX, 2) else {
+        return Ok(false);
+    };
+    lane.send(5).is_ok();
+    let Err((_, refusal)) = first.close_counted(other) else {
+        return Ok(false);
+    };
+    let is_unseen = refusal == Refusal::Unseen && first.drain(number) == Ok(0);
+    lane.send(6).is_ok();
+    let Some(own) = lane.finish() else {
+        return Ok(false);
+    };
+    Ok(
+        is_unseen
+            && first.close_counted(own).is_ok()
+            && is_journal(first.board().journal(), FIVE_AND_SIX)
+            && second.drop_lane(number) == Ok((2, true)),
+    )
+}
+
+/// The end of a lane onto a new mailbox, on which these are sent.
+fn end_of(floor: &mut Numbers, messages: &[u64]) -> Option<LaneEnd<u64>> {
+    floor.apply(SEAT, Call::NewMailbox);
+    let (mut lane, _) = floor.open_lane(MAILBOX, 2).ok()?;
+    for message in messages.iter() {
+        lane.send(*message).is_ok();
+    }
+    lane.finish()
 }

@@ -2,8 +2,7 @@
 ghost use Rattle.std.specs.Prelude.{◌≡◌};
 ghost use Rattle.cml_lanes.specs.Floor.{SameFeedRing};
 
-use super::floors::{Numbers, floor};
-use super::steps::SEAT;
+use super::floors::{Numbers, SEAT, floor};
 use cml_board::{Call, Name};
 use cml_lanes::{Feed, FeedEnd};
 use std::alloc::{AllocError, Global};

@@ -77,8 +77,10 @@ pub fn call_all<Led: Ledger, R: Wait>(
         count: 0,
         are_as_told: true,
     };
-    streams(rt, &board, &mut seat, &mut replies);
-    variables(rt, &board, &mut seat, &mut replies);
+    mailboxes(rt, &board, &mut seat, &mut replies);
+    channels(rt, &board, &mut seat, &mut replies);
+    i_variables(rt, &board, &mut seat, &mut replies);
+    m_variables(rt, &board, &mut seat, &mut replies);
     let lefts = alone(alloc, board.leave(rt, seat));
     let settled = settled(board, lefts)?;
     if replies.are_as_told && is_table(settled.board().journal()) {
@@ -102,8 +104,8 @@ fn is_entry(entry: &Entry<u64>, call: &Call<u64>, reply: &Reply<u64>) -> bool {
     entry.who == Who::Seat(0) && entry.call.same(call) && entry.reply.same(reply)
 }
 
-/// The forms on mailboxes and channels.
-fn streams<Led: Ledger, R: Wait>(
+/// The forms on mailboxes.
+fn mailboxes<Led: Ledger, R: Wait>(
     rt: &R,
     board: &Numbers<Led>,
     seat: &mut Seat<Led>,
@@ -113,6 +115,15 @@ fn streams<Led: Ledger, R: Wait>(
     replies.note(board.send(rt, seat, MAILBOX, 5));
     replies.note(board.recv(rt, seat, MAILBOX));
     replies.note(board.recv_poll(rt, seat, MAILBOX));
+}
+
+/// Those on channels and ports.
+fn channels<Led: Ledger, R: Wait>(
+    rt: &R,
+    board: &Numbers<Led>,
+    seat: &mut Seat<Led>,
+    replies: &mut Replies,
+) {
     replies.note(board.m_channel(rt, seat));
     replies.note(board.port(rt, seat, CHANNEL));
     replies.note(board.multicast(rt, seat, CHANNEL, 6));
@@ -121,8 +132,8 @@ fn streams<Led: Ledger, R: Wait>(
     replies.note(board.recv(rt, seat, COPY));
 }
 
-/// Those on variables.
-fn variables<Led: Ledger, R: Wait>(
+/// Those on variables that are filled once.
+fn i_variables<Led: Ledger, R: Wait>(
     rt: &R,
     board: &Numbers<Led>,
     seat: &mut Seat<Led>,
@@ -132,6 +143,15 @@ fn variables<Led: Ledger, R: Wait>(
     replies.note(board.i_put(rt, seat, ONCE, 7));
     replies.note(board.i_get(rt, seat, ONCE));
     replies.note(board.i_get_poll(rt, seat, ONCE));
+}
+
+/// Those on variables that are emptied too.
+fn m_variables<Led: Ledger, R: Wait>(
+    rt: &R,
+    board: &Numbers<Led>,
+    seat: &mut Seat<Led>,
+    replies: &mut Replies,
+) {
     replies.note(board.m_var(rt, seat));
     replies.note(board.m_put(rt, seat, MUTABLE, 8));
     replies.note(board.m_get(rt, seat, MUTABLE));

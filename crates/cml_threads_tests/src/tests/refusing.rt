@@ -1,4 +1,5 @@
-//! Calls that a switchboard refuses: by `call` and by a named form each is told its own refusal, and costs no entry.
+//! Calls that a switchboard refuses: by `call` and by a named form each is told its own refusal, and costs no entry. Nor
+//! does what is reserved.
 use super::scene::{Numbers, alone, settled};
 use super::trouble::Trouble;
 use cml_board::{Call, Name, Refusal, Reply};
@@ -34,7 +35,8 @@ fn are_told_apart<Led: Ledger, R: Wait>(
     board: &Numbers<Led>,
     seat: &mut Seat<Led>,
 ) -> bool {
-    is_refused(board.recv(rt, seat, MAILBOX), Refusal::NoSuch)
+    board.reserve(rt, 2).is_ok()
+        && is_refused(board.recv(rt, seat, MAILBOX), Refusal::NoSuch)
         && refuses(rt, board, seat, Call::Recv(MAILBOX), Refusal::NoSuch)
         && board.mailbox(rt, seat).is_ok()
         && is_refused(board.m_take(rt, seat, MAILBOX), Refusal::WrongKind)

@@ -1,10 +1,9 @@
 //! When a switchboard is settled, and when everything is handed back.
 ghost use Rattle.std.specs.Prelude.{◌≡◌, ◌^◌};
 
-use super::hall;
 use super::scene::{Final, Numbers, alone};
 use super::trouble::Trouble;
-use cml_board::{Call, Name, Refusal, Reply};
+use cml_board::{BoardLog, Call, Name, Refusal, Reply};
 use cml_threads::{Count, Hall, PARTS, Seat};
 use std::alloc::{AllocError, Global};
 use std::marker::Brand;
@@ -101,27 +100,41 @@ fn count_in<Led: Ledger>(alloc: Global, blank: Blank) -> Result<Option<Count>, A
     requires parts { blank.parts ≡ Led.parts }
     requires enough { blank.parts ≡ 2 ^ 63 }
 {
-    let mut hall: hall::Numbers<Led> = Hall::new(alloc, 10, blank)?;
+    let mut hall: Hall<u64, BoardLog<u64>, Led> = Hall::new(alloc, 10, blank)?;
     let Ok(mut seat) = hall.new_seat() else {
         return Ok(None);
     };
-    hall.ask(&mut seat, Call::NewMailbox);
-    let Ok((mut lane, _)) = hall.open_lane(MAILBOX, 2) else {
-        return Ok(None);
-    };
-    lane.send(5).is_ok();
-    lane.send(6).is_ok();
-    let Some(end) = lane.finish() else {
-        return Ok(None);
-    };
-    if hall.close_lane(end).is_err() {
+    if !is_used(&mut hall, &mut seat) {
         return Ok(None);
     }
-    hall.ask(&mut seat, Call::Recv(MAILBOX));
     let mut lefts = Vec::new(alloc);
     lefts.push(seat.into_left())?;
     match hall.settle(lefts) {
         Ok(settled) => Ok(Some(settled.count())),
         Err(_) => Ok(None),
+    }
+}
+
+/// The seat makes a mailbox, and receives what a lane brought there.
+fn is_used<Led: Ledger>(
+    hall: &mut Hall<u64, BoardLog<u64>, Led>,
+    seat: &mut Seat<Led>,
+) -> bool {
+    hall.ask(seat, Call::NewMailbox);
+    let is_closed = brings_two(hall);
+    hall.ask(seat, Call::Recv(MAILBOX));
+    is_closed
+}
+
+/// Whether a lane brought two messages to the mailbox, and was closed by its end.
+fn brings_two<Led: Ledger>(hall: &mut Hall<u64, BoardLog<u64>, Led>) -> bool {
+    let Ok((mut lane, _)) = hall.open_lane(MAILBOX, 2) else {
+        return false;
+    };
+    lane.send(5).is_ok();
+    lane.send(6).is_ok();
+    match lane.finish() {
+        Some(end) => hall.close_lane(end).is_ok(),
+        None => false,
     }
 }

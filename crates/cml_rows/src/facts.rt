@@ -1,7 +1,8 @@
 //! What a board's readers tell of an object, and which objects take a call, in words.
-use crate::outcome::Numbers;
-use cml_board::{Call, Kind, Name};
-use std::alloc::AllocError;
+use crate::fussy::Fussy;
+use crate::outcome::{Numbers, REFUSED_ONCE};
+use cml_board::{Call, Entry, Kind, Name, check};
+use std::alloc::{AllocError, Global};
 
 const KINDS: [Kind; 5] = [
     Kind::Mailbox,
@@ -23,6 +24,53 @@ pub fn tell_object(text: &mut String, board: &Numbers, name: Name) -> Result<(),
         Some(Some(message)) => write!(text, " full {message}"),
         Some(None) => text.push_str(" empty"),
         None => Ok(()),
+    }
+}
+
+/// Tells how many entries a board's journal has, and all that the readers have of each object.
+pub fn tell_board(text: &mut String, board: &Numbers) -> Result<(), AllocError> {
+    let entries = board.journal().len() as u64;
+    write!(text, "{entries} entries")?;
+    for number in 0..entries {
+        if board.kind(Name(number)).is_none() {
+            return Ok(());
+        }
+        text.push_str(", ")?;
+        tell_object(text, board, Name(number))?;
+    }
+    Ok(())
+}
+
+/// Tells the journal's entry at a position.
+pub fn tell_entry(text: &mut String, board: &Numbers, at: u64) -> Result<(), AllocError> {
+    match board.journal().get(at as usize) {
+        Some(entry) => write!(text, "{:?} {:?} {:?}", entry.who, entry.call, entry.reply),
+        None => text.push_str("no entry"),
+    }
+}
+
+/// Tells whether a short journal is lawful, or where it first isn't. A check that memory was refused is made once more.
+pub fn tell_check(
+    text: &mut String,
+    alloc: Global,
+    entries: &[Entry<Fussy>],
+) -> Result<(), AllocError> {
+    if entries.len() > 1000 {
+        return text.push_str("too many entries");
+    }
+    match check(alloc, entries) {
+        Ok(verdict) => write_verdict(text, verdict),
+        Err(AllocError) => {
+            write_verdict(text, check(alloc, entries)?)?;
+            text.push_str(REFUSED_ONCE)
+        }
+    }
+}
+
+fn write_verdict(text: &mut String, verdict: Result<(), usize>) -> Result<(), AllocError> {
+    match verdict {
+        Ok(()) => text.push_str("lawful"),
+        Err(at) => write!(text, "unlawful at {at}"),
     }
 }
 
@@ -52,7 +100,7 @@ fn tell_count(text: &mut String, word: &str, count: Option<u64>) -> Result<(), A
 }
 
 /// Tells which object a call is made on, and each kind that takes it.
-pub fn tell_call(text: &mut String, call: &Call<u64>) -> Result<(), AllocError> {
+pub fn tell_call(text: &mut String, call: &Call<Fussy>) -> Result<(), AllocError> {
     match call.object() {
         Some(name) => write!(text, "object {}", name.0)?,
         None => text.push_str("no object")?,

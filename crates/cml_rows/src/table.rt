@@ -1,8 +1,9 @@
 //! A table of calls under way: a board, and a journal that the table makes up.
-use crate::facts::{tell_call, tell_object};
-use crate::outcome::{Numbers, tell};
-use crate::words::{call_of, number, object, reply_of};
-use cml_board::{Answer, Call, Entry, Outcome, Who, check};
+use crate::facts::{tell_call, tell_check, tell_entry, tell_object};
+use crate::fussy::Fussy;
+use crate::outcome::{NO_MEMORY, Numbers, REFUSED_ONCE, tell};
+use crate::words::{call_of, is_note, number, object, reply_of};
+use cml_board::{Answer, Call, Entry, Outcome, Refusal, Who};
 use std::alloc::{AllocError, Global};
 
 /// How many entries a board takes where its table doesn't say.
@@ -14,9 +15,9 @@ pub struct Table {
     board: Numbers,
     who: Who,
     // The entries that the table made up.
-    entries: Vec<Entry<u64>>,
+    entries: Vec<Entry<Fussy>>,
     // An answer that is held against another board.
-    kept: Option<Answer<u64>>,
+    kept: Option<Answer<Fussy>>,
 }
 
 impl Table {
@@ -37,7 +38,7 @@ impl Table {
     /// A line, with what it comes to now.
     pub fn perform(&mut self, line: &str) -> Result<String, AllocError> {
         let mut text = String::new(self.alloc);
-        if line.is_empty() || line.starts_with('#') || line.starts_with("==") {
+        if is_note(line) {
             text.push_str(line)?;
             return Ok(text);
         }
@@ -53,42 +54,57 @@ impl Table {
         let Some((word, rest)) = words.split_first() else {
             return text.push_str("nothing is asked");
         };
-        match (*word, call_of(rest)) {
+        match (*word, call_of(self.alloc, rest)?) {
             ("takes", Some(call)) => tell_call(text, &call),
             ("keep", Some(call)) => self.keep(text, call),
-            ("entry", Some(call)) => match reply_of(told) {
-                Some(reply) => self.make_up(
-                    text,
-                    told,
-                    Entry {
-                        who: self.who,
-                        call,
-                        reply,
-                    },
-                ),
-                None => text.push_str("no reply is told"),
-            },
-            _ => match call_of(words) {
-                Some(call) => tell(text, self.alloc, &mut self.board, self.who, call),
-                None => self.look(text, word, rest),
-            },
+            ("entry", Some(call)) => self.make_up(text, told, call),
+            _ => self.call(text, words),
         }
     }
 
-    /// Adds an entry to the journal that the table makes up.
+    /// Makes the call that the words ask for, or looks at the board.
+    fn call(&mut self, text: &mut String, words: &[&str]) -> Result<(), AllocError> {
+        match (call_of(self.alloc, words)?, call_of(self.alloc, words)?) {
+            (Some(call), Some(asked)) => {
+                tell(text, self.alloc, &mut self.board, self.who, call, &asked)
+            }
+            _ => self.look(text, words),
+        }
+    }
+
+    /// Adds an entry with this call, and the reply that is told, to the journal that the table makes up.
     fn make_up(
         &mut self,
         text: &mut String,
         told: &str,
-        entry: Entry<u64>,
+        call: Call<Fussy>,
     ) -> Result<(), AllocError> {
-        self.entries.push(entry)?;
+        let Some(reply) = reply_of(self.alloc, told)? else {
+            return text.push_str("no reply is told");
+        };
+        let who = self.who;
+        self.entries.push(Entry { who, call, reply })?;
         text.push_str(told)
     }
 
-    /// Makes a call, and keeps its answer.
-    fn keep(&mut self, text: &mut String, call: Call<u64>) -> Result<(), AllocError> {
+    /// Makes a call, and again where memory was refused, and keeps its answer.
+    fn keep(&mut self, text: &mut String, call: Call<Fussy>) -> Result<(), AllocError> {
         match self.board.apply(self.who, call) {
+            Outcome::Refused(Refusal::NoMemory, back) => {
+                let outcome = self.board.apply(self.who, back);
+                self.keep_answer(text, outcome)?;
+                text.push_str(REFUSED_ONCE)
+            }
+            outcome => self.keep_answer(text, outcome),
+        }
+    }
+
+    fn keep_answer(
+        &mut self,
+        text: &mut String,
+        outcome: Outcome<Fussy>,
+    ) -> Result<(), AllocError> {
+        match outcome {
             Outcome::Answered(answer) => {
                 self.kept = Some(answer);
                 text.push_str("kept")
@@ -106,17 +122,23 @@ impl Table {
         }
     }
 
-    /// Tells the journal's entry at a position.
-    fn tell_entry(&self, text: &mut String, at: u64) -> Result<(), AllocError> {
-        match self.board.journal().get(at as usize) {
-            Some(entry) => write!(text, "{:?} {:?} {:?}", entry.who, entry.call, entry.reply),
-            None => text.push_str("no entry"),
+    /// Takes memory for entries, and asks once more where it is refused.
+    fn reserve(&mut self, text: &mut String, entries: usize) -> Result<(), AllocError> {
+        if self.board.reserve(entries).is_ok() {
+            return text.push_str("done");
         }
+        text.push_str(if self.board.reserve(entries).is_ok() {
+            "done"
+        } else {
+            NO_MEMORY
+        })?;
+        text.push_str(REFUSED_ONCE)
     }
 
     /// Looks at the board, or begins another.
-    fn look(&mut self, text: &mut String, word: &str, rest: &[&str]) -> Result<(), AllocError> {
-        match word {
+    fn look(&mut self, text: &mut String, words: &[&str]) -> Result<(), AllocError> {
+        let rest = words.get(1..).unwrap_or(&[]);
+        match *words.first().unwrap_or(&"") {
             "board" => {
                 let kept = self.kept.take();
                 *self = Table::with_limit(self.alloc, number(rest, 0).unwrap_or(LIMIT))?;
@@ -127,35 +149,17 @@ impl Table {
                 self.who = Who::Seat(number(rest, 0).unwrap_or(0));
                 text.push_str("calls")
             }
-            "reserve" => {
-                let entries = number(rest, 0).unwrap_or(0) as usize;
-                text.push_str(if self.board.reserve(entries).is_ok() {
-                    "done"
-                } else {
-                    "no memory"
-                })
-            }
+            "reserve" => self.reserve(text, number(rest, 0).unwrap_or(0) as usize),
             "tell" => match object(rest) {
                 Some(name) => tell_object(text, &self.board, name),
                 None => text.push_str("no object is named"),
             },
             "confirm" => self.confirm(text),
-            "noted" => self.tell_entry(text, number(rest, 0).unwrap_or(0)),
+            "noted" => tell_entry(text, &self.board, number(rest, 0).unwrap_or(0)),
             "journal" => write!(text, "{}", self.board.journal().len()),
             "check" => tell_check(text, self.alloc, self.board.journal()),
             "entries" => tell_check(text, self.alloc, self.entries.as_slice()),
             _ => text.push_str("not understood"),
         }
-    }
-}
-
-/// Tells whether a short journal is lawful, or where it first isn't.
-fn tell_check(text: &mut String, alloc: Global, entries: &[Entry<u64>]) -> Result<(), AllocError> {
-    if entries.len() > 1000 {
-        return text.push_str("too many entries");
-    }
-    match check(alloc, entries)? {
-        Ok(()) => text.push_str("lawful"),
-        Err(at) => write!(text, "unlawful at {at}"),
     }
 }

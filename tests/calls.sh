@@ -1,10 +1,11 @@
 #!/bin/sh
-# The tables of calls in tests/board, performed by the built program: `sh tests/board.sh PROGRAM`. The program writes
-# each line again with what it comes to, so what it writes is to be the table. A case begins with a line `== its name`.
+# The tables of calls on a board, a floor and a hall, performed by the built program: `sh tests/calls.sh PROGRAM`. The
+# program writes each line again with what it comes to, so what it writes is to be the table. A case begins with a line
+# `== its name`.
 # The last line is `N passed, M failed`.
 program=$(cd "$(dirname "$1")" && pwd)/$(basename "$1")
-cd "$(dirname "$0")/board" || exit 1
-for table in *.rows; do
+cd "$(dirname "$0")" || exit 1
+for table in board/*.rows floors/*.rows halls/*.rows; do
     "$program" < "$table" | awk -v table="$table" '
         function end() {
             if (name == "") return

@@ -1,0 +1,80 @@
+//! A floor as what calls are made on.
+use crate::fussy::Fussy;
+use crate::ground::Ground;
+use crate::ground_table::retell;
+use crate::moving::Moves;
+use crate::outcome::Numbers;
+use crate::words::limit_in;
+use cml_board::{BoardLog, Call, Name, Outcome, Refusal};
+use cml_lanes::{Feed, Floor, Lane, LaneEnd, MAX_CAPACITY};
+use cml_threads::Asked;
+use std::alloc::{AllocError, Global};
+use std::io;
+
+/// Performs the lines of a case on a floor.
+pub fn perform<R: Print>(rt: &R, alloc: Global, lines: &[String]) -> io::Result<()> {
+    let board = Numbers::new(alloc, limit_in(lines))?;
+    retell(rt, alloc, Floor::new(alloc, board), lines)
+}
+
+impl Ground for Floor<Fussy, BoardLog<Fussy>> {
+    fn board(&self) -> &Numbers {
+        Floor::board(self)
+    }
+
+    fn open_rings(&self) -> (u64, u64) {
+        (self.open_lanes(), self.open_feeds())
+    }
+
+    fn reserve(&mut self, entries: usize) -> Result<(), Refusal> {
+        Floor::reserve(self, entries)
+    }
+
+    fn new_seat(&mut self) -> Result<Result<u64, Refusal>, AllocError> {
+        Ok(Err(Refusal::Gone))
+    }
+
+    fn leave(&mut self, _seat: usize) -> Result<(), Refusal> {
+        Err(Refusal::Gone)
+    }
+
+    fn ask(&mut self, seat: usize, call: Call<Fussy>) -> Asked<Fussy> {
+        match self.apply(seat as u64, call) {
+            Outcome::Answered(answer) => Asked::Answered(answer),
+            Outcome::WouldWait(back) => Asked::Parked(back),
+            Outcome::Refused(refusal, back) => Asked::Refused(refusal, back),
+        }
+    }
+
+    fn ask_again(&mut self, _seat: usize, call: Call<Fussy>) -> Asked<Fussy> {
+        Asked::Refused(Refusal::Gone, call)
+    }
+
+    fn open_lane(&mut self, target: Name, capacity: usize) -> Result<(Lane<Fussy>, u64), Refusal> {
+        Floor::open_lane(self, target, capacity.max(1).min(MAX_CAPACITY))
+    }
+
+    fn open_feed(&mut self, channel: Name, capacity: usize) -> Result<(Feed<Fussy>, u64), Refusal> {
+        Floor::open_feed(self, channel, capacity.max(1).min(MAX_CAPACITY))
+    }
+
+    fn move_some(&mut self, moves: Moves, number: u64) -> Result<(usize, bool), Refusal> {
+        match moves {
+            Moves::Drain => self.drain(number).map(|count| (count, count == 0)),
+            Moves::Pump => self.pump(number).map(|count| (count, count == 0)),
+            Moves::Drop => self.drop_lane(number),
+        }
+    }
+
+    fn close_counted(&mut self, end: LaneEnd<Fussy>) -> Result<(), (LaneEnd<Fussy>, Refusal)> {
+        Floor::close_counted(self, end)
+    }
+
+    fn abandon_lane(&mut self, lane: u64) -> Result<(), Refusal> {
+        Floor::abandon_lane(self, lane)
+    }
+
+    fn end_feed(&mut self, feed: u64) -> Result<bool, Refusal> {
+        Ok(Floor::end_feed(self, feed)?.is_some())
+    }
+}

@@ -1,0 +1,42 @@
+use crate::fussy::Fussy;
+use crate::moving::Moves;
+use crate::outcome::Numbers;
+use cml_board::{Call, Name, Refusal};
+use cml_lanes::{Feed, Lane, LaneEnd};
+use cml_threads::Asked;
+use std::alloc::AllocError;
+
+/// What a table's calls are made on beside a board: a floor, or a hall with its seats. On a floor a call that would wait
+/// parks no seat.
+pub trait Ground {
+    fn board(&self) -> &Numbers;
+
+    /// How many lanes and how many feeds are open.
+    fn open_rings(&self) -> (u64, u64);
+
+    fn reserve(&mut self, entries: usize) -> Result<(), Refusal>;
+
+    /// A new seat's number. The other error is of the list that keeps the seats here.
+    fn new_seat(&mut self) -> Result<Result<u64, Refusal>, AllocError>;
+
+    fn leave(&mut self, seat: usize) -> Result<(), Refusal>;
+
+    fn ask(&mut self, seat: usize, call: Call<Fussy>) -> Asked<Fussy>;
+
+    fn ask_again(&mut self, seat: usize, call: Call<Fussy>) -> Asked<Fussy>;
+
+    /// A capacity that is none is taken as the nearest that is.
+    fn open_lane(&mut self, target: Name, capacity: usize) -> Result<(Lane<Fussy>, u64), Refusal>;
+
+    fn open_feed(&mut self, channel: Name, capacity: usize) -> Result<(Feed<Fussy>, u64), Refusal>;
+
+    /// Moves messages by a lane or a feed of this number: how many, and whether that was all for now.
+    fn move_some(&mut self, moves: Moves, number: u64) -> Result<(usize, bool), Refusal>;
+
+    fn close_counted(&mut self, end: LaneEnd<Fussy>) -> Result<(), (LaneEnd<Fussy>, Refusal)>;
+
+    fn abandon_lane(&mut self, lane: u64) -> Result<(), Refusal>;
+
+    /// Ends a feed, and tells whether that gave an end.
+    fn end_feed(&mut self, feed: u64) -> Result<bool, Refusal>;
+}

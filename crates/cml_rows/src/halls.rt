@@ -1,0 +1,120 @@
+//! A hall with its seats as what calls are made on.
+ghost use Rattle.std.specs.Prelude.{◌≡◌, ◌^◌};
+
+use crate::fussy::Fussy;
+use crate::ground::Ground;
+use crate::ground_table::retell;
+use crate::moving::Moves;
+use crate::outcome::Numbers;
+use crate::words::limit_in;
+use cml_board::{BoardLog, Call, Name, Refusal};
+use cml_lanes::{Feed, Lane, LaneEnd, MAX_CAPACITY};
+use cml_threads::{Asked, Hall, PARTS, Seat};
+use std::alloc::{AllocError, Global};
+use std::io;
+use std::marker::Brand;
+use std::sync::ledger::{Blank, Ledger};
+
+/// Performs the lines of a case on a hall of its own, and so by a ledger of its own.
+pub fn perform<R: Print>(rt: &R, alloc: Global, lines: &[String]) -> io::Result<()> {
+    perform_by::<Brand, R>(rt, alloc, lines, Blank::new(PARTS))
+}
+
+fn perform_by<Led: Ledger, R: Print>(
+    rt: &R,
+    alloc: Global,
+    lines: &[String],
+    blank: Blank,
+) -> io::Result<()>
+    requires name { blank.name ≡ Led.name }
+    requires parts { blank.parts ≡ Led.parts }
+    requires enough { blank.parts ≡ 2 ^ 63 }
+{
+    let hall: Hall<Fussy, BoardLog<Fussy>, Led> = Hall::new(alloc, limit_in(lines), blank)?;
+    let seats = Vec::new(alloc);
+    retell(rt, alloc, Seated { hall, seats }, lines)
+}
+
+/// A hall, and the seats that it gave, each at its number.
+#[derive(Drop)]
+struct Seated<Led: Ledger> {
+    hall: Hall<Fussy, BoardLog<Fussy>, Led>,
+    seats: Vec<Seat<Led>>,
+}
+
+impl<Led: Ledger> Ground for Seated<Led> {
+    fn board(&self) -> &Numbers {
+        self.hall.board()
+    }
+
+    fn open_rings(&self) -> (u64, u64) {
+        (self.hall.open_lanes(), self.hall.open_feeds())
+    }
+
+    fn reserve(&mut self, entries: usize) -> Result<(), Refusal> {
+        self.hall.reserve(entries)
+    }
+
+    fn new_seat(&mut self) -> Result<Result<u64, Refusal>, AllocError> {
+        self.seats.reserve(1)?;
+        match self.hall.new_seat() {
+            Ok(seat) => {
+                let number = seat.number();
+                self.seats.push(seat)?;
+                Ok(Ok(number))
+            }
+            Err(refusal) => Ok(Err(refusal)),
+        }
+    }
+
+    fn leave(&mut self, seat: usize) -> Result<(), Refusal> {
+        match self.seats.get(seat) {
+            Some(seat) => self.hall.leave(seat),
+            None => Err(Refusal::Gone),
+        }
+    }
+
+    fn ask(&mut self, seat: usize, call: Call<Fussy>) -> Asked<Fussy> {
+        match self.seats.get_mut(seat) {
+            Some(seat) => self.hall.ask(seat, call),
+            None => Asked::Refused(Refusal::Gone, call),
+        }
+    }
+
+    fn ask_again(&mut self, seat: usize, call: Call<Fussy>) -> Asked<Fussy> {
+        match self.seats.get_mut(seat) {
+            Some(seat) => self.hall.ask_again(seat, call),
+            None => Asked::Refused(Refusal::Gone, call),
+        }
+    }
+
+    fn open_lane(&mut self, target: Name, capacity: usize) -> Result<(Lane<Fussy>, u64), Refusal> {
+        self.hall
+            .open_lane(target, capacity.max(1).min(MAX_CAPACITY))
+    }
+
+    fn open_feed(&mut self, channel: Name, capacity: usize) -> Result<(Feed<Fussy>, u64), Refusal> {
+        self.hall
+            .open_feed(channel, capacity.max(1).min(MAX_CAPACITY))
+    }
+
+    fn move_some(&mut self, moves: Moves, number: u64) -> Result<(usize, bool), Refusal> {
+        match moves {
+            Moves::Drain => self.hall.drain(number).map(|count| (count, count == 0)),
+            Moves::Pump => self.hall.pump(number).map(|count| (count, count == 0)),
+            Moves::Drop => self.hall.drop_lane(number),
+        }
+    }
+
+    fn close_counted(&mut self, end: LaneEnd<Fussy>) -> Result<(), (LaneEnd<Fussy>, Refusal)> {
+        self.hall.close_counted(end)
+    }
+
+    fn abandon_lane(&mut self, lane: u64) -> Result<(), Refusal> {
+        self.hall.abandon_lane(lane)
+    }
+
+    fn end_feed(&mut self, feed: u64) -> Result<bool, Refusal> {
+        Ok(self.hall.end_feed(feed)?.is_some())
+    }
+}

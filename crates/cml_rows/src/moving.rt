@@ -1,0 +1,69 @@
+//! What goes out of lanes and into feeds, until nothing more is seen.
+use crate::ground::Ground;
+use crate::outcome::{REFUSED_ONCE, refusal_word};
+use cml_board::Refusal;
+use std::alloc::AllocError;
+
+/// What moves messages.
+#[derive(Clone, Copy)]
+pub enum Moves {
+    Drain,
+    Pump,
+    /// It drains a lane, and closes it.
+    Drop,
+}
+
+/// How often a call that moves messages is made at the most: once for each that a ring has room for, and some more.
+const TURNS: usize = 2000;
+
+/// How many messages were moved, what refused the next one, and whether memory was refused before that.
+#[derive(Drop)]
+struct Moved {
+    count: usize,
+    refusal: Option<Refusal>,
+    was_refused: bool,
+}
+
+/// Moves messages until there is nothing to move or one is refused, and tells how many. Where memory is refused the call
+/// is made once more, and goes on.
+pub fn tell_moves<G: Ground>(
+    text: &mut String,
+    ground: &mut G,
+    moves: Moves,
+    number: u64,
+) -> Result<(), AllocError> {
+    let moved = move_all(ground, moves, number);
+    match moved.refusal {
+        None => write!(text, "{}", moved.count)?,
+        Some(refusal) if moved.count == 0 => text.push_str(refusal_word(refusal))?,
+        Some(refusal) => write!(text, "{}, then {}", moved.count, refusal_word(refusal))?,
+    }
+    if moved.was_refused {
+        text.push_str(REFUSED_ONCE)?;
+    }
+    Ok(())
+}
+
+fn move_all<G: Ground>(ground: &mut G, moves: Moves, number: u64) -> Moved {
+    let mut moved = Moved {
+        count: 0,
+        refusal: None,
+        was_refused: false,
+    };
+    for _ in 0..TURNS {
+        match ground.move_some(moves, number) {
+            Ok((count, is_all)) => {
+                moved.count = moved.count.saturating_add(count);
+                if is_all {
+                    return moved;
+                }
+            }
+            Err(Refusal::NoMemory) if !moved.was_refused => moved.was_refused = true,
+            Err(refusal) => {
+                moved.refusal = Some(refusal);
+                return moved;
+            }
+        }
+    }
+    moved
+}

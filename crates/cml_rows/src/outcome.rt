@@ -1,0 +1,127 @@
+//! What becomes of a call, in words.
+use crate::facts::tell_board;
+use crate::fussy::Fussy;
+use cml_board::{Answer, Board, BoardLog, Call, Message, Outcome, Refusal, Reply, Who};
+use std::alloc::{AllocError, Global};
+
+/// A board whose messages are numbers, in chunks of four.
+pub type Numbers = Board<Fussy, BoardLog<Fussy>>;
+
+/// What a line tells where memory was refused.
+pub const NO_MEMORY: &str = "no memory";
+
+/// What it tells behind what the call came to then, when it was made once more.
+pub const REFUSED_ONCE: &str = ", once memory was refused";
+
+/// Makes a call, of which `asked` is a copy, and again where memory was refused, and tells what became of it. What each call is to keep besides
+/// is told where it doesn't: that it is handed back and nothing is changed, that an answer is confirmed, and that
+/// `would_wait` foretold it.
+pub fn tell(
+    text: &mut String,
+    alloc: Global,
+    board: &mut Numbers,
+    who: Who,
+    call: Call<Fussy>,
+    asked: &Call<Fussy>,
+) -> Result<(), AllocError> {
+    let waits = board.would_wait(&call);
+    let before = reading(alloc, board)?;
+    match board.apply(who, call) {
+        Outcome::Refused(Refusal::NoMemory, back) => {
+            let is_as_before = back.same(&asked)
+                && reading(alloc, board)?.as_str() == before.as_str();
+            tell_once(text, board.apply(who, back), board, asked, waits)?;
+            text.push_str(REFUSED_ONCE)?;
+            note(text, is_as_before, "not as before")
+        }
+        outcome => tell_once(text, outcome, board, asked, waits),
+    }
+}
+
+/// All that a board's readers tell.
+pub fn reading(alloc: Global, board: &Numbers) -> Result<String, AllocError> {
+    let mut text = String::new(alloc);
+    tell_board(&mut text, board)?;
+    Ok(text)
+}
+
+fn tell_once(
+    text: &mut String,
+    outcome: Outcome<Fussy>,
+    board: &Numbers,
+    asked: &Call<Fussy>,
+    waits: bool,
+) -> Result<(), AllocError> {
+    match outcome {
+        Outcome::Answered(answer) => {
+            write_answer(text, board, &answer, asked)?;
+            note(text, !waits, "was to wait")
+        }
+        Outcome::WouldWait(back) => {
+            text.push_str("waits")?;
+            note(text, back.same(asked), "another call back")?;
+            note(text, waits, "was not to wait")
+        }
+        Outcome::Refused(refusal, back) => {
+            text.push_str(refusal_word(refusal))?;
+            note(text, back.same(asked), "another call back")?;
+            note(
+                text,
+                !waits || refusal == Refusal::JournalFull,
+                "was to wait",
+            )
+        }
+    }
+}
+
+/// Tells the reply of an answer to this call.
+pub fn write_answer(
+    text: &mut String,
+    board: &Numbers,
+    answer: &Answer<Fussy>,
+    asked: &Call<Fussy>,
+) -> Result<(), AllocError> {
+    write_reply(text, answer.reply())?;
+    note(text, is_noted(board, answer, asked), "not confirmed")
+}
+
+/// Adds what is wrong, unless all is well.
+pub fn note(text: &mut String, is_well: bool, wrong: &str) -> Result<(), AllocError> {
+    if is_well {
+        return Ok(());
+    }
+    write!(text, ", {wrong}")
+}
+
+/// Whether the answer is of this call, is confirmed, and stands last in the journal.
+fn is_noted(board: &Numbers, answer: &Answer<Fussy>, asked: &Call<Fussy>) -> bool {
+    let last = board.journal().len() as u64;
+    answer.call().same(asked)
+        && board.confirm(answer)
+        && answer.at() < last
+        && last - answer.at() == 1
+}
+
+fn write_reply(text: &mut String, reply: &Reply<Fussy>) -> Result<(), AllocError> {
+    match reply {
+        Reply::Done => text.push_str("done"),
+        Reply::Made(name) => write!(text, "made {}", name.0),
+        Reply::Got(message) => write!(text, "{message}"),
+        Reply::Nothing => text.push_str("none"),
+        Reply::Put => text.push_str("put"),
+        Reply::Closed => text.push_str("closed"),
+    }
+}
+
+pub fn refusal_word(refusal: Refusal) -> &'static str {
+    match refusal {
+        Refusal::NoSuch => "no such object",
+        Refusal::WrongKind => "wrong kind",
+        Refusal::JournalFull => "journal full",
+        Refusal::NoMemory => NO_MEMORY,
+        Refusal::Gone => "gone",
+        Refusal::Busy => "busy",
+        Refusal::Stalled => "stalled",
+        Refusal::Unseen => "unseen",
+    }
+}
