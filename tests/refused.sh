@@ -1,75 +1,107 @@
 #!/bin/sh
-# tests/refused.sh PROGRAM: the built guide is run once for each request for memory that it makes, that one refused, until a
-# run makes no more. Whatever is refused each run comes to its end, and prints of each example what it prints with memory,
-# or that memory was refused, or what that came to for another thread: a stall.
+# tests/refused.sh GUIDE ROWS CML: the built programs are run once for each request for memory that they make, that one
+# refused, and once more with all later ones refused too. Whatever is refused each run comes to its end.
+#
+# The guide prints of each example what it prints with memory, or that memory was refused, or what that came to for another
+# thread: a stall, or the same result without that thread's last entries. The tables of calls of tests/board, tests/floors and tests/halls, and what `cml` does with scripts, are
+# looked at by tests/refuse_each.sh.
+#
 # It needs a C compiler for what refuses (`cc`, or CC); where there is none it tells that it was left out.
 # The last line is `N passed, M failed`.
-program=$(cd "$(dirname "$1")" && pwd)/$(basename "$1")
+whole() { echo "$(cd "$(dirname "$1")" && pwd)/$(basename "$1")"; }
+guide=$(whole "$1")
+rows=$(whole "$2")
+cml=$(whole "$3")
 cd "$(dirname "$0")/.." || exit 1
 expected=$(pwd)/crates/cml_guide/stdout
 cc=${CC:-cc}
 command -v "$cc" > /dev/null || { echo "left out: no C compiler to refuse memory with"; echo "0 passed, 0 failed"; exit 0; }
 work=$(mktemp -d) || exit 1
 trap 'rm -rf "$work"' EXIT
-
-cat > "$work/refuse.c" << 'END'
-#define _GNU_SOURCE
-#include <dlfcn.h>
-#include <errno.h>
-#include <fcntl.h>
-#include <stdlib.h>
-#include <unistd.h>
-
-/* The request with the number REFUSE is refused, and the file TOLD is made then. */
-static int refuses(void) {
-    static long requests;
-    const char *number = getenv("REFUSE");
-    if (__atomic_add_fetch(&requests, 1, __ATOMIC_SEQ_CST) != (number ? atol(number) : 0))
-        return 0;
-    const char *told = getenv("TOLD");
-    if (told)
-        close(open(told, O_CREAT | O_WRONLY, 0600));
-    errno = ENOMEM;
-    return 1;
-}
-
-void *malloc(size_t size) {
-    static void *(*real)(size_t);
-    if (!real)
-        real = (void *(*)(size_t))dlsym(RTLD_NEXT, "malloc");
-    return refuses() ? NULL : real(size);
-}
-
-void *realloc(void *block, size_t size) {
-    static void *(*real)(void *, size_t);
-    if (!real)
-        real = (void *(*)(void *, size_t))dlsym(RTLD_NEXT, "realloc");
-    return refuses() ? NULL : real(block, size);
-}
-END
-"$cc" -O1 -shared -fPIC -o "$work/refuse.so" "$work/refuse.c" -ldl || exit 1
+"$cc" -O1 -shared -fPIC -o "$work/refuse.so" tests/refuse.c -ldl || exit 1
 
 passed=0
 failed=0
-refused=0
-number=1
-while [ "$number" -le 10000 ]; do
-    rm -f "$work/told"
-    TOLD="$work/told" REFUSE=$number LD_PRELOAD="$work/refuse.so" timeout 20 "$program" > "$work/printed" 2> "$work/errors"
-    status=$?
-    [ -e "$work/told" ] || break
-    # A line that isn't what is printed with memory, nor tells what was refused or what that came to.
-    other=$(grep -vxF -f "$expected" "$work/printed" | grep -v 'NoMemory\|AllocError\|Stalled' | head -n 1)
-    if [ "$status" -ne 124 ] && [ -z "$other" ]; then
-        passed=$((passed + 1))
-    else
-        failed=$((failed + 1))
-        echo "failed: with request $number refused: status $status, $other"
-    fi
-    grep -q 'NoMemory\|AllocError' "$work/printed" && refused=$((refused + 1))
-    number=$((number + 1))
-done
-echo "an example met the refusal in $refused of $((number - 1)) runs"
-[ "$refused" -gt 0 ] || failed=$((failed + 1))
+
+# other_than EXPECTED PRINTED: the first line that isn't what is printed with memory, nor tells what was refused or what that
+# came to. A thread that was refused when all others needed of it was done leaves the same result with fewer entries.
+other_than() {
+    awk '
+        function entries(line) { return match(line, /total: [0-9]+/) ? substr(line, RSTART + 7, RLENGTH - 7) + 0 : 0 }
+        function result(line) { sub(/Count \{[^}]*\}/, "", line); return line }
+        FNR == NR { wanted[$0] = 1; most[result($0)] = entries($0); next }
+        $0 in wanted || /NoMemory|AllocError|Stalled/ { next }
+        result($0) in most && entries($0) > 0 && entries($0) < most[result($0)] { next }
+        { print; exit }
+    ' "$1" "$2"
+}
+
+# The guide's examples, with each request refused.
+guide_refused() {
+    met=0
+    number=1
+    while [ "$number" -le 10000 ]; do
+        rm -f "$work/told"
+        timeout 20 env TOLD="$work/told" REFUSE="$number" LD_PRELOAD="$work/refuse.so" "$guide" > "$work/printed" 2> "$work/errors"
+        status=$?
+        [ -e "$work/told" ] || break
+        other=$(other_than "$expected" "$work/printed")
+        if [ "$status" -ne 124 ] && [ -z "$other" ]; then
+            passed=$((passed + 1))
+        else
+            failed=$((failed + 1))
+            echo "failed: the guide with request $number refused: status $status, $other"
+        fi
+        grep -q 'NoMemory\|AllocError' "$work/printed" && met=$((met + 1))
+        number=$((number + 1))
+    done
+    echo "the guide: an example met the refusal in $met of $((number - 1)) runs"
+    [ "$met" -gt 0 ] || failed=$((failed + 1))
+}
+
+# Each sweep's words, a line each.
+sweeps() {
+    for how in once rest; do
+        for table in tests/board/*.rows tests/floors/*.rows tests/halls/*.rows; do
+            echo "table $how $table $rows"
+        done
+        for script in examples/*.cml tests/all_lines.cml; do
+            grep -q '^\(lane\|feed\) ' "$script" || echo "replay $how $script $cml replay"
+            echo "run $how $script $cml run"
+            echo "threads $how $script $cml run"
+        done
+    done
+}
+
+# The sweeps side by side. Each has to meet as many refusals as tests/refused.least says, and else one: or it tries less
+# than it did.
+all_refused() {
+    sweeps | xargs -P "$(nproc 2> /dev/null || echo 2)" -L 1 sh tests/refuse_each.sh "$work" > "$work/told"
+    awk '
+        FNR == NR { least[$1 " " $2 " " $3] = $4; next }
+        !/ met$/ { print; next }
+        {
+            passed += $(NF - 5)
+            failed += $(NF - 3)
+            met[$1] += $(NF - 1)
+            runs[$1] += $(NF - 5) + $(NF - 3)
+            name = $1 " " $2 " " substr($3, 1, length($3) - 1)
+            seen[name] = 1
+            wanted = name in least ? least[name] : 1
+            if ($(NF - 1) < wanted) { failed++; print "failed: fewer refusals met than " wanted ": " $0 }
+        }
+        END {
+            for (name in least) if (!(name in seen)) { failed++; print "failed: not run: " name }
+            for (kind in runs) print kind ": " runs[kind] " runs met " met[kind] " refusals"
+            print passed + 0, failed + 0 > "/dev/stderr"
+        }
+    ' tests/refused.least "$work/told" 2> "$work/sums"
+    read -r more_passed more_failed < "$work/sums"
+    passed=$((passed + more_passed))
+    failed=$((failed + more_failed))
+}
+
+guide_refused
+all_refused
 echo "$passed passed, $failed failed"
 [ "$failed" -eq 0 ]

@@ -6,7 +6,8 @@
 # message to one object by lanes: of the two that could have, the first in text order is taken.
 #
 # A thread pumps its feed at a poll that finds the ring empty, and then all that is owed moves, as far as the ring has
-# room, without another entry between. What it pumped it takes, one at each poll, and the rest at its end.
+# room, without another entry between. What it pumped it takes, one at each poll, and the rest at its end. With `-v short=N`
+# the message of the Nth line of feeds is the last of its pump: memory was refused for the next one, which stays owed.
 
 function is_apart(k,    word) {
     split(step_words[k], word, " ")
@@ -28,6 +29,7 @@ function queue_rings(    i, k, thread, word) {
 function forget_rings() {
     split("", lane_thread); split("", lane_object); split("", newest); split("", moved); split("", next_poll)
     pumping = ""
+    to_feeds = 0
 }
 
 # One of these steps is not in the journal yet, and stands before this place in the queue: how many of them.
@@ -112,6 +114,7 @@ function to_feed(line, limit,    word, name, why) {
     next_poll[name]++
     entries++
     got[name]++
+    if (++to_feeds == short) pumping = ""
     line_out[++lines_out] = "feed " word[2] + 0 " recv " name ": " message[stream(name), place(name)]
     return ""
 }

@@ -1,0 +1,121 @@
+#!/bin/sh
+# For tests/refused.sh: sh tests/refuse_each.sh WORK KIND HOW INPUT PROGRAM WORDS..
+# runs the program on the input once for each request that it makes, with that one refused (`once`) or with it and all later
+# ones (`rest`), until a run makes no more; and looks at each run as its KIND wants it:
+#
+#   table    calls on a board, a floor or a hall: each line comes to what it comes to with memory, and tells where a call was
+#            refused, made again and answered; a run whose own memory was refused ends there with status 1
+#   replay   a script by `cml replay`: its report, or status 5, nothing written and `cml: no memory`
+#   run      a script by `cml run`: a report of some order of its threads, or the same
+#   threads  the same where threads are refused, and not memory: with no report
+#
+# The last line is `KIND HOW INPUT: N passed, M failed, K met`: so often a call, or the whole program, told of a refusal.
+work=$1
+kind=$2
+how=$3
+input=$4
+shift 4
+room=$(mktemp -d "$work/each.XXXXXX") || exit 1
+case $kind in threads) variable=REFUSE_THREAD ;; *) variable=REFUSE ;; esac
+case $how in rest) rest=REFUSE_REST=1 ;; *) rest=REFUSED=once ;; esac
+
+# refuse NUMBER PROGRAM WORDS..: whether a request was refused. Only the program itself meets the refusal.
+refuse() {
+    number=$1
+    shift
+    timeout 20 env "$variable=$number" "$rest" TOLD="$room/told" LD_PRELOAD="$work/refuse.so" "$@" \
+        < "$input" > "$room/out.$number" 2> "$room/err.$number"
+    echo "$number $?" >> "$room/statuses"
+    [ -e "$room/told" ] && rm "$room/told"
+}
+
+# What a table's lines came to in each run.
+judge_table() {
+    awk -v how="$how" -v room="$room" '
+        FNR == NR { want[++lines] = $0; next }
+        # Behind a note that begins with "spared" no call of the case may meet a refusal.
+        function tells(line, wanted) {
+            if (wanted ~ /^# spared/) spared = 1
+            if (wanted ~ /^==/) spared = 0
+            if (line == wanted ", once memory was refused") return spared ? 0 : ++met
+            return line == wanted
+        }
+        function told(line, wanted) {
+            sub(/: .*/, ": no memory", wanted)
+            return index(line, wanted) == 1 && ++met
+        }
+        {
+            seen = spared = 0
+            wrong = ""
+            file = room "/out." $1
+            while ((getline line < file) > 0 && wrong == "") {
+                wanted = want[++seen]
+                # Where nothing more is to be had, what is refused is refused again.
+                if (!tells(line, wanted) && !(how == "rest" && told(line, wanted)))
+                    wrong = line ", where the table has " wanted
+            }
+            close(file)
+            if (wrong == "" && $2 != (seen == lines ? 0 : 1)) wrong = "status " $2 " behind line " seen
+            if (wrong == "") passed++
+            else { failed++; print "failed: " ARGV[1] ", " how " " $1 ": " wrong }
+        }
+        END { print "table " how " " ARGV[1] ": " passed + 0 " passed, " failed + 0 " failed, " met + 0 " met" }
+    ' "$input" "$room/statuses"
+}
+
+# in_order_or_short REPORT: whether some order of the threads gives it, also where one pump was refused memory behind its
+# first message: it answers how many it moved, and the rest is owed.
+in_order_or_short() {
+    for short in $(seq 0 "$(grep -c '^feed [0-9]* recv ' "$1")"); do
+        in_some_order 65536 "$input" "$1" && return 0
+    done
+    return 1
+}
+
+# report_stands REPORT: it is that of a run without refusals, or by `run` such a one. Where a thread wasn't started there is
+# none: so only the last run, in which all were, has one.
+report_stands() {
+    case $kind in
+        replay) cmp -s "$room/report" "$1" ;;
+        run) in_order_or_short "$1" ;;
+        threads) [ "$number" -eq "$last" ] && in_some_order 65536 "$input" "$1" ;;
+    esac && [ "$status" = "$(meant_by "$1")" ]
+}
+
+# What a script came to in each run.
+judge_script() {
+    passed=0
+    failed=0
+    met=0
+    while read -r number status; do
+        told=
+        read -r told < "$room/err.$number"
+        if [ "$status" = 5 ] && [ "$told" = 'cml: no memory' ] && [ ! -s "$room/out.$number" ]; then
+            passed=$((passed + 1))
+            met=$((met + 1))
+        elif [ -z "$told" ] && report_stands "$room/out.$number"; then
+            passed=$((passed + 1))
+        else
+            failed=$((failed + 1))
+            echo "failed: $input, $kind, $how $number: status $status, $told"
+        fi
+    done < "$room/statuses"
+    echo "$kind $how $input: $passed passed, $failed failed, $met met"
+}
+
+[ "$kind" != replay ] || "$@" < "$input" > "$room/report"
+number=1
+while refuse "$number" "$@" && [ "$number" -lt 100000 ]; do
+    number=$((number + 1))
+done
+last=$number
+case $kind in
+    table) judge_table ;;
+    *)
+        work=$room
+        . tests/tables.sh
+        . tests/runs.sh
+        judge_script
+        ;;
+esac
+rm -r "$room"
