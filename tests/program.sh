@@ -112,6 +112,16 @@ long_texts() {
     told 'a byte too many, and all of them bad' 'too long'
 }
 
+# Each beginning of a script in which a port is copied and closed.
+beginnings() {
+    script 'cml 1 / channel c / port c p / thread A / A multicast c 1 / A multicast c 2 / A multicast c 3 / A multicast c 4 / A multicast c 5 / A recv p / A recv p / A copy p q / A close p / A recv q / A recv q / A recv q' |
+        od -An -v -tu1 | awk '
+            { for (i = 1; i <= NF; i++) byte[++bytes] = $i }
+            END { for (n = 0; n <= bytes; n++) { line = 100; for (i = 1; i <= n; i++) line = line " " byte[i]; print line } }
+        ' > "$work/texts"
+    agree 'each beginning of a script'
+}
+
 # endings COMMAND: in none of these could another order make a difference.
 endings() {
     echo 'cml 1' > "$work/in"
@@ -209,6 +219,7 @@ for example in examples/late_reader.cml examples/swap.cml; do
     od -An -v -tu1 "$example" | awk -f tests/one_byte_changes.awk > "$work/texts"
     agree "one byte of $example changed"
 done
+beginnings
 awk -v scripts=2000 -f tests/some_scripts.awk > "$work/texts"
 agree 'scripts of all lines'
 runs

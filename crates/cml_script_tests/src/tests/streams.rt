@@ -78,10 +78,11 @@ impl Read for Endless {
     }
 }
 
-/// Takes seven bytes a call, and fails once it has as many as it has room for, or at a flush.
+/// Takes so many bytes a call at the most, and fails once it has as many as it has room for, or at a flush.
 #[derive(Drop)]
 struct Narrow {
     got: Vec<u8>,
+    most: usize,
     room: usize,
     flushes: bool,
 }
@@ -90,7 +91,7 @@ impl Write for Narrow {
     fn write(&mut self, buf: &[u8]) -> io::Result<usize> {
         let n = buf
             .len()
-            .min(7)
+            .min(self.most)
             .min(self.room.saturating_sub(self.got.len()));
         if n == 0 {
             return Err(ErrorKind::BrokenPipe.into());
@@ -141,10 +142,9 @@ fn asks_again_after_an_interruption(rt: HostRuntime) {
 }
 
 #[test]
-fn tells_a_read_that_fails_in_mid_stream(rt: HostRuntime) {
-    let whole = SCRIPT.len();
-    for after in [0, 1, whole - 1, whole].iter() {
-        drips(&rt, Some(*after), ErrorKind::Other, Ending::ReadFault, b"");
+fn tells_a_read_that_fails_wherever_it_does(rt: HostRuntime) {
+    for after in 0..=SCRIPT.len() {
+        drips(&rt, Some(after), ErrorKind::Other, Ending::ReadFault, b"");
     }
 }
 
@@ -216,10 +216,17 @@ fn reads_one_byte_a_call_as_all_at_once(rt: HostRuntime) -> Result<(), Fail> {
 }
 
 /// Replays into a writer that has so much room, and compares the ending and how much it has in the end.
-fn writes(rt: &(impl Abort + AllocGlobal), room: usize, flushes: bool, ending: Ending) {
+fn writes(
+    rt: &(impl Abort + AllocGlobal),
+    most: usize,
+    room: usize,
+    flushes: bool,
+    ending: Ending,
+) {
     let mut reader = SCRIPT.as_bytes();
     let mut writer = Narrow {
         got: Vec::new(rt.alloc()),
+        most,
         room,
         flushes,
     };
@@ -227,23 +234,26 @@ fn writes(rt: &(impl Abort + AllocGlobal), room: usize, flushes: bool, ending: E
     let expected = REPORT.as_bytes().get(..room);
     assert!(rt;
         ended == ending && Some(writer.got.as_slice()) == expected,
-        "room {room}"
+        "{most} a call, room {room}"
     );
 }
 
 #[test]
 fn writes_a_report_in_parts(rt: HostRuntime) {
-    writes(&rt, REPORT.len(), true, Ending::Done);
+    for most in 1..=7 {
+        writes(&rt, most, REPORT.len(), true, Ending::Done);
+    }
 }
 
 #[test]
-fn tells_a_write_that_fails_in_mid_stream(rt: HostRuntime) {
-    writes(&rt, 0, true, Ending::WriteFault);
-    writes(&rt, 10, true, Ending::WriteFault);
-    writes(&rt, REPORT.len() - 1, true, Ending::WriteFault);
+fn tells_a_write_that_fails_wherever_it_does(rt: HostRuntime) {
+    for room in 0..REPORT.len() {
+        writes(&rt, 1, room, true, Ending::WriteFault);
+        writes(&rt, 7, room, true, Ending::WriteFault);
+    }
 }
 
 #[test]
 fn tells_a_flush_that_fails(rt: HostRuntime) {
-    writes(&rt, REPORT.len(), false, Ending::WriteFault);
+    writes(&rt, 7, REPORT.len(), false, Ending::WriteFault);
 }
