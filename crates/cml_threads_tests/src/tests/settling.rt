@@ -116,10 +116,7 @@ fn count_in<Led: Ledger>(alloc: Global, blank: Blank) -> Result<Option<Count>, A
 }
 
 /// The seat makes a mailbox, and receives what a lane brought there.
-fn is_used<Led: Ledger>(
-    hall: &mut Hall<u64, BoardLog<u64>, Led>,
-    seat: &mut Seat<Led>,
-) -> bool {
+fn is_used<Led: Ledger>(hall: &mut Hall<u64, BoardLog<u64>, Led>, seat: &mut Seat<Led>) -> bool {
     hall.ask(seat, Call::NewMailbox);
     let is_closed = brings_two(hall);
     hall.ask(seat, Call::Recv(MAILBOX));
