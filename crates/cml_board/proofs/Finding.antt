@@ -15,14 +15,14 @@ use Rattle.cml_board.proofs.Placing.{seen_read}
 use Rattle.cml_board.proofs.Looking.{stands_at}
 
 module _ {A M : Type 0} where
-  pub found_object : (chunk : ℕ) (log : A → Log M) (board : Shown M) (journal : List (Entry M)) (limit : ℕ) (objects xs : List (Object M A)) {reserved : ℕ}
-      → shown log journal limit objects reserved ≡ board → Keeps chunk board → xs ≡ objects → (name : ℕ) (r : Option (Bor (Object M A))) (Q : Bor (Object M A) → Type 0)
+  pub found_object : (chunk : ℕ) (log : A → Log M) (board : Shown M) (past journal : List (Entry M)) (limit : ℕ) (objects xs : List (Object M A)) {reserved : ℕ}
+      → shown log past journal limit objects reserved ≡ board → Keeps chunk board → xs ≡ objects → (name : ℕ) (r : Option (Bor (Object M A))) (Q : Bor (Object M A) → Type 0)
       → IfSome r (λ x. x.now ≡ get_or xs name x.now) → MatchOption r (length xs ≤ name) (λ x. (name < length xs) × Q x)
       → MatchOption r (origin_of board.history name ≡ None) (λ x. Stands chunk board name (map_log log x.now))
-  found_object chunk log board journal limit objects xs view keeps same name None Q reads past =
+  found_object chunk log board past journal limit objects xs view keeps same name None Q reads beyond =
       slice_get_past (made board.history) name
-      (omega (arith, keeps.shows.all, ap (λ (b : Shown M). length b.objects) view, length-map objects (map_log log), ap length same))
-  found_object chunk log board journal limit objects xs view keeps same name (Some x) Q reads within =
+      (omega (arith, keeps.shows.all, ap (λ (b : Shown M). length b.objects) view, length-map objects (map_log log), ap length same, beyond))
+  found_object chunk log board past journal limit objects xs view keeps same name (Some x) Q reads within =
       stands_at chunk board name (map_log log x.now) keeps
       (sym (ap (λ (b : Shown M). slice_get b.objects name) view)
       ∙ ap (λ os. slice_get (seen_all log os) name) (sym same)

@@ -1,12 +1,12 @@
 -- A journal from elsewhere is followed entry by entry.
-use Rattle.std.proofs.Common.{◌≡◌, refl, ◌≤◌, ◌<◌, ℕ, get_or, zero, suc, List, [], ◌∷◌, ◌++◌, length, reverse, take, slice_get, ◌+◌, Some, sym, ap, subst, ◌∙◌}
-use Rattle.std.proofs.lemmas.List.{reverse-append, take_all, length-reverse, length-take-le}
+use Rattle.std.proofs.Common.{◌≡◌, refl, ◌≤◌, ◌<◌, ℕ, get_or, zero, suc, List, [], ◌∷◌, ◌++◌, length, reverse, take, slice_get, ◌+◌, Some, sym, ap, subst, ◌∙◌, arith}
+use Rattle.std.proofs.lemmas.List.{append-nil, length-append, reverse-append, take_all, length-reverse, length-take-le}
 use native.Mathlib.Numerals.{unary_clauses}
 use Rattle.std.proofs.lemmas.Option.{same_Some, none-some, slice_get_read}
 use Rattle.cml_board.specs.declared.entry.Entry.{Entry}
 use Rattle.cml_board.specs.History.{Lawful}
 use Rattle.cml_board.specs.Positions.{before}
-use Rattle.cml_board.specs.Checking.{IsLawfulNext, IsFirstUnlawful}
+use Rattle.cml_board.specs.Checking.{IsLawfulNext, IsFirstUnlawful, StopsAt, followed_by}
 
 module _ {X : Type 0} where
   taken_next : (xs : List X) (k : ℕ) (x : X) → slice_get xs k ≡ Some x → take (k + 1) xs ≡ take k xs ++ x ∷ []
@@ -29,12 +29,31 @@ module _ {M : Type 0} where
   pub length_before : (journal : List (Entry M)) (k : ℕ) → k ≤ length journal → length (before journal k) ≡ k
   length_before journal k within = length-reverse (take k journal) ∙ length-take-le k journal within
 
+  pub length_followed : (history piece : List (Entry M)) (k : ℕ) → k ≤ length piece → length (followed_by history piece k) ≡ length history + k
+  length_followed history piece k within = omega (arith, length-append (before piece k) history, length_before piece k within)
+
   -- an entry that may not follow stands at the first position that is unlawful
-  pub first_unlawful : (journal : List (Entry M)) (k : ℕ) (entry : Entry M) (history : List (Entry M)) → history ≡ before journal k
-      → slice_get journal k ≡ Some entry → Lawful history → (IsLawfulNext history entry → ⊥) → IsFirstUnlawful journal k
-  first_unlawful journal k entry history e found lawful unlawful = record {
+  pub stops_at : (history piece : List (Entry M)) (k at : ℕ) (entry : Entry M) (now : List (Entry M)) → now ≡ followed_by history piece k
+      → slice_get piece k ≡ Some entry → at ≡ length history + k → Lawful now → (IsLawfulNext now entry → ⊥) → StopsAt history piece at
+  stops_at history piece k at entry now e found position lawful unlawful = record {
+    k = k;
     entry = entry;
     stands = found;
+    position = position;
     lawful = subst Lawful e lawful;
-    unlawful = λ at. unlawful (subst (λ h. IsLawfulNext h entry) (sym e) (at.fits, at.answered));
+    unlawful = subst (λ h. IsLawfulNext h entry → ⊥) e unlawful;
   }
+
+  -- a journal that came in one piece
+  followed_from_nothing : (journal : List (Entry M)) (k : ℕ) → followed_by [] journal k ≡ before journal k
+  followed_from_nothing journal k = append-nil (before journal k)
+
+  pub first_unlawful : (journal : List (Entry M)) (at : ℕ) → StopsAt [] journal at → IsFirstUnlawful journal at
+  first_unlawful journal at stops =
+      subst (IsFirstUnlawful journal) (omega (arith, stops.position))
+      (record {
+        entry = stops.entry;
+        stands = stops.stands;
+        lawful = subst Lawful (followed_from_nothing journal stops.k) stops.lawful;
+        unlawful = λ unlawful. stops.unlawful (subst (λ h. IsLawfulNext h stops.entry) (sym (followed_from_nothing journal stops.k)) (unlawful.fits, unlawful.answered));
+      })

@@ -1,4 +1,5 @@
 pub mod ListLemmas
+pub mod Traces
 pub mod Placing
 pub mod Logs
 pub mod Agreeing
@@ -19,6 +20,7 @@ pub mod Lasting
 pub mod Answering
 pub mod Looking
 pub mod Received
+pub mod Within
 pub mod Sources
 pub mod Messages
 pub mod Everywhere

@@ -1,5 +1,5 @@
 -- What a look at a board finds.
-use Rattle.std.proofs.Common.{◌≡◌, ◌≢◌, ℕ, zero, suc, ◌<◌, ◌≤◌, true, false, List, [], ◌∷◌, length, drop, slice_get, Some, None, refl, sym, ap, subst, ◌∙◌, arith}
+use Rattle.std.proofs.Common.{◌≡◌, ◌≢◌, ℕ, zero, suc, ◌+◌, ◌<◌, ◌≤◌, true, false, List, [], ◌∷◌, length, drop, slice_get, Some, None, refl, sym, ap, subst, ◌∙◌, arith}
 use Rattle.std.specs.Option.{option_map, option_map_or, option_and_then}
 use Rattle.std.proofs.lemmas.List.{drop-drop}
 use Rattle.std.proofs.lemmas.Option.{none-some, some_pair_parts, slice_get_past, same_Some}
@@ -11,15 +11,17 @@ use Rattle.cml_board.specs.declared.object.Reading.{Reading}
 use Rattle.cml_board.specs.declared.object.Reading.TheVariants.{Open, Closed}
 use Rattle.cml_board.specs.Origins.{kind_by, source_by, start_by}
 use Rattle.cml_board.specs.Objects.{is_receiver}
-use Rattle.cml_board.specs.History.{made, origin_of, sent, got, owed}
+use Rattle.cml_board.specs.History.{entries_in, made, origin_of, sent, got, owed}
 use Rattle.cml_board.specs.Facts.{Facts, facts_of}
 use Rattle.cml_board.specs.Holdings.{key_in, log_in, cursor_in, log_at, cursor_at, HasLog, HasRoomAt, HasOwed}
 use Rattle.cml_board.specs.Shown.{Shown}
 use Rattle.cml_board.specs.Keeps.{Agrees, AgreesReading, Shows, Keeps}
 use Rattle.cml_board.specs.Standing.{ReadsAt, Stands}
+use Rattle.cml_board.specs.Outcome.{HasRoom}
 use Rattle.cml_board.proofs.Standing.{next_is, cursor_is, owed_is}
 use Rattle.cml_board.proofs.Keeping.{first_is_told}
-use Rattle.cml_board.proofs.Received.{sent_within}
+use Rattle.std.proofs.Math.Nat.{min-le_right}
+use Rattle.cml_board.proofs.Within.{sent_and_made}
 
 -- past a list's end nothing stands, and nowhere else
 none_within : {X : Type 0} (xs : List X) (i : ℕ) → slice_get xs i ≡ None → length xs ≤ i
@@ -107,12 +109,17 @@ module _ {M : Type 0} where
   none_made chunk board name keeps none =
       slice_get_past (made board.history) name (omega (arith, none_within board.objects name none, keeps.shows.all))
 
+  -- where a log stands there is an object
+  some_object : (objects : List (Object M (Log M))) (name : ℕ) (log : Log M) → log_at objects name ≡ Some log → 0 < length objects
+  some_object [] name log found = absurd (none-some log found)
+  some_object (object ∷ objects) name log found = omega arith
+
   -- a log has room for a message more
-  pub has_room : (chunk : ℕ) (board : Shown M) (name : ℕ) → Keeps chunk board → HasLog board.objects name → HasRoomAt board.objects name
-  has_room chunk board name keeps stands =
+  pub has_room : (chunk : ℕ) (board : Shown M) (name : ℕ) → Keeps chunk board → HasRoom board → HasLog board.objects name → HasRoomAt board.objects name
+  has_room chunk board name keeps room stands =
       let next : next_of stands.log ≡ length (sent board.history name) =
       next_is chunk (length (made board.history)) (facts_of board.history) board.objects name stands.log keeps.shows stands.found in
-      record { stands = stands; room = omega (arith, next, sent_within board.history name, keeps.room, keeps.bounded) }
+      record { stands = stands; room = omega (arith, next, sent_and_made board.history name, keeps.shows.all, some_object board.objects name stands.log stands.found, room, min-le_right (entries_in board.past + board.limit) 18446744073709551615) }
 
   -- a reader that is owed something has a message to take
   pub reads_owed : (board : Shown M) (name source key : ℕ) → ReadsAt board name source key → owed board.history name ≢ [] → HasOwed board.objects source key

@@ -127,7 +127,7 @@ module _ {M : Type 0} where
   one_at_most true message = omega arith
   one_at_most false message = omega arith
 
-  length-sent_by : (call : Call M) (o : ℕ) → length (sent_by call o) ≤ 1
+  pub length-sent_by : (call : Call M) (o : ℕ) → length (sent_by call o) ≤ 1
   length-sent_by (Send name message) o = one_at_most (eqb name.0 o) message
   length-sent_by (Cast name message) o = one_at_most (eqb name.0 o) message
   length-sent_by call o = omega arith

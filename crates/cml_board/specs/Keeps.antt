@@ -1,5 +1,5 @@
 -- What a board always keeps.
-use Rattle.std.specs.Prelude.{ℕ, ◌≡◌, ◌<◌, ◌≤◌, ◌^◌, true, false, List, length, reverse, slice_get, Some}
+use Rattle.std.specs.Prelude.{ℕ, ◌≡◌, ◌<◌, ◌≤◌, ◌^◌, true, false, List, ◌++◌, length, reverse, slice_get, Some}
 use Rattle.cml_log.specs.Log.{Log, place_at}
 use Rattle.cml_log.specs.Holds.{Holds}
 use Rattle.cml_board.specs.declared.entry.Entry.{Entry}
@@ -10,10 +10,10 @@ use Rattle.cml_board.specs.declared.object.Form.TheVariants.{Once, Mutable}
 use Rattle.cml_board.specs.declared.object.Reading.{Reading}
 use Rattle.cml_board.specs.declared.object.Reading.TheVariants.{Open, Closed}
 use Rattle.cml_board.specs.Origins.{Origin, mailbox, channel, port, ivar, mvar}
-use Rattle.cml_board.specs.History.{Lawful, made}
+use Rattle.cml_board.specs.History.{Lawful, entries_in, made}
 use Rattle.cml_board.specs.Facts.{Facts, facts_of, place_by}
 use Rattle.cml_board.specs.Holdings.{seen_all, log_at, cursor_at}
-use Rattle.cml_board.specs.Shown.{Shown}
+use Rattle.cml_board.specs.Shown.{Shown, full_at}
 
 -- how a variable begins
 abbrev pub begun_as : Form → Origin
@@ -47,10 +47,10 @@ module _ {M : Type 0} where
   pub record Keeps (chunk : ℕ) (board : Shown M) : Type 0 where
     pub lawful : Lawful board.history
     pub shows : Shows chunk (length (made board.history)) (facts_of board.history) board.objects
-    pub room : length board.history ≤ board.limit
+    pub room : entries_in board.history ≤ full_at board
     pub bounded : board.limit ≤ 2 ^ 32
     pub holds_one : 0 < chunk
     pub small : chunk ≤ 1024
 
-  abbrev pub shown : {A : Type 0} → (A → Log M) → List (Entry M) → ℕ → List (Object M A) → ℕ → Shown M
-  shown log journal limit objects reserved = record { history = reverse journal; limit = limit; objects = seen_all log objects; reserved = reserved }
+  abbrev pub shown : {A : Type 0} → (A → Log M) → List (Entry M) → List (Entry M) → ℕ → List (Object M A) → ℕ → Shown M
+  shown log past journal limit objects reserved = record { history = reverse journal ++ past; past = past; limit = limit; objects = seen_all log objects; reserved = reserved }

@@ -1,5 +1,5 @@
 -- What a board is to those who call it, and what becomes of a call.
-use Rattle.std.specs.Prelude.{ℕ, ◌≡◌, ◌≢◌, ◌+◌, ◌<◌, ◌≤◌, Bool, length, Some, None}
+use Rattle.std.specs.Prelude.{ℕ, ◌≡◌, ◌≢◌, ◌+◌, ◌<◌, ◌≤◌, Bool, Some, None}
 use Rattle.cml_board.specs.declared.call.Call.{Call}
 use Rattle.cml_board.specs.declared.entry.Who.{Who}
 use Rattle.cml_board.specs.declared.entry.Reply.{Reply}
@@ -7,20 +7,20 @@ use Rattle.cml_board.specs.declared.outcome.Refusal.{Refusal}
 use Rattle.cml_board.specs.declared.outcome.Refusal.TheVariants.{Gone, Busy, NoSuch, WrongKind, JournalFull, Stalled, NoMemory, Unseen}
 use Rattle.cml_board.specs.declared.outcome.Outcome.{Outcome}
 use Rattle.cml_board.specs.declared.outcome.Outcome.TheVariants.{Answered, WouldWait, Refused}
-use Rattle.cml_board.specs.Shown.{Shown}
+use Rattle.cml_board.specs.Shown.{Shown, full_at}
 use Rattle.cml_board.specs.Sparing.{IsSpared}
 use Rattle.cml_board.specs.History.{entries_in, with_entry, IsMade, IsTaken, Fits, answer}
 
 module _ {M : Type 0} where
   abbrev pub HasRoom : Shown M → Type 0
-  HasRoom board = length board.history < board.limit
+  HasRoom board = entries_in board.history < full_at board
 
   -- when each refusal comes: they are tested in this order, and want of memory stands behind all of them, and never
   -- before a call that needs none but what was reserved. Those of the layers above a board never gives
   abbrev pub Refuses : ℕ → Bool → Shown M → Call M → Refusal → Type 0
   Refuses chunk sure board call NoSuch = ¬ (IsMade board.history call)
   Refuses chunk sure board call WrongKind = IsMade board.history call × ¬ (IsTaken board.history call)
-  Refuses chunk sure board call JournalFull = Fits board.history call × (length board.history ≡ board.limit)
+  Refuses chunk sure board call JournalFull = Fits board.history call × (entries_in board.history ≡ full_at board)
   Refuses chunk sure board call NoMemory = Fits board.history call × HasRoom board × (answer board.history call ≢ None)
       × ¬ (IsSpared chunk sure board call)
   Refuses chunk sure board call Gone = ⊥
@@ -31,6 +31,7 @@ module _ {M : Type 0} where
   -- the board is as it was, and nothing of what stands reserved is lost
   pub record IsAsBefore (old new : Shown M) : Type 0 where
     pub history : new.history ≡ old.history
+    pub past : new.past ≡ old.past
     pub limit : new.limit ≡ old.limit
     pub objects : new.objects ≡ old.objects
     pub reserved : old.reserved ≤ new.reserved
@@ -38,8 +39,16 @@ module _ {M : Type 0} where
   -- the board has one entry more, and the same limit, and lost what was reserved for one entry at most
   pub record AddsEntry (old new : Shown M) (who : Who) (call : Call M) (reply : Reply M) : Type 0 where
     pub history : new.history ≡ with_entry old.history (record { who = who; call = call; reply = reply })
+    pub past : new.past ≡ old.past
     pub limit : new.limit ≡ old.limit
     pub reserved : old.reserved ≤ new.reserved + 1
+
+  -- the whole journal was cut away, and nothing else changed: what is told of all entries is what it was
+  pub record Cuts (old new : Shown M) : Type 0 where
+    pub history : new.history ≡ old.history
+    pub past : new.past ≡ old.history
+    pub limit : new.limit ≡ old.limit
+    pub objects : new.objects ≡ old.objects
 
   -- what becomes of a call: an answered one adds just its entry, and every other changes nothing and is handed back
   abbrev pub Applies : ℕ → Bool → Shown M → Shown M → Who → Call M → Outcome M → Type 0

@@ -1,5 +1,5 @@
 -- What a board shows of itself, and what always holds of it.
-use Rattle.std.specs.Prelude.{ℕ, ◌≡◌, ◌≤◌, true, false, List, ◌++◌, drop, Some}
+use Rattle.std.specs.Prelude.{ℕ, ◌≡◌, ◌+◌, ◌≤◌, min, true, false, List, ◌++◌, drop, Some}
 use Rattle.cml_log.specs.Log.{Log, next_of, place_at, owed_items}
 use Rattle.cml_board.specs.declared.call.Kind.TheVariants.{Mailbox}
 use Rattle.cml_board.specs.declared.entry.Entry.{Entry}
@@ -7,20 +7,26 @@ use Rattle.cml_board.specs.declared.object.Object.{Object}
 use Rattle.cml_board.specs.Origins.{port}
 use Rattle.cml_board.specs.Objects.{is_source, is_variable}
 use Rattle.cml_board.specs.Held.{held}
-use Rattle.cml_board.specs.History.{kind_of, origin_of, is_open, sent, got, due, place}
+use Rattle.cml_board.specs.History.{entries_in, kind_of, origin_of, is_open, sent, got, due, place}
 use Rattle.cml_board.specs.Kept.{reads, kept_from}
 use Rattle.cml_board.specs.Counts.{is_a}
 use Rattle.cml_board.specs.Holdings.{log_at, cursor_at, held_at}
 
--- the journal, newest entry first; its limit; by name what each object really holds; and how many more entries the
--- journal has memory for
+-- all entries since the board was made, the newest first; which of them were cut away, so that the others are the journal;
+-- the journal's limit; by name what each object really holds; and how many more entries the journal has memory for
 pub record Shown (M : Type 0) : Type 0 where
   pub history : List (Entry M)
+  pub past : List (Entry M)
   pub limit : ℕ
   pub objects : List (Object M (Log M))
   pub reserved : ℕ
 
 module _ {M : Type 0} where
+  -- how many entries there may be since the board was made: so many more than were cut away as the limit says, and never
+  -- more than a number tells
+  abbrev pub full_at : Shown M → ℕ
+  full_at board = min (entries_in board.past + board.limit) 18446744073709551615
+
   -- the log that an object reads, with its cursor there: no chunk is given back that the cursor's place is in, nor any
   -- behind it
   pub record Reads (board : Shown M) (object source : ℕ) : Type 0 where

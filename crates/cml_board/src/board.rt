@@ -1,12 +1,12 @@
-ghost use Rattle.std.specs.Prelude.{◌≡◌, ◌^◌, ◌<◌, ◌≤◌, ◌↔◌, ◌&&◌, false, [], length, reverse, Some, None, option_map, option_copied, IfOk, OnOk, OnErr, IsTrue, MatchOption};
+ghost use Rattle.std.specs.Prelude.{◌≡◌, ◌^◌, ◌<◌, ◌≤◌, ◌↔◌, ◌&&◌, false, [], ◌++◌, length, reverse, Some, None, option_map, option_copied, IfOk, OnOk, OnErr, IsTrue, MatchOption, MatchBool};
 ghost use Rattle.cml_board.specs.Objects.{is_receiver};
-ghost use Rattle.cml_board.specs.History.{no_entries, Lawful, origin_of, kind_of, is_open};
+ghost use Rattle.cml_board.specs.History.{no_entries, entries_in, Lawful, origin_of, kind_of, is_open};
 ghost use Rattle.cml_board.specs.Counts.{is_a, sent_count, got_count, owed_count, channel_of, start_of, first_of, kept_count, port_is_open, held_by};
 ghost use Rattle.cml_board.specs.Holdings.{map_log, log_at, HasLog};
 ghost use Rattle.cml_board.specs.Standing.{ReadsAt, Stands};
 ghost use Rattle.cml_board.specs.Checking.{IsNoted};
-ghost use Rattle.cml_board.specs.Outcome.{IsAsBefore};
-ghost use Rattle.cml_board.specs.Shown.{KeepsMailboxes, KeepsPorts, KeepsClosed, KeepsVariables, KeepsLogs};
+ghost use Rattle.cml_board.specs.Outcome.{IsAsBefore, HasRoom, Cuts};
+ghost use Rattle.cml_board.specs.Shown.{full_at, KeepsMailboxes, KeepsPorts, KeepsClosed, KeepsVariables, KeepsLogs};
 
 mod apply;
 mod making;
@@ -21,19 +21,22 @@ use crate::call::{Kind, Name};
 use crate::entry::Entry;
 use crate::message::Message;
 use crate::object::{self, Object, Reading};
+use crate::past::Past;
 use cml_log::{ChunkLog, Key, MessageLog};
 use objects::log_at;
 use std::alloc::{AllocError, Global};
 use std::marker::Model;
+use std::mem;
 
 /// The log that boards are made with: chunks of four messages.
 pub type BoardLog<M> = ChunkLog<M, 4>;
 
-/// The objects, and the journal of all accepted calls.
+/// The objects, and the journal of all calls that were accepted since it was last cut.
 #[derive(Drop)]
 pub struct Board<M, L: MessageLog<M>> {
     alloc: Global,
     limit: u64,
+    past: Past<Entry<M>>,
     journal: Vec<Entry<M>>,
     objects: Vec<Object<M, L>>,
 }
@@ -46,29 +49,31 @@ impl<M, L: MessageLog<M>> Model for Board<M, L> {
     ghost use Rattle.std.specs.Prelude.{◌-◌, vec_len, vec_capacity};
     ghost use Rattle.cml_board.specs.Keeps.{shown, Keeps};
 
-    ghost view = { λ b. shown L.log b.journal.items b.limit b.objects.items (vec_capacity b.journal - vec_len b.journal) };
+    ghost view = { λ b. shown L.log b.past b.journal.items b.limit b.objects.items (vec_capacity b.journal - vec_len b.journal) };
 
-    ghost invariant = { λ b. Keeps L.CHUNK (shown L.log b.journal.items b.limit b.objects.items (vec_capacity b.journal - vec_len b.journal)) };
+    ghost invariant = { λ b. Keeps L.CHUNK (shown L.log b.past b.journal.items b.limit b.objects.items (vec_capacity b.journal - vec_len b.journal)) };
 }
 
 impl<M: Message, L: MessageLog<M>> Board<M, L> {
-    /// A board with no objects, whose journal takes `limit` entries.
+    /// A board with no objects, whose journal takes `limit` entries until it is cut, and as many again from then on.
     pub fn new(alloc: Global, limit: u64) -> Result<Board<M, L>, AllocError>
         requires least { 1 ≤ limit }
         requires most { limit ≤ 2 ^ 32 }
         ensures history { IfOk result (λ board. board.history ≡ no_entries) }
+        ensures past { IfOk result (λ board. board.past ≡ no_entries) }
         ensures limit { IfOk result (λ board. board.limit ≡ limit) }
         ensures objects { IfOk result (λ board. board.objects ≡ []) }
     {
         Ok(Board {
             alloc,
             limit,
+            past: Past::none(),
             journal: Vec::new(alloc),
             objects: Vec::new(alloc),
         })
     }
 
-    /// How many entries the journal takes.
+    /// How many entries the journal takes between two cuts.
     pub fn limit(&self) -> u64
         ensures limit { result ≡ self.now.limit }
         ensures bounded { result ≤ 2 ^ 32 }
@@ -76,12 +81,12 @@ impl<M: Message, L: MessageLog<M>> Board<M, L> {
         self.limit
     }
 
-    /// The accepted calls, oldest first.
+    /// The accepted calls since the last cut, oldest first: all of them where there was none.
     pub fn journal(&self) -> &[Entry<M>]
-        ensures entries { result.now ≡ reverse self.now.history }
-        ensures room { length self.now.history ≤ self.now.limit }
+        ensures entries { reverse result.now ++ self.now.past ≡ self.now.history }
+        ensures room { entries_in self.now.history ≤ full_at self.now }
 
-        // The journal is a lawful history of one thread.
+        // All accepted calls are a lawful history of one thread: those that were cut away, followed by the journal.
         ensures lawful { Lawful self.now.history }
 
         // What was received from a mailbox, followed by what really waits in it, is what was sent to it.
@@ -100,11 +105,57 @@ impl<M: Message, L: MessageLog<M>> Board<M, L> {
         self.journal.as_slice()
     }
 
-    /// Whether the journal has this answer's call and reply at its position, as it has of each answer of its own.
-    pub fn confirm(&self, answer: &Answer<M>) -> bool
-        ensures { IsTrue result ↔ IsNoted (reverse self.now.history) answer.now }
+    /// How many calls were accepted since the board was made.
+    pub fn entries(&self) -> u64
+        ensures { result ≡ entries_in self.now.history }
     {
-        match self.journal.get(answer.at() as usize) {
+        self.past.count() + self.journal.len() as u64
+    }
+
+    /// How many of them were cut away: the position of the journal's first entry.
+    pub fn cut_at(&self) -> u64
+        ensures { result ≡ entries_in self.now.past }
+    {
+        self.past.count()
+    }
+
+    /// Whether the journal takes no more entries: it has as many as its limit, or 2^64 - 1 calls were accepted since the
+    /// board was made, which is as far as is counted.
+    pub fn is_full(&self) -> bool
+        ensures full { MatchBool result (entries_in self.now.history ≡ full_at self.now) (HasRoom self.now) }
+    {
+        self.journal.len() as u64 == self.limit || self.entries() == u64::MAX
+    }
+
+    /// Cuts the journal: what it has is dropped, and it has room for as many entries again. Objects stay, each with what
+    /// waits in it; names, and positions of entries, go on counting. It takes no memory, and none is given back: what stood
+    /// reserved still does.
+    pub fn cut(&mut self)
+        ensures cut { Cuts self.old self.new }
+        ensures reserved { self.old.reserved ≤ self.new.reserved }
+    {
+        self.past.add_all(&self.journal);
+        self.journal.clear();
+    }
+
+    /// Cuts the journal, and hands over the entries that it had, to be kept elsewhere. What stood reserved goes with them.
+    pub fn take_journal(&mut self) -> Vec<Entry<M>>
+        ensures taken { reverse result.items ++ self.old.past ≡ self.old.history }
+        ensures cut { Cuts self.old self.new }
+    {
+        self.past.add_all(&self.journal);
+        mem::replace(&mut self.journal, Vec::new(self.alloc))
+    }
+
+    /// Whether the journal has this answer's call and reply at its position, as it has of each answer of its own since the
+    /// last cut. An answer from before that isn't in the journal any more.
+    pub fn confirm(&self, answer: &Answer<M>) -> bool
+        ensures { IsTrue result ↔ ((entries_in self.now.past ≤ answer.now.at) × IsNoted (reverse self.now.history) answer.now) }
+    {
+        let Some(at) = answer.at().checked_sub(self.past.count()) else {
+            return false;
+        };
+        match self.journal.get(at as usize) {
             Some(entry) => { entry.call.same(answer.call()) && entry.reply.same(answer.reply()) }
             None => false,
         }

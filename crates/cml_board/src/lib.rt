@@ -10,12 +10,13 @@ mod laws;
 mod message;
 mod object;
 mod outcome;
+mod past;
 mod want;
 
 pub use answer::Answer;
 pub use board::{Board, BoardLog};
 pub use call::{Call, Kind, Name};
-pub use checking::check;
+pub use checking::{Checker, check};
 pub use entry::{Entry, Reply, Who};
 pub use laws::{calls_wait_by_want, lawful_at_every_position, reserved_lasts};
 pub use message::Message;

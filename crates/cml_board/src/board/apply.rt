@@ -56,7 +56,7 @@ impl<M: Message, L: MessageLog<M>> Board<M, L> {
                 return Some(Refusal::WrongKind);
             }
         }
-        if self.journal.len() as u64 == self.limit {
+        if self.is_full() {
             return Some(Refusal::JournalFull);
         }
         None

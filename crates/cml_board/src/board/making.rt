@@ -43,6 +43,7 @@ impl<M: Message, L: MessageLog<M>> Board<M, L> {
         requires room { HasRoom self.old }
         ensures { Applies L.CHUNK M.SURE self.old self.new who (making_call making) result }
     {
+        let at = self.entries();
         if self.journal.reserve(1).is_err() {
             return Outcome::Refused(Refusal::NoMemory, making.call());
         }
@@ -56,7 +57,7 @@ impl<M: Message, L: MessageLog<M>> Board<M, L> {
             reply: Reply::Made(reply),
         };
         let call = making.call();
-        note(&mut self.journal, entry, call, Reply::Made(reply))
+        note(&mut self.journal, at, entry, call, Reply::Made(reply))
     }
 
     #[inline(never)]
@@ -110,6 +111,7 @@ impl<M: Message, L: MessageLog<M>> Board<M, L> {
         requires room { HasRoom self.old }
         ensures { Applies L.CHUNK M.SURE self.old self.new who (Call.ClosePort port) result }
     {
+        let at = self.entries();
         if self.journal.reserve(1).is_err() {
             return Outcome::Refused(Refusal::NoMemory, Call::ClosePort(port));
         }
@@ -119,6 +121,6 @@ impl<M: Message, L: MessageLog<M>> Board<M, L> {
             call: Call::ClosePort(port),
             reply: Reply::Done,
         };
-        note(&mut self.journal, entry, Call::ClosePort(port), Reply::Done)
+        note(&mut self.journal, at, entry, Call::ClosePort(port), Reply::Done)
     }
 }

@@ -26,6 +26,7 @@ impl<M: Message, L: MessageLog<M>> Board<M, L> {
         requires room { HasRoom self.old }
         ensures { Applies L.CHUNK M.SURE self.old self.new who (putting_call putting name message) result }
     {
+        let at = self.entries();
         let Ok((stored, noted)) = share_twice(self.alloc, &message) else {
             return Outcome::Refused(Refusal::NoMemory, putting.call(name, message));
         };
@@ -41,7 +42,7 @@ impl<M: Message, L: MessageLog<M>> Board<M, L> {
             reply: Reply::Done,
         };
         let call = putting.call(name, message);
-        note(&mut self.journal, entry, call, Reply::Done)
+        note(&mut self.journal, at, entry, call, Reply::Done)
     }
 
     #[inline(never)]
@@ -82,6 +83,7 @@ impl<M: Message, L: MessageLog<M>> Board<M, L> {
         requires room { HasRoom self.old }
         ensures { Applies L.CHUNK M.SURE self.old self.new who (asking_call asking name) result }
     {
+        let at = self.entries();
         if self.journal.reserve(1).is_err() {
             return Outcome::Refused(Refusal::NoMemory, asking.call(name));
         }
@@ -91,7 +93,7 @@ impl<M: Message, L: MessageLog<M>> Board<M, L> {
             reply: Reply::Closed,
         };
         let call = asking.call(name);
-        note(&mut self.journal, entry, call, Reply::Closed)
+        note(&mut self.journal, at, entry, call, Reply::Closed)
     }
 
     /// A poll where nothing is owed.
@@ -103,6 +105,7 @@ impl<M: Message, L: MessageLog<M>> Board<M, L> {
         requires room { HasRoom self.old }
         ensures { Applies L.CHUNK M.SURE self.old self.new who (Call.Poll name) result }
     {
+        let at = self.entries();
         if self.journal.reserve(1).is_err() {
             return Outcome::Refused(Refusal::NoMemory, Call::Poll(name));
         }
@@ -111,7 +114,7 @@ impl<M: Message, L: MessageLog<M>> Board<M, L> {
             call: Call::Poll(name),
             reply: Reply::Nothing,
         };
-        note(&mut self.journal, entry, Call::Poll(name), Reply::Nothing)
+        note(&mut self.journal, at, entry, Call::Poll(name), Reply::Nothing)
     }
 
     /// Takes the first message that is owed.
@@ -122,6 +125,7 @@ impl<M: Message, L: MessageLog<M>> Board<M, L> {
         requires room { HasRoom self.old }
         ensures { Applies L.CHUNK M.SURE self.old self.new who (taking_call taking name) result }
     {
+        let at = self.entries();
         let Ok((message, noted)) = share_first(self.log(source), self.alloc, key) else {
             return Outcome::Refused(Refusal::NoMemory, taking.call(name));
         };
@@ -135,7 +139,7 @@ impl<M: Message, L: MessageLog<M>> Board<M, L> {
             reply: Reply::Got(noted),
         };
         let call = taking.call(name);
-        note(&mut self.journal, entry, call, Reply::Got(message))
+        note(&mut self.journal, at, entry, call, Reply::Got(message))
     }
 }
 

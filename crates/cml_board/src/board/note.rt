@@ -135,9 +135,10 @@ impl Looking {
     }
 }
 
-/// Adds an entry to a journal that has room for it, and tells of it.
+/// Adds an entry to a journal that has room for it, and tells of it: it is the one at this position.
 pub fn note<M>(
     journal: &mut Vec<Entry<M>>,
+    at: u64,
     entry: Entry<M>,
     call: Call<M>,
     reply: Reply<M>,
@@ -145,9 +146,8 @@ pub fn note<M>(
     requires { vec_len journal.old < vec_capacity journal.old }
     ensures entries { journal.new.items ≡ journal.old.items ++ entry ∷ [] }
     ensures spare { vec_capacity journal.old - vec_len journal.old ≡ vec_capacity journal.new - vec_len journal.new + 1 }
-    ensures answer { result ≡ Outcome.Answered (record { call = call; reply = reply; at = length journal.old.items }) }
+    ensures answer { result ≡ Outcome.Answered (record { call = call; reply = reply; at = at }) }
 {
-    let at = journal.len() as u64;
     journal.push_reserved(entry);
     Outcome::Answered(Answer::new(call, reply, at))
 }

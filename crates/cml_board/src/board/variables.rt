@@ -26,6 +26,7 @@ impl<M: Message, L: MessageLog<M>> Board<M, L> {
         requires { HasRoom self.old }
         ensures { Applies L.CHUNK M.SURE self.old self.new who (Call.MVarInit message) result }
     {
+        let at = self.entries();
         let Ok((stored, noted)) = share_twice(self.alloc, &message) else {
             return Outcome::Refused(Refusal::NoMemory, Call::MVarInit(message));
         };
@@ -43,6 +44,7 @@ impl<M: Message, L: MessageLog<M>> Board<M, L> {
         };
         note(
             &mut self.journal,
+            at,
             entry,
             Call::MVarInit(message),
             Reply::Made(reply),
@@ -68,6 +70,7 @@ impl<M: Message, L: MessageLog<M>> Board<M, L> {
         requires room { HasRoom self.old }
         ensures { Applies L.CHUNK M.SURE self.old self.new who (Call.Put name message) result }
     {
+        let at = self.entries();
         let Ok((stored, noted)) = share_twice(self.alloc, &message) else {
             return Outcome::Refused(Refusal::NoMemory, Call::Put(name, message));
         };
@@ -82,6 +85,7 @@ impl<M: Message, L: MessageLog<M>> Board<M, L> {
         };
         note(
             &mut self.journal,
+            at,
             entry,
             Call::Put(name, message),
             Reply::Done,
@@ -95,6 +99,7 @@ impl<M: Message, L: MessageLog<M>> Board<M, L> {
         requires room { HasRoom self.old }
         ensures { Applies L.CHUNK M.SURE self.old self.new who (Call.Put name message) result }
     {
+        let at = self.entries();
         let Ok(noted) = message.share(self.alloc) else {
             return Outcome::Refused(Refusal::NoMemory, Call::Put(name, message));
         };
@@ -108,6 +113,7 @@ impl<M: Message, L: MessageLog<M>> Board<M, L> {
         };
         note(
             &mut self.journal,
+            at,
             entry,
             Call::Put(name, message),
             Reply::Put,
@@ -141,6 +147,7 @@ impl<M: Message, L: MessageLog<M>> Board<M, L> {
         requires room { HasRoom self.old }
         ensures { Applies L.CHUNK M.SURE self.old self.new who (looking_call looking name) result }
     {
+        let at = self.entries();
         let Ok(message) = self.share_held(name) else {
             return Outcome::Refused(Refusal::NoMemory, looking.call(name));
         };
@@ -156,7 +163,7 @@ impl<M: Message, L: MessageLog<M>> Board<M, L> {
             reply: Reply::Got(noted),
         };
         let call = looking.call(name);
-        note(&mut self.journal, entry, call, Reply::Got(message))
+        note(&mut self.journal, at, entry, call, Reply::Got(message))
     }
 
     fn empty(&mut self, who: Who, name: Name, looking: Looking) -> Outcome<M>
@@ -166,6 +173,7 @@ impl<M: Message, L: MessageLog<M>> Board<M, L> {
         requires room { HasRoom self.old }
         ensures { Applies L.CHUNK M.SURE self.old self.new who (looking_call looking name) result }
     {
+        let at = self.entries();
         let Ok(noted) = self.share_held(name) else {
             return Outcome::Refused(Refusal::NoMemory, looking.call(name));
         };
@@ -181,7 +189,7 @@ impl<M: Message, L: MessageLog<M>> Board<M, L> {
             reply: Reply::Got(noted),
         };
         let call = looking.call(name);
-        note(&mut self.journal, entry, call, Reply::Got(message))
+        note(&mut self.journal, at, entry, call, Reply::Got(message))
     }
 
     /// A poll of an empty variable.
@@ -192,6 +200,7 @@ impl<M: Message, L: MessageLog<M>> Board<M, L> {
         requires room { HasRoom self.old }
         ensures { Applies L.CHUNK M.SURE self.old self.new who (looking_call looking name) result }
     {
+        let at = self.entries();
         if self.journal.reserve(1).is_err() {
             return Outcome::Refused(Refusal::NoMemory, looking.call(name));
         }
@@ -201,7 +210,7 @@ impl<M: Message, L: MessageLog<M>> Board<M, L> {
             reply: Reply::Nothing,
         };
         let call = looking.call(name);
-        note(&mut self.journal, entry, call, Reply::Nothing)
+        note(&mut self.journal, at, entry, call, Reply::Nothing)
     }
 
     /// Stores a message in an m-variable and gives what it held.
@@ -223,6 +232,7 @@ impl<M: Message, L: MessageLog<M>> Board<M, L> {
         requires room { HasRoom self.old }
         ensures { Applies L.CHUNK M.SURE self.old self.new who (Call.Swap name message) result }
     {
+        let at = self.entries();
         let Ok((stored, noted)) = share_twice(self.alloc, &message) else {
             return Outcome::Refused(Refusal::NoMemory, Call::Swap(name, message));
         };
@@ -242,6 +252,7 @@ impl<M: Message, L: MessageLog<M>> Board<M, L> {
         };
         note(
             &mut self.journal,
+            at,
             entry,
             Call::Swap(name, message),
             Reply::Got(old),

@@ -1,11 +1,11 @@
-use Rattle.std.proofs.Common.{refl, sym, ◌∙◌, ◌≡◌, arith, reverse, Some, slice_get}
+use Rattle.std.proofs.Common.{refl, sym, ◌∙◌, ◌≡◌, arith, reverse, Some, slice_get, ◌++◌}
 use Rattle.cml_board.proofs.ListLemmas.{on_ok, on_err}
 use Rattle.cml_board.specs.declared.call.Call.TheVariants.{ClosePort}
 use Rattle.cml_board.specs.declared.entry.Reply.TheVariants.{Done}
 use Rattle.cml_board.specs.Objects.{is_port}
 use Rattle.cml_board.specs.Holdings.{seen_all, open_port}
 use Rattle.cml_board.specs.Shown.{Shown}
-use Rattle.cml_board.proofs.Noting.{keeps_at, keeps_call, as_before, inside, refused, applies_answered, adds_entry, noted_at}
+use Rattle.cml_board.proofs.Noting.{keeps_at, keeps_call, as_before, inside, refused, applies_answered, adds_entry}
 use Rattle.cml_board.proofs.Answering.{fits_by, answer_shut}
 use Rattle.cml_board.proofs.Sources.{open_port_told}
 use Rattle.cml_board.proofs.Stepping.{step_closed, has_port}
@@ -25,7 +25,7 @@ returns-then-is_err g c =
 pub close_port-requires : goal.close_port-requires
 close_port-requires g c =
     let log = g.L.MessageLog.log in
-    has_port g.L.MessageLog.CHUNK (reverse c.self.inside.journal.items) (seen_all log c.self.inside.objects.items) c.args.port.0 c.args.channel.0 c.args.start c.args.key c.self.invariant.shows
+    has_port g.L.MessageLog.CHUNK (reverse c.self.inside.journal.items ++ c.self.inside.past) (seen_all log c.self.inside.objects.items) c.args.port.0 c.args.channel.0 c.args.start c.args.key c.self.invariant.shows
     (inside (λ (b : Shown g.row.M.Denot). slice_get b.objects c.args.port.0 ≡ Some (open_port c.args.channel.0 c.args.start c.args.key)) c.self.view_is c.requires.stands)
 
 pub note-requires : goal.note-requires
@@ -40,7 +40,7 @@ invariant_of-self-2 g c =
     let told = open_port_told chunk c.args.self.now c.args.port.0 c.args.channel.0 c.args.start c.args.key (keeps_at chunk c.self.view_is c.self.invariant) c.requires.stands in
     keeps_call chunk c.args.who (ClosePort c.args.port) (ClosePort c.args.port) Done Done c.self.view_is c.self.invariant c.note.ensures.entries c.reserve.ensures.items
     refl refl c.requires.room (fits_by is_port h c.args.port (ClosePort c.args.port) refl (λ k. refl) told.0) (answer_shut h c.args.port told.1)
-    (λ lawful shows. step_closed chunk c.args.who c.args.port (reverse c.self.inside.journal.items) (seen_all log c.self.inside.objects.items) (seen_all log c.close_port.new.objects.items)
+    (λ lawful shows. step_closed chunk c.args.who c.args.port (reverse c.self.inside.journal.items ++ c.self.inside.past) (seen_all log c.self.inside.objects.items) (seen_all log c.close_port.new.objects.items)
     c.args.channel.0 c.args.start c.args.key shows
     (inside (λ (b : Shown g.row.M.Denot). slice_get b.objects c.args.port.0 ≡ Some (open_port c.args.channel.0 c.args.start c.args.key)) c.self.view_is c.requires.stands)
     c.close_port.ensures)
@@ -53,5 +53,5 @@ returns g c =
     applies_answered _ _ c.args.self.now _ c.args.who (ClosePort c.args.port) c.note.result _ c.note.ensures.answer
     (fits_by is_port h c.args.port (ClosePort c.args.port) refl (λ k. refl) told.0) c.requires.room (answer_shut h c.args.port told.1)
     refl
-    (noted_at c.self.view_is c.reserve.ensures.items)
+    c.entries-at.ensures
     (adds_entry c.args.who (ClosePort c.args.port) (ClosePort c.args.port) Done Done c.self.view_is c.note.ensures.entries c.reserve.ensures.items refl refl (omega (arith, c.reserve.ensures.len, c.reserve.ensures.capacity, c.note.ensures.spare)))

@@ -1,11 +1,11 @@
-use Rattle.std.proofs.Common.{refl, sym, ap, ◌∙◌, ◌≡◌, reverse, Some, None, arith}
+use Rattle.std.proofs.Common.{refl, sym, ap, ◌∙◌, ◌≡◌, reverse, Some, None, arith, ◌++◌}
 use Rattle.std.proofs.lemmas.Option.{same_Some}
 use Rattle.cml_board.specs.declared.entry.Reply.TheVariants.{Got}
 use Rattle.cml_board.specs.Calls.{looking_call}
 use Rattle.cml_board.specs.Held.{held}
 use Rattle.cml_board.specs.Holdings.{seen_all, HasVariable}
 use Rattle.cml_board.specs.Shown.{Shown}
-use Rattle.cml_board.proofs.Noting.{keeps_at, keeps_call, as_before, inside, refused, applies_answered, adds_entry, noted_at, unchanged}
+use Rattle.cml_board.proofs.Noting.{keeps_at, keeps_call, as_before, inside, refused, applies_answered, adds_entry, unchanged}
 use Rattle.cml_board.proofs.Holding.{look_variable, some_message, answer_read, variable_stands, was_held}
 use Rattle.cml_board.proofs.Leaving.{taken_sets}
 use Rattle.cml_board.proofs.Setting.{step_set}
@@ -58,7 +58,7 @@ invariant_of-self-2 g c =
     c.call-2.ensures refl c.requires.room c.requires.fits
     (answer_read c.args.self.now.history c.args.looking c.args.name c.in-Ok.noted c.in-Ok.ensures.copy)
     (λ lawful shows. step_set chunk c.args.who asked (Got c.in-Ok.noted) c.args.name c.hold_at.result None
-    (reverse c.self.inside.journal.items) (seen_all log c.self.inside.objects.items) (seen_all log c.hold_at.new.objects.items)
+    (reverse c.self.inside.journal.items ++ c.self.inside.past) (seen_all log c.self.inside.objects.items) (seen_all log c.hold_at.new.objects.items)
     (taken_sets c.args.looking c.args.name c.in-Ok.noted c.requires.empties) shows c.hold_at.ensures)
 
 pub returns : goal.returns
@@ -72,6 +72,6 @@ returns g c =
     applies_answered _ _ c.args.self.now _ c.args.who asked c.note.result _ c.note.ensures.answer
     c.requires.fits c.requires.room (answer_read h c.args.looking c.args.name c.in-Some.message full)
     c.call-call.ensures
-    (noted_at c.self.view_is c.reserve.ensures.items)
+    c.entries-at.ensures
     (adds_entry c.args.who asked c.call-2.result (Got c.in-Ok.noted) (Got c.in-Some.message) c.self.view_is c.note.ensures.entries c.reserve.ensures.items
     c.call-2.ensures (ap Got same) (omega (arith, c.reserve.ensures.len, c.reserve.ensures.capacity, c.note.ensures.spare)))

@@ -1,4 +1,4 @@
-use Rattle.std.proofs.Common.{refl, ap, subst, reverse, Some}
+use Rattle.std.proofs.Common.{refl, ap, subst, reverse, Some, ◌++◌}
 use Rattle.cml_board.specs.declared.call.Call.TheVariants.{Put}
 use Rattle.cml_board.specs.declared.entry.Reply.TheVariants.{Done}
 use Rattle.cml_board.specs.Holdings.{seen_all, HasVariable, SetsHeld}
@@ -27,4 +27,4 @@ invariant_of-self-2 g c =
     (ap (Put c.args.name) c.in-Ok.ensures.copies.1) refl
     c.requires.room c.requires.fits (answer_filled c.args.self.now.history c.args.name c.args.message c.requires.empty)
     (λ lawful shows. step_set chunk c.args.who (Put c.args.name c.args.message) Done c.args.name c.hold_at-none.result (Some c.args.message)
-    (reverse c.self.inside.journal.items) objects after (filled_sets c.args.name c.args.message) shows sets)
+    (reverse c.self.inside.journal.items ++ c.self.inside.past) objects after (filled_sets c.args.name c.args.message) shows sets)

@@ -1,8 +1,8 @@
-use Rattle.std.proofs.Common.{refl, sym, ◌∙◌, arith, reverse}
+use Rattle.std.proofs.Common.{refl, sym, ◌∙◌, arith, reverse, ◌++◌}
 use Rattle.cml_board.specs.declared.entry.Reply.TheVariants.{Closed}
 use Rattle.cml_board.specs.Calls.{asking_call}
 use Rattle.cml_board.specs.Holdings.{seen_all}
-use Rattle.cml_board.proofs.Noting.{keeps_call, applies_answered, adds_entry, noted_at}
+use Rattle.cml_board.proofs.Noting.{keeps_call, applies_answered, adds_entry}
 use Rattle.cml_board.proofs.Answering.{answer_closed}
 use Rattle.cml_board.proofs.Stepping.{step_asking}
 use Rattle.cml_board.proofs.ListLemmas.{on_ok, on_err}
@@ -15,7 +15,7 @@ invariant_of-self-2 g c =
     let call = asking_call c.args.asking c.args.name in
     keeps_call g.L.MessageLog.CHUNK c.args.who call c.call-2.result Closed Closed c.self.view_is c.self.invariant c.note.ensures.entries c.reserve.ensures.items
     c.call-2.ensures refl c.requires.room c.requires.fits (answer_closed c.args.self.now.history c.args.asking c.args.name c.requires.closed)
-    (λ lawful shows. step_asking g.L.MessageLog.CHUNK c.args.who c.args.asking c.args.name (reverse c.self.inside.journal.items) (seen_all g.L.MessageLog.log c.self.inside.objects.items) shows)
+    (λ lawful shows. step_asking g.L.MessageLog.CHUNK c.args.who c.args.asking c.args.name (reverse c.self.inside.journal.items ++ c.self.inside.past) (seen_all g.L.MessageLog.log c.self.inside.objects.items) shows)
 
 pub returns : goal.returns
 returns g c =
@@ -23,7 +23,7 @@ returns g c =
     applies_answered _ _ c.args.self.now _ c.args.who call c.note.result _ c.note.ensures.answer
     c.requires.fits c.requires.room (answer_closed c.args.self.now.history c.args.asking c.args.name c.requires.closed)
     c.call-call.ensures
-    (noted_at c.self.view_is c.reserve.ensures.items)
+    c.entries-at.ensures
     (adds_entry c.args.who call c.call-2.result Closed Closed c.self.view_is c.note.ensures.entries c.reserve.ensures.items c.call-2.ensures refl (omega (arith, c.reserve.ensures.len, c.reserve.ensures.capacity, c.note.ensures.spare)))
 
 pub returns-then-is_err : goal.returns-then-is_err

@@ -1,9 +1,9 @@
-use Rattle.std.proofs.Common.{refl, sym, ◌∙◌, arith, reverse}
+use Rattle.std.proofs.Common.{refl, sym, ◌∙◌, arith, reverse, ◌++◌}
 use Rattle.cml_board.specs.declared.entry.Reply.TheVariants.{Nothing}
 use Rattle.cml_board.specs.Calls.{looking_call}
 use Rattle.cml_board.specs.Holdings.{seen_all}
 use Rattle.cml_board.proofs.ListLemmas.{on_ok, on_err}
-use Rattle.cml_board.proofs.Noting.{keeps_call, as_before, refused, applies_answered, adds_entry, noted_at}
+use Rattle.cml_board.proofs.Noting.{keeps_call, as_before, refused, applies_answered, adds_entry}
 use Rattle.cml_board.proofs.Holding.{answer_empty}
 use Rattle.cml_board.proofs.Leaving.{empty_spares, empty_leaves}
 use Rattle.cml_board.proofs.Setting.{step_spared}
@@ -29,7 +29,7 @@ invariant_of-self-2 g c =
     let asked = looking_call c.args.looking c.args.name in
     keeps_call chunk c.args.who asked c.call-2.result Nothing Nothing c.self.view_is c.self.invariant c.note.ensures.entries c.reserve.ensures.items
     c.call-2.ensures refl c.requires.room c.requires.fits (answer_empty c.args.self.now.history c.args.looking c.args.name c.requires.polls c.requires.empty)
-    (λ lawful shows. step_spared chunk c.args.who asked Nothing (reverse c.self.inside.journal.items) (seen_all g.L.MessageLog.log c.self.inside.objects.items)
+    (λ lawful shows. step_spared chunk c.args.who asked Nothing (reverse c.self.inside.journal.items ++ c.self.inside.past) (seen_all g.L.MessageLog.log c.self.inside.objects.items)
     (empty_spares c.args.looking c.args.name) (empty_leaves c.args.looking c.args.name) shows)
 
 pub returns : goal.returns
@@ -38,5 +38,5 @@ returns g c =
     applies_answered _ _ c.args.self.now _ c.args.who asked c.note.result _ c.note.ensures.answer
     c.requires.fits c.requires.room (answer_empty c.args.self.now.history c.args.looking c.args.name c.requires.polls c.requires.empty)
     c.call-call.ensures
-    (noted_at c.self.view_is c.reserve.ensures.items)
+    c.entries-at.ensures
     (adds_entry c.args.who asked c.call-2.result Nothing Nothing c.self.view_is c.note.ensures.entries c.reserve.ensures.items c.call-2.ensures refl (omega (arith, c.reserve.ensures.len, c.reserve.ensures.capacity, c.note.ensures.spare)))

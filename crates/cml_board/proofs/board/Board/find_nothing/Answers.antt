@@ -1,9 +1,9 @@
-use Rattle.std.proofs.Common.{refl, sym, ◌∙◌, arith, reverse}
+use Rattle.std.proofs.Common.{refl, sym, ◌∙◌, arith, reverse, ◌++◌}
 use Rattle.cml_board.specs.declared.call.Call.TheVariants.{Poll}
 use Rattle.cml_board.specs.declared.entry.Reply.TheVariants.{Nothing}
 use Rattle.cml_board.specs.declared.board.note.Taking.TheVariants.{Polling}
 use Rattle.cml_board.specs.Holdings.{seen_all}
-use Rattle.cml_board.proofs.Noting.{keeps_call, applies_answered, adds_entry, noted_at}
+use Rattle.cml_board.proofs.Noting.{keeps_call, applies_answered, adds_entry}
 use Rattle.cml_board.proofs.Answering.{answer_nothing, fits_taking}
 use Rattle.cml_board.proofs.Stepping.{step_nothing}
 use Rattle.cml_board.proofs.ListLemmas.{on_ok, on_err}
@@ -16,7 +16,7 @@ invariant_of-self-2 g c =
     let h = c.args.self.now.history in
     keeps_call g.L.MessageLog.CHUNK c.args.who (Poll c.args.name) (Poll c.args.name) Nothing Nothing c.self.view_is c.self.invariant c.note.ensures.entries c.reserve.ensures.items
     refl refl c.requires.room (fits_taking h Polling c.args.name c.requires.fits) (answer_nothing h c.args.name c.requires.opened c.requires.empty)
-    (λ lawful shows. step_nothing g.L.MessageLog.CHUNK c.args.who c.args.name (reverse c.self.inside.journal.items) (seen_all g.L.MessageLog.log c.self.inside.objects.items) shows)
+    (λ lawful shows. step_nothing g.L.MessageLog.CHUNK c.args.who c.args.name (reverse c.self.inside.journal.items ++ c.self.inside.past) (seen_all g.L.MessageLog.log c.self.inside.objects.items) shows)
 
 pub returns : goal.returns
 returns g c =
@@ -24,7 +24,7 @@ returns g c =
     applies_answered _ _ c.args.self.now _ c.args.who (Poll c.args.name) c.note.result _ c.note.ensures.answer
     (fits_taking h Polling c.args.name c.requires.fits) c.requires.room (answer_nothing h c.args.name c.requires.opened c.requires.empty)
     refl
-    (noted_at c.self.view_is c.reserve.ensures.items)
+    c.entries-at.ensures
     (adds_entry c.args.who (Poll c.args.name) (Poll c.args.name) Nothing Nothing c.self.view_is c.note.ensures.entries c.reserve.ensures.items refl refl (omega (arith, c.reserve.ensures.len, c.reserve.ensures.capacity, c.note.ensures.spare)))
 
 pub returns-then-is_err : goal.returns-then-is_err

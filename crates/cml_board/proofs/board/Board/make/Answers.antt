@@ -6,7 +6,7 @@ use Rattle.cml_board.specs.History.{new_name}
 use Rattle.cml_board.specs.Holdings.{map_log, seen_all}
 use Rattle.cml_board.specs.Shown.{Shown}
 use Rattle.cml_board.specs.Making.{CanMake, HasSource}
-use Rattle.cml_board.proofs.Noting.{board_of, keeps_at, keeps_call, made_name, as_before, inside, refused, applies_answered, adds_entry, noted_at, keeps_same}
+use Rattle.cml_board.proofs.Noting.{board_of, keeps_at, keeps_call, made_name, as_before, inside, refused, applies_answered, adds_entry, keeps_same}
 use Rattle.cml_board.proofs.Making.{fits_made, answer_made, has_source, step_made}
 use Rattle.cml_board.proofs.ListLemmas.{on_err}
 use Rattle.cml_board.proofs.Sparing.{no_room, making_takes}
@@ -46,7 +46,7 @@ invariant_of-self-2 g c =
     keeps_call chunk c.args.who (making_call c.args.making) c.call-2.result (Made (record { 0 = c.len.result })) (Made (record { 0 = c.len.result })) c.self.view_is c.self.invariant c.note.ensures.entries c.reserve.ensures.items
     c.call-2.ensures refl c.requires.room (fits_made c.args.self.now c.args.making c.requires.can)
     (answer_made c.args.self.now c.args.making c.requires.can ∙ ap Some (made_name chunk c.self.view_is c.self.invariant c.len.result (omega (arith, c.len.ensures, length-map c.self.inside.objects.items (map_log log), c.self.inside.objects.ok.0))))
-    (λ lawful shows. step_made chunk c.args.who c.args.making (record { 0 = c.len.result }) (board_of c.self.inside.journal.items c.self.inside.limit (seen_all log c.self.inside.objects.items) (vec_capacity c.self.inside.journal - vec_len c.self.inside.journal)) (seen_all log c.add_made.new.objects.items)
+    (λ lawful shows. step_made chunk c.args.who c.args.making (record { 0 = c.len.result }) (board_of c.self.inside.past c.self.inside.journal.items c.self.inside.limit (seen_all log c.self.inside.objects.items) (vec_capacity c.self.inside.journal - vec_len c.self.inside.journal)) (seen_all log c.add_made.new.objects.items)
     c.self.invariant (inside (λ (b : Shown g.row.M.Denot). CanMake b c.args.making) c.self.view_is c.requires.can) c.in-Ok.ensures.ok)
 
 pub returns : goal.returns
@@ -58,5 +58,5 @@ returns g c =
     (fits_made c.args.self.now c.args.making c.requires.can) c.requires.room
     (answer_made c.args.self.now c.args.making c.requires.can ∙ ap Some (made_name chunk c.self.view_is c.self.invariant c.len.result (omega (arith, c.len.ensures, length-map c.self.inside.objects.items (map_log log), c.self.inside.objects.ok.0))))
     c.call-call.ensures
-    (noted_at c.self.view_is c.reserve.ensures.items)
+    c.entries-at.ensures
     (adds_entry c.args.who (making_call c.args.making) c.call-2.result (Made (record { 0 = c.len.result })) (Made (record { 0 = c.len.result })) c.self.view_is c.note.ensures.entries c.reserve.ensures.items c.call-2.ensures refl (omega (arith, c.reserve.ensures.len, c.reserve.ensures.capacity, c.note.ensures.spare)))

@@ -1,4 +1,4 @@
-use Rattle.std.proofs.Common.{refl, ap, arith, reverse, Some}
+use Rattle.std.proofs.Common.{refl, ap, arith, reverse, Some, ◌++◌}
 use Rattle.std.proofs.lemmas.List.{length-map}
 use Rattle.cml_board.specs.declared.call.Call.TheVariants.{MVarInit}
 use Rattle.cml_board.specs.declared.entry.Reply.TheVariants.{Made}
@@ -18,5 +18,5 @@ invariant_of-self-2 g c =
     (ap MVarInit c.in-Ok.ensures.copies.1) refl c.requires (tt, tt)
     (ap Some (made_name chunk c.self.view_is c.self.invariant c.len.result (omega (arith, c.len.ensures, length-map c.self.inside.objects.items (map_log log), c.self.inside.objects.ok.0))))
     (λ lawful shows. rw (c.in-Ok-add_variable.ensures.ok, c.in-Ok.ensures.copies.0)
-    (step_full chunk c.args.who c.args.message (record { 0 = c.len.result }) (reverse c.self.inside.journal.items) (seen_all log c.self.inside.objects.items)
+    (step_full chunk c.args.who c.args.message (record { 0 = c.len.result }) (reverse c.self.inside.journal.items ++ c.self.inside.past) (seen_all log c.self.inside.objects.items)
     (omega (arith, c.len.ensures, length-map c.self.inside.objects.items (map_log log), c.self.inside.objects.ok.0)) lawful shows))

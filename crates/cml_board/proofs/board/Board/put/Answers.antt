@@ -1,9 +1,9 @@
-use Rattle.std.proofs.Common.{refl, ap, ◌∙◌, reverse, arith, sym}
+use Rattle.std.proofs.Common.{refl, ap, ◌∙◌, reverse, arith, sym, ◌++◌}
 use Rattle.cml_board.specs.declared.entry.Reply.TheVariants.{Done}
 use Rattle.cml_board.specs.Calls.{putting_call}
 use Rattle.cml_board.specs.Holdings.{seen_all, HasRoomAt, HasLog}
 use Rattle.cml_board.specs.Shown.{Shown}
-use Rattle.cml_board.proofs.Noting.{keeps_at, keeps_call, as_before, inside, refused, applies_answered, adds_entry, noted_at}
+use Rattle.cml_board.proofs.Noting.{keeps_at, keeps_call, as_before, inside, refused, applies_answered, adds_entry}
 use Rattle.cml_board.proofs.Answering.{answer_put}
 use Rattle.cml_board.proofs.Sources.{put_stands}
 use Rattle.cml_board.proofs.Looking.{has_room}
@@ -25,7 +25,7 @@ pub push_at-requires : goal.push_at-requires
 push_at-requires g c =
     let keeps = keeps_at g.L.MessageLog.CHUNK c.self.view_is c.self.invariant in
     inside (λ (b : Shown g.row.M.Denot). HasRoomAt b.objects c.args.name.0) c.self.view_is
-    (has_room g.L.MessageLog.CHUNK c.args.self.now c.args.name.0 keeps (put_stands g.L.MessageLog.CHUNK c.args.self.now c.args.putting c.args.name c.args.message keeps c.requires.fits))
+    (has_room g.L.MessageLog.CHUNK c.args.self.now c.args.name.0 keeps c.requires.room (put_stands g.L.MessageLog.CHUNK c.args.self.now c.args.putting c.args.name c.args.message keeps c.requires.fits))
 
 pub returns-in_default-push_at : goal.returns-in_default-push_at
 returns-in_default-push_at g c =
@@ -49,7 +49,7 @@ invariant_of-self-2 g c =
     (c.call-2.ensures ∙ ap (putting_call c.args.putting c.args.name) c.in-Ok.ensures.copies.1) refl
     c.requires.room c.requires.fits (answer_put c.args.self.now.history c.args.putting c.args.name c.args.message)
     (λ lawful shows. rw (c.in-Ok-push_at.ensures.ok, c.in-Ok.ensures.copies.0)
-    (step_put chunk c.args.who c.args.putting c.args.name c.args.message (reverse c.self.inside.journal.items) (seen_all g.L.MessageLog.log c.self.inside.objects.items) shows stands))
+    (step_put chunk c.args.who c.args.putting c.args.name c.args.message (reverse c.self.inside.journal.items ++ c.self.inside.past) (seen_all g.L.MessageLog.log c.self.inside.objects.items) shows stands))
 
 pub returns : goal.returns
 returns g c =
@@ -57,6 +57,6 @@ returns g c =
     applies_answered _ _ c.args.self.now _ c.args.who call c.note.result _ c.note.ensures.answer
     c.requires.fits c.requires.room (answer_put c.args.self.now.history c.args.putting c.args.name c.args.message)
     c.call-call.ensures
-    (noted_at c.self.view_is c.reserve.ensures.items)
+    c.entries-at.ensures
     (adds_entry c.args.who call c.call-2.result Done Done c.self.view_is c.note.ensures.entries c.reserve.ensures.items
     (c.call-2.ensures ∙ ap (putting_call c.args.putting c.args.name) c.in-Ok.ensures.copies.1) refl (omega (arith, c.reserve.ensures.len, c.reserve.ensures.capacity, c.note.ensures.spare)))

@@ -1,9 +1,9 @@
-use Rattle.std.proofs.Common.{refl, sym, ap, ◌∙◌, reverse, Some, arith}
+use Rattle.std.proofs.Common.{refl, sym, ap, ◌∙◌, reverse, Some, arith, ◌++◌}
 use Rattle.cml_board.specs.declared.entry.Reply.TheVariants.{Got}
 use Rattle.cml_board.specs.Calls.{looking_call}
 use Rattle.cml_board.specs.Held.{held}
 use Rattle.cml_board.specs.Holdings.{seen_all}
-use Rattle.cml_board.proofs.Noting.{keeps_call, as_before, refused, applies_answered, adds_entry, noted_at, unchanged}
+use Rattle.cml_board.proofs.Noting.{keeps_call, as_before, refused, applies_answered, adds_entry, unchanged}
 use Rattle.cml_board.proofs.Holding.{look_variable, some_message, answer_read}
 use Rattle.cml_board.proofs.Leaving.{read_spares, read_leaves}
 use Rattle.cml_board.proofs.Setting.{step_spared}
@@ -42,7 +42,7 @@ invariant_of-self-2 g c =
     keeps_call chunk c.args.who asked c.call-2.result (Got c.in-Ok-share.noted) (Got c.in-Ok-share.noted) c.self.view_is c.self.invariant c.note.ensures.entries c.reserve.ensures.items
     c.call-2.ensures refl c.requires.room c.requires.fits
     (answer_read h c.args.looking c.args.name c.in-Ok-share.noted (c.in-Ok.ensures.copy ∙ ap Some (sym c.in-Ok-share.ensures.copy)))
-    (λ lawful shows. step_spared chunk c.args.who asked (Got c.in-Ok-share.noted) (reverse c.self.inside.journal.items) (seen_all g.L.MessageLog.log c.self.inside.objects.items)
+    (λ lawful shows. step_spared chunk c.args.who asked (Got c.in-Ok-share.noted) (reverse c.self.inside.journal.items ++ c.self.inside.past) (seen_all g.L.MessageLog.log c.self.inside.objects.items)
     (read_spares c.args.looking c.args.name c.in-Ok-share.noted) (λ k. read_leaves c.args.looking c.args.name c.in-Ok-share.noted k c.requires.leaves) shows)
 
 pub returns : goal.returns
@@ -52,6 +52,6 @@ returns g c =
     applies_answered _ _ c.args.self.now _ c.args.who asked c.note.result _ c.note.ensures.answer
     c.requires.fits c.requires.room (answer_read h c.args.looking c.args.name c.in-Ok.message c.in-Ok.ensures.copy)
     c.call-call.ensures
-    (noted_at c.self.view_is c.reserve.ensures.items)
+    c.entries-at.ensures
     (adds_entry c.args.who asked c.call-2.result (Got c.in-Ok-share.noted) (Got c.in-Ok.message) c.self.view_is c.note.ensures.entries c.reserve.ensures.items
     c.call-2.ensures (ap Got c.in-Ok-share.ensures.copy) (omega (arith, c.reserve.ensures.len, c.reserve.ensures.capacity, c.note.ensures.spare)))

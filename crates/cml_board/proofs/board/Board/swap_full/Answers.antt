@@ -1,11 +1,11 @@
-use Rattle.std.proofs.Common.{refl, sym, ap, subst, ◌∙◌, ◌≡◌, reverse, Some, arith}
+use Rattle.std.proofs.Common.{refl, sym, ap, subst, ◌∙◌, ◌≡◌, reverse, Some, arith, ◌++◌}
 use Rattle.std.proofs.lemmas.Option.{same_Some}
 use Rattle.cml_board.specs.declared.call.Call.TheVariants.{Swap}
 use Rattle.cml_board.specs.declared.entry.Reply.TheVariants.{Got}
 use Rattle.cml_board.specs.Held.{held}
 use Rattle.cml_board.specs.Holdings.{seen_all, HasVariable, SetsHeld}
 use Rattle.cml_board.specs.Shown.{Shown}
-use Rattle.cml_board.proofs.Noting.{keeps_at, keeps_call, inside, applies_answered, adds_entry, noted_at}
+use Rattle.cml_board.proofs.Noting.{keeps_at, keeps_call, inside, applies_answered, adds_entry}
 use Rattle.cml_board.proofs.Holding.{swap_variable, answer_swapped, variable_stands, was_held}
 use Rattle.cml_board.proofs.Leaving.{swapped_sets}
 use Rattle.cml_board.proofs.Setting.{step_set}
@@ -36,7 +36,7 @@ invariant_of-self-2 g c =
     (ap (Swap c.args.name) c.in-Ok.ensures.copies.1) refl
     c.requires.room c.requires.fits (answer_swapped c.args.self.now.history c.args.name c.args.message told c.in-Ok-share_held.ensures.copy)
     (λ lawful shows. step_set chunk c.args.who (Swap c.args.name c.args.message) (Got told) c.args.name c.hold_at.result (Some c.args.message)
-    (reverse c.self.inside.journal.items) objects after (swapped_sets c.args.name c.args.message told) shows sets)
+    (reverse c.self.inside.journal.items ++ c.self.inside.past) objects after (swapped_sets c.args.name c.args.message told) shows sets)
 
 pub returns : goal.returns
 returns g c =
@@ -48,6 +48,6 @@ returns g c =
     applies_answered _ _ c.args.self.now _ c.args.who (Swap c.args.name c.args.message) c.note.result _ c.note.ensures.answer
     c.requires.fits c.requires.room (answer_swapped h c.args.name c.args.message c.in-Some.old full)
     refl
-    (noted_at c.self.view_is c.reserve.ensures.items)
+    c.entries-at.ensures
     (adds_entry c.args.who (Swap c.args.name c.args.message) (Swap c.args.name c.in-Ok.noted) (Got c.in-Ok-share_held.told) (Got c.in-Some.old) c.self.view_is c.note.ensures.entries c.reserve.ensures.items
     (ap (Swap c.args.name) c.in-Ok.ensures.copies.1) (ap Got same) (omega (arith, c.reserve.ensures.len, c.reserve.ensures.capacity, c.note.ensures.spare)))

@@ -1,4 +1,4 @@
-use Rattle.std.proofs.Common.{refl, sym, ap, ◌∙◌, ◌≡◌, reverse, arith}
+use Rattle.std.proofs.Common.{refl, sym, ap, ◌∙◌, ◌≡◌, reverse, arith, ◌++◌}
 use Rattle.std.proofs.lemmas.Option.{same_Some}
 use Rattle.cml_board.specs.declared.entry.Reply.TheVariants.{Got}
 use Rattle.cml_board.specs.Calls.{taking_call}
@@ -6,7 +6,7 @@ use Rattle.cml_board.specs.History.{owed}
 use Rattle.cml_board.specs.Holdings.{HasOwed, seen_all}
 use Rattle.cml_board.specs.Standing.{ReadsAt}
 use Rattle.cml_board.specs.Shown.{Shown}
-use Rattle.cml_board.proofs.Noting.{keeps_call, as_before, inside, refused, applies_answered, adds_entry, noted_at, unchanged, keeps_same}
+use Rattle.cml_board.proofs.Noting.{keeps_call, as_before, inside, refused, applies_answered, adds_entry, unchanged, keeps_same}
 use Rattle.cml_board.proofs.Answering.{answer_taken, some_owed, fits_taking}
 use Rattle.cml_board.proofs.Looking.{reads_owed, first_owed}
 use Rattle.cml_board.proofs.Stepping.{step_taken}
@@ -55,7 +55,7 @@ invariant_of-self-2 g c =
     c.call-2.ensures refl c.requires.room (fits_taking h c.args.taking c.args.name c.requires.reads.receiver)
     (answer_taken h c.args.taking c.args.name c.in-Ok.noted c.requires.reads.opened first)
     (λ lawful shows. rw c.advance_at.ensures
-    (step_taken chunk c.args.who c.args.taking c.args.name c.in-Ok.noted (reverse c.self.inside.journal.items) (seen_all g.L.MessageLog.log c.self.inside.objects.items) c.args.source.0 c.args.key shows reads.reads owes))
+    (step_taken chunk c.args.who c.args.taking c.args.name c.in-Ok.noted (reverse c.self.inside.journal.items ++ c.self.inside.past) (seen_all g.L.MessageLog.log c.self.inside.objects.items) c.args.source.0 c.args.key shows reads.reads owes))
 
 pub returns : goal.returns
 returns g c =
@@ -68,5 +68,5 @@ returns g c =
     (fits_taking h c.args.taking c.args.name c.requires.reads.receiver) c.requires.room
     (answer_taken h c.args.taking c.args.name c.in-Ok.message c.requires.reads.opened first)
     c.call-call.ensures
-    (noted_at c.self.view_is c.reserve.ensures.items)
+    c.entries-at.ensures
     (adds_entry c.args.who call c.call-2.result (Got c.in-Ok.noted) (Got c.in-Ok.message) c.self.view_is c.note.ensures.entries c.reserve.ensures.items c.call-2.ensures (ap Got same) (omega (arith, c.reserve.ensures.len, c.reserve.ensures.capacity, c.note.ensures.spare)))
