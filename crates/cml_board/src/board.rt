@@ -123,6 +123,7 @@ impl<M: Message, L: MessageLog<M>> Board<M, L> {
     /// board was made, which is as far as is counted.
     pub fn is_full(&self) -> bool
         ensures full { MatchBool result (entries_in self.now.history ≡ full_at self.now) (HasRoom self.now) }
+        ensures lawful { Lawful self.now.history }
     {
         self.journal.len() as u64 == self.limit || self.entries() == u64::MAX
     }

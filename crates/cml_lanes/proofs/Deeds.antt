@@ -28,7 +28,7 @@ module _ {M : Type 0} where
     feed_opened : (number : ℕ) (channel port : Name) (side : FeedSide M) → MakesPort number old.board new.board channel port → new.lanes ≡ old.lanes
         → new.feeds ≡ old.feeds ++ Some side ∷ [] → Deed old new
 
-  still : (old new : FloorShown M) → new ≡ old → Deed old new
+  pub still : (old new : FloorShown M) → new ≡ old → Deed old new
   still old new same =
       as_it_was (subst (λ (f : FloorShown M). IsAsBefore old.board f.board) (sym same) (unchanged old.board))
       (ap (λ (f : FloorShown M). f.lanes) same) (ap (λ (f : FloorShown M). f.feeds) same)

@@ -1,7 +1,9 @@
 -- What is closed or ended stays so over a run of calls, and gets no entry more.
-use Rattle.std.proofs.Common.{◌≡◌, ◌≢◌, ℕ, zero, suc, ◌<◌, ◌≤◌, Bool, true, false, List, [], ◌∷◌, ◌++◌, length, slice_get, slice_set, Option, Some, None, refl, sym, ap, ◌∙◌, arith}
+use Rattle.std.proofs.Common.{◌≡◌, ◌≢◌, ℕ, zero, suc, ◌<◌, ◌≤◌, Bool, true, false, List, [], ◌∷◌, ◌++◌, length, slice_get, slice_set, Option, Some, None, refl, sym, ap, ◌∙◌, arith, Result, Ok, Err}
 use Rattle.std.proofs.lemmas.Bool.{true≢false}
 use Rattle.std.proofs.lemmas.List.{length_push}
+use Rattle.std.specs.Prelude.{⊤}
+use Rattle.cml_board.specs.declared.outcome.Refusal.{Refusal}
 use Rattle.cml_board.specs.declared.call.Call.{Call}
 use Rattle.cml_board.specs.declared.call.Call.TheVariants.{NewPort}
 use Rattle.cml_board.specs.declared.entry.Who.TheVariants.{Seat, Feed}
@@ -15,12 +17,13 @@ use Rattle.cml_lanes.specs.Laned.{laned}
 use Rattle.cml_lanes.specs.Fed.{fed}
 use Rattle.cml_lanes.specs.Floor.{FloorShown, is_taken, is_open_lane, is_open_feed, OnPlace}
 use Rattle.cml_lanes.specs.Barring.{is_barred}
-use Rattle.cml_lanes.specs.Steps.{FloorCall, Apply, Reserve, OpenLane, Drain, CloseLane, CloseCounted, DropLane, AbandonLane, OpenFeed, Pump, EndFeed, AppliesSeat, IsCalled, AreCalled}
+use Rattle.cml_lanes.specs.Cutting.{CutsAFloor}
+use Rattle.cml_lanes.specs.Steps.{FloorCall, Apply, Reserve, OpenLane, Drain, CloseLane, CloseCounted, DropLane, AbandonLane, OpenFeed, Pump, EndFeed, Cut, TakeJournal, AppliesSeat, IsCalled, AreCalled}
 use Rattle.cml_lanes.proofs.Slots.{same_length}
 use Rattle.cml_lanes.proofs.Laning.{laned_other, laned_apart}
 use Rattle.cml_lanes.proofs.Feeding.{fed_other, fed_apart, laned_fed, fed_laned}
 use Rattle.cml_lanes.proofs.FeedOpens.{none_fed}
-use Rattle.cml_lanes.proofs.Deeds.{Deed, as_it_was, lane_drained, lane_gone, lane_opened, feed_pumped, feed_gone, feed_opened, reserves, opens_lane, drains, drops, abandons, closes, closes_counted, opens_feed, pumps, ends}
+use Rattle.cml_lanes.proofs.Deeds.{Deed, as_it_was, lane_drained, lane_gone, lane_opened, feed_pumped, feed_gone, feed_opened, still, reserves, opens_lane, drains, drops, abandons, closes, closes_counted, opens_feed, pumps, ends}
 
 module _ {Side : Type 0} where
   -- nothing comes to be in a place that was emptied, or in one that is another
@@ -162,6 +165,23 @@ module _ {M : Type 0} where
       (ap (λ (f : FloorShown M). laned f.board.history k) same, ap (λ (f : FloorShown M). fed f.board.history k) same)
   seat_same chunk sure old new seat call outcome k false is applies = seat_adds chunk sure old.board new.board seat call outcome k (applies.applied is)
 
+  -- a cut leaves all of it as it was
+  lane_cut : (k : ℕ) (old new : FloorShown M) (result : Result ⊤ Refusal) → k < length old.lanes → is_open_lane old k ≡ false → CutsAFloor old new result → LaneLasts k old new
+  lane_cut k old new (Ok done) within free told = record {
+    closed = same_stays k old.lanes new.lanes told.lanes free;
+    same = ap (λ h. laned h k) told.board.history;
+    many = omega (arith, ap length told.lanes);
+  }
+  lane_cut k old new (Err refusal) within free told = lane_lasts k old new within free (still old new told.2)
+
+  feed_cut : (k : ℕ) (old new : FloorShown M) (result : Result ⊤ Refusal) → k < length old.feeds → is_open_feed old k ≡ false → CutsAFloor old new result → FeedLasts k old new
+  feed_cut k old new (Ok done) within free told = record {
+    ended = same_stays k old.feeds new.feeds told.feeds free;
+    same = ap (λ h. fed h k) told.board.history;
+    many = omega (arith, ap length told.feeds);
+  }
+  feed_cut k old new (Err refusal) within free told = feed_lasts k old new within free (still old new told.2)
+
   -- by one call
   lane_once : (chunk : ℕ) (sure : Bool) (k : ℕ) (call : FloorCall M) (old new : FloorShown M) → k < length old.lanes → is_open_lane old k ≡ false → IsCalled chunk sure call old new
       → LaneLasts k old new
@@ -180,6 +200,8 @@ module _ {M : Type 0} where
   lane_once chunk sure k (OpenFeed channel capacity result) old new within free told = lane_lasts k old new within free (opens_feed chunk sure old new channel capacity result told)
   lane_once chunk sure k (Pump feed result) old new within free told = lane_lasts k old new within free (pumps chunk sure feed old new result told)
   lane_once chunk sure k (EndFeed feed result) old new within free told = lane_lasts k old new within free (ends feed old new result told)
+  lane_once chunk sure k (Cut result) old new within free told = lane_cut k old new result within free told.0
+  lane_once chunk sure k (TakeJournal result) old new within free told = lane_cut k old new result within free told
 
   feed_once : (chunk : ℕ) (sure : Bool) (k : ℕ) (call : FloorCall M) (old new : FloorShown M) → k < length old.feeds → is_open_feed old k ≡ false → IsCalled chunk sure call old new
       → FeedLasts k old new
@@ -198,6 +220,8 @@ module _ {M : Type 0} where
   feed_once chunk sure k (OpenFeed channel capacity result) old new within free told = feed_lasts k old new within free (opens_feed chunk sure old new channel capacity result told)
   feed_once chunk sure k (Pump feed result) old new within free told = feed_lasts k old new within free (pumps chunk sure feed old new result told)
   feed_once chunk sure k (EndFeed feed result) old new within free told = feed_lasts k old new within free (ends feed old new result told)
+  feed_once chunk sure k (Cut result) old new within free told = feed_cut k old new result within free told.0
+  feed_once chunk sure k (TakeJournal result) old new within free told = feed_cut k old new result within free told
 
   -- over a run
   pub lanes_last : (chunk : ℕ) (sure : Bool) (calls : List (FloorCall M)) (old new : FloorShown M) (k : ℕ) → AreCalled chunk sure calls old new → k < length old.lanes

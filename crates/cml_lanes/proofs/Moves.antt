@@ -9,8 +9,8 @@ use Rattle.cml_board.specs.declared.entry.Reply.{Reply}
 use Rattle.cml_board.specs.declared.entry.Reply.TheVariants.{Done}
 use Rattle.cml_board.specs.declared.outcome.Refusal.{Refusal}
 use Rattle.cml_board.specs.declared.outcome.Refusal.TheVariants.{Gone, Busy, NoSuch, WrongKind, JournalFull, Stalled, NoMemory, Unseen}
-use Rattle.cml_board.specs.History.{kind_of, answer, Fits}
-use Rattle.cml_board.specs.Shown.{Shown}
+use Rattle.cml_board.specs.History.{entries_in, kind_of, answer, Fits}
+use Rattle.cml_board.specs.Shown.{Shown, full_at}
 use Rattle.cml_board.specs.Outcome.{IsAsBefore, AddsEntry, Refuses, HasRoom}
 use Rattle.cml_board.proofs.Sparing.{call_takes}
 use Rattle.cml_lanes.specs.Sides.{LaneSide, way_call, way_kind}
@@ -37,7 +37,7 @@ first_is {X} {xs} {ys} {x} {y} all first = same_Some y x (sym first ∙ ap (λ z
 
 module _ {M : Type 0} where
   pub unchanged : (board : Shown M) → IsAsBefore board board
-  unchanged board = record { history = refl; limit = refl; objects = refl; reserved = omega arith }
+  unchanged board = record { history = refl; past = refl; limit = refl; objects = refl; reserved = omega arith }
 
   -- none were moved
   pub none_move : (number : ℕ) (board : Shown M) (side : LaneSide M) → MovesOut number 0 board board side side
@@ -45,6 +45,7 @@ module _ {M : Type 0} where
     moved = [];
     as_many = refl;
     history = refl;
+    past = refl;
     limit = refl;
     reserved = omega arith;
     side = ap (λ received. record side { received = received }) (sym (append-nil side.received));
@@ -65,6 +66,7 @@ module _ {M : Type 0} where
         history = adds.history ∙ ap (λ c. record { who = Lane number; call = c; reply = reply } ∷ old.history) call_is
             ∙ ap (λ r. record { who = Lane number; call = way_call from.way from.target message; reply = r } ∷ old.history) replied
             ∙ ap (λ m. lane_entry number from.way from.target m ∷ old.history) same;
+        past = adds.past;
         limit = adds.limit;
         reserved = adds.reserved;
         side = side;
@@ -81,6 +83,7 @@ module _ {M : Type 0} where
         ∙ ap (λ (side : LaneSide M). with_lane number side.way side.target b.moved mid.history) a.side
         ∙ ap (λ h. with_lane number from.way from.target b.moved h) a.history
         ∙ sym (with_lane_more number from.way from.target a.moved b.moved old.history);
+    past = b.past ∙ a.past;
     limit = b.limit ∙ a.limit;
     reserved = omega (arith, a.reserved, b.reserved, sum);
     side = b.side
@@ -117,7 +120,7 @@ module _ {M : Type 0} where
 
   -- the journal is full
   pub stops_full : (chunk : ℕ) (sure : Bool) (number : ℕ) (board : Shown M) (side : LaneSide M) → KeepsLane board.history number side
-      → 0 < length side.seen → length board.history ≡ board.limit → Stops chunk sure number 0 board board side side JournalFull
+      → 0 < length side.seen → entries_in board.history ≡ full_at board → Stops chunk sure number 0 board board side side JournalFull
   stops_full chunk sure number board side keeps some full =
       let first = some_first side.seen some in
       stops_first chunk sure number board board side JournalFull first.0 (unchanged board) first.1 tt (fits_way board.history side.way side.target first.0 keeps.kind, full)
@@ -169,6 +172,7 @@ module _ {M : Type 0} where
     moved = s.moves.moved;
     as_many = s.moves.as_many;
     history = s.after.history ∙ s.moves.history;
+    past = s.after.past ∙ s.moves.past;
     limit = s.after.limit ∙ s.moves.limit;
     reserved = omega (arith, s.moves.reserved, s.after.reserved);
     side = s.moves.side;

@@ -21,6 +21,7 @@ module _ {M : Type 0} where
         ∙ ap (λ (side : FeedSide M). with_feed number side.port b.pumped mid.history) a.side
         ∙ ap (λ h. with_feed number from.port b.pumped h) a.history
         ∙ sym (with_feed_more number from.port a.pumped b.pumped old.history);
+    past = b.past ∙ a.past;
     limit = b.limit ∙ a.limit;
     reserved = omega (arith, a.reserved, b.reserved, sum);
     side = b.side
@@ -53,6 +54,7 @@ module _ {M : Type 0} where
     pumped = b.pumps.pumped;
     as_many = b.pumps.as_many;
     history = b.after.history ∙ b.pumps.history;
+    past = b.after.past ∙ b.pumps.past;
     limit = b.after.limit ∙ b.pumps.limit;
     reserved = omega (arith, b.pumps.reserved, b.after.reserved);
     side = b.pumps.side;

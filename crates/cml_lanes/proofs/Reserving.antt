@@ -1,5 +1,7 @@
 -- What was reserved lasts over a run of a floor's calls.
-use Rattle.std.proofs.Common.{◌≡◌, ℕ, ◌+◌, ◌<◌, ◌≤◌, Bool, true, false, List, [], ◌∷◌, length, slice_get, Some, refl, subst, ap, ◌∙◌, arith}
+use Rattle.std.proofs.Common.{◌≡◌, ℕ, ◌+◌, ◌<◌, ◌≤◌, Bool, true, false, List, [], ◌∷◌, length, slice_get, Some, refl, subst, ap, ◌∙◌, arith, not, Result, Ok, Err, false≢true}
+use Rattle.std.specs.Prelude.{⊤}
+use Rattle.std.proofs.lemmas.Bool.{and_parts}
 use Rattle.cml_board.specs.declared.call.Call.{Call}
 use Rattle.cml_board.specs.declared.call.Call.TheVariants.{Recv}
 use Rattle.cml_board.specs.declared.call.Name.{Name}
@@ -7,6 +9,7 @@ use Rattle.cml_board.specs.declared.entry.Entry.{Entry}
 use Rattle.cml_board.specs.declared.entry.Who.{Who}
 use Rattle.cml_board.specs.declared.outcome.Outcome.{Outcome}
 use Rattle.cml_board.specs.declared.outcome.Outcome.TheVariants.{Answered, WouldWait, Refused}
+use Rattle.cml_board.specs.declared.outcome.Refusal.{Refusal}
 use Rattle.cml_board.specs.declared.outcome.Refusal.TheVariants.{NoMemory}
 use Rattle.cml_board.specs.History.{entries_in}
 use Rattle.cml_board.specs.Shown.{Shown}
@@ -24,8 +27,9 @@ use Rattle.cml_lanes.specs.Barring.{is_barred}
 use Rattle.cml_lanes.specs.Lanes.{HoldsUp}
 use Rattle.cml_lanes.specs.Feeds.{Starves}
 use Rattle.cml_lanes.specs.Reserving.{added_since, TakesEntryAlone, LaneTakesEntryAlone, FeedTakesEntryAlone}
-use Rattle.cml_lanes.specs.Steps.{FloorCall, Apply, Reserve, OpenLane, Drain, CloseLane, CloseCounted, DropLane, AbandonLane, OpenFeed, Pump, EndFeed, AppliesSeat, IsCalled, AreCalled}
-use Rattle.cml_lanes.proofs.Deeds.{Deed, as_it_was, lane_drained, lane_gone, lane_opened, feed_pumped, feed_gone, feed_opened, reserves, opens_lane, drains, drops, abandons, closes, closes_counted, opens_feed, pumps, ends}
+use Rattle.cml_lanes.specs.Cutting.{CutsAFloor}
+use Rattle.cml_lanes.specs.Steps.{FloorCall, Apply, Reserve, OpenLane, Drain, CloseLane, CloseCounted, DropLane, AbandonLane, OpenFeed, Pump, EndFeed, Cut, TakeJournal, AppliesSeat, IsCalled, AreCalled, takes_journal, keeps_journal}
+use Rattle.cml_lanes.proofs.Deeds.{Deed, as_it_was, lane_drained, lane_gone, lane_opened, feed_pumped, feed_gone, feed_opened, still, reserves, opens_lane, drains, drops, abandons, closes, closes_counted, opens_feed, pumps, ends}
 
 module _ {M : Type 0} where
   pub lane_entries : (number : ℕ) (way : Way) (target : Name) (messages : List M) (history : List (Entry M))
@@ -101,30 +105,41 @@ module _ {M : Type 0} where
   lasts_asked chunk sure old new seat call outcome true is applies = lasts_same old.board new.board (ap (λ (f : FloorShown M). f.board) (applies.barred is).1)
   lasts_asked chunk sure old new seat call outcome false is applies = lasts_applied chunk sure old.board new.board _ call outcome (applies.applied is)
 
+  -- by a cut that keeps the journal's memory
+  lasts_cut : (old new : FloorShown M) (result : Result ⊤ Refusal) → CutsAFloor old new result → old.board.reserved ≤ new.board.reserved → Lasts old.board new.board
+  lasts_cut old new (Ok done) told kept = record {
+    grown = omega (arith, ap entries_in told.board.history);
+    kept = omega (arith, ap entries_in told.board.history, kept);
+  }
+  lasts_cut old new (Err refusal) told kept = lasts_done old new (still old new told.2)
+
   -- by one call
-  lasts_once : (chunk : ℕ) (sure : Bool) (call : FloorCall M) (old new : FloorShown M) → IsCalled chunk sure call old new → Lasts old.board new.board
-  lasts_once chunk sure (Apply seat call outcome) old new told = lasts_asked chunk sure old new seat call outcome (is_barred old.feeds call) refl told
-  lasts_once chunk sure (Reserve n result) old new told = lasts_done old new (reserves old new n result told)
-  lasts_once chunk sure (OpenLane target capacity result) old new told = lasts_done old new (opens_lane old new target capacity result told)
-  lasts_once chunk sure (Drain lane result) old new told = lasts_done old new (drains chunk sure lane old new result told)
-  lasts_once chunk sure (CloseLane end result) old new told = lasts_done old new (closes chunk sure old new end result told)
-  lasts_once chunk sure (CloseCounted end result) old new told = lasts_done old new (closes_counted chunk sure old new end result told)
-  lasts_once chunk sure (DropLane lane result) old new told = lasts_done old new (drops chunk sure lane old new result told)
-  lasts_once chunk sure (AbandonLane lane result) old new told = lasts_done old new (abandons lane old new result told)
-  lasts_once chunk sure (OpenFeed channel capacity result) old new told = lasts_done old new (opens_feed chunk sure old new channel capacity result told)
-  lasts_once chunk sure (Pump feed result) old new told = lasts_done old new (pumps chunk sure feed old new result told)
-  lasts_once chunk sure (EndFeed feed result) old new told = lasts_done old new (ends feed old new result told)
+  lasts_once : (chunk : ℕ) (sure : Bool) (call : FloorCall M) (old new : FloorShown M) → not (takes_journal call) ≡ true → IsCalled chunk sure call old new → Lasts old.board new.board
+  lasts_once chunk sure (Apply seat call outcome) old new keeps told = lasts_asked chunk sure old new seat call outcome (is_barred old.feeds call) refl told
+  lasts_once chunk sure (Reserve n result) old new keeps told = lasts_done old new (reserves old new n result told)
+  lasts_once chunk sure (OpenLane target capacity result) old new keeps told = lasts_done old new (opens_lane old new target capacity result told)
+  lasts_once chunk sure (Drain lane result) old new keeps told = lasts_done old new (drains chunk sure lane old new result told)
+  lasts_once chunk sure (CloseLane end result) old new keeps told = lasts_done old new (closes chunk sure old new end result told)
+  lasts_once chunk sure (CloseCounted end result) old new keeps told = lasts_done old new (closes_counted chunk sure old new end result told)
+  lasts_once chunk sure (DropLane lane result) old new keeps told = lasts_done old new (drops chunk sure lane old new result told)
+  lasts_once chunk sure (AbandonLane lane result) old new keeps told = lasts_done old new (abandons lane old new result told)
+  lasts_once chunk sure (OpenFeed channel capacity result) old new keeps told = lasts_done old new (opens_feed chunk sure old new channel capacity result told)
+  lasts_once chunk sure (Pump feed result) old new keeps told = lasts_done old new (pumps chunk sure feed old new result told)
+  lasts_once chunk sure (EndFeed feed result) old new keeps told = lasts_done old new (ends feed old new result told)
+  lasts_once chunk sure (Cut result) old new keeps told = lasts_cut old new result told.0 told.1
+  lasts_once chunk sure (TakeJournal result) old new keeps told = absurd (false≢true keeps)
 
   -- over a run
-  pub lasts_all : (chunk : ℕ) (sure : Bool) (calls : List (FloorCall M)) (old new : FloorShown M) → AreCalled chunk sure calls old new → Lasts old.board new.board
-  lasts_all chunk sure [] old new same = lasts_same old.board new.board (ap (λ (f : FloorShown M). f.board) same)
-  lasts_all chunk sure (call ∷ later) old new run =
-      lasts_on old.board run.0.board new.board (lasts_once chunk sure call old run.0 run.1) (lasts_all chunk sure later run.0 new run.2)
+  pub lasts_all : (chunk : ℕ) (sure : Bool) (calls : List (FloorCall M)) (old new : FloorShown M) → AreCalled chunk sure calls old new → keeps_journal calls ≡ true → Lasts old.board new.board
+  lasts_all chunk sure [] old new same keeps = lasts_same old.board new.board (ap (λ (f : FloorShown M). f.board) same)
+  lasts_all chunk sure (call ∷ later) old new run keeps =
+      let both = and_parts (not (takes_journal call)) (keeps_journal later) keeps in
+      lasts_on old.board run.0.board new.board (lasts_once chunk sure call old run.0 both.0 run.1) (lasts_all chunk sure later run.0 new run.2 both.1)
 
-  pub reserved_lasts : (chunk : ℕ) (sure : Bool) (calls : List (FloorCall M)) (old new : FloorShown M) → AreCalled chunk sure calls old new
+  pub reserved_lasts : (chunk : ℕ) (sure : Bool) (calls : List (FloorCall M)) (old new : FloorShown M) → AreCalled chunk sure calls old new → keeps_journal calls ≡ true
       → old.board.reserved ≤ new.board.reserved + added_since old.board new.board
-  reserved_lasts chunk sure calls old new run =
-      let all = lasts_all chunk sure calls old new run in
+  reserved_lasts chunk sure calls old new run keeps =
+      let all = lasts_all chunk sure calls old new run keeps in
       omega (arith, all.grown, all.kept)
 
   -- a call that takes its entry alone is spared while fewer entries were added than reserved
@@ -148,11 +163,11 @@ module _ {M : Type 0} where
   seat_served chunk sure old new after seat call back false is lasts fewer takes = λ applies.
       (applies.applied is).0.3 (spared chunk sure old new.board new.board call lasts refl fewer takes)
 
-  pub seats_served : (chunk : ℕ) (sure : Bool) (calls : List (FloorCall M)) (old new after : FloorShown M) (seat : ℕ) (call back : Call M) → AreCalled chunk sure calls old new
+  pub seats_served : (chunk : ℕ) (sure : Bool) (calls : List (FloorCall M)) (old new after : FloorShown M) (seat : ℕ) (call back : Call M) → AreCalled chunk sure calls old new → keeps_journal calls ≡ true
       → added_since old.board new.board < old.board.reserved → TakesEntryAlone chunk sure new.board.history call
       → ¬ (AppliesSeat chunk sure seat call new after (Refused NoMemory back))
-  seats_served chunk sure calls old new after seat call back run =
-      seat_served chunk sure old.board new after seat call back (is_barred new.feeds call) refl (lasts_all chunk sure calls old new run)
+  seats_served chunk sure calls old new after seat call back run keeps =
+      seat_served chunk sure old.board new after seat call back (is_barred new.feeds call) refl (lasts_all chunk sure calls old new run keeps)
 
   -- nor does want of memory stop a lane or a feed
   pub lane_served : (chunk : ℕ) (sure : Bool) (old : Shown M) (new after : FloorShown M) (lane count : ℕ) → Lasts old new.board
@@ -164,9 +179,9 @@ module _ {M : Type 0} where
       let now = lasts_on old new.board stops.at lasts (lasts_moved lane count new.board stops.at held.place.does.looked to stops.moves) in
       stops.refused.3 (spared chunk sure old stops.at after.board (way_call to.way to.target stops.message) now stops.after.history fewer (takes to stops.message stays stops.next))
 
-  pub lanes_served : (chunk : ℕ) (sure : Bool) (calls : List (FloorCall M)) (old new after : FloorShown M) (lane count : ℕ) → AreCalled chunk sure calls old new
+  pub lanes_served : (chunk : ℕ) (sure : Bool) (calls : List (FloorCall M)) (old new after : FloorShown M) (lane count : ℕ) → AreCalled chunk sure calls old new → keeps_journal calls ≡ true
       → added_since old.board after.board < old.board.reserved → LaneTakesEntryAlone chunk sure after lane → ¬ (HoldsUp chunk sure lane count new after NoMemory)
-  lanes_served chunk sure calls old new after lane count run = lane_served chunk sure old.board new after lane count (lasts_all chunk sure calls old new run)
+  lanes_served chunk sure calls old new after lane count run keeps = lane_served chunk sure old.board new after lane count (lasts_all chunk sure calls old new run keeps)
 
   pub feed_served : (chunk : ℕ) (sure : Bool) (old : Shown M) (new after : FloorShown M) (feed count : ℕ) → Lasts old new.board
       → added_since old after.board < old.reserved → FeedTakesEntryAlone chunk sure after feed → ¬ (Starves chunk sure feed count new after NoMemory)
@@ -177,6 +192,6 @@ module _ {M : Type 0} where
       let now = lasts_on old new.board balks.at lasts (lasts_pumped feed count new.board balks.at starved.place.does.looked to balks.pumps) in
       balks.refused.3 (spared chunk sure old balks.at after.board (Recv to.port) now balks.after.history fewer (takes to stays))
 
-  pub feeds_served : (chunk : ℕ) (sure : Bool) (calls : List (FloorCall M)) (old new after : FloorShown M) (feed count : ℕ) → AreCalled chunk sure calls old new
+  pub feeds_served : (chunk : ℕ) (sure : Bool) (calls : List (FloorCall M)) (old new after : FloorShown M) (feed count : ℕ) → AreCalled chunk sure calls old new → keeps_journal calls ≡ true
       → added_since old.board after.board < old.board.reserved → FeedTakesEntryAlone chunk sure after feed → ¬ (Starves chunk sure feed count new after NoMemory)
-  feeds_served chunk sure calls old new after feed count run = feed_served chunk sure old.board new after feed count (lasts_all chunk sure calls old new run)
+  feeds_served chunk sure calls old new after feed count run keeps = feed_served chunk sure old.board new after feed count (lasts_all chunk sure calls old new run keeps)

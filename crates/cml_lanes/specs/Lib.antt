@@ -11,4 +11,5 @@ pub mod Barring
 pub mod Slots
 pub mod Feeds
 pub mod Reserving
+pub mod Cutting
 pub mod Steps

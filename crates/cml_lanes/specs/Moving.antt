@@ -29,6 +29,7 @@ module _ {M : Type 0} where
     pub moved : List M
     pub as_many : length moved ≡ count
     pub history : new.history ≡ with_lane number from.way from.target moved old.history
+    pub past : new.past ≡ old.past
     pub limit : new.limit ≡ old.limit
     pub reserved : old.reserved ≤ new.reserved + count
     pub side : to ≡ record from { received = from.received ++ moved; seen = to.seen }

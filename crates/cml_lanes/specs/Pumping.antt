@@ -27,6 +27,7 @@ module _ {M : Type 0} where
     pub pumped : List M
     pub as_many : length pumped ≡ count
     pub history : new.history ≡ with_feed number from.port pumped old.history
+    pub past : new.past ≡ old.past
     pub limit : new.limit ≡ old.limit
     pub reserved : old.reserved ≤ new.reserved + count
     pub side : to ≡ record from { pushed = from.pushed ++ pumped; free = to.free }

@@ -1,5 +1,5 @@
 -- A run of a floor's calls.
-use Rattle.std.specs.Prelude.{ℕ, ◌≡◌, Bool, true, false, List, [], ◌∷◌, Option, Result, ⊤}
+use Rattle.std.specs.Prelude.{ℕ, ◌≡◌, ◌≤◌, Bool, true, false, not, ◌&&◌, List, [], ◌∷◌, Option, Result, ⊤}
 use Rattle.cml_board.specs.declared.call.Name.{Name}
 use Rattle.cml_board.specs.declared.call.Call.{Call}
 use Rattle.cml_board.specs.declared.entry.Who.TheVariants.{Seat}
@@ -14,6 +14,7 @@ use Rattle.cml_lanes.specs.Barring.{is_barred}
 use Rattle.cml_lanes.specs.Lanes.{OpensALane, Drains, Closes, ClosesCounted, Drops, Abandons}
 use Rattle.cml_lanes.specs.Feeds.{OpensAFeed, Pumps, Ends}
 use Rattle.cml_lanes.specs.Reserving.{Reserves}
+use Rattle.cml_lanes.specs.Cutting.{CutsAFloor}
 
 -- a call of a floor, what it was given, and what it told
 pub data FloorCall (M : Type 0) : Type 0 where
@@ -28,6 +29,8 @@ pub data FloorCall (M : Type 0) : Type 0 where
   OpenFeed : Name → ℕ → Result (FeedShown M × ℕ) Refusal → FloorCall M
   Pump : ℕ → Result ℕ Refusal → FloorCall M
   EndFeed : ℕ → Result (Option (Ended M)) Refusal → FloorCall M
+  Cut : Result ⊤ Refusal → FloorCall M
+  TakeJournal : Result ⊤ Refusal → FloorCall M
 
 module _ {M : Type 0} where
   -- a seat's call: an open feed bars it, or this is what becomes of it on the board; no lane or feed is changed
@@ -50,6 +53,18 @@ module _ {M : Type 0} where
   IsCalled chunk sure (OpenFeed channel capacity result) old new = OpensAFeed chunk sure old new channel capacity result
   IsCalled chunk sure (Pump feed result) old new = Pumps chunk sure feed old new result
   IsCalled chunk sure (EndFeed feed result) old new = Ends feed old new result
+  IsCalled chunk sure (Cut result) old new = CutsAFloor old new result × (old.board.reserved ≤ new.board.reserved)
+  IsCalled chunk sure (TakeJournal result) old new = CutsAFloor old new result
+
+  -- the call hands the journal over, and with it the memory that stood reserved
+  abbrev pub takes_journal : FloorCall M → Bool
+  takes_journal (TakeJournal result) = true
+  takes_journal call = false
+
+  -- none of the calls does
+  abbrev pub keeps_journal : List (FloorCall M) → Bool
+  keeps_journal [] = true
+  keeps_journal (call ∷ later) = not (takes_journal call) && keeps_journal later
 
   -- the calls were made in turn, and this became of the floor
   abbrev pub AreCalled : ℕ → Bool → List (FloorCall M) → FloorShown M → FloorShown M → Type 0

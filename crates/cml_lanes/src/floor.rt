@@ -1,4 +1,4 @@
-ghost use Rattle.std.specs.Prelude.{◌≡◌, true, false, [], length, slice_set, None, count_by, is_some};
+ghost use Rattle.std.specs.Prelude.{◌≡◌, ◌≤◌, true, false, [], ◌++◌, length, reverse, slice_set, None, count_by, is_some, MatchBool, MatchResult, IfOk};
 ghost use Rattle.cml_board.specs.declared.entry.Who.TheVariants.{Seat};
 ghost use Rattle.cml_board.specs.declared.outcome.Outcome.TheVariants.{Refused};
 ghost use Rattle.cml_board.specs.declared.outcome.Refusal.TheVariants.{WrongKind};
@@ -9,6 +9,7 @@ ghost use Rattle.cml_lanes.specs.Floor.{is_open_lane, is_open_feed, stays, OnLan
 ghost use Rattle.cml_lanes.specs.Slots.{DrainsUntil};
 ghost use Rattle.cml_lanes.specs.Barring.{is_barred};
 ghost use Rattle.cml_lanes.specs.Reserving.{Reserves};
+ghost use Rattle.cml_lanes.specs.Cutting.{CutsAFloor, CutsFloor, NotCut, IsBusy};
 
 mod feeds;
 mod lanes;
@@ -16,7 +17,7 @@ mod lanes;
 use crate::feed_slots::FeedSlots;
 use crate::lane::LaneEnd;
 use crate::lane_slots::LaneSlots;
-use cml_board::{Board, Call, Message, Outcome, Refusal, Who};
+use cml_board::{Board, Call, Entry, Message, Outcome, Refusal, Who};
 use cml_log::MessageLog;
 use std::alloc::Global;
 use std::marker::Model;
@@ -118,6 +119,38 @@ impl<M: Message, L: MessageLog<M>> Floor<M, L> {
             Ok(()) => Ok(()),
             Err(_) => Err(Refusal::NoMemory),
         }
+    }
+
+    /// Cuts the board's journal, as `Board::cut` does. The only refusal is `Busy`, where a lane or a feed is open: what the
+    /// journal has of an open one goes on.
+    pub fn cut(&mut self) -> Result<(), Refusal>
+        ensures cut { CutsAFloor self.old self.new result }
+        ensures reserved { self.old.board.reserved ≤ self.new.board.reserved }
+        ensures rings { KeepsRings self.old self.new }
+    {
+        if self.is_busy() {
+            return Err(Refusal::Busy);
+        }
+        self.board.cut();
+        Ok(())
+    }
+
+    /// Cuts the journal and hands over the entries that it had, as `Board::take_journal` does; refused as `cut` is.
+    pub fn take_journal(&mut self) -> Result<Vec<Entry<M>>, Refusal>
+        ensures taken { IfOk result (λ taken. reverse taken.items ++ self.old.board.past ≡ self.old.board.history) }
+        ensures cut { MatchResult result (λ _. CutsFloor self.old self.new) (NotCut self.old self.new) }
+        ensures rings { KeepsRings self.old self.new }
+    {
+        if self.is_busy() {
+            return Err(Refusal::Busy);
+        }
+        Ok(self.board.take_journal())
+    }
+
+    fn is_busy(&self) -> bool
+        ensures { MatchBool result (IsBusy self.now) ((count_by is_some self.now.lanes ≡ 0) × (count_by is_some self.now.feeds ≡ 0)) }
+    {
+        self.open_lanes() > 0 || self.open_feeds() > 0
     }
 
     fn has_lane(&self, lane: u64) -> bool

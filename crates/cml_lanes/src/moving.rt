@@ -78,7 +78,7 @@ fn move_next<M: Message, L: MessageLog<M>>(
     ensures stopped { IfSome result (λ refusal. Stops L.CHUNK M.SURE number 0 board.old board.new lane.old lane.new refusal) }
 {
     // A full journal is told before any memory is asked for.
-    if board.journal().len() as u64 == board.limit() {
+    if board.is_full() {
         return Some(Refusal::JournalFull);
     }
     let Ok(message) = lane.next().share(alloc) else {

@@ -96,7 +96,7 @@ fn port_refusal<M: Message, L: MessageLog<M>>(board: &Board<M, L>, channel: Name
     if kind != Kind::Channel {
         return Some(Refusal::WrongKind);
     }
-    if board.journal().len() as u64 == board.limit() {
+    if board.is_full() {
         return Some(Refusal::JournalFull);
     }
     None

@@ -1,22 +1,29 @@
-use Rattle.std.proofs.Common.{ap, ◌∙◌, arith, length}
-use Rattle.std.proofs.lemmas.List.{length-reverse}
+use Rattle.std.proofs.Common.{ap, ◌+◌, ◌∙◌, arith, length}
+use Rattle.std.proofs.Math.Nat.{min-le_right}
+use Rattle.cml_board.specs.History.{entries_in}
 use Rattle.cml_lanes.proofs.Laning.{laned_within, same_way_call}
 use Rattle.cml_lanes.proofs.Moves.{stops_full, stops_unshared, stops_refused, one_moves}
 use Rattle.cml_lanes.proofs.moving.move_next.Goals as goal
 
-pub returns-then-journal-limit-clause-stopped : goal.returns-then-journal-limit-clause-stopped
-returns-then-journal-limit-clause-stopped g c =
+pub returns-then-is_full-clause-stopped : goal.returns-then-is_full-clause-stopped
+returns-then-is_full-clause-stopped g c =
     stops_full g.L.MessageLog.CHUNK g.M.Message.SURE c.args.number c.args.board.now c.args.lane.now c.requires.kept c.requires.seen
-    (omega (arith, ap length c.journal.ensures.entries, length-reverse c.args.board.now.history, c.if-journal-limit.true, c.limit.ensures.limit))
+    (rw c.if-is_full.true at c.is_full.ensures.full)
 
 pub returns-in_default-clause-stopped : goal.returns-in_default-clause-stopped
 returns-in_default-clause-stopped g c =
     stops_unshared g.L.MessageLog.CHUNK g.M.Message.SURE c.args.number c.args.board.now c.args.lane.now c.requires.kept c.requires.seen
-    (omega (arith, ap length c.journal.ensures.entries, length-reverse c.args.board.now.history, c.journal.ensures.room, c.if-journal-limit.false, c.limit.ensures.limit)) c.in_default.ensures.sure
+    (rw c.if-is_full.false at c.is_full.ensures.full) c.in_default.ensures.sure
 
 pub take-requires-clause-countable : goal.take-requires-clause-countable
 take-requires-clause-countable g c =
-    omega (arith, ap length c.requires.kept.laned, laned_within c.args.board.now.history c.args.number, c.journal.ensures.room, c.limit.ensures.limit, c.limit.ensures.bounded)
+    omega (
+      arith,
+      ap length c.requires.kept.laned,
+      laned_within c.args.board.now.history c.args.number,
+      rw c.if-is_full.false at c.is_full.ensures.full,
+      min-le_right (entries_in c.args.board.now.past + c.args.board.now.limit) 18446744073709551615,
+    )
 
 pub returns-in-Answered-clause-moved : goal.returns-in-Answered-clause-moved
 returns-in-Answered-clause-moved g c =
