@@ -33,7 +33,7 @@ module _ {M : Type 0} where
   least_of_other history source n other = cond-false (reads history source n) _ _ other
 
   -- the told place is no later than the end
-  least_of-le_end : (history : List (Entry M)) (source n : ℕ) → least_of history source n ≤ length (sent history source)
+  pub least_of-le_end : (history : List (Entry M)) (source n : ℕ) → least_of history source n ≤ length (sent history source)
   least_of-le_end history source zero = omega arith
   least_of-le_end history source (suc n) = elim (cases_Bool (reads history source n)) [
     | inl reader ↦ omega (arith, least_of_reads history source n reader, least_of-le_end history source n)
@@ -41,7 +41,7 @@ module _ {M : Type 0} where
   ]
 
   -- nor than that of an object that reads
-  least_of-le_place : (history : List (Entry M)) (source n k : ℕ) → k < n → reads history source k ≡ true → least_of history source n ≤ place history k
+  pub least_of-le_place : (history : List (Entry M)) (source n k : ℕ) → k < n → reads history source k ≡ true → least_of history source n ≤ place history k
   least_of-le_place history source zero k below reader = absurd (omega arith)
   least_of-le_place history source (suc n) k below reader = elim (cases_Bool (reads history source n)) [
     | inl last ↦ elim (cases_eq k n) [
@@ -57,7 +57,7 @@ module _ {M : Type 0} where
   ]
 
   -- a bound that is no later than those is no later than it
-  least_of-ge : (history : List (Entry M)) (source bound n : ℕ) → bound ≤ length (sent history source)
+  pub least_of-ge : (history : List (Entry M)) (source bound n : ℕ) → bound ≤ length (sent history source)
       → ((k : ℕ) → k < n → reads history source k ≡ true → bound ≤ place history k) → bound ≤ least_of history source n
   least_of-ge history source bound zero end below = end
   least_of-ge history source bound (suc n) end below =
@@ -144,7 +144,7 @@ module _ {M : Type 0} where
       ∙ ap (λ p. length (sent history source) - p) (first_is_told chunk history objects source log shows found)
 
   -- an object that is told to read a log was made
-  reader_made : (history : List (Entry M)) (source name : ℕ) → reads history source name ≡ true → name < length (made history)
+  pub reader_made : (history : List (Entry M)) (source name : ℕ) → reads history source name ≡ true → name < length (made history)
   reader_made history source name reader = by_origin (origin_of history name) refl reader
     where
       by_origin : (origin : Option Origin) → origin_of history name ≡ origin → reads_by name origin (is_open history name) source ≡ true → name < length (made history)

@@ -29,3 +29,6 @@ pub mod Finding
 pub mod Counting
 pub mod Closing
 pub mod Making
+pub mod Splitting
+pub mod Resuming
+pub mod Trailing

@@ -13,7 +13,7 @@ use Rattle.cml_board.specs.History.{Lawful, answer, made, if_made, begun_by, ori
 use Rattle.cml_board.proofs.Unmade.{untold, unmade_got}
 
 -- what stands in a list stays there where more follows
-slice_get-append_within : {X : Type 0} (xs ys : List X) (i : ℕ) → i < length xs → slice_get (xs ++ ys) i ≡ slice_get xs i
+pub slice_get-append_within : {X : Type 0} (xs ys : List X) (i : ℕ) → i < length xs → slice_get (xs ++ ys) i ≡ slice_get xs i
 slice_get-append_within [] ys i within = absurd (omega arith)
 slice_get-append_within (x ∷ xs) ys zero within = refl
 slice_get-append_within (x ∷ xs) ys (suc i) within = slice_get-append_within xs ys i (omega arith)

@@ -79,7 +79,7 @@ module _ {M : Type 0} where
       let told = untold before entry.call entry.reply k lawful.0.0 earlier in
       ap (λ b. b && not (closes entry.call entry.reply k)) (unmade_opened before k lawful.2 earlier) ∙ ap (λ b. not b) told.2
 
-  unmade_sent : (history : List (Entry M)) (k : ℕ) → Lawful history → length (made history) ≤ k → sent history k ≡ []
+  pub unmade_sent : (history : List (Entry M)) (k : ℕ) → Lawful history → length (made history) ≤ k → sent history k ≡ []
   unmade_sent [] k lawful past = refl
   unmade_sent (entry ∷ before) k lawful past =
       let earlier = unmade_before entry before k past in

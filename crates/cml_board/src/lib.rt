@@ -2,6 +2,7 @@
 #![tactic(auto)]
 
 mod answer;
+mod base_laws;
 mod board;
 mod call;
 mod checking;
@@ -14,6 +15,7 @@ mod past;
 mod want;
 
 pub use answer::Answer;
+pub use base_laws::{bases_tell_objects};
 pub use board::{Board, BoardLog};
 pub use call::{Call, Kind, Name};
 pub use checking::{Checker, check};
