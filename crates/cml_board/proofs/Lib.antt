@@ -32,3 +32,5 @@ pub mod Making
 pub mod Splitting
 pub mod Resuming
 pub mod Trailing
+pub mod Receiving
+pub mod Renewing

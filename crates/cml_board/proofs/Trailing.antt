@@ -22,7 +22,7 @@ use Rattle.cml_board.proofs.Splitting.{lawful_past, sent_split, length-sent_spli
 use Rattle.cml_board.proofs.Resuming.{count_told, open_told, made_told, origin_told, place_told}
 
 -- what stands in a list past its front stands in the rest
-get_behind : {X : Type 0} (xs ys : List X) (i : ℕ) → length xs ≤ i → (j : ℕ) × (slice_get (xs ++ ys) i ≡ slice_get ys j)
+pub get_behind : {X : Type 0} (xs ys : List X) (i : ℕ) → length xs ≤ i → (j : ℕ) × (slice_get (xs ++ ys) i ≡ slice_get ys j)
 get_behind [] ys i past = (i, refl)
 get_behind (x ∷ xs) ys zero past = absurd (omega arith)
 get_behind (x ∷ xs) ys (suc i) past = get_behind xs ys i (omega arith)

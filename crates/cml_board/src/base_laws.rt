@@ -1,11 +1,66 @@
-//! What a base and the entries since a cut come to: all that the whole history says.
-ghost use Rattle.std.specs.Prelude.{◌≡◌, ℕ, List, ◌++◌};
+//! What was cut away of a history can be forgotten: its base and the entries since tell all that the whole history tells.
+ghost use Rattle.std.specs.Prelude.{◌≡◌, ℕ, List, [], ◌++◌, length, drop, true, false};
 ghost use Rattle.cml_board.specs.declared.entry.Entry.{Entry};
-ghost use Rattle.cml_board.specs.History.{Lawful, made};
-ghost use Rattle.cml_board.specs.Base.{base_of, made_since};
+ghost use Rattle.cml_board.specs.declared.call.Call.{Call};
+ghost use Rattle.cml_board.specs.Origins.{source_by};
+ghost use Rattle.cml_board.specs.Objects.{is_receiver};
+ghost use Rattle.cml_board.specs.Held.{held};
+ghost use Rattle.cml_board.specs.History.{Lawful, Fits, made, origin_of, sent, got, owed, place, is_open, answer};
+ghost use Rattle.cml_board.specs.Kept.{kept_from};
+ghost use Rattle.cml_board.specs.Counts.{is_a};
+ghost use Rattle.cml_board.specs.Base.{base_of, made_since, count_since, place_since, open_since, held_since, kept_since, messages_since, due_since, owed_since, answer_since, next_base};
 
-/// Of each object a base and the entries since tell what the whole history tells.
+/// Of each object a base and the entries since tell what the whole history tells: how it began, how many messages were
+/// sent to it, where it stands, whether it is open, and what it holds.
 pub fn bases_tell_objects<M>()
     ensures made { (chunk : ℕ) (past since : List (Entry M)) → Lawful (since ++ past)
         → made_since (base_of chunk past) since ≡ made (since ++ past) }
+    ensures count { (chunk : ℕ) (past since : List (Entry M)) (name : ℕ)
+        → count_since (base_of chunk past) since name ≡ length (sent (since ++ past) name) }
+    ensures place { (chunk : ℕ) (past since : List (Entry M)) (name : ℕ) → Lawful (since ++ past)
+        → place_since (base_of chunk past) since name ≡ place (since ++ past) name }
+    ensures opened { (chunk : ℕ) (past since : List (Entry M)) (name : ℕ)
+        → open_since (base_of chunk past) since name ≡ is_open (since ++ past) name }
+    ensures held { (chunk : ℕ) (past since : List (Entry M)) (name : ℕ)
+        → held_since (base_of chunk past) since name ≡ held (since ++ past) name }
+{}
+
+/// So they tell which messages are kept, what is owed to each receiver that is open, and what each call that fits is
+/// answered; and they come to the base of the whole history, which can be cut away in its turn.
+pub fn bases_tell_answers<M>()
+    ensures kept { (chunk : ℕ) (past since : List (Entry M)) (name : ℕ) → Lawful (since ++ past)
+        → kept_since chunk (base_of chunk past) since name ≡ kept_from chunk (since ++ past) name }
+    ensures stream { (chunk : ℕ) (past since : List (Entry M)) (name : ℕ) → Lawful (since ++ past)
+        → messages_since chunk (base_of chunk past) since name ≡ drop (kept_from chunk (since ++ past) name) (sent (since ++ past) name) }
+    ensures owed { (chunk : ℕ) (past since : List (Entry M)) (name : ℕ) → Lawful (since ++ past)
+        → is_a is_receiver (since ++ past) name ≡ true
+        → is_open (since ++ past) name ≡ true
+        → owed_since (base_of chunk past) since name ≡ owed (since ++ past) name }
+    ensures answer { (chunk : ℕ) (past since : List (Entry M)) (call : Call M) → Lawful (since ++ past)
+        → Fits (since ++ past) call
+        → answer_since (base_of chunk past) since call ≡ answer (since ++ past) call }
+    ensures next { (chunk : ℕ) (past since : List (Entry M)) → Lawful (since ++ past)
+        → next_base chunk (base_of chunk past) since ≡ base_of chunk (since ++ past) }
+{}
+
+/// Since a cut, too, nothing that was sent is lost, told twice or out of order. What an open receiver received since,
+/// followed by what it is owed, is what is due since; and for one that was there at the cut that is what waited for it then,
+/// followed by what was sent since. A port that was closed since received how what is due begins. From one that was closed
+/// before the cut nothing was received since, and nothing is due.
+pub fn bases_tell_messages<M>()
+    ensures received { (chunk : ℕ) (past since : List (Entry M)) (name : ℕ) → Lawful (since ++ past)
+        → is_a is_receiver (since ++ past) name ≡ true
+        → is_open (since ++ past) name ≡ true
+        → got since name ++ owed (since ++ past) name ≡ due_since (base_of chunk past) since name }
+    ensures closed { (chunk : ℕ) (past since : List (Entry M)) (name : ℕ) → Lawful (since ++ past)
+        → is_a is_receiver (since ++ past) name ≡ true
+        → is_open past name ≡ true
+        → (rest : List M) × (got since name ++ rest ≡ due_since (base_of chunk past) since name) }
+    ensures closed_before { (chunk : ℕ) (past since : List (Entry M)) (name : ℕ) → Lawful (since ++ past)
+        → is_open past name ≡ false
+        → (got since name ≡ []) × (due_since (base_of chunk past) since name ≡ []) }
+    ensures waiting { (chunk : ℕ) (past since : List (Entry M)) (name : ℕ) → Lawful (since ++ past)
+        → is_a is_receiver past name ≡ true
+        → is_open past name ≡ true
+        → due_since (base_of chunk past) since name ≡ owed past name ++ sent since (source_by name (origin_of past name)) }
 {}

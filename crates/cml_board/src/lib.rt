@@ -15,7 +15,7 @@ mod past;
 mod want;
 
 pub use answer::Answer;
-pub use base_laws::{bases_tell_objects};
+pub use base_laws::{bases_tell_answers, bases_tell_messages, bases_tell_objects};
 pub use board::{Board, BoardLog};
 pub use call::{Call, Kind, Name};
 pub use checking::{Checker, check};
