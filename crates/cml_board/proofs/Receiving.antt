@@ -1,7 +1,7 @@
 -- What was received since a cut, followed by what is owed, is what is due since it.
-use Rattle.std.proofs.Common.{◌≡◌, ℕ, zero, suc, ◌+◌, ◌-◌, ◌<◌, ◌≤◌, inl, inr, Bool, true, false, ◌&&◌, cond, eqb, List, [], ◌∷◌, ◌++◌, length, drop, slice_get, Option, Some, None, refl, sym, ap, subst, ◌∙◌, arith}
+use Rattle.std.proofs.Common.{◌≡◌, ℕ, zero, suc, ◌+◌, ◌-◌, ◌<◌, ◌≤◌, inl, inr, Bool, true, false, cond, eqb, List, [], ◌∷◌, ◌++◌, length, drop, slice_get, Option, Some, refl, sym, ap, subst, ◌∙◌, arith}
 use Rattle.std.specs.Option.{option_map, option_map_or}
-use Rattle.std.proofs.lemmas.Bool.{cases_lt, eq-eqb, and_parts, and_from, cond-true, cond-false, false≢true}
+use Rattle.std.proofs.lemmas.Bool.{cases_lt, cases_Bool, eq-eqb, and_parts, and_from, cond-true, cond-false, false≢true}
 use Rattle.std.proofs.lemmas.List.{append_assoc, drop_at, drop-drop, drop-append-le, length-append, length-drop}
 use Rattle.std.proofs.lemmas.Option.{slice_get_past}
 use Rattle.cml_board.specs.declared.call.Call.{Call}
@@ -12,11 +12,11 @@ use Rattle.cml_board.specs.declared.entry.Entry.{Entry}
 use Rattle.cml_board.specs.Origins.{Origin, mailbox, channel, port, ivar, mvar, kind_by, source_by, start_by, copy_of}
 use Rattle.cml_board.specs.Objects.{is_receiver}
 use Rattle.cml_board.specs.History.{Lawful, made, if_made, begun_by, origin_of, is_open, sent, sent_by, got, due, owed}
-use Rattle.cml_board.specs.Kept.{reads_by, kept_from, least_place}
+use Rattle.cml_board.specs.Kept.{reads_by, kept_from}
 use Rattle.cml_board.specs.Counts.{is_a}
 use Rattle.cml_board.specs.Base.{base_of, stood_at, stream_start, stream_since, origin_since, due_since, owed_since}
 use Rattle.cml_board.proofs.Received.{slice_get-append_within, got_begins_due, got_append_owed}
-use Rattle.cml_board.proofs.Splitting.{lawful_past, sent_split, got_split, length-got_split, open_split, made_split, origin_split, got_none}
+use Rattle.cml_board.proofs.Splitting.{lawful_past, sent_split, got_split, length-got_split, open_split, origin_split, got_none}
 use Rattle.cml_board.proofs.Resuming.{stood_told, origin_told}
 use Rattle.cml_board.proofs.Trailing.{get_behind, stood_later, kept_from-le_least, stream_from}
 
@@ -69,7 +69,7 @@ module _ {M : Type 0} where
       ∙ ap (λ n. drop n stream) same
       ∙ sym (drop-drop (length (got (since ++ past) o)) start stream)
 
-  -- a receiver that was not closed before the cut
+  -- what a receiver received since that was not closed before the cut, followed by what it is owed, is what is due
   pub received_since : (chunk : ℕ) (past since : List (Entry M)) (o : ℕ) → Lawful (since ++ past) → is_a is_receiver (since ++ past) o ≡ true → is_open past o ≡ true
       → got since o ++ owed (since ++ past) o ≡ due_since (base_of chunk past) since o
   received_since chunk past since o lawful is opened =
@@ -82,15 +82,10 @@ module _ {M : Type 0} where
       sym (drop_at (got past o) rest (length (got past o)) refl) ∙ ap (drop (length (got past o))) whole
       ∙ drop-drop (length (got past o)) start stream ∙ sym (due_told chunk past since o lawful is opened)
 
-  -- one that is open at the end
+  -- and so it is with one that is open at the end
   pub received_open : (chunk : ℕ) (past since : List (Entry M)) (o : ℕ) → Lawful (since ++ past) → is_a is_receiver (since ++ past) o ≡ true → is_open (since ++ past) o ≡ true
       → got since o ++ owed (since ++ past) o ≡ due_since (base_of chunk past) since o
   received_open chunk past since o lawful is opened = received_since chunk past since o lawful is (open_before past since o opened)
-
-  -- a port that was closed since received how what is due begins
-  pub received_closed : (chunk : ℕ) (past since : List (Entry M)) (o : ℕ) → Lawful (since ++ past) → is_a is_receiver (since ++ past) o ≡ true → is_open past o ≡ true
-      → (rest : List M) × (got since o ++ rest ≡ due_since (base_of chunk past) since o)
-  received_closed chunk past since o lawful is opened = (owed (since ++ past) o, received_since chunk past since o lawful is opened)
 
   -- from one that was closed before the cut nothing was received, and nothing is due
   pub received_nothing : (chunk : ℕ) (past since : List (Entry M)) (o : ℕ) → Lawful (since ++ past) → is_open past o ≡ false
@@ -101,6 +96,16 @@ module _ {M : Type 0} where
         got_none past since o lawful closed,
         cond-false (is_open past o) (drop (stood_at b o origin - stream_start b (source_by o origin)) (stream_since b since (source_by o origin))) [] closed,
       )
+
+  -- whether it was closed or not, a receiver received how what is due begins
+  pub received_closed : (chunk : ℕ) (past since : List (Entry M)) (o : ℕ) → Lawful (since ++ past) → is_a is_receiver (since ++ past) o ≡ true
+      → (rest : List M) × (got since o ++ rest ≡ due_since (base_of chunk past) since o)
+  received_closed chunk past since o lawful is = elim (cases_Bool (is_open past o)) [
+    | inl opened ↦ (owed (since ++ past) o, received_since chunk past since o lawful is opened)
+    | inr closed ↦
+        let nothing = received_nothing chunk past since o lawful closed in
+        ([], ap (λ xs. xs ++ []) nothing.0 ∙ sym nothing.1)
+  ]
 
   -- an object begins no later than the end of what it reads
   abbrev BeginsWithin : List (Entry M) → ℕ → Option Origin → Type 0
@@ -170,7 +175,7 @@ module _ {M : Type 0} where
         length-drop (start_by origin) (sent h (source_by o origin)),
       )
 
-  -- what was waiting at the cut, followed by what was sent since, is what is due
+  -- what waited at the cut, followed by what was sent since, is what is due to a receiver that was open then
   pub waiting_since : (chunk : ℕ) (past since : List (Entry M)) (o : ℕ) → Lawful (since ++ past) → is_a is_receiver past o ≡ true → is_open past o ≡ true
       → due_since (base_of chunk past) since o ≡ owed past o ++ sent since (source_by o (origin_of past o))
   waiting_since chunk past since o lawful is opened =

@@ -1,6 +1,6 @@
 -- A base and the entries since give each call the same answer, and come to the base of the whole history.
-use Rattle.std.proofs.Common.{◌≡◌, ℕ, Bool, true, false, cond, List, ◌++◌, length, drop, Option, Some, None, is_some, unwrap_or, IsTrue, IsSome, IfSome, refl, sym, ap, ◌∙◌}
-use Rattle.std.specs.Option.{option_map, option_map_or}
+use Rattle.std.proofs.Common.{◌≡◌, ℕ, Bool, true, false, cond, List, ◌++◌, length, Option, Some, None, is_some, unwrap_or, IsTrue, IsSome, IfSome, refl, ap, ◌∙◌}
+use Rattle.std.specs.Option.{option_map_or}
 use Rattle.std.proofs.lemmas.Bool.{false≢true}
 use Rattle.cml_board.specs.declared.call.Name.{Name}
 use Rattle.cml_board.specs.declared.call.Kind.{Kind}
@@ -11,12 +11,10 @@ use Rattle.cml_board.specs.declared.entry.Reply.TheVariants.{Done, Made, Nothing
 use Rattle.cml_board.specs.declared.entry.Reply.TheVariants as reply
 use Rattle.cml_board.specs.declared.entry.Entry.{Entry}
 use Rattle.cml_board.specs.Objects.{is_receiver}
-use Rattle.cml_board.specs.Held.{held}
-use Rattle.cml_board.specs.History.{Lawful, Fits, answer, made, kind_of, is_open, owed, received, given, new_name, where_open}
-use Rattle.cml_board.specs.Counts.{is_a}
-use Rattle.cml_board.specs.Base.{Base, base_of, name_since, where_open_since, owed_since, open_since, answer_since, next_base}
-use Rattle.cml_board.proofs.Splitting.{entries_split, rings_split, held_told}
-use Rattle.cml_board.proofs.Resuming.{count_told, open_told, made_told, place_told}
+use Rattle.cml_board.specs.History.{Lawful, Fits, answer, kind_of, is_open, owed, received, given, new_name, where_open}
+use Rattle.cml_board.specs.Base.{base_of, name_since, where_open_since, owed_since, answer_since, next_base}
+use Rattle.cml_board.proofs.Splitting.{entries_split, rings_split}
+use Rattle.cml_board.proofs.Resuming.{count_told, open_told, held_told, made_told, place_told}
 use Rattle.cml_board.proofs.Trailing.{messages_told}
 use Rattle.cml_board.proofs.Receiving.{open_before, owed_told}
 
@@ -26,10 +24,11 @@ receiver_kind None some is = absurd (false≢true some)
 receiver_kind (Some kind) some is = is
 
 module _ {M : Type 0} where
+  -- the next object has the same name
   name_told : (chunk : ℕ) (past since : List (Entry M)) → Lawful (since ++ past) → name_since (base_of chunk past) since ≡ new_name (since ++ past)
   name_told chunk past since lawful = ap (λ origins. Made (record { 0 = length origins })) (made_told chunk past since lawful)
 
-  -- only an open port's replies are asked for
+  -- of a closed port it doesn't matter what it would give
   where_told : (opened : Bool) (one two : Option (Reply M)) → (opened ≡ true → one ≡ two) → cond opened one (Some Closed) ≡ cond opened two (Some Closed)
   where_told true one two same = same refl
   where_told false one two same = refl
@@ -39,13 +38,14 @@ module _ {M : Type 0} where
   where_open_told chunk past since o one two same =
       ap (λ t. cond t one (Some Closed)) (open_told chunk past since o) ∙ where_told (is_open (since ++ past) o) one two same
 
-  -- what is received is what the whole history owes
+  -- the first message owed is the same
   received_told : (chunk : ℕ) (past since : List (Entry M)) (name : Name) → Lawful (since ++ past) → IsSome (kind_of (since ++ past) name.0)
       → IfSome (kind_of (since ++ past) name.0) (λ kind. IsTrue (is_receiver kind)) → is_open (since ++ past) name.0 ≡ true
       → received (owed_since (base_of chunk past) since name.0) ≡ received (owed (since ++ past) name.0)
   received_told chunk past since name lawful some is opened =
       ap received (owed_told chunk past since name.0 lawful (receiver_kind (kind_of (since ++ past) name.0) some is) (open_before past since name.0 opened))
 
+  -- so is each answer
   pub answer_told : (chunk : ℕ) (past since : List (Entry M)) (call : Call M) → Lawful (since ++ past) → Fits (since ++ past) call
       → answer_since (base_of chunk past) since call ≡ answer (since ++ past) call
   answer_told chunk past since NewMailbox lawful fits = ap Some (name_told chunk past since lawful)

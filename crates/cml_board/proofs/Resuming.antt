@@ -1,16 +1,18 @@
 -- What a base and the entries since tell of the objects is what the whole history tells.
-use Rattle.std.proofs.Common.{◌≡◌, ℕ, zero, suc, ◌+◌, ◌<◌, ◌≤◌, inl, inr, Bool, true, List, [], ◌∷◌, ◌++◌, length, slice_get, Option, Some, is_some, refl, sym, ap, ◌∙◌, arith}
+use Rattle.std.proofs.Common.{◌≡◌, ℕ, zero, suc, ◌+◌, ◌<◌, inl, inr, true, List, [], ◌∷◌, ◌++◌, length, slice_get, Option, Some, is_some, unwrap_or, refl, sym, ap, ◌∙◌, arith}
 use Rattle.std.proofs.lemmas.Bool.{cases_lt, cond-true, cond-false}
 use Rattle.std.proofs.lemmas.Option.{slice_get_past}
 use Rattle.cml_board.specs.declared.call.Call.{Call}
 use Rattle.cml_board.specs.declared.call.Call.TheVariants.{NewPort, CopyPort}
 use Rattle.cml_board.specs.declared.entry.Entry.{Entry}
 use Rattle.cml_board.specs.Origins.{Origin, port, start_by, copy_of}
+use Rattle.cml_board.specs.Held.{left_by, held}
 use Rattle.cml_board.specs.History.{Lawful, made, if_made, begun_by, origin_of, is_open, sent, got, place}
-use Rattle.cml_board.specs.Base.{base_of, copy_at, count_since, stood_at, place_from, begun_since, made_since, origin_since, place_since, open_since}
+use Rattle.cml_board.specs.Base.{base_of, copy_at, count_since, held_since, stood_at, place_from, begun_since, made_since, origin_since, place_since, open_since}
 use Rattle.cml_board.proofs.Unmade.{unmade_got}
 use Rattle.cml_board.proofs.Splitting.{lawful_past, length-sent_split, length-got_split, open_split, origin_split}
 
+-- something stands within a list
 some_within : {X : Type 0} (xs : List X) (i : ℕ) → i < length xs → is_some (slice_get xs i) ≡ true
 some_within [] i within = absurd (omega arith)
 some_within (x ∷ xs) zero within = refl
@@ -22,11 +24,16 @@ copy_at_place (Some (port source start)) received = refl
 copy_at_place origin received = refl
 
 module _ {M : Type 0} where
+  -- how many messages were sent to an object, whether it is open, and what it holds
   pub count_told : (chunk : ℕ) (past since : List (Entry M)) (o : ℕ) → count_since (base_of chunk past) since o ≡ length (sent (since ++ past) o)
   count_told chunk past since o = sym (length-sent_split past since o)
 
   pub open_told : (chunk : ℕ) (past since : List (Entry M)) (o : ℕ) → open_since (base_of chunk past) since o ≡ is_open (since ++ past) o
   open_told chunk past since o = sym (open_split past since o)
+
+  pub held_told : (chunk : ℕ) (past since : List (Entry M)) (o : ℕ) → held_since (base_of chunk past) since o ≡ held (since ++ past) o
+  held_told chunk past [] o = refl
+  held_told chunk past (entry ∷ before) o = ap (unwrap_or (left_by entry.call entry.reply o)) (held_told chunk past before o)
 
   -- at the cut an object stood behind what it had received from its start on
   pub stood_told : (chunk : ℕ) (past since : List (Entry M)) (o : ℕ) → Lawful (since ++ past)
@@ -55,6 +62,7 @@ module _ {M : Type 0} where
       ap (copy_at origin) (place_from_told chunk past since name.0 lawful) ∙ copy_at_place origin (length (got (since ++ past) name.0))
   begun_told chunk past since call lawful = refl
 
+  -- so the objects are told, in order
   pub made_told : (chunk : ℕ) (past since : List (Entry M)) → Lawful (since ++ past) → made_since (base_of chunk past) since ≡ made (since ++ past)
   made_told chunk past [] lawful = refl
   made_told chunk past (entry ∷ before) lawful =
@@ -65,6 +73,7 @@ module _ {M : Type 0} where
       → origin_since (base_of chunk past) since o ≡ origin_of (since ++ past) o
   origin_told chunk past since o lawful = ap (λ origins. slice_get origins o) (made_told chunk past since lawful)
 
+  -- and where each stands
   pub place_told : (chunk : ℕ) (past since : List (Entry M)) (o : ℕ) → Lawful (since ++ past)
       → place_since (base_of chunk past) since o ≡ place (since ++ past) o
   place_told chunk past since o lawful =

@@ -1,10 +1,9 @@
 -- What was kept at a cut is all that is still read: nobody stands before it, and no object that is made later begins before it.
-use Rattle.std.proofs.Common.{◌≡◌, ℕ, zero, suc, ◌+◌, ◌-◌, ◌*◌, ◌/◌, ◌<◌, ◌≤◌, min, inl, inr, Bool, true, false, ◌&&◌, cond, eqb, List, [], ◌∷◌, ◌++◌, length, drop, slice_get, Option, Some, None, refl, sym, ap, subst, ◌∙◌, arith}
+use Rattle.std.proofs.Common.{◌≡◌, ℕ, zero, suc, ◌+◌, ◌-◌, ◌*◌, ◌/◌, ◌≤◌, min, inl, inr, Bool, true, false, ◌&&◌, cond, eqb, List, [], ◌∷◌, ◌++◌, length, drop, slice_get, Option, Some, refl, sym, ap, subst, ◌∙◌, arith}
 use Rattle.std.proofs.Math.Nat.{mul-div-le, mul-le-mul_left}
 use Rattle.std.proofs.lemmas.Nat.{le-div}
-use Rattle.std.proofs.lemmas.Bool.{cases_lt, eqb-true, eq-eqb, and_parts, and_from, false≢true}
+use Rattle.std.proofs.lemmas.Bool.{cases_lt, eqb-true, and_parts, and_from, false≢true}
 use Rattle.std.proofs.lemmas.List.{length-drop, drop-drop, drop-append-le}
-use Rattle.std.proofs.lemmas.Option.{same_Some}
 use Rattle.cml_board.specs.declared.call.Name.{Name}
 use Rattle.cml_board.specs.declared.call.Call.{Call}
 use Rattle.cml_board.specs.declared.call.Call.TheVariants.{NewMailbox, NewChannel, NewPort, CopyPort, NewIVar, NewMVar, MVarInit}
@@ -14,7 +13,7 @@ use Rattle.cml_board.specs.declared.entry.Entry.{Entry}
 use Rattle.cml_board.specs.Origins.{Origin, mailbox, channel, port, ivar, mvar, start_by, copy_of}
 use Rattle.cml_board.specs.History.{Lawful, answer, new_name, made, if_made, begun_by, origin_of, is_open, sent, got, place}
 use Rattle.cml_board.specs.Kept.{reads_by, reads, least_of, least_place, kept_from}
-use Rattle.cml_board.specs.Base.{base_of, reads_since, least_since, kept_since, place_since, open_since, made_since, stream_start, stream_since, messages_since}
+use Rattle.cml_board.specs.Base.{base_of, reads_since, least_since, kept_since, place_since, open_since, stream_start, stream_since, messages_since}
 use Rattle.cml_board.proofs.Unmade.{unmade_sent}
 use Rattle.cml_board.proofs.Keeping.{least_of-le_end, least_of-le_place, least_of-ge, reader_made}
 use Rattle.cml_board.proofs.Received.{slice_get-append_within}

@@ -2,15 +2,13 @@
 -- the base and the entries since reads from them all that the whole history says. Entries since the cut stand newest first,
 -- as in a history, and `since ++ past` is the whole history.
 use Rattle.std.specs.Prelude.{ℕ, zero, suc, ◌+◌, ◌-◌, ◌*◌, ◌/◌, Bool, ◌&&◌, min, List, [], ◌∷◌, ◌++◌, length, drop, slice_get, Option, Some, is_some, unwrap_or, if◌then◌else◌}
-use Rattle.std.specs.Option.{option_map}
-use Rattle.cml_board.specs.declared.call.Kind.{Kind}
 use Rattle.cml_board.specs.declared.call.Call.{Call}
 use Rattle.cml_board.specs.declared.call.Call.TheVariants.{NewMailbox, NewChannel, NewPort, CopyPort, ClosePort, NewIVar, NewMVar, MVarInit, Send, Cast, Recv, Poll, Put, Get, GetPoll, Take, TakePoll, Swap}
 use Rattle.cml_board.specs.declared.entry.Reply.{Reply}
 use Rattle.cml_board.specs.declared.entry.Reply.TheVariants.{Done, Made, Nothing, Closed}
 use Rattle.cml_board.specs.declared.entry.Reply.TheVariants as reply
 use Rattle.cml_board.specs.declared.entry.Entry.{Entry}
-use Rattle.cml_board.specs.Origins.{Origin, port, kind_by, source_by, start_by}
+use Rattle.cml_board.specs.Origins.{Origin, port, source_by, start_by}
 use Rattle.cml_board.specs.Held.{left_by, held}
 use Rattle.cml_board.specs.History.{entries_in, rings_in, sent, got, is_open, begun_by, if_made, made, place, received, given}
 use Rattle.cml_board.specs.Kept.{reads_by, kept_from}

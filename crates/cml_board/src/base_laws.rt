@@ -45,8 +45,8 @@ pub fn bases_tell_answers<M>()
 
 /// Since a cut, too, nothing that was sent is lost, told twice or out of order. What an open receiver received since,
 /// followed by what it is owed, is what is due since; and for one that was there at the cut that is what waited for it then,
-/// followed by what was sent since. A port that was closed since received how what is due begins. From one that was closed
-/// before the cut nothing was received since, and nothing is due.
+/// followed by what was sent since. What was received since from a port that was closed is how what is due begins; where it
+/// was closed before the cut both are nothing.
 pub fn bases_tell_messages<M>()
     ensures received { (chunk : ℕ) (past since : List (Entry M)) (name : ℕ) → Lawful (since ++ past)
         → is_a is_receiver (since ++ past) name ≡ true
@@ -54,7 +54,6 @@ pub fn bases_tell_messages<M>()
         → got since name ++ owed (since ++ past) name ≡ due_since (base_of chunk past) since name }
     ensures closed { (chunk : ℕ) (past since : List (Entry M)) (name : ℕ) → Lawful (since ++ past)
         → is_a is_receiver (since ++ past) name ≡ true
-        → is_open past name ≡ true
         → (rest : List M) × (got since name ++ rest ≡ due_since (base_of chunk past) since name) }
     ensures closed_before { (chunk : ℕ) (past since : List (Entry M)) (name : ℕ) → Lawful (since ++ past)
         → is_open past name ≡ false
