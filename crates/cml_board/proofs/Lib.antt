@@ -32,5 +32,6 @@ pub mod Making
 pub mod Splitting
 pub mod Resuming
 pub mod Trailing
+pub mod Reaching
 pub mod Receiving
 pub mod Renewing

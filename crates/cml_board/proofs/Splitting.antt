@@ -1,5 +1,5 @@
 -- What a history tells, by what it told at a cut and by the entries since.
-use Rattle.std.proofs.Common.{◌≡◌, ℕ, ◌+◌, ◌<◌, ◌≤◌, Bool, true, false, not, ◌&&◌, cond, eqb, List, [], ◌∷◌, ◌++◌, length, Option, Some, unwrap_or, refl, sym, ap, ◌∙◌, arith}
+use Rattle.std.proofs.Common.{◌≡◌, ℕ, zero, suc, ◌+◌, ◌<◌, ◌≤◌, Bool, true, false, not, ◌&&◌, cond, eqb, List, [], ◌∷◌, ◌++◌, length, slice_get, Option, Some, unwrap_or, refl, sym, ap, ◌∙◌, arith}
 use Rattle.std.proofs.Math.Bool.{and_assoc}
 use Rattle.std.proofs.lemmas.Bool.{eqb-true, and_left}
 use Rattle.std.proofs.lemmas.List.{append-nil, append_assoc, length-append}
@@ -11,6 +11,12 @@ use Rattle.cml_board.specs.declared.entry.Reply.TheVariants.{Nothing, Closed}
 use Rattle.cml_board.specs.declared.entry.Entry.{Entry}
 use Rattle.cml_board.specs.History.{Lawful, answer, entries_in, rings_in, made, if_made, begun_by, origin_of, is_open, closes, sent, sent_by, got, got_by, message_in, owed, received}
 use Rattle.cml_board.proofs.Received.{slice_get-append_within}
+
+-- what stands in a list past its front stands in the rest
+pub get_behind : {X : Type 0} (xs ys : List X) (i : ℕ) → length xs ≤ i → (j : ℕ) × (slice_get (xs ++ ys) i ≡ slice_get ys j)
+get_behind [] ys i past = (i, refl)
+get_behind (x ∷ xs) ys zero past = absurd (omega arith)
+get_behind (x ∷ xs) ys (suc i) past = get_behind xs ys i (omega arith)
 
 -- a test that nothing is added to
 and_last : (t : Bool) → t ≡ (t && true)

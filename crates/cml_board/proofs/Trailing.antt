@@ -17,14 +17,8 @@ use Rattle.cml_board.specs.Base.{base_of, reads_since, least_since, kept_since, 
 use Rattle.cml_board.proofs.Unmade.{unmade_sent}
 use Rattle.cml_board.proofs.Keeping.{least_of-le_end, least_of-le_place, least_of-ge, reader_made}
 use Rattle.cml_board.proofs.Received.{slice_get-append_within}
-use Rattle.cml_board.proofs.Splitting.{lawful_past, sent_split, length-sent_split, length-got_split, open_split, made_split}
+use Rattle.cml_board.proofs.Splitting.{get_behind, lawful_past, sent_split, length-sent_split, length-got_split, open_split, made_split}
 use Rattle.cml_board.proofs.Resuming.{count_told, open_told, made_told, origin_told, place_told}
-
--- what stands in a list past its front stands in the rest
-pub get_behind : {X : Type 0} (xs ys : List X) (i : ℕ) → length xs ≤ i → (j : ℕ) × (slice_get (xs ++ ys) i ≡ slice_get ys j)
-get_behind [] ys i past = (i, refl)
-get_behind (x ∷ xs) ys zero past = absurd (omega arith)
-get_behind (x ∷ xs) ys (suc i) past = get_behind xs ys i (omega arith)
 
 -- the start of a chunk is no later than that of a later place's
 chunk_grows : (chunk a b : ℕ) → a ≤ b → chunk * (a / chunk) ≤ chunk * (b / chunk)
@@ -58,11 +52,16 @@ module _ {M : Type 0} where
   copied_open true given n is = refl
   copied_open false given n is = absurd (cc)
 
-  -- an object that a call makes begins no earlier than the readers at the cut stood, where its original stands no earlier
+  -- each object that reads a mailbox or a channel, and was not closed before the cut, stood no earlier then, or begins no earlier,
+  -- than the least place there at the cut
+  abbrev pub StandLater : List (Entry M) → List (Entry M) → ℕ → Type 0
+  StandLater past since source = (k : ℕ) → reads_by k (origin_of (since ++ past) k) (is_open past k) source ≡ true
+      → least_place past source ≤ start_by (origin_of (since ++ past) k) + length (got past k)
+
+  -- so an object that a call makes begins no earlier: a mailbox has no messages yet, a port begins at its channel's end, and a
+  -- copy where its original stands
   made_later : (past since : List (Entry M)) (source k j : ℕ) (call : Call M) (n : Name) → Lawful (since ++ past) → answer (since ++ past) call ≡ Some (Made n)
-      → length (made (since ++ past)) ≤ k
-      → ((o : ℕ) → reads_by o (origin_of (since ++ past) o) (is_open past o) source ≡ true
-      → least_place past source ≤ start_by (origin_of (since ++ past) o) + length (got past o))
+      → length (made (since ++ past)) ≤ k → StandLater past since source
       → Begins (least_place past source) k source (slice_get (begun_by (made (since ++ past)) (since ++ past) call) j)
   made_later past since source k j NewMailbox n lawful answered new stand = begins_one (least_place past source) k source mailbox j (λ opened reading.
       let same : k ≡ source = eqb-true k source reading in
@@ -98,27 +97,24 @@ module _ {M : Type 0} where
   made_later past since source k j call n lawful answered new stand = begins_none (least_place past source) k source j
 
   begun_later : (past since : List (Entry M)) (source k j : ℕ) (call : Call M) (reply : Reply M) → Lawful (since ++ past) → answer (since ++ past) call ≡ Some reply
-      → length (made (since ++ past)) ≤ k
-      → ((o : ℕ) → reads_by o (origin_of (since ++ past) o) (is_open past o) source ≡ true
-      → least_place past source ≤ start_by (origin_of (since ++ past) o) + length (got past o))
+      → length (made (since ++ past)) ≤ k → StandLater past since source
       → Begins (least_place past source) k source (slice_get (if_made reply (begun_by (made (since ++ past)) (since ++ past) call)) j)
   begun_later past since source k j call (Made n) lawful answered new stand = made_later past since source k j call n lawful answered new stand
   begun_later past since source k j call reply lawful answered new stand = begins_none (least_place past source) k source j
 
-  -- so each object that reads a mailbox or a channel, and was not closed before the cut, stood no earlier then, or begins no earlier
-  pub stood_later : (past since : List (Entry M)) (source k : ℕ) → Lawful (since ++ past) → reads_by k (origin_of (since ++ past) k) (is_open past k) source ≡ true
-      → least_place past source ≤ start_by (origin_of (since ++ past) k) + length (got past k)
-  stood_later past [] source k lawful reading = least_of-le_place past source (length (made past)) k (reader_made past source k reading) reading
-  stood_later past (entry ∷ before) source k lawful reading = elim (cases_lt k (length (made (before ++ past)))) [
+  -- so they all stand later
+  pub stood_later : (past since : List (Entry M)) (source : ℕ) → Lawful (since ++ past) → StandLater past since source
+  stood_later past [] source lawful k reading = least_of-le_place past source (length (made past)) k (reader_made past source k reading) reading
+  stood_later past (entry ∷ before) source lawful k reading = elim (cases_lt k (length (made (before ++ past)))) [
     | inl was ↦
         let same : origin_of (entry ∷ (before ++ past)) k ≡ origin_of (before ++ past) k =
         slice_get-append_within (made (before ++ past)) (if_made entry.reply (begun_by (made (before ++ past)) (before ++ past) entry.call)) k was in
         subst (λ origin. least_place past source ≤ start_by origin + length (got past k)) (sym same)
-        (stood_later past before source k lawful.2 (ap (λ origin. reads_by k origin (is_open past k) source) (sym same) ∙ reading))
+        (stood_later past before source lawful.2 k (ap (λ origin. reads_by k origin (is_open past k) source) (sym same) ∙ reading))
     | inr new ↦
         let there = get_behind (made (before ++ past)) (if_made entry.reply (begun_by (made (before ++ past)) (before ++ past) entry.call)) k new in
         let begins : least_place past source ≤ start_by (slice_get (if_made entry.reply (begun_by (made (before ++ past)) (before ++ past) entry.call)) there.0) =
-        begun_later past before source k there.0 entry.call entry.reply lawful.2 lawful.1 new (λ o reads. stood_later past before source o lawful.2 reads)
+        begun_later past before source k there.0 entry.call entry.reply lawful.2 lawful.1 new (stood_later past before source lawful.2)
         (is_open past k) (ap (λ origin. reads_by k origin (is_open past k) source) (sym there.1) ∙ reading) in
         omega (arith, begins, ap start_by there.1)
   ]
@@ -131,7 +127,7 @@ module _ {M : Type 0} where
       let before : reads_by k (origin_of (since ++ past) k) (is_open past k) source ≡ true =
       reads_earlier k (origin_of (since ++ past) k) (is_open past k) (is_open since k) source
       (ap (λ t. reads_by k (origin_of (since ++ past) k) t source) (sym (open_split past since k)) ∙ reading) in
-      omega (arith, stood_later past since source k lawful before, length-got_split past since k))
+      omega (arith, stood_later past since source lawful k before, length-got_split past since k))
 
   -- and what is kept begins no earlier
   pub kept_grows : (chunk : ℕ) (past since : List (Entry M)) (source : ℕ) → Lawful (since ++ past) → kept_from chunk past source ≤ kept_from chunk (since ++ past) source
