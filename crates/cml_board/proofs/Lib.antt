@@ -35,3 +35,4 @@ pub mod Trailing
 pub mod Reaching
 pub mod Receiving
 pub mod Renewing
+pub mod Since

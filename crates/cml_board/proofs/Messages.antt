@@ -16,7 +16,7 @@ use Rattle.cml_board.proofs.Received.{got_begins_due, got_append_owed}
 use Rattle.cml_board.proofs.Looking.{owed_told}
 
 -- what began as a mailbox
-is_mailbox : (origin : Option Origin) → option_map kind_by origin ≡ Some kind.Mailbox → origin ≡ Some mailbox
+pub is_mailbox : (origin : Option Origin) → option_map kind_by origin ≡ Some kind.Mailbox → origin ≡ Some mailbox
 is_mailbox (Some mailbox) is = refl
 is_mailbox (Some channel) is = absurd (cc)
 is_mailbox (Some (port source start)) is = absurd (cc)

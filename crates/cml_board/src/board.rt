@@ -1,4 +1,5 @@
-ghost use Rattle.std.specs.Prelude.{◌≡◌, ◌^◌, ◌<◌, ◌≤◌, ◌↔◌, ◌&&◌, false, [], ◌++◌, length, reverse, Some, None, option_map, option_copied, IfOk, OnOk, OnErr, IsTrue, MatchOption, MatchBool};
+ghost use Rattle.std.specs.Prelude.{◌≡◌, List, ◌^◌, ◌<◌, ◌≤◌, ◌↔◌, ◌&&◌, false, [], ◌++◌, length, reverse, Some, None, option_map, option_copied, IfOk, OnOk, OnErr, IsTrue, MatchOption, MatchBool};
+ghost use Rattle.cml_board.specs.declared.entry.Entry.{Entry};
 ghost use Rattle.cml_board.specs.Objects.{is_receiver};
 ghost use Rattle.cml_board.specs.History.{no_entries, entries_in, Lawful, origin_of, kind_of, is_open};
 ghost use Rattle.cml_board.specs.Counts.{is_a, sent_count, got_count, owed_count, channel_of, start_of, first_of, kept_count, port_is_open, held_by};
@@ -6,6 +7,8 @@ ghost use Rattle.cml_board.specs.Holdings.{map_log, log_at, HasLog};
 ghost use Rattle.cml_board.specs.Standing.{ReadsAt, Stands};
 ghost use Rattle.cml_board.specs.Checking.{IsNoted};
 ghost use Rattle.cml_board.specs.Outcome.{IsAsBefore, HasRoom, Cuts};
+ghost use Rattle.cml_board.specs.Since.{KeepsSince};
+ghost use Rattle.cml_board.specs.Base.{base_of, next_base};
 ghost use Rattle.cml_board.specs.Shown.{full_at, KeepsMailboxes, KeepsPorts, KeepsClosed, KeepsVariables, KeepsLogs};
 
 mod apply;
@@ -101,6 +104,10 @@ impl<M: Message, L: MessageLog<M>> Board<M, L> {
 
         // What the log of a mailbox or a channel really holds, from which place on, and which cursors are open in it.
         ensures logs { KeepsLogs L.CHUNK self.now }
+
+        // The same of the entries since the last cut: what was received since, followed by what waits, is what waited at the
+        // cut, followed by what was sent since.
+        ensures since { KeepsSince L.CHUNK self.now }
     {
         self.journal.as_slice()
     }
@@ -134,6 +141,10 @@ impl<M: Message, L: MessageLog<M>> Board<M, L> {
     pub fn cut(&mut self)
         ensures cut { Cuts self.old self.new }
         ensures reserved { self.old.reserved ≤ self.new.reserved }
+
+        // What is left of all that was cut away is the next base, of the one before and the entries since.
+        ensures base { (since : List (Entry M)) → self.old.history ≡ since ++ self.old.past
+            → base_of L.CHUNK self.new.past ≡ next_base L.CHUNK (base_of L.CHUNK self.old.past) since }
     {
         self.past.add_all(&self.journal);
         self.journal.clear();

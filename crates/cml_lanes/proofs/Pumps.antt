@@ -1,5 +1,6 @@
 -- Messages that are pumped, one after another.
-use Rattle.std.proofs.Common.{◌≡◌, ℕ, ◌+◌, ◌<◌, ◌≤◌, ◌++◌, Bool, Option, Some, None, IfNone, IfSome, sym, ap, ◌∙◌, arith, length-append, append_assoc}
+use Rattle.std.proofs.Common.{◌≡◌, ℕ, ◌+◌, ◌<◌, ◌≤◌, [], ◌++◌, Bool, Option, Some, None, IfNone, IfSome, refl, sym, ap, ◌∙◌, arith, length-append, append_assoc}
+use Rattle.std.proofs.lemmas.List.{append-nil}
 use Rattle.cml_board.specs.declared.call.Kind.TheVariants.{Port}
 use Rattle.cml_board.specs.declared.outcome.Refusal.{Refusal}
 use Rattle.cml_board.specs.History.{kind_of, is_open, got}
@@ -11,6 +12,18 @@ use Rattle.cml_lanes.specs.Slots.{PumpsUntil}
 use Rattle.cml_lanes.proofs.Feeding.{fed_more, got_more, kind_fed, open_fed, with_feed_more}
 
 module _ {M : Type 0} where
+  pub none_pumped : (number : ℕ) (board : Shown M) (side : FeedSide M) → PumpsIn number 0 board board side side
+  none_pumped number board side = record {
+    pumped = [];
+    as_many = refl;
+    history = refl;
+    past = refl;
+    limit = refl;
+    reserved = omega arith;
+    side = ap (λ pushed. record side { pushed = pushed; free = side.free }) (sym (append-nil side.pushed));
+    free = omega arith;
+  }
+
   -- some were pumped, and then more
   pub pumps_more : (number count more total : ℕ) (old mid new : Shown M) (from via to : FeedSide M) → count + more ≡ total
       → PumpsIn number count old mid from via → PumpsIn number more mid new via to → PumpsIn number total old new from to

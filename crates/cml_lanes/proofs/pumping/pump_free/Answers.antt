@@ -1,7 +1,7 @@
 use Rattle.std.proofs.Common.{rules, sym, refl}
 use Rattle.cml_lanes.proofs.Feeding.{still_owed}
 use Rattle.cml_lanes.proofs.Moves.{on_none}
-use Rattle.cml_lanes.proofs.Pumps.{keeps_pumped, pumps_more}
+use Rattle.cml_lanes.proofs.Pumps.{none_pumped, keeps_pumped, pumps_more}
 use Rattle.cml_lanes.proofs.pumping.pump_free.Goals as goal
 
 pub pump_next-refusal-requires-clause-kept : goal.pump_next-refusal-requires-clause-kept
@@ -13,6 +13,9 @@ pump_next-refusal-requires-clause-owed g c =
     still_owed c.loop-pumped.board.history c.loop-pumped.feed.port c.port.result c.would_wait.result
     (keeps_pumped c.args.number c.loop-pumped.pumped c.args.board.now c.loop-pumped.board c.args.feed.now c.loop-pumped.feed c.requires c.loop-pumped.invariant).kind
     c.port.ensures c.would_wait.ensures c.if-would_wait.false
+
+pub loop-pumped-init : goal.loop-pumped-init
+loop-pumped-init g c = none_pumped c.args.number c.args.board.now c.args.feed.now
 
 pub loop-pumped-preserved : goal.loop-pumped-preserved
 loop-pumped-preserved g c =
