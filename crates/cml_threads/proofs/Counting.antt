@@ -1,6 +1,5 @@
 -- How many entries a call on lanes or feeds adds, and that all of them are of lanes and feeds.
-use Rattle.std.proofs.Common.{◌≡◌, ℕ, ◌+◌, ◌≤◌, List, [], ◌∷◌, length, reverse, ap, ◌∙◌, arith}
-use Rattle.std.proofs.lemmas.List.{length-reverse}
+use Rattle.std.proofs.Common.{◌≡◌, ℕ, ◌+◌, ◌≤◌, List, [], ◌∷◌, length, ap, ◌∙◌, arith}
 use Rattle.cml_board.specs.declared.call.Name.{Name}
 use Rattle.cml_board.specs.declared.entry.Entry.{Entry}
 use Rattle.cml_board.specs.History.{entries_in, rings_in}
@@ -17,7 +16,6 @@ use Rattle.cml_threads.specs.Hosting.{IsCounted}
 record AddsRings {M : Type 0} (old new : Shown M) : Type 0 where
   pub grown : entries_in old.history ≤ entries_in new.history
   pub rings : rings_in new.history + entries_in old.history ≡ rings_in old.history + entries_in new.history
-  pub limit : new.limit ≡ old.limit
 
 module _ {M : Type 0} where
   lane_rings : (number : ℕ) (way : Way) (target : Name) (messages : List M) (history : List (Entry M))
@@ -32,16 +30,15 @@ module _ {M : Type 0} where
   feed_rings number port (message ∷ messages) history =
       omega (arith, feed_rings number port messages (feed_entry number port message ∷ history))
 
-  same_adds : (old new : Shown M) → new.history ≡ old.history → new.limit ≡ old.limit → AddsRings old new
-  same_adds old new history limit = record {
+  same_adds : (old new : Shown M) → new.history ≡ old.history → AddsRings old new
+  same_adds old new history = record {
     grown = omega (arith, ap entries_in history);
     rings = omega (arith, ap entries_in history, ap rings_in history);
-    limit = limit;
   }
 
   -- whatever was done
   adds : (old new : FloorShown M) → Deed old new → AddsRings old.board new.board
-  adds old new (as_it_was after lanes feeds) = same_adds old.board new.board after.history after.limit
+  adds old new (as_it_was after lanes feeds) = same_adds old.board new.board after.history
   adds old new (lane_drained left number count on) =
       let m = on.place.does.moves in
       let side = on.place.does.looked in
@@ -49,10 +46,10 @@ module _ {M : Type 0} where
       ap entries_in m.history ∙ lane_entries number side.way side.target m.moved old.board.history in
       let rings : rings_in new.board.history ≡ rings_in old.board.history + length m.moved =
       ap rings_in m.history ∙ lane_rings number side.way side.target m.moved old.board.history in
-      record { grown = omega (arith, entries); rings = omega (arith, entries, rings); limit = m.limit }
+      record { grown = omega (arith, entries); rings = omega (arith, entries, rings) }
   adds old new (lane_gone number same) =
-      same_adds old.board new.board (ap (λ (f : FloorShown M). f.board.history) same) (ap (λ (f : FloorShown M). f.board.limit) same)
-  adds old new (lane_opened side board lanes feeds) = same_adds old.board new.board (ap (λ (b : Shown M). b.history) board) (ap (λ (b : Shown M). b.limit) board)
+      same_adds old.board new.board (ap (λ (f : FloorShown M). f.board.history) same)
+  adds old new (lane_opened side board lanes feeds) = same_adds old.board new.board (ap (λ (b : Shown M). b.history) board)
   adds old new (feed_pumped number count on) =
       let p = on.place.does.pumps in
       let port = on.place.does.looked.port in
@@ -60,31 +57,30 @@ module _ {M : Type 0} where
       ap entries_in p.history ∙ feed_entries number port p.pumped old.board.history in
       let rings : rings_in new.board.history ≡ rings_in old.board.history + length p.pumped =
       ap rings_in p.history ∙ feed_rings number port p.pumped old.board.history in
-      record { grown = omega (arith, entries); rings = omega (arith, entries, rings); limit = p.limit }
+      record { grown = omega (arith, entries); rings = omega (arith, entries, rings) }
   adds old new (feed_gone number same) =
-      same_adds old.board new.board (ap (λ (f : FloorShown M). f.board.history) same) (ap (λ (f : FloorShown M). f.board.limit) same)
+      same_adds old.board new.board (ap (λ (f : FloorShown M). f.board.history) same)
   adds old new (feed_opened number channel port side makes lanes feeds) = record {
     grown = omega (arith, ap entries_in makes.entry.history);
     rings = omega (arith, ap entries_in makes.entry.history, ap rings_in makes.entry.history);
-    limit = makes.entry.limit;
   }
 
-  -- the entries that are counted: what the journal had, and what it has
-  length_before : (old seen : Shown M) (before : List (Entry M)) → before ≡ reverse seen.history → seen ≡ old → length before ≡ entries_in old.history
-  length_before old seen before is same = ap length is ∙ length-reverse seen.history ∙ ap (λ (b : Shown M). entries_in b.history) same
+  -- the entries that are counted: how many there were, and how many there are
+  counted_before : (old seen : Shown M) (before : ℕ) → before ≡ entries_in seen.history → seen ≡ old → before ≡ entries_in old.history
+  counted_before old seen before is same = is ∙ ap (λ (b : Shown M). entries_in b.history) same
 
-  pub grown_at : (old new : FloorShown M) (seen now : Shown M) (before : List (Entry M)) → before ≡ reverse seen.history → seen ≡ old.board → now ≡ new.board → Deed old new
-      → length before ≤ entries_in now.history
+  pub grown_at : (old new : FloorShown M) (seen now : Shown M) (before : ℕ) → before ≡ entries_in seen.history → seen ≡ old.board → now ≡ new.board → Deed old new
+      → before ≤ entries_in now.history
   grown_at old new seen now before is same same_now deed =
-      omega (arith, length_before old.board seen before is same, ap (λ (b : Shown M). entries_in b.history) same_now, (adds old new deed).grown)
+      omega (arith, counted_before old.board seen before is same, ap (λ (b : Shown M). entries_in b.history) same_now, (adds old new deed).grown)
 
-  pub counted_at : (old new : FloorShown M) (seen now : Shown M) (before : List (Entry M)) (seats book own parts whole book' own' parts' : ℕ)
-      → IsCounted old.board seats book own parts whole → before ≡ reverse seen.history → seen ≡ old.board → now ≡ new.board → Deed old new
-      → book' + length before ≡ book + entries_in now.history → own' + length before ≡ own + entries_in now.history → parts' ≡ parts
+  pub counted_at : (old new : FloorShown M) (seen now : Shown M) (before seats book own parts whole book' own' parts' : ℕ)
+      → IsCounted old.board seats book own parts whole → before ≡ entries_in seen.history → seen ≡ old.board → now ≡ new.board → Deed old new
+      → book' + before ≡ book + entries_in now.history → own' + before ≡ own + entries_in now.history → parts' ≡ parts
       → IsCounted new.board seats book' own' parts' whole
   counted_at old new seen now before seats book own parts whole book' own' parts' counted is same same_now deed total amount same_parts =
       let added = adds old new deed in
-      let had = length_before old.board seen before is same in
+      let had = counted_before old.board seen before is same in
       let has = ap (λ (b : Shown M). entries_in b.history) same_now in
       record {
         entries = omega (arith, had, has, total, counted.entries, added.grown);
@@ -92,5 +88,4 @@ module _ {M : Type 0} where
         shared = omega (arith, same_parts, counted.shared);
         enough = counted.enough;
         own_parts = omega (arith, same_parts, counted.own_parts);
-        bounded = omega (arith, added.limit, counted.bounded);
       }

@@ -205,7 +205,6 @@ module _ {M : Type 0} where
         shared = omega (arith, counted.shared, ap length set, length-set {A = State} seats again state);
         enough = counted.enough;
         own_parts = counted.own_parts;
-        bounded = omega (arith, counted.bounded, adds.limit);
       }
 
   pub refused_counted : (chunk : ℕ) (sure : Bool) (floor new : FloorShown M) (number again : ℕ) (call back : Call M) (refusal : Refusal) (seats seats' : List State) (state : State)
@@ -222,11 +221,10 @@ module _ {M : Type 0} where
         shared = omega (arith, counted.shared, ap length set, length-set {A = State} seats again state);
         enough = counted.enough;
         own_parts = counted.own_parts;
-        bounded = omega (arith, counted.bounded, after.limit);
       }
     where
       as_before : Reaches chunk sure floor new number call (Refused refusal back) ⊎ IsBarred floor new call refusal back → IsAsBefore floor.board new.board
       as_before (inl reaches) = reaches.applies.2
       as_before (inr barred) =
           let same : new.board ≡ floor.board = barred.board in
-          subst (λ (b : Shown M). IsAsBefore floor.board b) (sym same) (record { history = refl; limit = refl; objects = refl; reserved = omega arith })
+          subst (λ (b : Shown M). IsAsBefore floor.board b) (sym same) (record { history = refl; past = refl; limit = refl; objects = refl; reserved = omega arith })

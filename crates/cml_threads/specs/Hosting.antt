@@ -58,4 +58,3 @@ module _ {M : Type 0} where
     pub shared : parts + seats ≡ whole
     pub enough : whole ≡ 2 ^ 63
     pub own_parts : 0 < parts
-    pub bounded : board.limit ≤ 2 ^ 32

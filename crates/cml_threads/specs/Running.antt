@@ -1,7 +1,7 @@
 -- A run of a hall's calls.
-use Rattle.std.specs.Prelude.{◌≡◌, ℕ, Bool, List, [], ◌∷◌}
+use Rattle.std.specs.Prelude.{◌≡◌, ℕ, Bool, true, false, not, ◌&&◌, List, [], ◌∷◌}
 use Rattle.cml_board.specs.declared.call.Call.{Call}
-use Rattle.cml_lanes.specs.Steps.{FloorCall, IsCalled}
+use Rattle.cml_lanes.specs.Steps.{FloorCall, IsCalled, takes_journal}
 use Rattle.cml_threads.specs.declared.asked.Asked.{Asked}
 use Rattle.cml_threads.specs.Seating.{Sitting}
 use Rattle.cml_threads.specs.Hosting.{Hosted, floor_of, MayAsk, MayAskAgain}
@@ -31,6 +31,16 @@ module _ {M : Type 0} where
   IsMade chunk sure NewSeat old new = KeepsFloor old new
   IsMade chunk sure Leave old new = KeepsFloor old new
   IsMade chunk sure (OnFloor call) old new = IsCalled chunk sure call (floor_of old) (floor_of new) × (new.seats ≡ old.seats)
+
+  -- the call hands the journal over
+  abbrev pub hands_over : HallCall M → Bool
+  hands_over (OnFloor call) = takes_journal call
+  hands_over call = false
+
+  -- none of the calls does
+  abbrev pub keeps_entries : List (HallCall M) → Bool
+  keeps_entries [] = true
+  keeps_entries (call ∷ later) = not (hands_over call) && keeps_entries later
 
   -- the calls were made in turn, and this became of the hall
   abbrev pub AreMade : ℕ → Bool → List (HallCall M) → Hosted M → Hosted M → Type 0

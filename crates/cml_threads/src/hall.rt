@@ -1,9 +1,11 @@
-ghost use Rattle.std.specs.Prelude.{◌≡◌, ◌^◌, ◌≤◌, [], ◌∷◌, ◌++◌, length, IfOk, IfErr, OnOk};
+ghost use Rattle.std.specs.Prelude.{◌≡◌, ◌^◌, ◌≤◌, [], ◌∷◌, ◌++◌, length, reverse, IfOk, IfErr, OnOk, MatchResult};
 ghost use Rattle.cml_board.specs.declared.outcome.Refusal.TheVariants.{Gone, NoMemory};
 ghost use Rattle.cml_board.specs.History.{no_entries, entries_in, Lawful};
+ghost use Rattle.cml_board.specs.Since.{KeepsSince};
 ghost use Rattle.cml_board.specs.Shown.{KeepsMailboxes, KeepsPorts, KeepsClosed, KeepsVariables, KeepsLogs};
 ghost use Rattle.cml_lanes.specs.Floor.{KeepsLanes, KeepsFeeds, KeepsRings};
 ghost use Rattle.cml_lanes.specs.Reserving.{Reserves};
+ghost use Rattle.cml_lanes.specs.Cutting.{CutsAFloor, CutsFloor, NotCut};
 ghost use Rattle.cml_threads.specs.Seating.{Sitting};
 ghost use Rattle.cml_threads.specs.Hosting.{floor_of, MayAsk, with_state};
 
@@ -16,7 +18,7 @@ mod settling;
 use crate::seat::Seat;
 use crate::seats::Seats;
 use crate::state::State;
-use cml_board::{Board, Message, Refusal};
+use cml_board::{Board, Entry, Message, Refusal};
 use cml_lanes::Floor;
 use cml_log::MessageLog;
 use std::alloc::{AllocError, Global};
@@ -102,6 +104,10 @@ impl<M: Message, L: MessageLog<M>, Led: Ledger> Hall<M, L, Led> {
 
         // What each log really holds, from which place on, and which cursors are open in it.
         ensures logs { KeepsLogs L.CHUNK self.now.board }
+
+        // The same of the entries since the last cut: what was received since, followed by what waits, is what waited at the
+        // cut, followed by what was sent since.
+        ensures since { KeepsSince L.CHUNK self.now.board }
     {
         // The facts are those that the journal's reader tells.
         let board = self.floor.board();
@@ -117,6 +123,29 @@ impl<M: Message, L: MessageLog<M>, Led: Ledger> Hall<M, L, Led> {
         ensures book { self.new.book ≡ self.old.book }
     {
         self.floor.reserve(n)
+    }
+
+    /// Cuts the journal, as `Floor::cut` does: a seat that waits goes on waiting, and what each was answered stays counted.
+    /// The only refusal is `Busy`, where a lane or a feed is open.
+    pub fn cut(&mut self) -> Result<(), Refusal>
+        ensures cut { CutsAFloor (floor_of self.old) (floor_of self.new) result }
+        ensures reserved { self.old.board.reserved ≤ self.new.board.reserved }
+        ensures rings { KeepsRings (floor_of self.old) (floor_of self.new) }
+        ensures seats { self.new.seats ≡ self.old.seats }
+        ensures book { self.new.book ≡ self.old.book }
+    {
+        self.floor.cut()
+    }
+
+    /// Cuts the journal and hands over the entries that it had, as `Floor::take_journal` does; refused as `cut` is.
+    pub fn take_journal(&mut self) -> Result<Vec<Entry<M>>, Refusal>
+        ensures taken { IfOk result (λ taken. reverse taken.items ++ self.old.board.past ≡ self.old.board.history) }
+        ensures cut { MatchResult result (λ _. CutsFloor (floor_of self.old) (floor_of self.new)) (NotCut (floor_of self.old) (floor_of self.new)) }
+        ensures rings { KeepsRings (floor_of self.old) (floor_of self.new) }
+        ensures seats { self.new.seats ≡ self.old.seats }
+        ensures book { self.new.book ≡ self.old.book }
+    {
+        self.floor.take_journal()
     }
 
     /// A new seat, which is free and has the next number. Only want of memory refuses it.

@@ -1,5 +1,5 @@
 //! What the calls of a hall come to, over a run of them.
-ghost use Rattle.std.specs.Prelude.{◌≡◌, ℕ, ◌+◌, ◌<◌, ◌≤◌, Bool, List};
+ghost use Rattle.std.specs.Prelude.{◌≡◌, ℕ, ◌+◌, ◌<◌, ◌≤◌, Bool, true, List};
 ghost use Rattle.cml_board.specs.declared.call.Call.{Call};
 ghost use Rattle.cml_board.specs.declared.outcome.Refusal.TheVariants.{NoMemory};
 ghost use Rattle.cml_lanes.specs.Floor.{FloorShown};
@@ -11,7 +11,7 @@ ghost use Rattle.cml_threads.specs.declared.asked.Asked.TheVariants.{Refused};
 ghost use Rattle.cml_threads.specs.Seating.{Sitting};
 ghost use Rattle.cml_threads.specs.Hosting.{Hosted, floor_of, MayAsk, MayAskAgain};
 ghost use Rattle.cml_threads.specs.Asking.{Asks};
-ghost use Rattle.cml_threads.specs.Running.{HallCall, AreMade};
+ghost use Rattle.cml_threads.specs.Running.{HallCall, AreMade, keeps_entries};
 
 /// What the calls of a hall do to its floor, calls of a floor do: so what is a law of all runs on a floor holds in a hall.
 pub fn halls_call_their_floor<M>()
@@ -22,28 +22,34 @@ pub fn halls_call_their_floor<M>()
 
 /// Over a run of calls in a hall, what was reserved is lost by added entries alone, one by each, whoever made them. So while
 /// fewer were added than were reserved, want of memory refuses no seat's call, made for the first time or again, and stops
-/// no lane and no feed, where the next entry is all that takes memory.
+/// no lane and no feed, where the next entry is all that takes memory. A journal that is handed over takes what stood
+/// reserved with it.
 pub fn reserved_lasts_in_a_hall<M>()
     ensures lasts { (chunk : ℕ) (sure : Bool) (calls : List (HallCall M)) (old new : Hosted M)
         → AreMade chunk sure calls old new
+        → keeps_entries calls ≡ true
         → old.board.reserved ≤ new.board.reserved + added_since old.board new.board }
     ensures asks { (chunk : ℕ) (sure : Bool) (calls : List (HallCall M)) (old new after : Hosted M) (seat left : Sitting) (call back : Call M)
         → AreMade chunk sure calls old new
+        → keeps_entries calls ≡ true
         → added_since old.board new.board < old.board.reserved
         → TakesEntryAlone chunk sure new.board.history call
         → ¬ (Asks chunk sure (MayAsk new seat.number) new after seat left call (Refused NoMemory back)) }
     ensures again { (chunk : ℕ) (sure : Bool) (calls : List (HallCall M)) (old new after : Hosted M) (seat left : Sitting) (call back : Call M)
         → AreMade chunk sure calls old new
+        → keeps_entries calls ≡ true
         → added_since old.board new.board < old.board.reserved
         → TakesEntryAlone chunk sure new.board.history call
         → ¬ (Asks chunk sure (MayAskAgain new seat.number call) new after seat left call (Refused NoMemory back)) }
     ensures lanes { (chunk : ℕ) (sure : Bool) (calls : List (HallCall M)) (old new : Hosted M) (after : FloorShown M) (lane count : ℕ)
         → AreMade chunk sure calls old new
+        → keeps_entries calls ≡ true
         → added_since old.board after.board < old.board.reserved
         → LaneTakesEntryAlone chunk sure after lane
         → ¬ (HoldsUp chunk sure lane count (floor_of new) after NoMemory) }
     ensures feeds { (chunk : ℕ) (sure : Bool) (calls : List (HallCall M)) (old new : Hosted M) (after : FloorShown M) (feed count : ℕ)
         → AreMade chunk sure calls old new
+        → keeps_entries calls ≡ true
         → added_since old.board after.board < old.board.reserved
         → FeedTakesEntryAlone chunk sure after feed
         → ¬ (Starves chunk sure feed count (floor_of new) after NoMemory) }

@@ -1,5 +1,6 @@
 ghost use Rattle.std.specs.Prelude.{◌≡◌, ◌+◌};
 ghost use Rattle.cml_board.specs.History.{entries_in, rings_in, Lawful};
+ghost use Rattle.cml_board.specs.Since.{KeepsSince};
 ghost use Rattle.cml_board.specs.Shown.{KeepsMailboxes, KeepsPorts, KeepsClosed, KeepsVariables, KeepsLogs};
 ghost use Rattle.cml_threads.specs.Settling.{Final};
 
@@ -59,6 +60,7 @@ impl<M: Message, L: MessageLog<M>> Settled<M, L> {
         ensures closed { KeepsClosed self.now.board }
         ensures variables { KeepsVariables self.now.board }
         ensures logs { KeepsLogs L.CHUNK self.now.board }
+        ensures since { KeepsSince L.CHUNK self.now.board }
     {
         // The facts are those that the journal's reader tells.
         let _journal = self.board.journal();
@@ -74,7 +76,7 @@ impl<M: Message, L: MessageLog<M>> Settled<M, L> {
         Count {
             seats: self.seats,
             rings: self.rings,
-            total: self.board.journal().len() as u64,
+            total: self.board.entries(),
         }
     }
 }

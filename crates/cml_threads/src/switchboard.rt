@@ -1,5 +1,5 @@
 ghost use Rattle.std.specs.Prelude.{◌≡◌, ◌+◌, ◌^◌, ◌≤◌, true, IfOk, IfErr, OnOk};
-ghost use Rattle.cml_board.specs.declared.outcome.Refusal.TheVariants.{NoMemory};
+ghost use Rattle.cml_board.specs.declared.outcome.Refusal.TheVariants.{Busy, NoMemory};
 ghost use Rattle.cml_board.specs.Waiting.{want_in};
 ghost use Rattle.cml_board.specs.History.{entries_in, rings_in};
 ghost use Rattle.cml_threads.specs.Seating.{Sitting, raised, answers_in};
@@ -15,7 +15,7 @@ use crate::asked::Asked;
 use crate::hall::Hall;
 use crate::seat::{Left, Seat};
 use crate::settled::Settled;
-use cml_board::{Answer, Call, Message, Refusal, Reply};
+use cml_board::{Answer, Call, Entry, Message, Refusal, Reply};
 use cml_log::MessageLog;
 use crossbeam_utils::CachePadded;
 use std::alloc::{AllocError, Global};
@@ -83,6 +83,23 @@ impl<M: Message, L: MessageLog<M>, Led: Ledger> Switchboard<M, L, Led> {
         ensures { IfErr result (λ refusal. refusal ≡ NoMemory) }
     {
         self.locked.lock(rt).hall.reserve(n)
+    }
+
+    /// Cuts the journal, as `Hall::cut` does: it may be refused, `Busy`, where a lane or a feed is open, and for nothing
+    /// else. Who waits goes on waiting, since no call would be answered otherwise. All that the journal had is dropped under
+    /// the lock; `take_journal` hands it over instead, to be dropped or written elsewhere.
+    pub fn cut<R: Wait>(&self, rt: &R) -> Result<(), Refusal>
+        ensures { IfErr result (λ refusal. refusal ≡ Busy) }
+    {
+        self.locked.lock(rt).hall.cut()
+    }
+
+    /// Cuts the journal and hands over the entries that it had, oldest first, as `Hall::take_journal` does; refused as `cut`
+    /// is. What each call that took a journal got, in the order of the calls, is all that was accepted, once each.
+    pub fn take_journal<R: Wait>(&self, rt: &R) -> Result<Vec<Entry<M>>, Refusal>
+        ensures { IfErr result (λ refusal. refusal ≡ Busy) }
+    {
+        self.locked.lock(rt).hall.take_journal()
     }
 
     /// Makes a call, and waits until it is answered or refused: it may never return, if nobody ever sends what it waits

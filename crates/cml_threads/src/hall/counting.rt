@@ -6,9 +6,9 @@ use cml_board::{Board, Message};
 use cml_log::MessageLog;
 use std::sync::ledger::{Book, Ledger, Share};
 
-/// Counts the entries that the journal has beyond so many, in the book and as the hall's own.
+/// Counts the entries beyond so many, in the book and as the hall's own.
 pub fn count_since<M: Message, L: MessageLog<M>, Led: Ledger>(
-    before: usize,
+    before: u64,
     board: &Board<M, L>,
     book: &mut Book<Led>,
     rest: &mut Share<Led>,
@@ -19,6 +19,5 @@ pub fn count_since<M: Message, L: MessageLog<M>, Led: Ledger>(
     ensures amount { rest.new.amount + before ≡ rest.old.amount + entries_in board.now.history }
     ensures parts { rest.new.parts ≡ rest.old.parts }
 {
-    let entries = board.journal().len() - before;
-    book.add(rest, entries as u64);
+    book.add(rest, board.entries() - before);
 }

@@ -28,7 +28,7 @@ impl<M: Message, L: MessageLog<M>, Led: Ledger> Hall<M, L, Led> {
         ensures rings { (number : ℕ) → number < length self.old.feeds → SameFeedRing number (floor_of self.old) (floor_of self.new) }
         ensures seats { self.new.seats ≡ self.old.seats }
     {
-        let before = self.floor.board().journal().len();
+        let before = self.floor.board().entries();
         let told = self.floor.open_feed(channel, capacity);
         count_since(before, self.floor.board(), &mut self.book, &mut self.rest);
         told
@@ -41,7 +41,7 @@ impl<M: Message, L: MessageLog<M>, Led: Ledger> Hall<M, L, Led> {
         ensures rings { KeepsRings (floor_of self.old) (floor_of self.new) }
         ensures seats { self.new.seats ≡ self.old.seats }
     {
-        let before = self.floor.board().journal().len();
+        let before = self.floor.board().entries();
         let told = self.floor.pump(feed);
         count_since(before, self.floor.board(), &mut self.book, &mut self.rest);
         told

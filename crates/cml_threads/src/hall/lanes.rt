@@ -37,7 +37,7 @@ impl<M: Message, L: MessageLog<M>, Led: Ledger> Hall<M, L, Led> {
         ensures rings { KeepsRings (floor_of self.old) (floor_of self.new) }
         ensures seats { self.new.seats ≡ self.old.seats }
     {
-        let before = self.floor.board().journal().len();
+        let before = self.floor.board().entries();
         let told = self.floor.drain(lane);
         count_since(before, self.floor.board(), &mut self.book, &mut self.rest);
         told
@@ -51,7 +51,7 @@ impl<M: Message, L: MessageLog<M>, Led: Ledger> Hall<M, L, Led> {
         ensures rings { KeepsRings (floor_of self.old) (floor_of self.new) }
         ensures seats { self.new.seats ≡ self.old.seats }
     {
-        let before = self.floor.board().journal().len();
+        let before = self.floor.board().entries();
         let told = self.floor.close_lane(end);
         count_since(before, self.floor.board(), &mut self.book, &mut self.rest);
         told
@@ -64,7 +64,7 @@ impl<M: Message, L: MessageLog<M>, Led: Ledger> Hall<M, L, Led> {
         ensures rings { KeepsRings (floor_of self.old) (floor_of self.new) }
         ensures seats { self.new.seats ≡ self.old.seats }
     {
-        let before = self.floor.board().journal().len();
+        let before = self.floor.board().entries();
         let told = self.floor.close_counted(end);
         count_since(before, self.floor.board(), &mut self.book, &mut self.rest);
         told
@@ -77,7 +77,7 @@ impl<M: Message, L: MessageLog<M>, Led: Ledger> Hall<M, L, Led> {
         ensures rings { KeepsRings (floor_of self.old) (floor_of self.new) }
         ensures seats { self.new.seats ≡ self.old.seats }
     {
-        let before = self.floor.board().journal().len();
+        let before = self.floor.board().entries();
         let told = self.floor.drop_lane(lane);
         count_since(before, self.floor.board(), &mut self.book, &mut self.rest);
         told

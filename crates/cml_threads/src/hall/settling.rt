@@ -34,11 +34,10 @@ impl<M: Message, L: MessageLog<M>, Led: Ledger> Hall<M, L, Led> {
             mut book,
             mut rest,
         } = self;
+        let total = floor.board().entries();
         let seats = gather(lefts, &mut book, &mut rest);
         book.audit(&mut rest);
-        let board = floor.into_board();
-        let rings = board.journal().len() as u64 - seats;
-        Ok(Settled::new(board, seats, rings))
+        Ok(Settled::new(floor.into_board(), seats, total - seats))
     }
 }
 

@@ -1,6 +1,5 @@
-use Rattle.std.proofs.Common.{◌≡◌, ap, length, arith}
-use Rattle.std.proofs.lemmas.List.{length-reverse}
-use Rattle.cml_board.specs.History.{rings_in}
+use Rattle.std.proofs.Common.{◌≡◌, ap, arith}
+use Rattle.cml_board.specs.History.{entries_in, rings_in}
 use Rattle.cml_board.specs.Shown.{Shown}
 use Rattle.cml_threads.proofs.hall.Hall.settle.Goals as goal
 
@@ -17,10 +16,10 @@ new-requires-clause-own g c =
       c.gather-seats.ensures.total,
       c.self.invariant.entries,
       c.self.invariant.rings,
-      ap length c.journal.ensures.entries,
-      length-reverse c.into_board-board.result.history,
-      ap (λ (b : Shown g.row.M.Denot). length b.history) c.into_board-board.ensures,
-      ap (λ (b : Shown g.row.M.Denot). rings_in b.history) c.into_board-board.ensures,
+      c.entries-total.ensures,
+      ap (λ (b : Shown g.row.M.Denot). entries_in b.history) c.board.ensures.board,
+      ap (λ (b : Shown g.row.M.Denot). entries_in b.history) c.into_board.ensures,
+      ap (λ (b : Shown g.row.M.Denot). rings_in b.history) c.into_board.ensures,
     )
 
 pub new-requires-clause-total : goal.new-requires-clause-total
@@ -35,8 +34,8 @@ new-requires-clause-total g c =
       c.gather-seats.ensures.total,
       c.self.invariant.entries,
       c.self.invariant.rings,
-      ap length c.journal.ensures.entries,
-      length-reverse c.into_board-board.result.history,
-      ap (λ (b : Shown g.row.M.Denot). length b.history) c.into_board-board.ensures,
-      ap (λ (b : Shown g.row.M.Denot). rings_in b.history) c.into_board-board.ensures,
+      c.entries-total.ensures,
+      ap (λ (b : Shown g.row.M.Denot). entries_in b.history) c.board.ensures.board,
+      ap (λ (b : Shown g.row.M.Denot). entries_in b.history) c.into_board.ensures,
+      ap (λ (b : Shown g.row.M.Denot). rings_in b.history) c.into_board.ensures,
     )

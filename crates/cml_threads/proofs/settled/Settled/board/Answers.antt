@@ -8,3 +8,6 @@ returns-clause-ports g c = rw (← c.self.view_is) c.journal-journal.ensures.por
 
 pub returns-clause-closed : goal.returns-clause-closed
 returns-clause-closed g c = rw (← c.self.view_is) c.journal-journal.ensures.closed
+
+pub returns-clause-since : goal.returns-clause-since
+returns-clause-since g c = rw (← c.self.view_is) c.journal-journal.ensures.since

@@ -1,0 +1,7 @@
+use Rattle.std.proofs.Common.{subst}
+use Rattle.cml_lanes.specs.Floor.{KeepsRings}
+use Rattle.cml_threads.specs.Hosting.{Hosted, floor_of}
+use Rattle.cml_threads.proofs.hall.Hall.take_journal.Goals as goal
+
+pub returns-clause-rings : goal.returns-clause-rings
+returns-clause-rings g c = subst (λ (h : Hosted g.row.M.Denot). KeepsRings (floor_of h) c.take_journal.new.self) c.self.view_is c.take_journal.ensures.rings
