@@ -33,3 +33,4 @@ pub mod TurnLemmas
 pub mod DeclareLemmas
 pub mod HeldLemmas
 pub mod ConcludingLemmas
+pub mod WholeLemmas

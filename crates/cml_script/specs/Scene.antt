@@ -1,6 +1,6 @@
 -- The inside of a report: what it tells of.
 use Rattle.std.specs.Prelude.{◌≡◌}
-use Rattle.cml_board.specs.History.{Lawful}
+use Rattle.cml_board.specs.History.{no_entries, Lawful}
 use Rattle.cml_grammar.specs.Script.{Lines}
 use Rattle.cml_script.specs.Schedule.{History}
 use Rattle.cml_script.specs.Report.{Tallied}
@@ -13,8 +13,9 @@ pub record Told : Type 0 where
   pub history : History
   pub tally : Tallied
 
--- all of the history was followed; it is lawful, and the script's
-pub record IsTold (progress : Progress) (history : History) : Type 0 where
+-- all of the history was followed; it is lawful, and the script's; and nothing of it was cut away
+pub record IsTold (progress : Progress) (past history : History) : Type 0 where
   pub followed : history_of progress ≡ history
   pub own : IsOfScript progress.script history
   pub lawful : Lawful history
+  pub whole : past ≡ no_entries

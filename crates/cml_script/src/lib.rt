@@ -22,6 +22,7 @@ mod stop;
 mod tally;
 mod trail;
 mod verdict;
+mod whole;
 mod writing;
 
 pub use asked::Order;

@@ -2,7 +2,7 @@
 ghost use Rattle.std.specs.Prelude.{◌≡◌, ◌++◌, [], reverse, slice_get, Some, IfOk, OnOk, string_bytes, codes};
 ghost use Rattle.std.specs.Fmt.{decimal};
 ghost use Rattle.cml_board.specs.declared.call.Kind.TheVariants as kind;
-ghost use Rattle.cml_board.specs.History.{kind_of};
+ghost use Rattle.cml_board.specs.History.{no_entries, kind_of};
 ghost use Rattle.cml_grammar.specs.declared.names.Named.TheVariants as called;
 ghost use Rattle.cml_grammar.specs.Meaning.{names_of};
 ghost use Rattle.cml_grammar.specs.Reading.{IsPortAt, IsFeedAt, IsVariableAt};
@@ -14,6 +14,7 @@ use crate::scene::Scene;
 use crate::stop::Stop;
 use crate::tally::Tally;
 use crate::trail::Trail;
+use crate::whole::journal;
 use cml_board::{Board, BoardLog, Call, Entry, Name, Reply, Who};
 use cml_grammar::{Named, Script};
 use std::alloc::{AllocError, Global};
@@ -27,10 +28,11 @@ pub fn report(
     tally: &Tally,
     stop: Stop,
 ) -> Result<String, AllocError>
-    requires { IsOfScript script.now board.now.history }
+    requires own { IsOfScript script.now board.now.history }
+    requires whole { board.now.past ≡ no_entries }
     ensures { IfOk result (λ text. string_bytes text ≡ report script.now board.now.history tally.now stop) }
 {
-    let journal = board.journal();
+    let journal = journal(board);
     let mut report = String::new(alloc);
     let mut trail = Trail::new(alloc, script, journal)?;
     write_entries(&mut report, &mut trail, journal)?;

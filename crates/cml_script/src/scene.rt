@@ -1,7 +1,7 @@
 //! What a report tells of.
 ghost use Rattle.std.specs.Prelude.{◌≡◌, Some, None, reverse, MatchOption, IfSome};
 ghost use Rattle.cml_board.specs.declared.call.Kind.{Kind};
-ghost use Rattle.cml_board.specs.History.{Lawful, kind_of};
+ghost use Rattle.cml_board.specs.History.{no_entries, Lawful, kind_of};
 ghost use Rattle.cml_grammar.specs.Meaning.{names_of};
 ghost use Rattle.cml_script.specs.Counting.{how_many};
 ghost use Rattle.cml_script.specs.Schedule.{made_of};
@@ -13,6 +13,7 @@ ghost use Rattle.cml_script.specs.Trail.{history_of};
 use crate::plan::count_objects;
 use crate::tally::Tally;
 use crate::trail::Trail;
+use crate::whole::journal;
 use cml_board::{Board, BoardLog, Entry, Name, Who};
 use cml_grammar::Script;
 use std::marker::Model;
@@ -32,7 +33,7 @@ impl<'a> Model for Scene<'a> {
 
     ghost view = { λ s. record { script = s.trail.script; history = s.board.now.history; tally = s.tally.now } };
 
-    ghost invariant = { λ s. IsTold s.trail s.board.now.history };
+    ghost invariant = { λ s. IsTold s.trail s.board.now.past s.board.now.history };
 }
 
 impl<'a> Scene<'a> {
@@ -43,12 +44,13 @@ impl<'a> Scene<'a> {
     ) -> Scene<'a>
         requires followed { history_of trail ≡ board.now.history }
         requires own { IsOfScript trail.script board.now.history }
+        requires whole { board.now.past ≡ no_entries }
         ensures script { result.script ≡ trail.entry.script }
         ensures history { result.history ≡ board.now.history }
         ensures tally { result.tally ≡ tally.now }
     {
         // That the history is lawful is what the journal's reader tells.
-        let _journal = board.journal();
+        let _journal = journal(board);
         Scene {
             trail,
             board,
@@ -73,8 +75,7 @@ impl<'a> Scene<'a> {
     pub fn performed(&self) -> usize
         ensures { result ≡ performed_count self.now.script self.now.history }
     {
-        self.board
-            .journal()
+        journal(self.board)
             .len()
             .saturating_sub(count_objects(self.script()))
     }
@@ -105,9 +106,10 @@ impl<'a> Scene<'a> {
 
 /// How many steps were not performed, by what a board's journal and a tally tell.
 pub fn unperformed(script: &Script, board: &Board<u64, BoardLog<u64>>, tally: &Tally) -> usize
+    requires { board.now.past ≡ no_entries }
     ensures { result ≡ unperformed script.now board.now.history tally.now }
 {
-    let called = count_calls(board.journal());
+    let called = count_calls(journal(board));
     let rest = script.steps().len().saturating_sub(called);
     rest.saturating_sub(tally.apart)
 }

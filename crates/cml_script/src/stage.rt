@@ -33,13 +33,15 @@ pub struct Stage<'a> {
 }
 
 impl<'a> Model for Stage<'a> {
+    ghost use Rattle.std.specs.Prelude.{◌≡◌};
+    ghost use Rattle.cml_board.specs.History.{no_entries};
     ghost use Rattle.cml_script.specs.Stage.{Play, Stands};
 
     ghost Value = { Play };
 
     ghost view = { λ s. record { script = s.plan; history = s.board.history; limit = s.board.limit } };
 
-    ghost invariant = { λ s. Stands (record { script = s.plan; history = s.board.history; limit = s.board.limit }) s.counts.items s.bindings.items };
+    ghost invariant = { λ s. Stands (record { script = s.plan; history = s.board.history; limit = s.board.limit }) s.counts.items s.bindings.items × (s.board.past ≡ no_entries) };
 }
 
 impl<'a> Stage<'a> {
@@ -64,6 +66,7 @@ impl<'a> Stage<'a> {
 
     pub fn board(&self) -> &Board<u64, BoardLog<u64>>
         ensures history { result.now.history ≡ self.now.history }
+        ensures whole { result.now.past ≡ no_entries }
         ensures limit { result.now.limit ≡ self.now.limit }
         ensures lawful { Lawful self.now.history }
         ensures follows { Follows self.now.script self.now.history }
@@ -83,7 +86,7 @@ impl<'a> Stage<'a> {
         ensures full { IsTrue result ↔ (entries_in self.now.history ≡ self.now.limit) }
         ensures within { entries_in self.now.history ≤ self.now.limit }
     {
-        self.board.journal().len() as u64 == self.board.limit()
+        self.board.is_full()
     }
 
     /// Makes the declared objects in text order, and answers false where the journal was full before all were made.
@@ -205,7 +208,7 @@ impl<'a> Stage<'a> {
         ensures object { object_of self.now.script self.now.history at ≡ Some result.0 }
         ensures kind { (k : Kind) → IsObjectAt (names_of self.now.script) at k → kind_of self.now.history result.0 ≡ Some k }
     {
-        let made = self.board.journal().len() as u64;
+        let made = self.board.entries();
         self.plan.object(at, made, &self.bindings).unwrap()
     }
 

@@ -1,5 +1,6 @@
 //! What a run told, before it is reported.
 ghost use Rattle.std.specs.Prelude.{◌≡◌, ◌↔◌, ◌<◌, ℕ, length, IsTrue, IfOk, IfErr, string_bytes};
+ghost use Rattle.cml_board.specs.History.{no_entries};
 ghost use Rattle.cml_script.specs.Audit.{IsOfScript};
 ghost use Rattle.cml_script.specs.Running.{IsReportOf, IsRefused, IsUnsettled, IsTakenAt, Leaves, MayEnd};
 
@@ -12,11 +13,12 @@ use crate::scene::unperformed;
 use crate::stop::Stop;
 use crate::tally::Tally;
 use crate::verdict::Verdict;
+use crate::whole::journal;
 use cml_board::{Board, BoardLog};
 use cml_grammar::Script;
 use std::alloc::Global;
 
-/// The report of a script's journal, once it is audited, and where it may end so with this tally.
+/// The report of a script's journal that nobody cut, once it is audited, and where it may end so with this tally.
 pub fn conclude(
     alloc: Global,
     script: &Script,
@@ -24,19 +26,20 @@ pub fn conclude(
     tally: &Tally,
     stop: Stop,
 ) -> Result<Played, Ending>
+    requires { board.now.past ≡ no_entries }
     ensures stop { IfOk result (λ played. played.stop ≡ stop) }
     ensures report { IfOk result (λ played. IsReportOf script.now board.now.limit board.now.history tally.now stop (string_bytes played.report)) }
     ensures refused { IfErr result (λ ending. IsRefused script.now board.now.limit board.now.history tally.now stop ending) }
 {
     // That no journal has more entries than an audit takes is what the limit's reader tells.
     let _limit = board.limit();
-    match audit(alloc, script, board.journal())? {
+    match audit(alloc, script, journal(board))? {
         Verdict::Lawful => tell(alloc, script, board, tally, stop),
         Verdict::Unlawful(k) | Verdict::Foreign(k) => Err(Ending::NotLawful(k)),
     }
 }
 
-/// The same of a board whose journal has this limit, and no other.
+/// The same of a board whose journal has this limit, and no other, if it has all entries.
 pub(super) fn conclude_under(
     alloc: Global,
     script: &Script,
@@ -49,7 +52,7 @@ pub(super) fn conclude_under(
     ensures report { IfOk result (λ played. IsReportOf script.now limit board.now.history tally.now stop (string_bytes played.report)) }
     ensures untold { IfErr result (λ ending. IsUnsettled ending) }
 {
-    if board.limit() != limit {
+    if board.limit() != limit || board.cut_at() != 0 {
         return Err(Ending::NotLawful(board.journal().len()));
     }
     conclude(alloc, script, board, tally, stop)
@@ -63,13 +66,14 @@ fn tell(
     tally: &Tally,
     stop: Stop,
 ) -> Result<Played, Ending>
-    requires { IsOfScript script.now board.now.history }
+    requires own { IsOfScript script.now board.now.history }
+    requires whole { board.now.past ≡ no_entries }
     ensures stop { IfOk result (λ played. played.stop ≡ stop) }
     ensures report { IfOk result (λ played. IsReportOf script.now board.now.limit board.now.history tally.now stop (string_bytes played.report)) }
     ensures refused { IfErr result (λ ending. IsRefused script.now board.now.limit board.now.history tally.now stop ending) }
 {
     // That the history is lawful and within the limit is what the journal's reader tells.
-    let entries = board.journal().len();
+    let entries = journal(board).len();
     let plan = Plan::new(alloc, script)?;
     if !may_end(&plan, board, tally, stop) {
         return Err(Ending::NotLawful(entries));
@@ -80,6 +84,7 @@ fn tell(
 
 /// Whether a run may end so with this journal and this tally.
 fn may_end(plan: &Plan<'_>, board: &Board<u64, BoardLog<u64>>, tally: &Tally, stop: Stop) -> bool
+    requires { board.now.past ≡ no_entries }
     ensures { IsTrue result ↔ MayEnd plan.now board.now.limit board.now.history tally.now stop }
 {
     if !leaves(plan.script(), board, tally, stop) {
@@ -93,12 +98,13 @@ fn may_end(plan: &Plan<'_>, board: &Board<u64, BoardLog<u64>>, tally: &Tally, st
 
 /// Whether so much is left.
 fn leaves(script: &Script, board: &Board<u64, BoardLog<u64>>, tally: &Tally, stop: Stop) -> bool
+    requires { board.now.past ≡ no_entries }
     ensures { IsTrue result ↔ Leaves script.now board.now.limit board.now.history tally.now stop }
 {
     match stop {
         Stop::Done => unperformed(script, board, tally) == 0,
         Stop::Stalled | Stop::Held => 0 < unperformed(script, board, tally),
-        Stop::Full => board.journal().len() as u64 == board.limit(),
+        Stop::Full => board.entries() == board.limit(),
     }
 }
 
@@ -123,7 +129,7 @@ fn is_taken(plan: &Plan<'_>, board: &Board<u64, BoardLog<u64>>, tally: &Tally, a
     if feed.is_none() {
         return true;
     }
-    let Some(port) = plan.declared_object(at, board.journal().len() as u64) else {
+    let Some(port) = plan.declared_object(at, board.entries()) else {
         return true;
     };
     tally.taken_from(feed) <= board.got_count(port).unwrap_or(0)

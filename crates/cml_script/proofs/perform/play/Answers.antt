@@ -9,8 +9,8 @@ use Rattle.cml_script.specs.Audit.{IsOfScript}
 use Rattle.cml_script.proofs.GivingLemmas.{follows_own}
 use Rattle.cml_script.proofs.perform.play.Goals as goal
 
-pub report-requires : goal.report-requires
-report-requires c =
+pub report-requires-clause-own : goal.report-requires-clause-own
+report-requires-clause-own c =
     let stage = c.perform.new.stage in
     let script = c.perform.ensures.script ∙ ap (λ (p : Play). p.script) c.in_ok-stage.ensures in
     let own = subst (λ s. IsOfScript s stage.history) script (follows_own stage.script stage.history c.board.ensures.follows) in

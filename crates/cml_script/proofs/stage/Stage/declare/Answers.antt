@@ -22,7 +22,7 @@ declare_next-requires-clause-next c =
     let here = read_at items i d c.loop-declaration-test.true c.declaration-item.is in
     let lines = c.declarations-declaration-items.ensures.lines ∙ ap (λ (s : Lines). s.declarations) c.script-script.ensures ∙ ap (λ (p : Play). p.script.declarations) c.self.view_is ∙ ap (λ (s : Lines). s.declarations) (sym c.loop-declaration.invariant.script) in
     let same = c.script-script.ensures ∙ ap (λ (p : Play). p.script) c.self.view_is ∙ sym c.loop-declaration.invariant.script in
-    let named = subst NamesObjects (ap (λ (p : Play). p.script) c.self.view_is ∙ sym c.loop-declaration.invariant.script) c.self.invariant.known.named in
+    let named = subst NamesObjects (ap (λ (p : Play). p.script) c.self.view_is ∙ sym c.loop-declaration.invariant.script) c.self.invariant.0.known.named in
     next_object c.loop-declaration.self named i d c.loop-declaration.invariant.made
     (mapped_at (λ x. source_of x.line) items c.loop-declaration.self.script.declarations i d lines here)
     (subst (λ (s : Lines). ReadsDeclaration (names_of s) d) same (all_at (ReadsDeclaration (names_of c.script-script.result.now)) items i d c.declarations-declaration-items.ensures.makes here))
@@ -36,7 +36,7 @@ declare_next-requires-clause-plain c =
     let d = c.declaration-item.result in
     let here = read_at items i d c.loop-declaration-test.true c.declaration-item.is in
     let line = mapped_at (λ x. source_of x.line) items script.declarations i d c.declarations-declaration-items.ensures.lines here in
-    let plain = subst (λ (s : Lines). first_ring s ≡ None) (sym c.script-script.ensures) c.self.invariant.plain in
+    let plain = subst (λ (s : Lines). first_ring s ≡ None) (sym c.script-script.ensures) c.self.invariant.0.plain in
     sym (declaration_feed script d (all_at (ReadsDeclaration (names_of script)) items i d c.declarations-declaration-items.ensures.makes here)) ∙ plain_feed script plain i (source_of d.line) line
 
 pub loop-declaration-preserved : goal.loop-declaration-preserved

@@ -6,7 +6,7 @@ use Rattle.cml_script.proofs.stage.Stage.least_ready.Goals as goal
 
 pub loop-thread-init : goal.loop-thread-init
 loop-thread-init c =
-    least_at_first c.args.self.now.script c.args.self.now.history (stands_at c.self.view_is c.self.invariant).known.seats
+    least_at_first c.args.self.now.script c.args.self.now.history (stands_at c.self.view_is c.self.invariant.0).known.seats
 
 pub loop-thread-preserved : goal.loop-thread-preserved
 loop-thread-preserved c =
@@ -15,5 +15,5 @@ loop-thread-preserved c =
 
 pub returns : goal.returns
 returns c =
-    least_of_all c.args.self.now.script c.args.self.now.history (stands_at c.self.view_is c.self.invariant).known.seats c.loop-thread.least
-    (subst (λ n. IsLeastBelow c.args.self.now.script c.args.self.now.history n c.loop-thread.least) (omega (arith, c.self.invariant.counted.seats, c.self.inside.counts.ok.0)) c.loop-thread.invariant)
+    least_of_all c.args.self.now.script c.args.self.now.history (stands_at c.self.view_is c.self.invariant.0).known.seats c.loop-thread.least
+    (subst (λ n. IsLeastBelow c.args.self.now.script c.args.self.now.history n c.loop-thread.least) (omega (arith, c.self.invariant.0.counted.seats, c.self.inside.counts.ok.0)) c.loop-thread.invariant)

@@ -1,0 +1,15 @@
+//! The journal of a board that nobody cut: all of its entries. No step of a script cuts one.
+ghost use Rattle.std.specs.Prelude.{◌≡◌, ◌≤◌, reverse};
+ghost use Rattle.cml_board.specs.History.{no_entries, entries_in, Lawful};
+
+use cml_board::{Board, BoardLog, Entry};
+
+/// All entries, oldest first.
+pub fn journal(board: &Board<u64, BoardLog<u64>>) -> &[Entry<u64>]
+    requires { board.now.past ≡ no_entries }
+    ensures entries { result.now ≡ reverse board.now.history }
+    ensures room { entries_in board.now.history ≤ board.now.limit }
+    ensures lawful { Lawful board.now.history }
+{
+    board.journal()
+}
