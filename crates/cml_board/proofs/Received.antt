@@ -1,7 +1,7 @@
 -- In a lawful history what was received is how what is due begins.
 use Rattle.std.proofs.Common.{◌≡◌, ℕ, zero, suc, ◌<◌, ◌≤◌, inl, inr, Bool, true, false, cond, eqb, List, [], ◌∷◌, ◌++◌, length, drop, slice_get, Option, Some, None, unwrap_or, refl, sym, ap, subst, ◌∙◌, arith}
 use Rattle.std.proofs.lemmas.Bool.{eqb-true, cases_lt}
-use Rattle.std.proofs.lemmas.List.{append-nil, append_assoc, drop_at, length-append, length-drop}
+use Rattle.std.proofs.lemmas.List.{append-nil, append_assoc, drop_at}
 use Rattle.std.proofs.lemmas.Option.{same_Some, none-some}
 use Rattle.cml_board.specs.declared.call.Call.{Call}
 use Rattle.cml_board.specs.declared.call.Call.TheVariants.{Send, Cast, Recv, Poll}
@@ -131,22 +131,3 @@ module _ {M : Type 0} where
   length-sent_by (Send name message) o = one_at_most (eqb name.0 o) message
   length-sent_by (Cast name message) o = one_at_most (eqb name.0 o) message
   length-sent_by call o = omega arith
-
-  -- each entry sends one message at most
-  pub sent_within : (h : List (Entry M)) (o : ℕ) → length (sent h o) ≤ length h
-  sent_within [] o = omega arith
-  sent_within (entry ∷ before) o =
-      omega (arith, length-append (sent before o) (sent_by entry.call o), length-sent_by entry.call o, sent_within before o)
-
-  -- so no more was received than there are entries
-  pub got_within : (h : List (Entry M)) (o : ℕ) → Lawful h → length (got h o) ≤ length h
-  got_within h o lawful =
-      let begins = got_begins_due h o lawful in
-      let origin = origin_of h o in
-      omega (
-        arith,
-        length-append (got h o) begins.0,
-        ap length begins.1,
-        length-drop (start_by origin) (sent h (source_by o origin)),
-        sent_within h (source_by o origin),
-      )

@@ -1,11 +1,10 @@
 -- What a board shows since its journal was last cut.
-use Rattle.std.proofs.Common.{◌≡◌, ℕ, ◌<◌, inl, inr, true, false, List, ◌++◌, length, drop, Option, Some, refl, sym, ap, subst, ◌∙◌}
+use Rattle.std.proofs.Common.{◌≡◌, ℕ, inl, inr, true, false, List, ◌++◌, length, drop, Option, Some, refl, sym, ap, subst, ◌∙◌}
 use Rattle.std.specs.Option.{option_map, option_map_or}
 use Rattle.std.proofs.lemmas.Bool.{cases_lt}
 use Rattle.std.proofs.lemmas.List.{append_assoc, drop_at}
 use Rattle.std.proofs.lemmas.Option.{slice_get_past}
 use Rattle.cml_log.specs.Log.{owed_items}
-use Rattle.cml_board.specs.declared.call.Kind.TheVariants.{Mailbox}
 use Rattle.cml_board.specs.declared.entry.Entry.{Entry}
 use Rattle.cml_board.specs.Origins.{Origin, mailbox, port, kind_by, source_by, start_by}
 use Rattle.cml_board.specs.Objects.{is_source, is_receiver}

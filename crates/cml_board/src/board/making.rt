@@ -121,6 +121,12 @@ impl<M: Message, L: MessageLog<M>> Board<M, L> {
             call: Call::ClosePort(port),
             reply: Reply::Done,
         };
-        note(&mut self.journal, at, entry, Call::ClosePort(port), Reply::Done)
+        note(
+            &mut self.journal,
+            at,
+            entry,
+            Call::ClosePort(port),
+            Reply::Done,
+        )
     }
 }

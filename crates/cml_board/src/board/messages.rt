@@ -114,7 +114,13 @@ impl<M: Message, L: MessageLog<M>> Board<M, L> {
             call: Call::Poll(name),
             reply: Reply::Nothing,
         };
-        note(&mut self.journal, at, entry, Call::Poll(name), Reply::Nothing)
+        note(
+            &mut self.journal,
+            at,
+            entry,
+            Call::Poll(name),
+            Reply::Nothing,
+        )
     }
 
     /// Takes the first message that is owed.

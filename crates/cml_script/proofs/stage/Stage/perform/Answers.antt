@@ -28,11 +28,11 @@ invariant_of-self c =
     let adds = c.in-Answered.ensures.5 in
     let entry : Entry ℕ = record { who = Seat (get_or c.steps.result.now c.args.i c.index-steps-i.result).seat; call = c.call-call.result; reply = answer.reply } in
     let room = whole_below c.self.inside.board c.self.invariant.1 c.in-Answered.ensures.1 in (
-    subst (λ (bs : List Binding). Stands (record { script = c.self.inside.plan; history = c.apply.new.self.history; limit = c.apply.new.self.limit }) (slice_set c.self.inside.counts.items ((get_or c.steps.result.now c.args.i c.index-steps-i.result).seat - 1) (c.index_mut.result.now + 1)) bs)
-    (sym (c.bind.ensures ∙ ap (λ (asked : Call ℕ). with_binding c.self.inside.bindings.items c.given-given.result (bound_by asked c.reply.result.now)) (c.call.ensures ∙ c.in-Answered.ensures.3) ∙ ap (λ (r : Reply ℕ). with_binding c.self.inside.bindings.items c.given-given.result (bound_by c.call-call.result r)) c.reply.ensures)) (stands_performed _ _ _ _ entry c.args.i _ c.index_mut.result.now c.given-given.result c.self.invariant.0
-    (new_play c.self.inside.plan c.self.inside.board.history _ c.self.inside.board.limit _ entry adds.history adds.limit)
-    c.in-Answered.ensures.0 room c.in-Answered.ensures.2 performed.declared (performed.step answer.reply) refl performed.low performed.high c.index_mut.ensures.value c.given-given.ensures),
-    adds.past ∙ c.self.invariant.1,
+      subst (λ (bs : List Binding). Stands (record { script = c.self.inside.plan; history = c.apply.new.self.history; limit = c.apply.new.self.limit }) (slice_set c.self.inside.counts.items ((get_or c.steps.result.now c.args.i c.index-steps-i.result).seat - 1) (c.index_mut.result.now + 1)) bs)
+          (sym (c.bind.ensures ∙ ap (λ (asked : Call ℕ). with_binding c.self.inside.bindings.items c.given-given.result (bound_by asked c.reply.result.now)) (c.call.ensures ∙ c.in-Answered.ensures.3) ∙ ap (λ (r : Reply ℕ). with_binding c.self.inside.bindings.items c.given-given.result (bound_by c.call-call.result r)) c.reply.ensures)) (stands_performed _ _ _ _ entry c.args.i _ c.index_mut.result.now c.given-given.result c.self.invariant.0
+          (new_play c.self.inside.plan c.self.inside.board.history _ c.self.inside.board.limit _ entry adds.history adds.limit)
+          c.in-Answered.ensures.0 room c.in-Answered.ensures.2 performed.declared (performed.step answer.reply) refl performed.low performed.high c.index_mut.ensures.value c.given-given.ensures),
+      adds.past ∙ c.self.invariant.1,
     )
 
 pub returns-in-Answered-clause-performed : goal.returns-in-Answered-clause-performed
