@@ -148,6 +148,10 @@ fn foreign(alloc: Global, script: &Script) -> Result<&'static str, Trouble> {
     board.apply(Who::Seat(0), Call::NewMailbox);
     board.apply(Who::Seat(1), Call::Send(Name(0), 5));
     board.apply(Who::Seat(1), Call::Send(Name(0), 5));
+    // What is concluded is a board's whole history, and nothing tells it of a board but this.
+    if board.cut_at() != 0 {
+        return Ok("cut");
+    }
     match conclude(alloc, script, &board, &Tally::no_rings(alloc), Stop::Done) {
         Err(Ending::NotLawful(2)) => Ok("not lawful at 2"),
         Err(_) => Ok("another ending"),
