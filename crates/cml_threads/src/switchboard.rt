@@ -95,7 +95,7 @@ impl<M: Message, L: MessageLog<M>, Led: Ledger> Switchboard<M, L, Led> {
     }
 
     /// Cuts the journal and hands over the entries that it had, oldest first, as `Hall::take_journal` does; refused as `cut`
-    /// is. What each call that took a journal got, in the order of the calls, is all that was accepted, once each.
+    /// is. Where nothing else cuts it, what is handed over so, piece by piece, is all that was accepted, once each.
     pub fn take_journal<R: Wait>(&self, rt: &R) -> Result<Vec<Entry<M>>, Refusal>
         ensures { IfErr result (λ refusal. refusal ≡ Busy) }
     {
