@@ -27,11 +27,11 @@ pub fn tell_object(text: &mut String, board: &Numbers, name: Name) -> Result<(),
     }
 }
 
-/// Tells how many entries a board's journal has, and all that the readers have of each object.
+/// Tells how many entries a board's journal has, how many were cut away, and all that the readers have of each object.
 pub fn tell_board(text: &mut String, board: &Numbers) -> Result<(), AllocError> {
-    let entries = board.journal().len() as u64;
-    write!(text, "{entries} entries")?;
-    for number in 0..entries {
+    let entries = board.journal().len();
+    write!(text, "{entries} entries, cut at {}", board.cut_at())?;
+    for number in 0..board.entries() {
         if board.kind(Name(number)).is_none() {
             return Ok(());
         }
@@ -41,9 +41,9 @@ pub fn tell_board(text: &mut String, board: &Numbers) -> Result<(), AllocError> 
     Ok(())
 }
 
-/// Tells the journal's entry at a position.
-pub fn tell_entry(text: &mut String, board: &Numbers, at: u64) -> Result<(), AllocError> {
-    match board.journal().get(at as usize) {
+/// Tells an entry of a journal.
+pub fn tell_entry(text: &mut String, entry: Option<&Entry<Fussy>>) -> Result<(), AllocError> {
+    match entry {
         Some(entry) => write!(text, "{:?} {:?} {:?}", entry.who, entry.call, entry.reply),
         None => text.push_str("no entry"),
     }

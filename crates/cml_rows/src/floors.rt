@@ -1,27 +1,43 @@
 //! A floor as what calls are made on.
+use crate::cutting::{Journaled, Way};
 use crate::fussy::Fussy;
 use crate::ground::Ground;
 use crate::ground_table::retell;
 use crate::moving::Moves;
 use crate::outcome::Numbers;
 use crate::words::limit_in;
-use cml_board::{BoardLog, Call, Name, Outcome, Refusal};
+use cml_board::{BoardLog, Call, Entry, Name, Outcome, Refusal};
 use cml_lanes::{Feed, Floor, Lane, LaneEnd, MAX_CAPACITY};
 use cml_threads::Asked;
 use std::alloc::{AllocError, Global};
 use std::io;
 
 /// Performs the lines of a case on a floor.
-pub fn perform<R: Print>(rt: &R, alloc: Global, lines: &[String]) -> io::Result<()> {
+pub fn perform<R: Print>(
+    rt: &R,
+    alloc: Global,
+    lines: &[String],
+    way: Option<Way>,
+) -> io::Result<()> {
     let board = Numbers::new(alloc, limit_in(lines))?;
-    retell(rt, alloc, Floor::new(alloc, board), lines)
+    retell(rt, alloc, Floor::new(alloc, board), lines, way)
 }
 
-impl Ground for Floor<Fussy, BoardLog<Fussy>> {
+impl Journaled for Floor<Fussy, BoardLog<Fussy>> {
     fn board(&self) -> &Numbers {
         Floor::board(self)
     }
 
+    fn cut(&mut self) -> Result<(), Refusal> {
+        Floor::cut(self)
+    }
+
+    fn take_journal(&mut self) -> Result<Vec<Entry<Fussy>>, Refusal> {
+        Floor::take_journal(self)
+    }
+}
+
+impl Ground for Floor<Fussy, BoardLog<Fussy>> {
     fn open_rings(&self) -> (u64, u64) {
         (self.open_lanes(), self.open_feeds())
     }

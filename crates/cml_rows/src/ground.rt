@@ -1,6 +1,6 @@
+use crate::cutting::Journaled;
 use crate::fussy::Fussy;
 use crate::moving::Moves;
-use crate::outcome::Numbers;
 use cml_board::{Call, Name, Refusal};
 use cml_lanes::{Feed, Lane, LaneEnd};
 use cml_threads::Asked;
@@ -8,9 +8,7 @@ use std::alloc::AllocError;
 
 /// What a table's calls are made on beside a board: a floor, or a hall with its seats. On a floor a call that would wait
 /// parks no seat.
-pub trait Ground {
-    fn board(&self) -> &Numbers;
-
+pub trait Ground: Journaled {
     /// How many lanes and how many feeds are open.
     fn open_rings(&self) -> (u64, u64);
 

@@ -1,5 +1,6 @@
 //! A table of calls on a floor or a hall under way.
-use crate::facts::{tell_board, tell_check, tell_entry, tell_object};
+use crate::cutting::{Pieces, Way, is_of_journal, last_look};
+use crate::facts::{tell_board, tell_object};
 use crate::fussy::Fussy;
 use crate::ground::Ground;
 use crate::outcome::{NO_MEMORY, REFUSED_ONCE, note, refusal_word, write_answer};
@@ -10,21 +11,22 @@ use cml_threads::Asked;
 use std::alloc::{AllocError, Global};
 use std::io;
 
-/// Writes each line of a case again, with what it comes to on this ground.
+/// Writes each line of a case again, with what it comes to on this ground, whose journal is cut behind each.
 pub fn retell<R: Print, G: Ground + Drop>(
     rt: &R,
     alloc: Global,
     ground: G,
     lines: &[String],
+    way: Option<Way>,
 ) -> io::Result<()> {
-    let rings = Rings::new(alloc);
-    let mut table = GroundTable {
-        alloc,
-        ground,
-        rings,
-    };
+    let mut table = GroundTable::new(alloc, ground);
     for line in lines.iter() {
         let told = table.perform(line.as_str())?;
+        println!(rt; "{told}")?;
+        table.cut_by(way)?;
+    }
+    if let Some(line) = last_look(way) {
+        let told = table.perform(line)?;
         println!(rt; "{told}")?;
     }
     Ok(())
@@ -40,6 +42,8 @@ struct GroundTable<G: Ground> {
     alloc: Global,
     ground: G,
     rings: Rings,
+    // What the board's journal handed over.
+    pieces: Pieces,
 }
 
 /// How often a line's call is made.
@@ -51,6 +55,20 @@ enum Turn {
 }
 
 impl<G: Ground> GroundTable<G> {
+    fn new(alloc: Global, ground: G) -> GroundTable<G> {
+        GroundTable {
+            alloc,
+            ground,
+            rings: Rings::new(alloc),
+            pieces: Pieces::new(alloc),
+        }
+    }
+
+    /// Cuts the journal this way, if in any.
+    fn cut_by(&mut self, way: Option<Way>) -> Result<(), AllocError> {
+        self.pieces.cut_by(&mut self.ground, way)
+    }
+
     /// A line, with what it comes to now.
     fn perform(&mut self, line: &str) -> Result<String, AllocError> {
         let mut text = String::new(self.alloc);
@@ -161,12 +179,11 @@ impl<G: Ground> GroundTable<G> {
                 Some(name) => tell_object(text, self.ground.board(), name),
                 None => text.push_str("no object is named"),
             },
-            Some(&"noted") => tell_entry(text, self.ground.board(), number(rest, 0).unwrap_or(0)),
             Some(&"open") => {
                 let (lanes, feeds) = self.ground.open_rings();
                 write!(text, "lanes {lanes} feeds {feeds}")
             }
-            Some(&"check") => tell_check(text, self.alloc, self.ground.board().journal()),
+            Some(word) if is_of_journal(word) => self.pieces.tell(text, &mut self.ground, words),
             _ => self.rings.obey(text, &mut self.ground, words),
         }
     }

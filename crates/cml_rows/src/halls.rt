@@ -1,13 +1,14 @@
 //! A hall with its seats as what calls are made on.
 ghost use Rattle.std.specs.Prelude.{◌≡◌, ◌^◌};
 
+use crate::cutting::{Journaled, Way};
 use crate::fussy::Fussy;
 use crate::ground::Ground;
 use crate::ground_table::retell;
 use crate::moving::Moves;
 use crate::outcome::Numbers;
 use crate::words::limit_in;
-use cml_board::{BoardLog, Call, Name, Refusal};
+use cml_board::{BoardLog, Call, Entry, Name, Refusal};
 use cml_lanes::{Feed, Lane, LaneEnd, MAX_CAPACITY};
 use cml_threads::{Asked, Hall, PARTS, Seat};
 use std::alloc::{AllocError, Global};
@@ -16,14 +17,20 @@ use std::marker::Brand;
 use std::sync::ledger::{Blank, Ledger};
 
 /// Performs the lines of a case on a hall of its own, and so by a ledger of its own.
-pub fn perform<R: Print>(rt: &R, alloc: Global, lines: &[String]) -> io::Result<()> {
-    perform_by::<Brand, R>(rt, alloc, lines, Blank::new(PARTS))
+pub fn perform<R: Print>(
+    rt: &R,
+    alloc: Global,
+    lines: &[String],
+    way: Option<Way>,
+) -> io::Result<()> {
+    perform_by::<Brand, R>(rt, alloc, lines, way, Blank::new(PARTS))
 }
 
 fn perform_by<Led: Ledger, R: Print>(
     rt: &R,
     alloc: Global,
     lines: &[String],
+    way: Option<Way>,
     blank: Blank,
 ) -> io::Result<()>
     requires name { blank.name ≡ Led.name }
@@ -32,7 +39,7 @@ fn perform_by<Led: Ledger, R: Print>(
 {
     let hall: Hall<Fussy, BoardLog<Fussy>, Led> = Hall::new(alloc, limit_in(lines), blank)?;
     let seats = Vec::new(alloc);
-    retell(rt, alloc, Seated { hall, seats }, lines)
+    retell(rt, alloc, Seated { hall, seats }, lines, way)
 }
 
 /// A hall, and the seats that it gave, each at its number.
@@ -42,11 +49,21 @@ struct Seated<Led: Ledger> {
     seats: Vec<Seat<Led>>,
 }
 
-impl<Led: Ledger> Ground for Seated<Led> {
+impl<Led: Ledger> Journaled for Seated<Led> {
     fn board(&self) -> &Numbers {
         self.hall.board()
     }
 
+    fn cut(&mut self) -> Result<(), Refusal> {
+        self.hall.cut()
+    }
+
+    fn take_journal(&mut self) -> Result<Vec<Entry<Fussy>>, Refusal> {
+        self.hall.take_journal()
+    }
+}
+
+impl<Led: Ledger> Ground for Seated<Led> {
     fn open_rings(&self) -> (u64, u64) {
         (self.hall.open_lanes(), self.hall.open_feeds())
     }

@@ -1,8 +1,12 @@
 //! Performs tables of calls on a board, a floor or a hall: each line of standard input is written again, with what it
-//! comes to behind `: `. A call that memory was refused is made once more, which the line then tells.
+//! comes to behind `: `. A call that memory was refused is made once more, which the line then tells. With the word `cut`
+//! or `take` the journal is cut behind each line, where it can be: its entries are dropped, or handed over and in the end
+//! checked piece by piece.
 #![tactic(auto)]
 
+mod cutting;
 mod facts;
+mod feeding;
 mod floors;
 mod fussy;
 mod ground;
@@ -14,29 +18,70 @@ mod rings;
 mod table;
 mod words;
 
+use cutting::{Way, last_look};
 use std::alloc::Global;
-use std::io;
+use std::process::ExitCode;
+use std::{env, io};
 use table::Table;
 
-fn main(rt: HostRuntime) -> io::Result<()> {
+/// What the program's words ask for.
+#[derive(Clone, Copy)]
+enum Order {
+    /// The tables, with these cuts.
+    Perform(Option<Way>),
+    Usage,
+}
+
+fn main(rt: HostRuntime) -> io::Result<ExitCode> {
+    match asked(&rt)? {
+        Order::Perform(way) => {
+            perform(&rt, way)?;
+            Ok(ExitCode::SUCCESS)
+        }
+        Order::Usage => {
+            eprintln!(rt; "usage: cml_rows [cut | take]")?;
+            Ok(ExitCode::from(2))
+        }
+    }
+}
+
+fn asked(rt: &HostRuntime) -> io::Result<Order> {
+    let words = env::args(rt)?.collect::<Vec<String>>(rt.alloc())?;
+    Ok(match words.as_slice() {
+        [] | [_] => Order::Perform(None),
+        [_, word] => match Way::of_word(word.as_str()) {
+            Some(way) => Order::Perform(Some(way)),
+            None => Order::Usage,
+        },
+        _ => Order::Usage,
+    })
+}
+
+/// Performs all cases of standard input.
+fn perform(rt: &HostRuntime, way: Option<Way>) -> io::Result<()> {
     let mut case = Vec::new(rt.alloc());
     for line in rt.lines(rt.alloc()) {
         let line = line?;
         if line.starts_with("==") {
-            perform_case(&rt, rt.alloc(), case.as_slice())?;
+            perform_case(rt, rt.alloc(), case.as_slice(), way)?;
             case.clear();
         }
         case.push(line)?;
     }
-    perform_case(&rt, rt.alloc(), case.as_slice())
+    perform_case(rt, rt.alloc(), case.as_slice(), way)
 }
 
 /// Performs the lines of one case, on what its first call begins.
-fn perform_case<R: Print>(rt: &R, alloc: Global, lines: &[String]) -> io::Result<()> {
+fn perform_case<R: Print>(
+    rt: &R,
+    alloc: Global,
+    lines: &[String],
+    way: Option<Way>,
+) -> io::Result<()> {
     match beginning(lines) {
-        Some("floor") => floors::perform(rt, alloc, lines),
-        Some("hall") => halls::perform(rt, alloc, lines),
-        _ => perform_on_board(rt, alloc, lines),
+        Some("floor") => floors::perform(rt, alloc, lines, way),
+        Some("hall") => halls::perform(rt, alloc, lines, way),
+        _ => perform_on_board(rt, alloc, lines, way),
     }
 }
 
@@ -48,10 +93,20 @@ fn beginning(lines: &[String]) -> Option<&str> {
     Some(word)
 }
 
-fn perform_on_board<R: Print>(rt: &R, alloc: Global, lines: &[String]) -> io::Result<()> {
+fn perform_on_board<R: Print>(
+    rt: &R,
+    alloc: Global,
+    lines: &[String],
+    way: Option<Way>,
+) -> io::Result<()> {
     let mut table = Table::new(alloc)?;
     for line in lines.iter() {
         let told = table.perform(line.as_str())?;
+        println!(rt; "{told}")?;
+        table.cut_by(way)?;
+    }
+    if let Some(line) = last_look(way) {
+        let told = table.perform(line)?;
         println!(rt; "{told}")?;
     }
     Ok(())

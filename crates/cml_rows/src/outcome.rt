@@ -95,11 +95,11 @@ pub fn note(text: &mut String, is_well: bool, wrong: &str) -> Result<(), AllocEr
 
 /// Whether the answer is of this call, is confirmed, and stands last in the journal.
 fn is_noted(board: &Numbers, answer: &Answer<Fussy>, asked: &Call<Fussy>) -> bool {
-    let last = board.journal().len() as u64;
+    let entries = board.entries();
     answer.call().same(asked)
         && board.confirm(answer)
-        && answer.at() < last
-        && last - answer.at() == 1
+        && answer.at() < entries
+        && entries - answer.at() == 1
 }
 
 fn write_reply(text: &mut String, reply: &Reply<Fussy>) -> Result<(), AllocError> {

@@ -1,5 +1,6 @@
 //! A table of calls under way: a board, and a journal that the table makes up.
-use crate::facts::{tell_call, tell_check, tell_entry, tell_object};
+use crate::cutting::{Pieces, Way};
+use crate::facts::{tell_call, tell_check, tell_object};
 use crate::fussy::Fussy;
 use crate::outcome::{NO_MEMORY, Numbers, REFUSED_ONCE, tell};
 use crate::words::{call_of, is_note, number, object, reply_of};
@@ -13,6 +14,8 @@ const LIMIT: u64 = 100;
 pub struct Table {
     alloc: Global,
     board: Numbers,
+    // What the board's journal handed over.
+    pieces: Pieces,
     who: Who,
     // The entries that the table made up.
     entries: Vec<Entry<Fussy>>,
@@ -29,6 +32,7 @@ impl Table {
         Ok(Table {
             alloc,
             board: Numbers::new(alloc, limit.max(1).min(4_294_967_296))?,
+            pieces: Pieces::new(alloc),
             who: Who::Seat(0),
             entries: Vec::new(alloc),
             kept: None,
@@ -48,6 +52,11 @@ impl Table {
         let words: Vec<&str> = asked.split(' ').collect(self.alloc)?;
         self.obey(&mut text, words.as_slice(), told)?;
         Ok(text)
+    }
+
+    /// Cuts the board's journal this way, if in any.
+    pub fn cut_by(&mut self, way: Option<Way>) -> Result<(), AllocError> {
+        self.pieces.cut_by(&mut self.board, way)
     }
 
     fn obey(&mut self, text: &mut String, words: &[&str], told: &str) -> Result<(), AllocError> {
@@ -155,11 +164,8 @@ impl Table {
                 None => text.push_str("no object is named"),
             },
             "confirm" => self.confirm(text),
-            "noted" => tell_entry(text, &self.board, number(rest, 0).unwrap_or(0)),
-            "journal" => write!(text, "{}", self.board.journal().len()),
-            "check" => tell_check(text, self.alloc, self.board.journal()),
             "entries" => tell_check(text, self.alloc, self.entries.as_slice()),
-            _ => text.push_str("not understood"),
+            _ => self.pieces.tell(text, &mut self.board, words),
         }
     }
 }

@@ -1,0 +1,122 @@
+#!/bin/sh
+# sh tests/cuts.sh PROGRAM: a cut of the journal changes no reply, and nothing that readers tell of objects.
+#
+# The built program performs the tables of calls with a cut behind each line, once with the entries dropped (`cut`) and
+# once with them handed over (`take`); while a lane or a feed is open none is made. What it writes is to be the table, but
+# for what is told of the journal itself:
+#
+#   journal full           behind a cut that call is answered: from there on the case's lines are not compared, and on a
+#                          board none of them tells it
+#   journal, took          a board has no entry left; on a floor or a hall `journal` is not compared, since no table tells
+#                          what was kept by an open lane or feed
+#   confirm                no answer is in the journal any more
+#   cut_at                 not compared
+#   noted, check, pieces   by `cut` not compared, since the entries are gone. By `take` those that were handed over are
+#                          looked into too, and the cuts of the table itself find nothing left to drop
+#
+# By `take` each case ends with a line `pieces`: all that was handed over, fed to a checker piece by piece, is lawful.
+#
+# Then tables of random calls (tests/some_calls.awk) are performed with the cuts that are strewn in, without them, and with
+# a cut behind each line: all other lines are to come to the same.
+# The last line is `N passed, M failed`.
+program=$(cd "$(dirname "$1")" && pwd)/$(basename "$1")
+cd "$(dirname "$0")" || exit 1
+work=$(mktemp -d) || exit 1
+trap 'rm -rf "$work"' EXIT
+
+# compare WAY TABLE: what the program writes by this way, held against the table case by case.
+compare() {
+    "$program" "$1" < "$2" | awk -v way="$1" -v table="$2" '
+        # Notes what the next line is to be; nothing where it is not compared.
+        function is_to_be(line) { want[++lines] = line; case_of[lines] = name }
+        function expected(line) {
+            if (line ~ /: .*journal full/) is_full = 1
+            if (is_full || line ~ /^cut_at: /) return ""
+            if (line ~ /^journal: /) return is_board ? "journal: 0" : ""
+            if (line ~ /^take: took /) return "take: took 0"
+            if (line ~ /^confirm: /) return "confirm: no"
+            if (way == "cut" && line ~ /^(noted [0-9]+|check|pieces): /) return ""
+            if (line ~ /^noted [0-9]+: cut away$/) return ""
+            if (line ~ /^(check|pieces): /) sub(/: .*/, ": lawful", line)
+            return line
+        }
+        function end() {
+            if (wrong != "") { failed++; print "failed: " table ", " way ", " name wrong }
+            else if (name != "") passed++
+            wrong = ""
+        }
+        BEGIN {
+            is_board = table ~ /^board/
+            while ((getline line < table) > 0) {
+                if (line ~ /^== /) {
+                    if (way == "take") is_to_be("pieces: lawful")
+                    name = substr(line, 4)
+                    is_full = 0
+                }
+                is_to_be(expected(line))
+            }
+            if (way == "take") is_to_be("pieces: lawful")
+            name = ""
+        }
+        {
+            if (case_of[NR] != name) { end(); name = case_of[NR] }
+            is_wrong = want[NR] != "" && $0 != want[NR] || is_board && /: .*journal full/
+            if (NR > lines || is_wrong) wrong = wrong "\n    " $0 "\n    where there is to be\n    " want[NR]
+        }
+        END {
+            if (NR < lines) wrong = wrong "\n    nothing more, where there is to be\n    " want[NR + 1]
+            end()
+            print passed + 0, failed + 0
+        }
+    '
+}
+
+# same NAME ONE OTHER: tells whether two runs wrote the same.
+same() {
+    if difference=$(diff "$2" "$3"); then
+        echo "1 0"
+    else
+        echo "failed: $1"
+        echo "$difference" | head -n 10
+        echo "0 1"
+    fi
+}
+
+# random SEED: a table of random calls, performed in each way.
+random() {
+    awk -v seed="$1" -f some_calls.awk > "$work/strewn"
+    grep -v -x 'cut\|take' "$work/strewn" > "$work/plain"
+    "$program" < "$work/strewn" > "$work/told"
+    grep -v '^\(cut\|take\): ' "$work/told" > "$work/with"
+    "$program" < "$work/plain" > "$work/without"
+    same "random calls $1: with cuts strewn in, and without" "$work/with" "$work/without"
+    # The comparison says something only where cuts were made, and refused.
+    for word in 'cut: done' 'cut: busy' 'take: took [1-9]' 'take: busy' 'pieces: lawful' 'waits' 'stalled' 'got [1-9]'; do
+        grep -q "$word" "$work/told" || { echo "failed: random calls $1: no line tells $word"; echo "0 1"; }
+    done
+    grep -v '^pieces: ' "$work/without" > "$work/looks"
+    for way in cut take; do
+        "$program" "$way" < "$work/plain" > "$work/told"
+        grep -v '^pieces: ' "$work/told" > "$work/with"
+        same "random calls $1: with each line's $way, and without" "$work/with" "$work/looks"
+    done
+    # What the last way handed over.
+    grep '^pieces: ' "$work/told" | sort -u > "$work/with"
+    echo "pieces: lawful" > "$work/lawful"
+    same "random calls $1: what was handed over" "$work/with" "$work/lawful"
+}
+
+{
+    for way in cut take; do
+        for table in board/*.rows floors/*.rows halls/*.rows; do
+            compare "$way" "$table"
+        done
+    done
+    for seed in 1 2 3 4 5; do
+        random "$seed"
+    done
+} | awk '
+    /^[0-9]+ [0-9]+$/ { passed += $1; failed += $2; next }
+    { print }
+    END { print passed + 0 " passed, " failed + 0 " failed"; exit failed > 0 || passed == 0 }
+'

@@ -1,0 +1,138 @@
+# A table of random calls from a seed: `awk -v seed=3 -f tests/some_calls.awk`. Its cases are on boards, floors and halls
+# by turns, each with calls on objects of all kinds, most by good names, and with cuts strewn in. A case that ends with a
+# line `pieces` has no cut that drops anything.
+
+# A number below this one: the next of a row that each awk makes the same.
+function below(bound) {
+    state = state * 16807 % 2147483647
+    return int(state / 2147483647 * bound)
+}
+
+function one_of(words,    parts, count) {
+    count = split(words, parts, " ")
+    return parts[1 + below(count)]
+}
+
+# Mostly an object of this kind; now and then any number.
+function object(kind) {
+    if (below(12) > 0 && count_of[kind] > 0) return made[kind, below(count_of[kind])]
+    return below(objects + 2)
+}
+
+function message() { return below(20) }
+
+function makes(kind) {
+    kind_at[objects] = kind
+    made[kind, count_of[kind]++] = objects++
+}
+
+# A call that makes an object, if the one that it is made on is such.
+function making(    kind, target) {
+    kind = one_of("mailbox channel ivar mvar full port port copy")
+    if (kind == "port") {
+        target = object("channel")
+        if (kind_at[target] == "channel") makes("port")
+        return "port " target
+    }
+    if (kind == "copy") {
+        target = object("port")
+        if (kind_at[target] ~ /^(port|feed)$/) makes("port")
+        return "copy " target
+    }
+    makes(kind == "full" ? "mvar" : kind)
+    return kind == "full" ? "mvar " below(10) : kind
+}
+
+# A closed port isn't copied any more. That of a feed is left open.
+function closing(    target) {
+    target = object("port")
+    if (kind_at[target] == "feed") return "poll " target
+    if (kind_at[target] == "port") kind_at[target] = "closed"
+    return "close " target
+}
+
+function calling(    kind) {
+    kind = one_of("mailbox mailbox channel channel port port port ivar mvar mvar feed")
+    if (kind == "mailbox") return below(2) ? "send " object(kind) " " message() : one_of("recv poll") " " object(kind)
+    if (kind == "channel") return "multicast " object(kind) " " message()
+    if (kind == "port" || kind == "feed") return one_of("recv recv poll") " " object(kind)
+    if (kind == "ivar") return below(2) ? "put " object(kind) " " message() : one_of("get getpoll") " " object(kind)
+    if (below(2)) return one_of("put swap") " " object(kind) " " message()
+    return one_of("take takepoll get getpoll") " " object(kind)
+}
+
+# What opens a lane or a feed, or is done with one.
+function of_rings(    word, target) {
+    word = one_of("lane feed push push push push drain pump pop pop finish close drop abandon end")
+    if (word == "lane") {
+        target = object(one_of("mailbox channel"))
+        if (kind_at[target] ~ /^(mailbox|channel)$/) lanes++
+        return "lane " target " " 1 + below(4)
+    }
+    if (word == "feed") {
+        target = object("channel")
+        if (kind_at[target] == "channel") { feeds++; makes("feed") }
+        return "feed " target " " 1 + below(4)
+    }
+    if (word == "push") return "push " below(lanes + 1) " " message()
+    if (word ~ /^(pump|pop|end)$/) return word " " below(feeds + 1)
+    return word " " below(lanes + 1)
+}
+
+# A seat asks, or asks again what it asked before, for which it may wait. The fourth never waits, since it makes objects
+# and closes ports alone: so the names are known here.
+function of_seat(    seat) {
+    if (below(5) == 0) return "3 " (below(3) ? making() : closing())
+    seat = below(3)
+    if (ground == "hall" && below(3) > 0 && seat in asked) return seat " again " asked[seat]
+    asked[seat] = calling()
+    return seat " " asked[seat]
+}
+
+function line() {
+    if (below(9) == 0) return "tell " below(objects + 1)
+    if (ground == "board") return below(5) ? calling() : below(3) ? making() : closing()
+    return below(5) ? of_seat() : of_rings()
+}
+
+# Ends what is still open, so that a cut can be made.
+function end_all(    number) {
+    for (number = 0; number < lanes; number++) print one_of("abandon drop") " " number
+    for (number = 0; number < feeds; number++) print "end " number
+}
+
+# Begins a case with an object of each kind.
+function begin(number,    at, seat) {
+    print "== " number ", on a " ground
+    print ground " 10000"
+    if (ground == "hall") for (at = 0; at < 4; at++) print "seat"
+    seat = ground == "board" ? "" : "3 "
+    objects = lanes = feeds = 0
+    split("", asked)
+    split("", count_of)
+    split("", kind_at)
+    print seat "mailbox"; makes("mailbox")
+    print seat "channel"; makes("channel")
+    print seat "port 1"; makes("port")
+    print seat "ivar"; makes("ivar")
+    print seat "mvar"; makes("mvar")
+}
+
+function case_of(number,    at, drops) {
+    ground = one_of("board board floor hall")
+    drops = below(2)
+    begin(number)
+    for (at = 0; at < 60; at++) {
+        print line()
+        if (ground != "board" && below(12) == 0) end_all()
+        if (below(6) == 0) print drops ? one_of("cut take") : "take"
+    }
+    for (at = 0; at < objects; at++) print "tell " at
+    if (!drops) print "pieces"
+}
+
+BEGIN {
+    state = seed * 7919 + 1
+    for (number = 0; number < 10; number++) below(2)
+    for (number = 0; number < 40; number++) case_of(number)
+}
