@@ -94,6 +94,10 @@ random() {
     for word in 'cut: done' 'cut: busy' 'take: took [1-9]' 'take: busy' 'pieces: lawful' 'waits' 'stalled' 'got [1-9]'; do
         grep -q "$word" "$work/told" || { echo "failed: random calls $1: no line tells $word"; echo "0 1"; }
     done
+    # What a line tells where a call isn't as it is to be.
+    awk -v seed="$1" '
+        /, (not|was|another|counted) / { print "failed: random calls " seed ": " $0; print "0 1" }
+    ' "$work/told"
     grep -v '^pieces: ' "$work/without" > "$work/looks"
     for way in cut take; do
         "$program" "$way" < "$work/plain" > "$work/told"

@@ -52,6 +52,7 @@ function closing(    target) {
 }
 
 function calling(    kind) {
+    if (is_left) return one_of("recv recv get take") " " below(objects)
     kind = one_of("mailbox mailbox channel channel port port port ivar mvar mvar feed")
     if (kind == "mailbox") return below(2) ? "send " object(kind) " " message() : one_of("recv poll") " " object(kind)
     if (kind == "channel") return "multicast " object(kind) " " message()
@@ -61,9 +62,15 @@ function calling(    kind) {
     return one_of("take takepoll get getpoll") " " object(kind)
 }
 
+# Mostly the number of what was opened last.
+function last_of(count) {
+    return count > 0 && below(4) > 0 ? count - 1 : below(count + 1)
+}
+
 # What opens a lane or a feed, or is done with one.
 function of_rings(    word, target) {
-    word = one_of("lane feed push push push push drain pump pop pop finish close drop abandon end")
+    word = one_of("lane lane feed feed push push push push drain pump pump pop pop finish close drop abandon end")
+    if (is_left) word = one_of("pop pump drain")
     if (word == "lane") {
         target = object(one_of("mailbox channel"))
         if (kind_at[target] ~ /^(mailbox|channel)$/) lanes++
@@ -74,15 +81,15 @@ function of_rings(    word, target) {
         if (kind_at[target] == "channel") { feeds++; makes("feed") }
         return "feed " target " " 1 + below(4)
     }
-    if (word == "push") return "push " below(lanes + 1) " " message()
-    if (word ~ /^(pump|pop|end)$/) return word " " below(feeds + 1)
-    return word " " below(lanes + 1)
+    if (word == "push") return "push " last_of(lanes) " " message()
+    if (word ~ /^(pump|pop|end)$/) return word " " last_of(feeds)
+    return word " " last_of(lanes)
 }
 
 # A seat asks, or asks again what it asked before, for which it may wait. The fourth never waits, since it makes objects
-# and closes ports alone: so the names are known here.
+# and closes ports alone, until it leaves: so the names are known here.
 function of_seat(    seat) {
-    if (below(5) == 0) return "3 " (below(3) ? making() : closing())
+    if (!is_left && below(5) == 0) return "3 " (below(6) ? making() : closing())
     seat = below(3)
     if (ground == "hall" && below(3) > 0 && seat in asked) return seat " again " asked[seat]
     asked[seat] = calling()
@@ -91,8 +98,8 @@ function of_seat(    seat) {
 
 function line() {
     if (below(9) == 0) return "tell " below(objects + 1)
-    if (ground == "board") return below(5) ? calling() : below(3) ? making() : closing()
-    return below(5) ? of_seat() : of_rings()
+    if (ground == "board") return below(5) ? calling() : below(6) ? making() : closing()
+    return below(3) ? of_seat() : of_rings()
 }
 
 # Ends what is still open, so that a cut can be made.
@@ -101,13 +108,20 @@ function end_all(    number) {
     for (number = 0; number < feeds; number++) print "end " number
 }
 
+# The fourth seat leaves and no lane is left; from here on the others only receive, until they are told of a stall.
+function leave() {
+    print "3 leave"
+    end_all()
+    is_left = 1
+}
+
 # Begins a case with an object of each kind.
 function begin(number,    at, seat) {
     print "== " number ", on a " ground
     print ground " 10000"
     if (ground == "hall") for (at = 0; at < 4; at++) print "seat"
     seat = ground == "board" ? "" : "3 "
-    objects = lanes = feeds = 0
+    objects = lanes = feeds = is_left = 0
     split("", asked)
     split("", count_of)
     split("", kind_at)
@@ -123,6 +137,7 @@ function case_of(number,    at, drops) {
     drops = below(2)
     begin(number)
     for (at = 0; at < 60; at++) {
+        if (ground == "hall" && at == 40) leave()
         print line()
         if (ground != "board" && below(12) == 0) end_all()
         if (below(6) == 0) print drops ? one_of("cut take") : "take"

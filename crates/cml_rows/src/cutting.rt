@@ -9,7 +9,7 @@ use cml_board::{Board, Entry, Refusal};
 use std::alloc::{AllocError, Global};
 
 /// How a journal is cut.
-#[derive(Clone, Copy, PartialEq)]
+#[derive(Clone, Copy)]
 pub enum Way {
     /// Its entries are dropped.
     Cut,

@@ -13,9 +13,16 @@ pub const NO_MEMORY: &str = "no memory";
 /// What it tells behind what the call came to then, when it was made once more.
 pub const REFUSED_ONCE: &str = ", once memory was refused";
 
+/// What a board foretells of a call.
+#[derive(Clone, Copy)]
+struct Foretold {
+    waits: bool,
+    is_full: bool,
+}
+
 /// Makes a call, of which `asked` is a copy, and again where memory was refused, and tells what became of it. What each call is to keep besides
 /// is told where it doesn't: that it is handed back and nothing is changed, that an answer is confirmed, and that
-/// `would_wait` foretold it.
+/// `would_wait` and `is_full` foretold it.
 pub fn tell(
     text: &mut String,
     alloc: Global,
@@ -24,17 +31,20 @@ pub fn tell(
     call: Call<Fussy>,
     asked: &Call<Fussy>,
 ) -> Result<(), AllocError> {
-    let waits = board.would_wait(&call);
+    let foretold = Foretold {
+        waits: board.would_wait(&call),
+        is_full: board.is_full(),
+    };
     let before = reading(alloc, board)?;
     match board.apply(who, call) {
         Outcome::Refused(Refusal::NoMemory, back) => {
             let is_as_before = back.same(&asked)
                 && reading(alloc, board)?.as_str() == before.as_str();
-            tell_once(text, board.apply(who, back), board, asked, waits)?;
+            tell_once(text, board.apply(who, back), board, asked, foretold)?;
             text.push_str(REFUSED_ONCE)?;
             note(text, is_as_before, "not as before")
         }
-        outcome => tell_once(text, outcome, board, asked, waits),
+        outcome => tell_once(text, outcome, board, asked, foretold),
     }
 }
 
@@ -50,26 +60,26 @@ fn tell_once(
     outcome: Outcome<Fussy>,
     board: &Numbers,
     asked: &Call<Fussy>,
-    waits: bool,
+    foretold: Foretold,
 ) -> Result<(), AllocError> {
     match outcome {
         Outcome::Answered(answer) => {
             write_answer(text, board, &answer, asked)?;
-            note(text, !waits, "was to wait")
+            note(text, !foretold.waits, "was to wait")?;
+            note(text, !foretold.is_full, "was full")
         }
         Outcome::WouldWait(back) => {
             text.push_str("waits")?;
             note(text, back.same(asked), "another call back")?;
-            note(text, waits, "was not to wait")
+            note(text, foretold.waits, "was not to wait")?;
+            note(text, !foretold.is_full, "was full")
         }
         Outcome::Refused(refusal, back) => {
             text.push_str(refusal_word(refusal))?;
             note(text, back.same(asked), "another call back")?;
-            note(
-                text,
-                !waits || refusal == Refusal::JournalFull,
-                "was to wait",
-            )
+            let is_by_limit = refusal == Refusal::JournalFull;
+            note(text, !foretold.waits || is_by_limit, "was to wait")?;
+            note(text, foretold.is_full || !is_by_limit, "was not full")
         }
     }
 }
