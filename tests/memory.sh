@@ -1,18 +1,20 @@
 #!/bin/sh
-# A log that is read as it is written takes no more memory the longer it is used: `sh tests/memory.sh PROGRAM`. The built
+# What is read as it is written takes no more memory the longer it is used: `sh tests/memory.sh PROGRAM`. The built
 # cml_bench passes ten million messages through each log, with eight cursors that keep up, in less memory than half of
-# the messages would take. The journals of a board, which grow, are not to fit there: else the limit limits nothing.
+# the messages would take; and through a board whose journal is cut, which has two entries for each. The journals of
+# a board that grow are not to fit there: else the limit limits nothing. Threads need address space of their own, so a
+# switchboard's limit is higher, and the journal that is not to fit there is longer.
 # The last line is `N passed, M failed`.
 program=$(cd "$(dirname "$1")" && pwd)/$(basename "$1")
-kilobytes=40000
 passed=0
 failed=0
 
-# expect CASE STATUS WORD..: the program's status with these words, within the limit.
+# expect CASE KILOBYTES STATUS WORD..: the program's status with these words, within so much address space.
 expect() {
     name=$1
-    wanted=$2
-    shift 2
+    kilobytes=$2
+    wanted=$3
+    shift 3
     told=$( (ulimit -v $kilobytes && exec timeout 100 "$program" "$@") 2>&1)
     status=$?
     if [ $status -eq "$wanted" ]; then
@@ -23,8 +25,11 @@ expect() {
     fi
 }
 
-expect 'ten million messages through each log' 0 10000000 log8
-expect 'journals that grow' 1 1000000
+expect 'ten million messages through each log' 40000 0 10000000 log8
+expect 'a journal that is cut' 40000 0 10000000 soak1
+expect 'journals that grow' 40000 1 1000000
+expect 'a journal that a thread takes' 250000 0 4000000 soak2
+expect 'longer journals that grow' 250000 1 4000000
 
 echo "$passed passed, $failed failed"
 [ $failed -eq 0 ]

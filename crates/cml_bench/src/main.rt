@@ -1,10 +1,11 @@
-//! `cml_bench [N [log8]]`: with a number it tells how long a board's calls take, each workload done N times, or a log's
-//! alone; without, what each came to when it was done a few times.
+//! `cml_bench [N [log8|soak1|soak2]]`: with a number it tells how long a board's calls take, each workload done N times, or
+//! the one that is named alone; without, what each came to when it was done a few times.
 #![tactic(auto)]
 
 mod check_run;
 mod lane_run;
 mod log_run;
+mod soak_run;
 mod switchboard_run;
 
 use cml_board::{Board, BoardLog, Call, Name, Outcome, Reply, Who};
@@ -45,8 +46,16 @@ const LIMIT: u64 = 4_294_967_296;
 enum Order {
     Sums,
     Times(u64),
-    LogTimes(u64),
+    TimesOf(Alone, u64),
     Usage,
+}
+
+/// A workload that can be done alone, since it takes the same memory however often it is done.
+#[derive(Clone, Copy)]
+enum Alone {
+    Logs,
+    Soak,
+    SharedSoak,
 }
 
 #[derive(Clone, Copy)]
@@ -81,9 +90,13 @@ fn main(rt: HostRuntime) -> io::Result<ExitCode> {
             print_times(&rt, count)?;
             time_switchboards(&rt, rt.alloc(), count)?;
         }
-        Order::LogTimes(count) => time_logs(&rt, count)?,
+        Order::TimesOf(Alone::Logs, count) => time_logs(&rt, count)?,
+        Order::TimesOf(Alone::Soak, count) => time_soak(&rt, count)?,
+        Order::TimesOf(Alone::SharedSoak, count) => {
+            time_switchboard(&rt, rt.alloc(), switchboard_run::Workload::Soak, count)?;
+        }
         Order::Usage => {
-            eprintln!(rt; "usage: cml_bench [N [log8]], N from 1 to {MOST}")?;
+            eprintln!(rt; "usage: cml_bench [N [log8|soak1|soak2]], N from 1 to {MOST}")?;
             return Ok(ExitCode::from(2));
         }
     }
@@ -95,11 +108,22 @@ fn asked(rt: &HostRuntime) -> io::Result<Order> {
     Ok(match words.as_slice() {
         [] | [_] => Order::Sums,
         [_, word] => count_of(word).map_or(Order::Usage, Order::Times),
-        [_, word, name] if name.as_str() == log_run::NAME => {
-            count_of(word).map_or(Order::Usage, Order::LogTimes)
-        }
+        [_, word, name] => one_alone(word, name).unwrap_or(Order::Usage),
         _ => Order::Usage,
     })
+}
+
+fn one_alone(word: &str, name: &str) -> Option<Order> {
+    let alone = if name == log_run::NAME {
+        Alone::Logs
+    } else if name == soak_run::NAME {
+        Alone::Soak
+    } else if name == switchboard_run::Workload::Soak.name() {
+        Alone::SharedSoak
+    } else {
+        return None;
+    };
+    Some(Order::TimesOf(alone, count_of(word)?))
 }
 
 fn count_of(word: &str) -> Option<u64> {
@@ -118,7 +142,8 @@ fn print_sums(rt: &HostRuntime) -> io::Result<()> {
     print_log_sum::<PlainLog<u64, 4>>(rt, "log8_deque")?;
     print_log_sum::<ChunkLog<u64, 4>>(rt, "log8_chunks")?;
     print_lane_count(rt)?;
-    print_lawful(rt)
+    print_lawful(rt)?;
+    print_soak_sum(rt)
 }
 
 /// Each workload's sum, which doesn't depend on how its threads take turns, and how many calls they made.
@@ -167,6 +192,12 @@ fn print_lawful(rt: &HostRuntime) -> io::Result<()> {
     print_sum(rt, check_run::NAME, entries as u64)
 }
 
+/// As many messages as elsewhere, with ten cuts between.
+fn print_soak_sum(rt: &HostRuntime) -> io::Result<()> {
+    let soak = soak_run::soaked(rt, 10, FEW / 10)?;
+    println!(rt; "{} {} {}", soak_run::NAME, soak.sum, soak.entries)
+}
+
 /// A board on which a workload was done so many times.
 fn performed(rt: &HostRuntime, workload: Workload, count: u64) -> io::Result<Run> {
     let mut run = Run::new(rt.alloc())?;
@@ -183,7 +214,8 @@ fn print_times(rt: &HostRuntime, count: u64) -> io::Result<()> {
     }
     time_logs(rt, count)?;
     time_lane(rt, count)?;
-    time_check(rt, count)
+    time_check(rt, count)?;
+    time_soak(rt, count)
 }
 
 fn time_board(rt: &HostRuntime, workload: Workload, count: u64) -> io::Result<()> {
@@ -262,22 +294,43 @@ fn time_check(rt: &HostRuntime, count: u64) -> io::Result<()> {
     print_time(rt, check_run::NAME, "seryugo_board", time, entries)
 }
 
+/// What a call takes with all cuts, and without them before the first and before the last.
+fn time_soak(rt: &HostRuntime, count: u64) -> io::Result<()> {
+    let between = soak_run::BETWEEN.min(count);
+    let rounds = count.checked_div(between).unwrap_or(1);
+    let soak = soak_run::soaked(rt, rounds, between)?;
+    let calls = between.saturating_mul(2) as usize;
+    let name = soak_run::NAME;
+    print_time(rt, name, "seryugo_board", soak.time, soak.entries as usize)?;
+    print_time(rt, name, "seryugo_board_first", soak.first, calls)?;
+    print_time(rt, name, "seryugo_board_last", soak.last, calls)
+}
+
 fn time_switchboards<R: Print + Clock + Threads + Wait + Sync>(
     rt: &R,
     alloc: Global,
     count: u64,
 ) -> io::Result<()> {
     for workload in switchboard_run::WORKLOADS.iter() {
-        let run = switchboard_run::performed(rt, alloc, *workload, count)?;
-        print_time(
-            rt,
-            workload.name(),
-            "seryugo_switchboard",
-            run.time,
-            run.entries as usize,
-        )?;
+        time_switchboard(rt, alloc, *workload, count)?;
     }
     Ok(())
+}
+
+fn time_switchboard<R: Print + Clock + Threads + Wait + Sync>(
+    rt: &R,
+    alloc: Global,
+    workload: switchboard_run::Workload,
+    count: u64,
+) -> io::Result<()> {
+    let run = switchboard_run::performed(rt, alloc, workload, count)?;
+    print_time(
+        rt,
+        workload.name(),
+        "seryugo_switchboard",
+        run.time,
+        run.entries as usize,
+    )
 }
 
 fn print_time<R: Print>(
@@ -332,7 +385,12 @@ impl Run {
     /// One mailbox: a send and a receive in turn.
     fn pairs(&mut self, count: u64) -> io::Result<()> {
         self.make(Call::NewMailbox)?;
-        for message in 0..count {
+        self.send_and_receive(0, count)
+    }
+
+    /// Sends the messages from `start` until before `end`, and receives each at once.
+    fn send_and_receive(&mut self, start: u64, end: u64) -> io::Result<()> {
+        for message in start..end {
             self.make(Call::Send(OBJECT, message))?;
             self.make(Call::Recv(OBJECT))?;
         }

@@ -4,6 +4,7 @@ ghost use Rattle.std.specs.Prelude.{◌≡◌, ◌^◌};
 mod feeds;
 mod lanes;
 mod parts;
+mod soak;
 
 use crate::LIMIT;
 use cml_board::Call;
@@ -31,9 +32,10 @@ pub enum Workload {
     Ports,
     Feeds,
     Variables,
+    Soak,
 }
 
-pub const WORKLOADS: [Workload; 7] = [
+pub const WORKLOADS: [Workload; 8] = [
     Workload::Pairs,
     Workload::Pipe,
     Workload::FanIn,
@@ -41,6 +43,7 @@ pub const WORKLOADS: [Workload; 7] = [
     Workload::Ports,
     Workload::Feeds,
     Workload::Variables,
+    Workload::Soak,
 ];
 
 /// What a workload came to.
@@ -97,6 +100,7 @@ impl Workload {
             Workload::Ports => "cast8",
             Workload::Feeds => "feed8",
             Workload::Variables => "var2",
+            Workload::Soak => "soak2",
         }
     }
 
@@ -111,6 +115,7 @@ impl Workload {
                 .saturating_add(1)
                 .saturating_mul(feeds::READERS + 1),
             Workload::Variables => count.saturating_mul(4).saturating_add(2),
+            Workload::Soak => soak::entries(count),
         }
     }
 
@@ -130,6 +135,7 @@ impl Workload {
             Workload::Ports => feeds::ports(rt, alloc, shared, lefts, count),
             Workload::Feeds => feeds::feeds(rt, alloc, shared, lefts, count),
             Workload::Variables => variables(rt, shared, lefts, count),
+            Workload::Soak => soak::soak(rt, shared, lefts, count),
         }
     }
 }

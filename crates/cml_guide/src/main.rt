@@ -3,10 +3,13 @@
 
 mod calls;
 mod channels;
+mod clients;
+mod cutting;
 mod ending;
 mod feeds;
 mod giving_up;
 mod journals;
+mod keeper;
 mod lanes;
 mod locking;
 mod mailboxes;
@@ -15,6 +18,7 @@ mod pool;
 mod readers;
 mod refusals;
 mod reserving;
+mod server;
 mod stream;
 mod threads;
 mod variables;
@@ -32,6 +36,7 @@ fn main(rt: HostRuntime) -> io::Result<()> {
     show_refusals(&rt)?;
     show_readers(&rt)?;
     show_journals(&rt)?;
+    show_cutting(&rt)?;
     show_threads(&rt, rt.alloc())
 }
 
@@ -103,6 +108,25 @@ fn show_journals(rt: &HostRuntime) -> io::Result<()> {
     show(rt, "journals::confirmed", &journals::confirmed(alloc))
 }
 
+fn show_cutting(rt: &HostRuntime) -> io::Result<()> {
+    let alloc = rt.alloc();
+    show(
+        rt,
+        "cutting::received_after",
+        &cutting::received_after(alloc),
+    )?;
+    show(
+        rt,
+        "cutting::confirmed_after",
+        &cutting::confirmed_after(alloc),
+    )?;
+    show(
+        rt,
+        "cutting::checked_in_pieces",
+        &cutting::checked_in_pieces(alloc),
+    )
+}
+
 fn show_threads<R: Threads + Wait + Sync + Print>(rt: &R, alloc: Global) -> io::Result<()> {
     show(rt, "passing::passed_on", &passing::passed_on(rt, alloc))?;
     show(rt, "pool::squares", &pool::squares(rt, alloc))?;
@@ -125,5 +149,6 @@ fn show_threads<R: Threads + Wait + Sync + Print>(rt: &R, alloc: Global) -> io::
     )?;
     show(rt, "feeds::shown", &feeds::shown(rt, alloc))?;
     show(rt, "ending::stalled", &ending::stalled(rt, alloc))?;
-    show(rt, "ending::missed", &ending::missed(rt, alloc))
+    show(rt, "ending::missed", &ending::missed(rt, alloc))?;
+    show(rt, "server::ran_on", &server::ran_on(rt, alloc))
 }

@@ -11,7 +11,7 @@ pub type Shared<Led> = Switchboard<u64, BoardLog<u64>, Led>;
 /// The mailbox, or the variable that the asking thread puts into.
 pub const FIRST: Name = Name(0);
 
-/// The variable that the asking thread takes from.
+/// The variable that the asking thread takes from, or the mailbox by which the sender is told to go on.
 pub const SECOND: Name = Name(1);
 
 /// How the messages that were received are added up.
@@ -30,7 +30,7 @@ pub struct Part<Led: Ledger> {
 }
 
 impl Adding {
-    fn add(self, sum: u64, message: u64) -> u64 {
+    pub fn add(self, sum: u64, message: u64) -> u64 {
         match self {
             Adding::InOrder => sum.wrapping_mul(31).wrapping_add(message),
             Adding::InAnyOrder => sum.wrapping_add(message),

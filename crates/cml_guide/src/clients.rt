@@ -1,0 +1,110 @@
+//! The clients of a server, each in a thread of its own. A request names the mailbox that the answer is to go to.
+use crate::calls::Trouble;
+use crate::lanes::close;
+use crate::threads::{Shared, done, got};
+use cml_board::Name;
+use cml_threads::{Left, Seat};
+use std::sync::Wait;
+use std::sync::atomic::{AtomicBool, Ordering};
+use std::sync::ledger::Ledger;
+
+/// How many tickets a client asks for who sends by its seat.
+const ASKED: usize = 400;
+
+/// How many requests are sent by one lane.
+const BATCH: usize = 64;
+
+/// How many lanes are opened, one after another.
+const BATCHES: usize = 10;
+
+/// How a client sends its requests.
+#[derive(Clone, Copy)]
+pub enum Way {
+    BySeat,
+    ByLanes,
+}
+
+#[derive(Drop)]
+pub struct Client<Led: Ledger> {
+    pub seat: Seat<Led>,
+    pub way: Way,
+    pub requests: Name,
+    pub answers: Name,
+}
+
+/// What a client's thread comes to: the sum of its tickets, and its seat.
+#[derive(Drop)]
+pub struct Visit<Led: Ledger> {
+    pub tickets: Result<u64, Trouble>,
+    pub left: Left<Led>,
+}
+
+/// What a client's thread runs. It leaves, whatever became of its requests, and at once where the server is shut.
+pub fn ask_and_leave<Led: Ledger, R: Wait>(
+    rt: &R,
+    board: &Shared<Led>,
+    mut client: Client<Led>,
+    is_shut: &AtomicBool,
+) -> Visit<Led> {
+    let tickets = if is_shut.load(Ordering::SeqCst) {
+        Err(Trouble::NoMemory)
+    } else {
+        client.ask_all(rt, board)
+    };
+    Visit {
+        tickets,
+        left: board.leave(rt, client.seat),
+    }
+}
+
+impl<Led: Ledger> Client<Led> {
+    fn ask_all<R: Wait>(&mut self, rt: &R, board: &Shared<Led>) -> Result<u64, Trouble> {
+        match self.way {
+            Way::BySeat => self.ask_by_seat(rt, board),
+            Way::ByLanes => self.ask_by_lanes(rt, board),
+        }
+    }
+
+    /// Sends a request, and the next once it was answered.
+    fn ask_by_seat<R: Wait>(&mut self, rt: &R, board: &Shared<Led>) -> Result<u64, Trouble> {
+        let mut sum = 0u64;
+        for _ in 0..ASKED {
+            done(board.send(rt, &mut self.seat, self.requests, self.answers.0))?;
+            sum = sum.wrapping_add(self.receive(rt, board, 1)?);
+        }
+        Ok(sum)
+    }
+
+    /// Sends a batch by a lane, and the next once all of it was answered.
+    fn ask_by_lanes<R: Wait>(&mut self, rt: &R, board: &Shared<Led>) -> Result<u64, Trouble> {
+        let mut sum = 0u64;
+        for _ in 0..BATCHES {
+            self.send_batch(rt, board)?;
+            sum = sum.wrapping_add(self.receive(rt, board, BATCH)?);
+        }
+        Ok(sum)
+    }
+
+    /// Opens a lane with room for the whole batch, and closes it before anybody waits.
+    fn send_batch<R: Wait>(&self, rt: &R, board: &Shared<Led>) -> Result<(), Trouble> {
+        let (mut lane, number) = board.open_lane(rt, self.requests, BATCH)?;
+        for _ in 0..BATCH {
+            lane.send(self.answers.0).is_ok();
+        }
+        close(rt, board, number, lane.finish())
+    }
+
+    /// Receives so many answers: the sum of their tickets.
+    fn receive<R: Wait>(
+        &mut self,
+        rt: &R,
+        board: &Shared<Led>,
+        count: usize,
+    ) -> Result<u64, Trouble> {
+        let mut sum = 0u64;
+        for _ in 0..count {
+            sum = sum.wrapping_add(got(board.recv(rt, &mut self.seat, self.answers))?);
+        }
+        Ok(sum)
+    }
+}

@@ -1,0 +1,43 @@
+//! A journal that is cut: what it had is handed over or dropped, and the board goes on.
+ghost use Rattle.std.specs.Prelude.{◌≡◌, IfOk};
+
+use crate::calls::{Numbers, Trouble, ask, fetch, make, perform};
+use cml_board::{Call, Checker};
+use std::alloc::Global;
+
+/// The journal is full. Once it is cut there is room again, and what was sent before is received: the message, and how
+/// many entries were cut away, and how many there were in all.
+pub fn received_after(alloc: Global) -> Result<(u64, [u64; 2]), Trouble>
+    ensures { IfOk result (λ found. found.0 ≡ 5) }
+{
+    let mut board = Numbers::new(alloc, 2)?;
+    let letters = make(&mut board, Call::NewMailbox)?;
+    perform(&mut board, Call::Send(letters, 5))?;
+    if board.is_full() {
+        board.cut();
+    }
+    let received = fetch(&mut board, Call::Recv(letters))?;
+    Ok((received, [board.cut_at(), board.entries()]))
+}
+
+/// Positions go on counting. An answer from before the cut is confirmed no more, and one from after it is.
+pub fn confirmed_after(alloc: Global) -> Result<([u64; 2], [bool; 2]), Trouble> {
+    let mut board = Numbers::new(alloc, 100)?;
+    let before = ask(&mut board, Call::NewMailbox)?;
+    let _taken = board.take_journal();
+    let after = ask(&mut board, Call::NewMailbox)?;
+    let confirmed = [board.confirm(&before), board.confirm(&after)];
+    Ok(([before.at(), after.at()], confirmed))
+}
+
+/// What was taken, and then what the journal has since: whether they are lawful together, and how many entries they are.
+pub fn checked_in_pieces(alloc: Global) -> Result<(bool, u64), Trouble> {
+    let mut board = Numbers::new(alloc, 100)?;
+    let letters = make(&mut board, Call::NewMailbox)?;
+    perform(&mut board, Call::Send(letters, 5))?;
+    let taken = board.take_journal();
+    let _received = fetch(&mut board, Call::Recv(letters))?;
+    let mut checker = Checker::new(alloc)?;
+    let told = [checker.feed(&taken)?, checker.feed(board.journal())?];
+    Ok((told.iter().all(|one| one.is_ok()), checker.entries()))
+}

@@ -1,0 +1,62 @@
+//! A journal that is taken piece by piece: each piece is checked and kept.
+use crate::calls::Trouble;
+use crate::threads::Shared;
+use cml_board::{Checker, Entry};
+use std::alloc::Global;
+use std::sync::Wait;
+use std::sync::ledger::Ledger;
+
+/// A piece is taken once the journal has so many entries.
+const PIECE: u64 = 1_000;
+
+/// What was taken of a journal, and what checks it.
+#[derive(Drop)]
+pub struct Keeper {
+    pieces: Vec<Vec<Entry<u64>>>,
+    checker: Checker<u64>,
+}
+
+impl Keeper {
+    pub fn new(alloc: Global) -> Result<Keeper, Trouble> {
+        Ok(Keeper {
+            pieces: Vec::new(alloc),
+            checker: Checker::new(alloc)?,
+        })
+    }
+
+    /// How many entries were found lawful.
+    pub fn entries(&self) -> u64 {
+        self.checker.entries()
+    }
+
+    /// Takes what the journal has, if that is a piece. The caller knows an entry's position, which tells how many there are.
+    pub fn take_once_due<Led: Ledger, R: Wait>(
+        &mut self,
+        rt: &R,
+        board: &Shared<Led>,
+        at: u64,
+    ) -> Result<(), Trouble> {
+        if at.saturating_sub(self.entries()) < PIECE {
+            return Ok(());
+        }
+        match board.take_journal(rt) {
+            Ok(piece) => self.keep(piece),
+            // A lane is open. There is a next time.
+            Err(_) => Ok(()),
+        }
+    }
+
+    fn keep(&mut self, piece: Vec<Entry<u64>>) -> Result<(), Trouble> {
+        self.check(&piece)?;
+        self.pieces.push(piece)?;
+        Ok(())
+    }
+
+    /// Whether all that was taken is lawful, with these entries behind it.
+    pub fn check(&mut self, entries: &[Entry<u64>]) -> Result<bool, Trouble> {
+        if self.entries().checked_add(entries.len() as u64).is_none() {
+            return Err(Trouble::OtherReply);
+        }
+        Ok(self.checker.feed(entries)?.is_ok())
+    }
+}

@@ -1,0 +1,252 @@
+//! A server that runs on. It hands out tickets, and takes its journal again and again, so that it never grows full.
+ghost use Rattle.std.specs.Prelude.{◌≡◌, ◌+◌, ◌^◌, IfOk};
+
+use crate::calls::Trouble;
+use crate::clients::{Client, Visit, Way, ask_and_leave};
+use crate::keeper::Keeper;
+use crate::threads::{Ended, Shared, made, settle};
+use cml_board::{Call, Name, Refusal, Reply};
+use cml_threads::{Count, Left, PARTS, Seat};
+use std::alloc::Global;
+use std::marker::Brand;
+use std::sync::Wait;
+use std::sync::atomic::{AtomicBool, Ordering};
+use std::sync::ledger::{Blank, Ledger};
+use std::thread;
+use std::thread::{JoinHandle, Threads};
+
+/// How each client sends its requests.
+const WAYS: [Way; 3] = [Way::BySeat, Way::BySeat, Way::ByLanes];
+
+/// How many entries the journal takes between two cuts: more than can come while a lane is open.
+const LIMIT: u64 = 100_000;
+
+/// What a server came to.
+#[derive(Clone, Copy, Debug, PartialEq, Eq)]
+pub struct Served {
+    /// The sum of all tickets that clients were given.
+    tickets: u64,
+    is_lawful: bool,
+    was_cut: bool,
+    /// How many entries were checked, piece by piece.
+    entries: u64,
+    count: Count,
+}
+
+/// The server with its mailbox.
+#[derive(Drop)]
+struct Shop<Led: Ledger> {
+    seat: Seat<Led>,
+    requests: Name,
+    keeper: Keeper,
+}
+
+/// What is left of the server once nobody asks any more.
+#[derive(Drop)]
+struct Shift<Led: Ledger> {
+    served: Result<(), Trouble>,
+    keeper: Keeper,
+    left: Left<Led>,
+}
+
+/// What is left of the server and its clients.
+#[derive(Drop)]
+struct Day<Led: Ledger> {
+    tickets: u64,
+    keeper: Keeper,
+    lefts: Vec<Left<Led>>,
+}
+
+/// What the server comes to when all its clients have left.
+pub fn ran_on<R: Threads + Wait + Sync>(rt: &R, alloc: Global) -> Result<Served, Trouble>
+    ensures { IfOk result (λ served. served.count.total ≡ served.count.seats + served.count.rings) }
+{
+    run_on::<Brand, R>(rt, alloc, Blank::new(PARTS))
+}
+
+fn run_on<Led: Ledger + Send + Sync, R: Threads + Wait + Sync>(
+    rt: &R,
+    alloc: Global,
+    blank: Blank,
+) -> Result<Served, Trouble>
+    requires name { blank.name ≡ Led.name }
+    requires parts { blank.parts ≡ Led.parts }
+    requires enough { blank.parts ≡ 2 ^ 63 }
+    ensures { IfOk result (λ served. served.count.total ≡ served.count.seats + served.count.rings) }
+{
+    let shared = Shared::<Led>::new(alloc, LIMIT, blank)?;
+    let day = open_and_close(rt, alloc, &shared)?;
+    sum_up(settle(shared, day.lefts)?, day.tickets, day.keeper)
+}
+
+/// Checks what has come since the last piece was taken, and tells of all.
+fn sum_up(ended: Ended, tickets: u64, mut keeper: Keeper) -> Result<Served, Trouble>
+    ensures { IfOk result (λ served. served.count.total ≡ served.count.seats + served.count.rings) }
+{
+    let is_lawful = keeper.check(ended.board().journal())?;
+    Ok(Served {
+        tickets,
+        is_lawful,
+        was_cut: ended.board().cut_at() > 0,
+        entries: keeper.entries(),
+        count: ended.count(),
+    })
+}
+
+/// Makes all seats, lets the clients in, and serves them until the last has left.
+fn open_and_close<Led: Ledger + Send + Sync, R: Threads + Wait + Sync>(
+    rt: &R,
+    alloc: Global,
+    board: &Shared<Led>,
+) -> Result<Day<Led>, Trouble> {
+    let mut shop = open(rt, alloc, board)?;
+    let clients = make_clients(rt, alloc, board, &mut shop)?;
+    // A thread that runs is to be joined: so there is room for all before the first.
+    let running = Vec::with_capacity(alloc, WAYS.len())?;
+    let (visits, shift) = let_in(rt, alloc, board, clients, running, shop);
+    sum_tickets(alloc, visits?, shift)
+}
+
+fn open<Led: Ledger, R: Wait>(
+    rt: &R,
+    alloc: Global,
+    board: &Shared<Led>,
+) -> Result<Shop<Led>, Trouble> {
+    let keeper = Keeper::new(alloc)?;
+    let mut seat = board.seat(rt)?;
+    let requests = made(board.mailbox(rt, &mut seat))?;
+    Ok(Shop {
+        seat,
+        requests,
+        keeper,
+    })
+}
+
+/// A client for each way, with a seat and a mailbox for its answers.
+fn make_clients<Led: Ledger, R: Wait>(
+    rt: &R,
+    alloc: Global,
+    board: &Shared<Led>,
+    shop: &mut Shop<Led>,
+) -> Result<Vec<Client<Led>>, Trouble> {
+    let mut clients = Vec::new(alloc);
+    for way in WAYS.iter() {
+        let answers = made(board.mailbox(rt, &mut shop.seat))?;
+        clients.push(Client {
+            seat: board.seat(rt)?,
+            way: *way,
+            requests: shop.requests,
+            answers,
+        })?;
+    }
+    Ok(clients)
+}
+
+/// Starts a thread for each client, serves them here, and joins them all. Where no thread can be made, all are sent home.
+fn let_in<Led: Ledger + Send + Sync, R: Threads + Wait + Sync>(
+    rt: &R,
+    alloc: Global,
+    board: &Shared<Led>,
+    clients: Vec<Client<Led>>,
+    running: Vec<JoinHandle<Visit<Led>>>,
+    shop: Shop<Led>,
+) -> (Result<Vec<Visit<Led>>, Trouble>, Shift<Led>) {
+    let shut = AtomicBool::new(false);
+    let is_shut = &shut;
+    thread::scope(thread::scope_env(), rt, move |scope| {
+        let mut running = running;
+        let mut visits = Vec::new(alloc);
+        for client in clients {
+            match scope.spawn(move || ask_and_leave(rt, board, client, is_shut)) {
+                Ok(handle) => running.push(handle).is_ok(),
+                Err(refused) => {
+                    is_shut.store(true, Ordering::SeqCst);
+                    visits.push((refused.value)()).is_ok()
+                }
+            };
+        }
+        let shift = serve_and_leave(rt, board, shop);
+        (join_all(rt, running, visits), shift)
+    })
+}
+
+fn join_all<Led: Ledger, R: Threads>(
+    rt: &R,
+    running: Vec<JoinHandle<Visit<Led>>>,
+    visits: Vec<Visit<Led>>,
+) -> Result<Vec<Visit<Led>>, Trouble> {
+    let mut visits = visits;
+    for handle in running {
+        visits.push(handle.join(rt))?;
+    }
+    Ok(visits)
+}
+
+/// Serves, and leaves, whatever became of that: who still waits is told.
+fn serve_and_leave<Led: Ledger, R: Wait>(
+    rt: &R,
+    board: &Shared<Led>,
+    shop: Shop<Led>,
+) -> Shift<Led> {
+    let mut shop = shop;
+    let served = serve(rt, board, &mut shop);
+    Shift {
+        served,
+        keeper: shop.keeper,
+        left: board.leave(rt, shop.seat),
+    }
+}
+
+/// Answers one request after another, and takes the journal as often as it is due, until all clients have left.
+fn serve<Led: Ledger, R: Wait>(
+    rt: &R,
+    board: &Shared<Led>,
+    shop: &mut Shop<Led>,
+) -> Result<(), Trouble> {
+    for ticket in 1..u64::MAX {
+        let Some(answers) = next_request(rt, board, shop)? else {
+            return Ok(());
+        };
+        let answer = board.call(rt, &mut shop.seat, Call::Send(answers, ticket))?;
+        shop.keeper.take_once_due(rt, board, answer.at())?;
+    }
+    Ok(())
+}
+
+/// Where the next answer is to go to; nowhere once nobody is left who could ask.
+fn next_request<Led: Ledger, R: Wait>(
+    rt: &R,
+    board: &Shared<Led>,
+    shop: &mut Shop<Led>,
+) -> Result<Option<Name>, Trouble> {
+    match board.recv(rt, &mut shop.seat, shop.requests) {
+        Ok(Reply::Got(answers)) => Ok(Some(Name(answers))),
+        Ok(_) => Err(Trouble::OtherReply),
+        Err((Refusal::Stalled, _)) => Ok(None),
+        Err((refusal, _)) => Err(Trouble::Refused(refusal)),
+    }
+}
+
+/// The sum of all clients' tickets, if all have theirs, and everybody's seat.
+fn sum_tickets<Led: Ledger>(
+    alloc: Global,
+    visits: Vec<Visit<Led>>,
+    shift: Shift<Led>,
+) -> Result<Day<Led>, Trouble> {
+    shift.served?;
+    let mut lefts = vec![in alloc; shift.left]?;
+    let mut tickets = 0u64;
+    for visit in visits {
+        tickets = tickets.wrapping_add(visit.tickets?);
+        lefts.push(visit.left)?;
+    }
+    // One is missing only if there was no memory to note it.
+    if lefts.len() <= WAYS.len() {
+        return Err(Trouble::NoMemory);
+    }
+    Ok(Day {
+        tickets,
+        keeper: shift.keeper,
+        lefts,
+    })
+}
