@@ -1,5 +1,6 @@
 -- What a check tells of a journal that is lawful.
-use Rattle.std.proofs.Common.{◌≡◌, ℕ, Bool, List, [], ◌++◌, reverse, Result, Ok, Err, IsTrue, refl, sym, ap, subst, ◌∙◌, ⊤}
+use Rattle.std.proofs.Common.{◌≡◌, ℕ, List, [], ◌++◌, reverse, Result, Ok, Err, IsTrue, refl, sym, ap, subst, ◌∙◌}
+use Rattle.std.specs.Bool.{⊤}
 use Rattle.std.specs.Prelude.{is_ok}
 use Rattle.std.proofs.lemmas.List.{append-nil, reverse-reverse}
 use Rattle.cml_board.specs.declared.entry.Entry.{Entry}

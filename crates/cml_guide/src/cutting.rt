@@ -2,7 +2,7 @@
 ghost use Rattle.std.specs.Prelude.{◌≡◌, IfOk};
 
 use crate::calls::{Numbers, Trouble, ask, fetch, make, perform};
-use cml_board::{Call, Checker};
+use cml_board::{Call, Checker, Entry};
 use std::alloc::Global;
 
 /// The journal is full. Once it is cut there is room again, and what was sent before is received: the message, and how
@@ -38,6 +38,16 @@ pub fn checked_in_pieces(alloc: Global) -> Result<(bool, u64), Trouble> {
     let taken = board.take_journal();
     let _received = fetch(&mut board, Call::Recv(letters))?;
     let mut checker = Checker::new(alloc)?;
-    let told = [checker.feed(&taken)?, checker.feed(board.journal())?];
-    Ok((told.iter().all(|one| one.is_ok()), checker.entries()))
+    let was_lawful = feed(&mut checker, &taken)?;
+    let is_lawful = feed(&mut checker, board.journal())?;
+    Ok((was_lawful && is_lawful, checker.entries()))
+}
+
+/// Whether all that the checker was fed is lawful with these entries behind it.
+pub fn feed(checker: &mut Checker<u64>, entries: &[Entry<u64>]) -> Result<bool, Trouble> {
+    // No board has so many, but the prover wants to see it.
+    if u64::MAX - checker.entries() < entries.len() as u64 {
+        return Err(Trouble::OtherReply);
+    }
+    Ok(checker.feed(entries)?.is_ok())
 }

@@ -1,5 +1,6 @@
 //! A journal that is taken piece by piece: each piece is checked and kept.
 use crate::calls::Trouble;
+use crate::cutting::feed;
 use crate::threads::Shared;
 use cml_board::{Checker, Entry};
 use std::alloc::Global;
@@ -54,9 +55,6 @@ impl Keeper {
 
     /// Whether all that was taken is lawful, with these entries behind it.
     pub fn check(&mut self, entries: &[Entry<u64>]) -> Result<bool, Trouble> {
-        if self.entries().checked_add(entries.len() as u64).is_none() {
-            return Err(Trouble::OtherReply);
-        }
-        Ok(self.checker.feed(entries)?.is_ok())
+        feed(&mut self.checker, entries)
     }
 }
