@@ -9,13 +9,13 @@ use std::sync::atomic::{AtomicBool, Ordering};
 use std::sync::ledger::Ledger;
 
 /// How many tickets a client asks for who sends by its seat.
-const ASKED: usize = 400;
+const ASKED: usize = 150;
 
 /// How many requests are sent by one lane.
 const BATCH: usize = 64;
 
 /// How many lanes are opened, one after another.
-const BATCHES: usize = 10;
+const BATCHES: usize = 15;
 
 /// How a client sends its requests.
 #[derive(Clone, Copy)]
