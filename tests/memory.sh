@@ -3,7 +3,8 @@
 # cml_bench passes ten million messages through each log, with eight cursors that keep up, in less memory than half of
 # the messages would take; and through a board whose journal is cut, which has two entries for each. The journals of
 # a board that grow are not to fit there: else the limit limits nothing. Threads need address space of their own, so a
-# switchboard's limit is higher; a million messages, each with two entries, are not to fit there uncut either.
+# switchboard's limit is higher: where it is lower still the C library tries in vain for a heap of the thread's own at each
+# request. There two million messages, each with two entries, are not to fit uncut either.
 # The last line is `N passed, M failed`.
 program=$(cd "$(dirname "$1")" && pwd)/$(basename "$1")
 passed=0
@@ -28,8 +29,8 @@ expect() {
 expect 'ten million messages through each log' 40000 0 10000000 log8
 expect 'a journal that is cut' 40000 0 10000000 soak1
 expect 'journals that grow' 40000 1 1000000
-expect 'a journal that a thread takes' 100000 0 1000000 soak2
-expect 'journals that grow beside threads' 100000 1 1000000
+expect 'a journal that a thread takes' 200000 0 2000000 soak2
+expect 'journals that grow beside threads' 200000 1 2000000
 
 echo "$passed passed, $failed failed"
 [ $failed -eq 0 ]
