@@ -1,5 +1,5 @@
 //! A journal that is cut: what it had is handed over or dropped, and the board goes on.
-ghost use Rattle.std.specs.Prelude.{◌≡◌, IfOk};
+ghost use Rattle.std.specs.Prelude.{◌≡◌, [], ◌∷◌, IfOk};
 
 use crate::calls::{Numbers, Trouble, ask, fetch, make, perform};
 use cml_board::{Call, Checker, Entry};
@@ -8,7 +8,8 @@ use std::alloc::Global;
 /// The journal is full. Once it is cut there is room again, and what was sent before is received: the message, and how
 /// many entries were cut away, and how many there were in all.
 pub fn received_after(alloc: Global) -> Result<(u64, [u64; 2]), Trouble>
-    ensures { IfOk result (λ found. found.0 ≡ 5) }
+    ensures message { IfOk result (λ found. found.0 ≡ 5) }
+    ensures counts { IfOk result (λ found. found.1 ≡ 2 ∷ 3 ∷ []) }
 {
     let mut board = Numbers::new(alloc, 2)?;
     let letters = make(&mut board, Call::NewMailbox)?;
