@@ -1,4 +1,5 @@
 mod crew;
+mod cutting;
 mod forms;
 mod refusing;
 mod rings;
@@ -20,6 +21,7 @@ const SCENES: &[(Scene, &str)] = &[
     (Scene::Stall, "each is told"),
     (Scene::Forms, "as in the journal"),
     (Scene::Refused, "each by its own refusal"),
+    (Scene::Cut, "cut, and gone on"),
     (Scene::OneLeft, "handed back, and settled"),
     (Scene::Dropped, "handed back"),
     (Scene::Senders, "each once, in its lane's order"),

@@ -3,7 +3,7 @@ ghost use Rattle.std.specs.Prelude.{◌≡◌, ◌≤◌, ◌^◌};
 
 use super::crew::{Crew, at_work};
 use super::trouble::Trouble;
-use super::{forms, refusing, rings, senders, settling, verdict};
+use super::{cutting, forms, refusing, rings, senders, settling, verdict};
 use cml_board::BoardLog;
 use cml_threads::{Left, PARTS, Settled, Switchboard};
 use std::alloc::{AllocError, Global};
@@ -30,6 +30,8 @@ pub enum Scene {
     Forms,
     /// Calls that are refused, the last in a full journal.
     Refused,
+    /// A journal that is full, and cut.
+    Cut,
     /// Eight threads on one mailbox.
     Crowd,
     /// Eight seats of which each is told that all are stalled.
@@ -50,6 +52,7 @@ impl Scene {
     {
         match self {
             Scene::Refused => refusing::ENTRIES,
+            Scene::Cut => cutting::ENTRIES,
             _ => LIMIT,
         }
     }
@@ -81,6 +84,7 @@ fn performed_in<Led: Ledger + Send + Sync, R: Threads + Wait + Sync>(
         Scene::Stall => judged(rt, alloc, board, Crew::Stalled),
         Scene::Forms => forms::call_all(rt, alloc, board),
         Scene::Refused => refusing::refuse_each(rt, alloc, board),
+        Scene::Cut => cutting::cut_twice(rt, alloc, board),
         Scene::OneLeft => settling::settle_late(rt, alloc, board),
         Scene::Dropped => settling::settle_without(rt, alloc, board),
         Scene::Senders => senders::send_all(rt, alloc, board),
