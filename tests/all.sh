@@ -1,8 +1,8 @@
 #!/bin/sh
 # Everything: every crate is proved and its wrong edits are refused, but for what was so on this machine before, and its
 # tests run; then the tables of calls are performed, also with the journal cut behind each line, the guide's code is
-# compared with the sources, the guide, the tables and scripts are run with each request for memory refused in turn, the
-# logs are seen not to grow, and the built program is tried from outside. The last line is `N passed, M failed`.
+# compared with the sources, the guide, the tables and scripts are run with each request for memory refused in turn, logs
+# and journals that are cut are seen not to grow, and the built program is tried from outside. The last line is `N passed, M failed`.
 cd "$(dirname "$0")/.." || exit 1
 work=$(mktemp -d) || exit 1
 trap 'rm -rf "$work"' EXIT

@@ -1,6 +1,6 @@
 #!/bin/sh
 # tests/refused.sh GUIDE ROWS CML: the built programs are run once for each request for memory that they make, that one
-# refused, and once more with all later ones refused too. Whatever is refused each run comes to its end.
+# refused, and but for the guide once more with all later ones refused too. Whatever is refused each run comes to its end.
 #
 # The guide prints of each example what it prints with memory, or that memory was refused, or what that came to for another
 # thread: a stall, or the same result without that thread's last entries. The tables of calls of tests/board, tests/floors and tests/halls, and what `cml` does with scripts, are
