@@ -33,9 +33,6 @@ module _ {M : Type 0} where
   pub answer_nothing : (h : List (Entry M)) (name : Name) → is_open h name.0 ≡ true → owed h name.0 ≡ [] → answer h (Poll name) ≡ Some Nothing
   answer_nothing h name opened none = rw (opened, none) refl
 
-  pub answer_waits : (h : List (Entry M)) (name : Name) → is_open h name.0 ≡ true → owed h name.0 ≡ [] → answer h (Recv name) ≡ None
-  answer_waits h name opened none = rw (opened, none) refl
-
   pub answer_taken : (h : List (Entry M)) (taking : Taking) (name : Name) (message : M) → is_open h name.0 ≡ true → slice_get (owed h name.0) 0 ≡ Some message → answer h (taking_call taking name) ≡ Some (Got message)
   answer_taken h taking.Waiting name message opened first = rw (opened, first) refl
   answer_taken h taking.Polling name message opened first = rw (opened, first) refl

@@ -90,13 +90,6 @@ module _ {M : Type 0} where
   answer_empty h looking.Take name polls empty = absurd (false≢true (sym polls))
   answer_empty h looking.TakePoll name polls empty = rw empty refl
 
-  pub answer_waiting : (h : List (Entry M)) (looks : Looking) (name : Name) → waits looks ≡ true → held h name.0 ≡ None
-      → answer h (looking_call looks name) ≡ None
-  answer_waiting h looking.Get name wait empty = rw empty refl
-  answer_waiting h looking.GetPoll name wait empty = absurd (false≢true wait)
-  answer_waiting h looking.Take name wait empty = rw empty refl
-  answer_waiting h looking.TakePoll name wait empty = absurd (false≢true wait)
-
   -- what isn't empty holds something
   pub some_message : (value : Option M) → value ≢ None → (message : M) × (value ≡ Some message)
   some_message None full = absurd (full refl)

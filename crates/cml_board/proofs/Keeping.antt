@@ -1,8 +1,7 @@
 -- What is really kept of a log is what the history tells.
-use Rattle.std.proofs.Common.{◌≡◌, inl, inr, ℕ, zero, suc, ◌-◌, ◌*◌, ◌/◌, ◌<◌, ◌≤◌, min, true, false, eqb, List, length, slice_get, Option, Some, None, refl, sym, ap, ◌∙◌, arith}
+use Rattle.std.proofs.Common.{◌≡◌, inl, inr, ℕ, zero, suc, ◌*◌, ◌/◌, ◌<◌, ◌≤◌, min, true, false, eqb, List, length, slice_get, Option, Some, None, refl, sym, ap, ◌∙◌, arith}
 use Rattle.std.specs.Option.{option_map}
 use Rattle.std.proofs.lemmas.Bool.{cases_eq, cases_Bool, false≢true, eq-eqb, eqb-true, and_parts, and_from, cond-true, cond-false}
-use Rattle.std.proofs.lemmas.List.{length-drop}
 use Rattle.std.proofs.lemmas.Option.{none-some, same_Some, some_pair_parts, option_and_then_some, slice_get_within}
 use Rattle.cml_log.specs.Log.{Log, least}
 use Rattle.cml_log.proofs.LeastLemmas.{least-le_end, least-le_place, least-ge}
@@ -17,7 +16,7 @@ use Rattle.cml_board.specs.Facts.{Facts, facts_of}
 use Rattle.cml_board.specs.Holdings.{key_in, cursor_in, log_at, cursor_at}
 use Rattle.cml_board.specs.Shown.{Shown, KeepsLogs}
 use Rattle.cml_board.specs.Keeps.{Agrees, AgreesReading, Shows, Keeps}
-use Rattle.cml_board.specs.Kept.{reads_by, reads, least_of, least_place, kept_from, kept_size}
+use Rattle.cml_board.specs.Kept.{reads_by, reads, least_of, least_place, kept_from}
 use Rattle.cml_board.proofs.Changing.{cursor_place}
 use Rattle.cml_board.proofs.Standing.{cursor_of_mailbox, cursor_of_port}
 use Rattle.cml_board.proofs.Sources.{source_stands}
@@ -134,14 +133,6 @@ module _ {M : Type 0} where
       → log.first ≡ kept_from chunk history source
   first_is_told chunk history objects source log shows found =
       (shows.logs source log found).first ∙ ap (λ p. chunk * (p / chunk)) (least_is_told chunk history objects source log shows found)
-
-  -- and how much is kept
-  pub kept_is_told : (chunk : ℕ) (history : List (Entry M)) (objects : List (Object M (Log M))) (source : ℕ) (log : Log M)
-      → Shows chunk (length (made history)) (facts_of history) objects → log_at objects source ≡ Some log
-      → length log.kept ≡ kept_size chunk history source
-  kept_is_told chunk history objects source log shows found =
-      ap length (shows.logs source log found).kept ∙ length-drop log.first (sent history source)
-      ∙ ap (λ p. length (sent history source) - p) (first_is_told chunk history objects source log shows found)
 
   -- an object that is told to read a log was made
   pub reader_made : (history : List (Entry M)) (source name : ℕ) → reads history source name ≡ true → name < length (made history)

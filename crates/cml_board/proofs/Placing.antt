@@ -1,5 +1,5 @@
 -- A change of one object is a change of the list of all.
-use Rattle.std.proofs.Common.{◌≡◌, ℕ, zero, suc, ◌-◌, ◌<◌, List, [], ◌∷◌, ◌++◌, length, get_or, slice_get, slice_set, Option, Some, IsSome, refl, sym, ap, ◌∙◌, arith}
+use Rattle.std.proofs.Common.{◌≡◌, ℕ, zero, suc, ◌-◌, ◌<◌, List, [], ◌∷◌, ◌++◌, length, get_or, slice_get, slice_set, Option, Some, sym, ap, ◌∙◌, arith}
 use Rattle.std.specs.Option.{option_and_then}
 use Rattle.std.proofs.lemmas.List.{length-map, map-append, map-set}
 use Rattle.std.proofs.lemmas.Option.{same_Some, none-some, slice_get_within}
@@ -106,17 +106,6 @@ module _ {A M : Type 0} where
   pub variable_within : (log : A → Log M) (xs : List (Object M A)) (i : ℕ) → HasVariable (seen_all log xs) i → i < length xs
   variable_within log xs i stands =
       omega (arith, slice_get_within (seen_all log xs) i (Variable stands.form stands.held) stands.found, length-map xs (map_log log))
-
-  -- what stands there holds something
-  pub variable_there : (log : A → Log M) (xs : List (Object M A)) (i : ℕ) (x : Object M A) → HasVariable (seen_all log xs) i → x ≡ get_or xs i x → IsSome (held_in x)
-  variable_there log xs i x stands read =
-      by_object x (same_Some _ _ (sym (seen_read log xs i x (variable_within log xs i stands) read) ∙ stands.found))
-    where
-      by_object : (x : Object M A) → map_log log x ≡ Variable stands.form stands.held → IsSome (held_in x)
-      by_object (Mailbox l key) is = absurd (cc)
-      by_object (Channel l) is = absurd (cc)
-      by_object (Port p) is = absurd (cc)
-      by_object (Variable form held) is = refl
 
   pub log_within : (log : A → Log M) (xs : List (Object M A)) (i : ℕ) → HasLog (seen_all log xs) i → i < length xs
   log_within log xs i stands = by_length xs i stands.log stands.found

@@ -49,10 +49,6 @@ module _ {M : Type 0} where
   answer_takes {chunk} {sure} board call message answers never = λ spared.
       unsure sure (shares board.history call) never (or_right (has_message call) (tells_message (answer board.history call)) (ap tells_message answers)) spared.shares_none
 
-  pub putting_shares : (putting : Putting) (name : Name) (message : M) → has_message (putting_call putting name message) ≡ true
-  putting_shares putting.Sending name message = refl
-  putting_shares putting.Casting name message = refl
-
   fills : (chunk : ℕ) (h : List (Entry M)) (putting : Putting) (name : Name) (message : M) → ends_chunk chunk (length (sent h name.0)) ≡ true
       → fills_chunk chunk h (putting_call putting name message) ≡ true
   fills chunk h putting.Sending name message ends = ends

@@ -1,5 +1,5 @@
 -- What the objects that show the facts are, one by one.
-use Rattle.std.proofs.Common.{◌≡◌, ◌≢◌, ℕ, zero, suc, ◌<◌, ◌≤◌, true, false, List, [], ◌∷◌, length, drop, slice_get, Option, Some, refl, sym, ap, subst, ◌∙◌, arith}
+use Rattle.std.proofs.Common.{◌≡◌, ◌≢◌, ℕ, zero, suc, ◌<◌, ◌≤◌, true, List, [], ◌∷◌, length, drop, slice_get, Option, Some, refl, sym, ap, subst, ◌∙◌, arith}
 use Rattle.std.specs.Option.{option_and_then}
 use Rattle.std.proofs.lemmas.Bool.{false≢true}
 use Rattle.cml_log.specs.Log.{Log, next_of, IsOpen, place_of, owed_items}
@@ -108,21 +108,6 @@ module _ {M : Type 0} where
           → (key : ℕ) × (slice_get objects name ≡ Some (Port (record { channel = record { 0 = source }; start = start; reading = Open key })))
       by_reading (Open key) found agrees = (key, found)
       by_reading (Closed received) found agrees = absurd (false≢true (sym agrees.0 ∙ opened))
-
-  -- a closed port has none, and knows how much it received
-  pub closed_port_object : (chunk n : ℕ) (f : ℕ → Facts M) (objects : List (Object M (Log M))) (name source start : ℕ) → Shows chunk n f objects
-      → (f name).origin ≡ Some (port source start) → (f name).opened ≡ false → name < n
-      → slice_get objects name ≡ Some (Port (record { channel = record { 0 = source }; start = start; reading = Closed (length (f name).got) }))
-  closed_port_object chunk n f objects name source start shows begun closed made =
-      let stands = port_object chunk n f objects name source start shows begun made in
-      by_reading stands.0 stands.1 stands.2
-    where
-      by_reading : (reading : Reading) → slice_get objects name ≡ Some (Port (record { channel = record { 0 = source }; start = start; reading = reading }))
-          → AgreesReading (f name) reading
-          → slice_get objects name ≡ Some (Port (record { channel = record { 0 = source }; start = start; reading = Closed (length (f name).got) }))
-      by_reading (Open key) found agrees = absurd (false≢true (sym closed ∙ agrees))
-      by_reading (Closed received) found agrees =
-          found ∙ ap (λ r. Some (Port (record { channel = record { 0 = source }; start = start; reading = Closed r }))) agrees.1
 
   -- a mailbox has a log
   pub source_stands_mailbox : (chunk n : ℕ) (f : ℕ → Facts M) (objects : List (Object M (Log M))) (name : ℕ) → Shows chunk n f objects

@@ -1,6 +1,8 @@
--- A history read from a cut on. Of what was cut away a base is known, which has no entries, but what they left: so who has
--- the base and the entries since reads from them all that the whole history says. Entries since the cut stand newest first,
--- as in a history, and `since ++ past` is the whole history.
+-- A history read from a cut on. Of what was cut away a base is known, which has no entries, but what they left. From it and
+-- the entries since is read of each object how it began, how many messages were sent to it, where it stands, whether it is
+-- open, what it holds and which of its messages are kept; what is due to a receiver since the cut, and what of that is
+-- still owed; what each call that fits is answered; and the next base. Entries since the cut stand newest first, as in a
+-- history, and `since ++ past` is the whole history.
 use Rattle.std.specs.Prelude.{ℕ, zero, suc, ◌+◌, ◌-◌, ◌*◌, ◌/◌, Bool, ◌&&◌, min, List, [], ◌∷◌, ◌++◌, length, drop, slice_get, Option, Some, is_some, unwrap_or, if◌then◌else◌}
 use Rattle.cml_board.specs.declared.call.Call.{Call}
 use Rattle.cml_board.specs.declared.call.Call.TheVariants.{NewMailbox, NewChannel, NewPort, CopyPort, ClosePort, NewIVar, NewMVar, MVarInit, Send, Cast, Recv, Poll, Put, Get, GetPoll, Take, TakePoll, Swap}

@@ -43,7 +43,8 @@ module _ {M : Type 0} where
     pub limit : new.limit ≡ old.limit
     pub reserved : old.reserved ≤ new.reserved + 1
 
-  -- the whole journal was cut away, and nothing else changed: what is told of all entries is what it was
+  -- the whole journal was cut away: what is told of all entries is what it was, and so are the limit and the objects. How
+  -- much stands reserved then is left open
   pub record Cuts (old new : Shown M) : Type 0 where
     pub history : new.history ≡ old.history
     pub past : new.past ≡ old.history

@@ -1,4 +1,6 @@
-//! What was cut away of a history can be forgotten: its base and the entries since tell all that the whole history tells.
+//! What a base and the entries since tell of the whole history: of each object how it began, how many messages were sent to
+//! it, where it stands, whether it is open, what it holds and which of its messages are kept; what is owed to each receiver
+//! that is open, and what is due to it since the cut; what each call that fits is answered; and the next base.
 ghost use Rattle.std.specs.Prelude.{◌≡◌, ℕ, List, [], ◌++◌, length, drop, true, false};
 ghost use Rattle.cml_board.specs.declared.entry.Entry.{Entry};
 ghost use Rattle.cml_board.specs.declared.call.Call.{Call};

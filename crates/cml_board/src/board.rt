@@ -136,8 +136,8 @@ impl<M: Message, L: MessageLog<M>> Board<M, L> {
     }
 
     /// Cuts the journal: what it has is dropped, and it has room for as many entries again. Objects stay, each with what
-    /// waits in it; names, and positions of entries, go on counting. It takes no memory, and none is given back: what stood
-    /// reserved still does.
+    /// waits in it; names, and positions of entries, go on counting. It is never refused, and what stood reserved still
+    /// does.
     pub fn cut(&mut self)
         ensures cut { Cuts self.old self.new }
         ensures reserved { self.old.reserved ≤ self.new.reserved }
@@ -174,7 +174,8 @@ impl<M: Message, L: MessageLog<M>> Board<M, L> {
     }
 
     /// Takes memory for `n` more entries. Until `n` calls were answered, a call is not refused for want of memory if
-    /// it makes no object and fills no chunk, and its messages are such that a share of one is never refused.
+    /// it makes no object and fills no chunk, and its messages are such that a share of one is never refused. What was
+    /// reserved lasts over a `cut`, but not over a `take_journal`, which hands it over with the list.
     pub fn reserve(&mut self, n: usize) -> Result<(), AllocError>
         ensures kept { IsAsBefore self.old self.new }
         ensures reserved { OnOk result (n ≤ self.new.reserved) }

@@ -1,5 +1,6 @@
 ghost use Rattle.std.specs.Prelude.{◌≡◌, ◌↔◌, Bool, true, false, IsTrue, IfOk, OnErr};
 
+use cml_text::Text;
 use std::alloc::{AllocError, Global};
 
 /// What mailboxes carry and variables hold. A journal keeps a copy of each message beside the one that is delivered.
@@ -26,5 +27,18 @@ impl Message for u64 {
 
     fn same(&self, other: &u64) -> bool {
         *self == *other
+    }
+}
+
+/// A share takes memory of its own, and may be refused.
+impl Message for Text {
+    ghost SURE = { false };
+
+    fn share(&self, _alloc: Global) -> Result<Text, AllocError> {
+        self.clone()
+    }
+
+    fn same(&self, other: &Text) -> bool {
+        self.as_bytes() == other.as_bytes()
     }
 }

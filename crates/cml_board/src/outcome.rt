@@ -13,7 +13,8 @@ pub enum Refusal {
     NoSuch,
     /// The object can't take this call.
     WrongKind,
-    /// The journal has as many entries as its limit.
+    /// The journal has as many entries since the last cut as its limit says, or 2^64 - 1 calls were accepted since the
+    /// board was made.
     JournalFull,
     /// The call would wait, and so does everybody else: nobody is left who could answer it.
     Stalled,
