@@ -1,15 +1,14 @@
 -- What entries of a feed, and entries of others, make of what stands in the journal of each feed, each lane and each port.
-use Rattle.std.proofs.Common.{◌≡◌, ◌≢◌, ◌↔◌, ℕ, Bool, true, false, cond, List, [], ◌∷◌, ◌++◌, Some, None, IsSome, IfSome, IsTrue, subst, refl, sym, ap, ◌∙◌, append_assoc}
+use Rattle.std.proofs.Common.{◌≡◌, ◌≢◌, ◌↔◌, ℕ, Bool, false, cond, List, [], ◌∷◌, ◌++◌, Some, None, IsSome, IfSome, IsTrue, subst, refl, sym, ap, ◌∙◌, append_assoc}
 use Rattle.std.proofs.lemmas.Bool.{eq-eqb, ne_eqb, false≢true}
 use Rattle.std.proofs.lemmas.List.{append-nil}
 use Rattle.cml_board.specs.declared.call.Name.{Name}
 use Rattle.cml_board.specs.declared.call.Kind.{Kind}
 use Rattle.cml_board.specs.declared.call.Kind.TheVariants.{Port}
 use Rattle.cml_board.specs.declared.call.Call.TheVariants.{Recv}
-use Rattle.cml_board.specs.declared.entry.Reply.TheVariants.{Got, Closed}
 use Rattle.cml_board.specs.declared.entry.Entry.{Entry}
 use Rattle.cml_board.specs.Objects.{takes}
-use Rattle.cml_board.specs.History.{message_in, received, owed, kind_of, is_open, got, answer, Fits}
+use Rattle.cml_board.specs.History.{message_in, kind_of, is_open, got, answer, Fits}
 use Rattle.cml_board.proofs.Closing.{kind_kept}
 use Rattle.cml_board.proofs.Telling.{stays_open, none_got}
 use Rattle.cml_lanes.specs.declared.way.Way.{Way}
@@ -159,20 +158,9 @@ module _ {M : Type 0} where
   with_feed_more number port (message ∷ messages) more history =
       with_feed_more number port messages more (feed_entry number port message ∷ history)
 
-  -- a feed's call fits its port, and is answered a message or waits
+  -- a feed's call fits its port
   pub fits_recv : (history : List (Entry M)) (port : Name) → kind_of history port.0 ≡ Some Port → Fits history (Recv port)
   fits_recv history port is = (subst (λ k. IsSome k) (sym is) refl, subst (λ k. IfSome k (λ kind. IsTrue (takes {M = M} kind (Recv port)))) (sym is) refl)
-
-  first_received : (messages : List M) → received messages ≢ None → (message : M) × (received messages ≡ Some (Got message))
-  first_received [] some = absurd (some refl)
-  first_received (message ∷ messages) some = (message, refl)
-
-  pub answer_recv : (history : List (Entry M)) (port : Name) → is_open history port.0 ≡ true → answer history (Recv port) ≢ None
-      → (message : M) × (answer history (Recv port) ≡ Some (Got message))
-  answer_recv history port opened owes =
-      let here : answer history (Recv port) ≡ received (owed history port.0) = ap (λ b. cond b (received (owed history port.0)) (Some Closed)) opened in
-      let first = first_received (owed history port.0) (λ none. owes (here ∙ none)) in
-      (first.0, here ∙ first.1)
 
   -- it doesn't wait where it is told so
   pub still_owed : (history : List (Entry M)) (port name : Name) (waits : Bool) → kind_of history port.0 ≡ Some Port → name ≡ port

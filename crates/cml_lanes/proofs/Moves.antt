@@ -1,5 +1,5 @@
 -- Moves of messages, one after another.
-use Rattle.std.proofs.Common.{◌≡◌, ℕ, ◌+◌, ◌<◌, ◌≤◌, Bool, false, List, [], ◌∷◌, ◌++◌, length, slice_get, Option, Some, None, IfNone, IfSome, is_some, subst, refl, sym, ap, ◌∙◌, arith, length-append, append_assoc}
+use Rattle.std.proofs.Common.{◌≡◌, ℕ, ◌+◌, ◌<◌, Bool, false, List, [], ◌∷◌, ◌++◌, length, slice_get, Option, Some, None, IfNone, is_some, subst, refl, sym, ap, ◌∙◌, arith, length-append, append_assoc}
 use Rattle.std.proofs.lemmas.Option.{same_Some, none-some}
 use Rattle.std.proofs.lemmas.List.{append-nil}
 use Rattle.std.proofs.lemmas.Bool.{true≢false}
@@ -15,7 +15,7 @@ use Rattle.cml_board.specs.Outcome.{IsAsBefore, AddsEntry, Refuses, HasRoom}
 use Rattle.cml_board.proofs.Sparing.{call_takes}
 use Rattle.cml_lanes.specs.Sides.{LaneSide, way_call, way_kind}
 use Rattle.cml_lanes.specs.Laned.{laned, lane_entry, with_lane}
-use Rattle.cml_lanes.specs.Moving.{IsLimit, KeepsLane, MovesOut, Stops, Looks, DrainsRing}
+use Rattle.cml_lanes.specs.Moving.{IsLimit, KeepsLane, MovesOut, Stops, DrainsRing}
 use Rattle.cml_lanes.specs.Slots.{DrainsUntil}
 use Rattle.cml_lanes.proofs.Laning.{laned_more, kind_more, with_lane_more, fits_way, answer_way, way_has_message}
 
@@ -27,10 +27,6 @@ on_none (Some x) e p = absurd (true≢false e)
 some_first : {X : Type 0} (xs : List X) → 0 < length xs → (x : X) × (slice_get xs 0 ≡ Some x)
 some_first [] some = absurd (omega (arith, some))
 some_first (x ∷ xs) some = (x, refl)
-
-no_items : {X : Type 0} (xs : List X) → length xs ≡ 0 → xs ≡ []
-no_items [] none = refl
-no_items (x ∷ xs) none = absurd (omega (arith, none))
 
 first_is : {X : Type 0} {xs ys : List X} {x y : X} → xs ≡ x ∷ ys → slice_get xs 0 ≡ Some y → y ≡ x
 first_is {X} {xs} {ys} {x} {y} all first = same_Some y x (sym first ∙ ap (λ zs. slice_get zs 0) all)
@@ -104,13 +100,6 @@ module _ {M : Type 0} where
         ∙ sym (ap (λ (side : LaneSide M). Some (way_kind side.way)) m.side);
   }
 
-  -- what is still seen
-  pub left_seen : {number count : ℕ} {old new : Shown M} {from to : LaneSide M} → MovesOut number count old new from to → length from.seen ≡ count + length to.seen
-  left_seen {number} {count} {old} {new} {from} {to} m = omega (arith, ap length m.seen, length-append m.moved to.seen, m.as_many)
-
-  pub all_moved : {number count : ℕ} {old new : Shown M} {from to : LaneSide M} → MovesOut number count old new from to → length from.seen ≡ count → to.seen ≡ []
-  all_moved {number} {count} {old} {new} {from} {to} m all = no_items to.seen (omega (arith, left_seen m, all))
-
   -- the first call was refused
   pub stops_first : (chunk : ℕ) (sure : Bool) (number : ℕ) (old new : Shown M) (side : LaneSide M) (refusal : Refusal) (message : M)
       → IsAsBefore old new → slice_get side.seen 0 ≡ Some message → IsLimit refusal
@@ -159,12 +148,6 @@ module _ {M : Type 0} where
       stops_first chunk sure number old new side refusal message after next
       (limit_refuses chunk sure old (way_call side.way side.target message) refusal (fits_way old.history side.way side.target message kind) refused) refused
 
-  -- some were moved before it
-  pub stops_later : (chunk : ℕ) (sure : Bool) (number count : ℕ) (old mid new : Shown M) (from via to : LaneSide M) (refusal : Refusal)
-      → MovesOut number count old mid from via → Stops chunk sure number 0 mid new via to refusal → Stops chunk sure number count old new from to refusal
-  stops_later chunk sure number count old mid new from via to refusal a s =
-      record { at = s.at; moves = moves_more number count 0 count old mid s.at from via to (omega arith) a s.moves; after = s.after; message = s.message; next = s.next; limit = s.limit; refused = s.refused }
-
   -- so many went out until one was refused
   pub stopped_moves : {chunk : ℕ} {sure : Bool} {number count : ℕ} {old new : Shown M} {from to : LaneSide M} {refusal : Refusal}
       → Stops chunk sure number count old new from to refusal → MovesOut number count old new from to
@@ -178,35 +161,6 @@ module _ {M : Type 0} where
     side = s.moves.side;
     seen = s.moves.seen;
   }
-
-  -- the refused message is still seen
-  pub still_seen : {chunk : ℕ} {sure : Bool} {number count : ℕ} {old new : Shown M} {from to : LaneSide M} {refusal : Refusal}
-      → Stops chunk sure number count old new from to refusal → 0 < length to.seen
-  still_seen {chunk} {sure} {number} {count} {old} {new} {from} {to} {refusal} s = by_cases to.seen s.next
-    where
-      by_cases : (xs : List M) → slice_get xs 0 ≡ Some s.message → 0 < length xs
-      by_cases [] next = absurd (none-some s.message next)
-      by_cases (x ∷ xs) next = omega arith
-
-  -- no more go out than the ring has room for
-  pub moved_most : {number count : ℕ} {old new : Shown M} {from looked to : LaneSide M} → Looks from looked → MovesOut number count old new looked to → count ≤ from.capacity
-  moved_most {number} {count} {old} {new} {from} {looked} {to} looks m = omega (arith, left_seen m, looks.most, ap (λ (side : LaneSide M). side.capacity) looks.side)
-
-  pub stopped_fewer : {chunk : ℕ} {sure : Bool} {number count : ℕ} {old new : Shown M} {from looked to : LaneSide M} {refusal : Refusal} → Looks from looked
-      → Stops chunk sure number count old new looked to refusal → count < from.capacity
-  stopped_fewer {chunk} {sure} {number} {count} {old} {new} {from} {looked} {to} {refusal} looks s =
-      omega (arith, still_seen s, left_seen s.moves, looks.most, ap (λ (side : LaneSide M). side.capacity) looks.side)
-
-  -- all that was seen went, or one was refused
-  pub drained_until : (chunk : ℕ) (sure : Bool) (number count : ℕ) (old new : Shown M) (from looked to : LaneSide M) → Looks from looked
-      → (stopped : Option Refusal) → IfNone stopped (MovesOut number count old new looked to × (to.seen ≡ []))
-      → IfSome stopped (λ refusal. Stops chunk sure number count old new looked to refusal) → DrainsUntil chunk sure number count stopped old new from to
-  drained_until chunk sure number count old new from looked to looks None moved stopped = record {
-    drains = record { looked = looked; looks = looks; moves = moved.0; most = moved_most looks moved.0 };
-    none = moved.1;
-  }
-  drained_until chunk sure number count old new from looked to looks (Some refusal) moved stopped =
-      record { looked = looked; looks = looks; stops = stopped; fewer = stopped_fewer looks stopped }
 
   -- either way nothing else was done
   pub until_drains : (chunk : ℕ) (sure : Bool) (number count : ℕ) (stopped : Option Refusal) (old new : Shown M) (from to : LaneSide M)

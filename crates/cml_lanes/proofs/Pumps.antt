@@ -1,5 +1,5 @@
 -- Messages that are pumped, one after another.
-use Rattle.std.proofs.Common.{◌≡◌, ℕ, ◌+◌, ◌<◌, ◌≤◌, [], ◌++◌, Bool, Option, Some, None, IfNone, IfSome, refl, sym, ap, ◌∙◌, arith, length-append, append_assoc}
+use Rattle.std.proofs.Common.{◌≡◌, ℕ, ◌+◌, [], ◌++◌, Bool, Option, Some, None, refl, sym, ap, ◌∙◌, arith, length-append, append_assoc}
 use Rattle.std.proofs.lemmas.List.{append-nil}
 use Rattle.cml_board.specs.declared.call.Kind.TheVariants.{Port}
 use Rattle.cml_board.specs.declared.outcome.Refusal.{Refusal}
@@ -7,7 +7,7 @@ use Rattle.cml_board.specs.History.{kind_of, is_open, got}
 use Rattle.cml_board.specs.Shown.{Shown}
 use Rattle.cml_lanes.specs.Sides.{FeedSide}
 use Rattle.cml_lanes.specs.Fed.{fed, with_feed}
-use Rattle.cml_lanes.specs.Pumping.{KeepsFeed, PumpsIn, Balks, IsSated, LearnsFree}
+use Rattle.cml_lanes.specs.Pumping.{KeepsFeed, PumpsIn, Balks, LearnsFree}
 use Rattle.cml_lanes.specs.Slots.{PumpsUntil}
 use Rattle.cml_lanes.proofs.Feeding.{fed_more, got_more, kind_fed, open_fed, with_feed_more}
 
@@ -73,24 +73,6 @@ module _ {M : Type 0} where
     side = b.pumps.side;
     free = b.pumps.free;
   }
-
-  -- no more are pumped than the ring has room for
-  pub pumped_most : {number count : ℕ} {old new : Shown M} {from looked to : FeedSide M} → LearnsFree from looked → PumpsIn number count old new looked to → count ≤ from.capacity
-  pumped_most {number} {count} {old} {new} {from} {looked} {to} looks p = omega (arith, p.free, looks.most, ap (λ (side : FeedSide M). side.capacity) looks.side)
-
-  pub balked_fewer : {chunk : ℕ} {sure : Bool} {number count : ℕ} {old new : Shown M} {from looked to : FeedSide M} {refusal : Refusal} → LearnsFree from looked
-      → Balks chunk sure number count old new looked to refusal → count < from.capacity
-  balked_fewer {chunk} {sure} {number} {count} {old} {new} {from} {looked} {to} {refusal} looks b =
-      omega (arith, b.room, b.pumps.free, looks.most, ap (λ (side : FeedSide M). side.capacity) looks.side)
-
-  -- there was no slot or no message, or one was refused
-  pub pumped_until : (chunk : ℕ) (sure : Bool) (number count : ℕ) (old new : Shown M) (from looked to : FeedSide M) → LearnsFree from looked
-      → (stopped : Option Refusal) → IfNone stopped (PumpsIn number count old new looked to × IsSated new to)
-      → IfSome stopped (λ refusal. Balks chunk sure number count old new looked to refusal) → PumpsUntil chunk sure number count stopped old new from to
-  pumped_until chunk sure number count old new from looked to looks None pumped balked =
-      record { looked = looked; looks = looks; pumps = pumped.0; sated = pumped.1; most = pumped_most looks pumped.0 }
-  pumped_until chunk sure number count old new from looked to looks (Some refusal) pumped balked =
-      record { looked = looked; looks = looks; balks = balked; fewer = balked_fewer looks balked }
 
   -- so many went into the ring, whether or not one was refused then
   pub record PumpsRing (number count : ℕ) (old new : Shown M) (from to : FeedSide M) : Type 0 where

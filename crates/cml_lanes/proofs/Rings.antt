@@ -1,5 +1,5 @@
 -- Each ring stays, whatever a call does to one lane or one feed.
-use Rattle.std.proofs.Common.{◌≡◌, ℕ, Option, Some, ◌∙◌}
+use Rattle.std.proofs.Common.{◌≡◌, ℕ, Option, Some}
 use Rattle.cml_lanes.specs.Sides.{LaneSide, FeedSide}
 use Rattle.cml_lanes.specs.Floor.{FloorShown, KeepsRings, OnLane, OnFeed}
 use Rattle.cml_lanes.proofs.Slots.{same_places}
@@ -9,18 +9,6 @@ module _ {M : Type 0} where
   -- no lane or feed is another, and each open one was open
   pub same_rings : (old new : FloorShown M) → new.lanes ≡ old.lanes → new.feeds ≡ old.feeds → KeepsRings old new
   same_rings old new lanes feeds = (same_places (λ (side : LaneSide M). side.ring) old.lanes new.lanes lanes, same_places (λ (side : FeedSide M). side.ring) old.feeds new.feeds feeds)
-
-  pub rings_onward : (old mid new : FloorShown M) → KeepsRings old mid → KeepsRings mid new → KeepsRings old new
-  rings_onward old mid new one two = (
-    λ number side found.
-        let via = two.0 number side found in
-        let from = one.0 number via.0 via.1 in
-        (from.0, from.1, via.2 ∙ from.2),
-    λ number side found.
-        let via = two.1 number side found in
-        let from = one.1 number via.0 via.1 in
-        (from.0, from.1, via.2 ∙ from.2),
-  )
 
   pub lane_rings : {left : LaneSide M → Option (LaneSide M)} {number : ℕ} {old new : FloorShown M} {Does : LaneSide M → LaneSide M → Type 0}
       → ((from to side : LaneSide M) → Does from to → left to ≡ Some side → side.ring ≡ from.ring) → OnLane left number old new Does → KeepsRings old new

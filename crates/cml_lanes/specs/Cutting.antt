@@ -10,7 +10,8 @@ module _ {M : Type 0} where
   abbrev pub IsBusy : FloorShown M → Type 0
   IsBusy floor = (0 < count_by is_some floor.lanes) ⊎ (0 < count_by is_some floor.feeds)
 
-  -- the whole journal was cut away while no lane and no feed was open, and nothing else changed
+  -- the whole journal was cut away while no lane and no feed was open, and of the lanes and feeds nothing changed. How much
+  -- stands reserved then is left open
   pub record CutsFloor (old new : FloorShown M) : Type 0 where
     pub no_lane : count_by is_some old.lanes ≡ 0
     pub no_feed : count_by is_some old.feeds ≡ 0

@@ -10,7 +10,8 @@ use Rattle.cml_board.specs.Outcome.{IsAsBefore, Refuses}
 use Rattle.cml_lanes.specs.Sides.{LaneSide, way_call, way_kind}
 use Rattle.cml_lanes.specs.Laned.{laned, with_lane}
 
--- what refuses a message of an open lane: the journal's limit and want of memory, and nothing else
+-- what refuses a message of an open lane: a full journal, whose limit counts the entries since the last cut, and want of
+-- memory; and nothing else
 abbrev pub IsLimit : Refusal → Type 0
 IsLimit JournalFull = ⊤
 IsLimit NoMemory = ⊤

@@ -110,7 +110,8 @@ impl<M: Message, L: MessageLog<M>> Floor<M, L> {
 
     /// Takes memory for `n` more entries. Until `n` entries were added, no call is refused for want of memory whose next
     /// entry makes no object, fills no chunk, and shares no message whose share can be refused; but to open a lane or a
-    /// feed takes memory of its own. The only refusal is `NoMemory`.
+    /// feed takes memory of its own. What was reserved lasts over a `cut`, but not over a `take_journal`, which hands it
+    /// over with the list. The only refusal is `NoMemory`.
     pub fn reserve(&mut self, n: usize) -> Result<(), Refusal>
         ensures reserves { Reserves self.old self.new n result }
         ensures rings { KeepsRings self.old self.new }

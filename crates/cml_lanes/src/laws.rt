@@ -31,7 +31,8 @@ pub fn ended_feeds_get_no_entry<M>()
 
 /// Over a run of calls on a floor, what was reserved is lost by added entries alone, one by each. So while fewer were added
 /// than were reserved, want of memory refuses no seat's call, and stops no lane and no feed, where the next entry is all
-/// that takes memory. A journal that is handed over takes the memory that stood reserved with it; a cut does not. `HoldsUp` and `Starves` are what a refused `drain` and a refused `pump` tell.
+/// that takes memory. A journal that is handed over takes the memory that stood reserved with it; a cut does not. `HoldsUp`
+/// and `Starves` are what a refused `drain` and a refused `pump` tell.
 pub fn reserved_lasts_on_a_floor<M>()
     ensures lasts { (chunk : ℕ) (sure : Bool) (calls : List (FloorCall M)) (old new : FloorShown M)
         → AreCalled chunk sure calls old new

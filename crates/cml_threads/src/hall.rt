@@ -50,8 +50,8 @@ impl<M, L: MessageLog<M>, Led: Ledger> Model for Hall<M, L, Led> {
 }
 
 impl<M: Message, L: MessageLog<M>, Led: Ledger> Hall<M, L, Led> {
-    /// A hall with no seats, no lanes and no feeds, on a board with no objects whose journal takes `limit` entries. The blank is
-    /// `Blank::new(PARTS)`, and names the hall's ledger.
+    /// A hall with no seats, no lanes and no feeds, on a board with no objects whose journal takes `limit` entries between
+    /// two cuts. The blank is `Blank::new(PARTS)`, and names the hall's ledger.
     pub fn new(alloc: Global, limit: u64, blank: Blank) -> Result<Hall<M, L, Led>, AllocError>
         requires least { 1 ≤ limit }
         requires most { limit ≤ 2 ^ 32 }
@@ -88,7 +88,7 @@ impl<M: Message, L: MessageLog<M>, Led: Ledger> Hall<M, L, Led> {
         // The journal has of each open feed exactly what was put into its ring, which is all that its own port received.
         ensures feeds { KeepsFeeds self.now.board.history self.now.feeds }
 
-        // The journal is a lawful history of one thread.
+        // All accepted calls are a lawful history of one thread: those that were cut away, followed by the journal.
         ensures lawful { Lawful self.now.board.history }
 
         // What was received from a mailbox, followed by what really waits in it, is what was sent to it.
@@ -99,7 +99,7 @@ impl<M: Message, L: MessageLog<M>, Led: Ledger> Hall<M, L, Led> {
         ensures ports { KeepsPorts self.now.board }
         ensures closed { KeepsClosed self.now.board }
 
-        // What a variable really holds is what the journal tells.
+        // What a variable really holds is what it was made with, or was last put or swapped into it, unless it was taken.
         ensures variables { KeepsVariables self.now.board }
 
         // What each log really holds, from which place on, and which cursors are open in it.

@@ -51,7 +51,8 @@ impl<M: Message, L: MessageLog<M>> Settled<M, L> {
         }
     }
 
-    /// The board, with all that always holds of one: an answer that a seat was given is confirmed here.
+    /// The board, with all that always holds of one: an answer that a seat was given since the last cut is confirmed here,
+    /// and one from before that is not.
     pub fn board(&self) -> &Board<M, L>
         ensures board { result.now ≡ self.now.board }
         ensures lawful { Lawful self.now.board.history }

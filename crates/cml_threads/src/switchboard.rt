@@ -45,7 +45,7 @@ struct Locked<M, L: MessageLog<M>, Led: Ledger> {
 }
 
 impl<M: Message, L: MessageLog<M>, Led: Ledger> Switchboard<M, L, Led> {
-    /// A switchboard with no seats and no objects, whose journal takes `limit` entries. The blank is
+    /// A switchboard with no seats and no objects, whose journal takes `limit` entries between two cuts. The blank is
     /// `Blank::new(PARTS)`, and names the switchboard's ledger.
     pub fn new(
         alloc: Global,
