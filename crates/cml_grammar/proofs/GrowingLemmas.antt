@@ -185,19 +185,19 @@ asks_from names verb object more a make uses gives asks h =
     }
 
 pub step_asks : (names : List Given) (verb : Verb) (rest : List (List ℕ)) (a : Action) → action_by names verb rest ≡ Some a → Asks names verb rest a
-step_asks names verb.Send (object ∷ message ∷ []) a h = asks_from names verb.Send object (message ∷ []) a (λ at. action.Send at (digits_value 10 message)) (λ i. refl) (λ i. refl) (λ others. refl) h
-step_asks names verb.Multicast (object ∷ message ∷ []) a h = asks_from names verb.Multicast object (message ∷ []) a (λ at. action.Multicast at (digits_value 10 message)) (λ i. refl) (λ i. refl) (λ others. refl) h
+step_asks names verb.Send (object ∷ message ∷ []) a h = asks_from names verb.Send object (message ∷ []) a (λ at. action.Send at message) (λ i. refl) (λ i. refl) (λ others. refl) h
+step_asks names verb.Multicast (object ∷ message ∷ []) a h = asks_from names verb.Multicast object (message ∷ []) a (λ at. action.Multicast at message) (λ i. refl) (λ i. refl) (λ others. refl) h
 step_asks names verb.Recv (object ∷ []) a h = asks_from names verb.Recv object [] a action.Recv (λ i. refl) (λ i. refl) (λ others. refl) h
 step_asks names verb.Poll (object ∷ []) a h = asks_from names verb.Poll object [] a action.Poll (λ i. refl) (λ i. refl) (λ others. refl) h
 step_asks names verb.Port (object ∷ name ∷ []) a h = asks_from names verb.Port object (name ∷ []) a action.Port (λ i. refl) (λ i. refl) (λ others. refl) h
 step_asks names verb.Copy (object ∷ name ∷ []) a h = asks_from names verb.Copy object (name ∷ []) a action.Copy (λ i. refl) (λ i. refl) (λ others. refl) h
 step_asks names verb.Close (object ∷ []) a h = asks_from names verb.Close object [] a action.Close (λ i. refl) (λ i. refl) (λ others. refl) h
-step_asks names verb.Put (object ∷ message ∷ []) a h = asks_from names verb.Put object (message ∷ []) a (λ at. action.Put at (digits_value 10 message)) (λ i. refl) (λ i. refl) (λ others. refl) h
+step_asks names verb.Put (object ∷ message ∷ []) a h = asks_from names verb.Put object (message ∷ []) a (λ at. action.Put at message) (λ i. refl) (λ i. refl) (λ others. refl) h
 step_asks names verb.Get (object ∷ []) a h = asks_from names verb.Get object [] a action.Get (λ i. refl) (λ i. refl) (λ others. refl) h
 step_asks names verb.GetPoll (object ∷ []) a h = asks_from names verb.GetPoll object [] a action.GetPoll (λ i. refl) (λ i. refl) (λ others. refl) h
 step_asks names verb.Take (object ∷ []) a h = asks_from names verb.Take object [] a action.Take (λ i. refl) (λ i. refl) (λ others. refl) h
 step_asks names verb.TakePoll (object ∷ []) a h = asks_from names verb.TakePoll object [] a action.TakePoll (λ i. refl) (λ i. refl) (λ others. refl) h
-step_asks names verb.Swap (object ∷ message ∷ []) a h = asks_from names verb.Swap object (message ∷ []) a (λ at. action.Swap at (digits_value 10 message)) (λ i. refl) (λ i. refl) (λ others. refl) h
+step_asks names verb.Swap (object ∷ message ∷ []) a h = asks_from names verb.Swap object (message ∷ []) a (λ at. action.Swap at message) (λ i. refl) (λ i. refl) (λ others. refl) h
 step_asks names _ _ a h = absurd (none-some a h)
 
 action_of-append : (names more : List Given) (words : List (List ℕ)) (a : Action) → action_of names words ≡ Some a → action_of (names ++ more) words ≡ Some a

@@ -125,7 +125,7 @@ GivesAt-new names word declares.Port threads owner made (channel ∷ rest) own h
 GivesAt-new names word declares.IVar threads owner made rest own h = subst (GivesAt (names ++ (word, called.IVar) ∷ []) (length names) word) (same_Some _ _ h) (slice_get-push names (word, called.IVar))
 GivesAt-new names word declares.MVar threads owner made [] own h = mvar_new names word made makes.MVar h (slice_get-push names (word, called.MVar))
 GivesAt-new names word declares.MVar threads owner made (name ∷ []) own h = mvar_new names word made makes.MVar h (slice_get-push names (word, called.MVar))
-GivesAt-new names word declares.MVar threads owner made (name ∷ message ∷ []) own h = mvar_new names word made (makes.MVarInit (digits_value 10 message)) h (slice_get-push names (word, called.MVar))
+GivesAt-new names word declares.MVar threads owner made (name ∷ message ∷ []) own h = mvar_new names word made (makes.MVarInit message) h (slice_get-push names (word, called.MVar))
 GivesAt-new names word declares.MVar threads owner made (name ∷ message ∷ more ∷ rest) own h = mvar_new names word made makes.MVar h (slice_get-push names (word, called.MVar))
 GivesAt-new names word declares.Thread threads owner made rest own h = subst (GivesAt (names ++ (word, called.Thread (threads + 1)) ∷ []) (length names) word) (same_Some _ _ h) (threads + 1, slice_get-push names (word, called.Thread (threads + 1)))
 GivesAt-new names word declares.Feed threads owner made rest own h =

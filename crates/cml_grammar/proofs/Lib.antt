@@ -17,3 +17,4 @@ pub mod WordLemmas
 pub mod TextLemmas
 pub mod SuitingLemmas
 pub mod ReadableLemmas
+mod VersionLemmas

@@ -1,6 +1,6 @@
 -- What the words of a line mean where each suits its place.
 use Rattle.std.proofs.Common.{◌≡◌, ℕ, ◌==◌, true, false, if◌then◌else◌, List, [], ◌∷◌, map, length, slice_get, get_or, Option, Some, refl, sym, ap, ◌∙◌, subst, Bor, inl, inr, true≢false, arith}
-use Rattle.std.specs.Str.Parse.{digits_value}
+use Rattle.cml_text.specs.Text.{is_text}
 use Rattle.std.specs.Option.{option_map}
 use Rattle.std.specs.List.{find, zip}
 use Rattle.std.proofs.lemmas.Bool.{ne_eqb}
@@ -12,10 +12,10 @@ use Rattle.cml_grammar.specs.declared.forms.Makes.TheVariants as makes
 use Rattle.cml_grammar.specs.declared.forms.Verb.{Verb}
 use Rattle.cml_grammar.specs.declared.forms.Verb.TheVariants as verb
 use Rattle.cml_grammar.specs.declared.forms.Place.{Place}
-use Rattle.cml_grammar.specs.declared.forms.Place.TheVariants.{Fresh, Thread, Mailbox, Channel, Target, Port, Receiver, Polled, Variable, MVar, Number, Capacity}
+use Rattle.cml_grammar.specs.declared.forms.Place.TheVariants.{Fresh, Thread, Mailbox, Channel, Target, Port, Receiver, Polled, Variable, MVar, Message, Capacity}
 use Rattle.cml_grammar.specs.declared.forms.Action.{Action}
 use Rattle.cml_grammar.specs.declared.forms.Action.TheVariants as action
-use Rattle.cml_grammar.specs.Names.{Given, is_number, position_of}
+use Rattle.cml_grammar.specs.Names.{Given, position_of}
 use Rattle.cml_grammar.specs.Forms.{declared_places, suits, is_fresh, fresh_word}
 use Rattle.cml_grammar.specs.Meaning.{makes_by, action_by}
 use Rattle.cml_grammar.specs.Reading.{IsPortAt, IsReceiverAt, IsPolledAt, IsMVarAt, IsVariableAt}
@@ -110,37 +110,37 @@ pub mvar_found : (names : List Given) (word : List ℕ) (at : ℕ) → IsUsed na
 mvar_found names word at h found = is_mvar_at names at (found_used names MVar word at h found)
 
 -- ---- a step's message
-pub number_alone : (names : List Given) (words : Words) → AllSuit names (Number ∷ []) (bytes words) → map (λ w. is_number w.now) words ≡ true ∷ []
-number_alone names [] h = absurd h
-number_alone names (w ∷ []) h = ap (λ t. t ∷ []) h.0
-number_alone names (v ∷ w ∷ ws) h = absurd h.1
+pub message_alone : (names : List Given) (words : Words) → AllSuit names (Message ∷ []) (bytes words) → map (λ w. is_text w.now) words ≡ true ∷ []
+message_alone names [] h = absurd h
+message_alone names (w ∷ []) h = ap (λ t. t ∷ []) h.0
+message_alone names (v ∷ w ∷ ws) h = absurd h.1
 
 -- and the one that an m-variable is made with
-pub first_message : (names : List Given) (name : Bor (List ℕ)) (words : Words) → (length words == 0) ≡ false → AllSuit names (declared_places declares.MVar (bytes (name ∷ words))) (bytes (name ∷ words)) → map (λ w. is_number w.now) words ≡ true ∷ []
+pub first_message : (names : List Given) (name : Bor (List ℕ)) (words : Words) → (length words == 0) ≡ false → AllSuit names (declared_places declares.MVar (bytes (name ∷ words))) (bytes (name ∷ words)) → map (λ w. is_text w.now) words ≡ true ∷ []
 first_message names name [] some h = absurd (true≢false some)
 first_message names name (w ∷ []) some h = ap (λ t. t ∷ []) h.1.0
 first_message names name (v ∷ w ∷ ws) some h =
     let words : List (List ℕ) = bytes (name ∷ v ∷ w ∷ ws) in
-    let alone : AllSuit names (Fresh ∷ []) words = subst (λ t. AllSuit names (if t then Fresh ∷ Number ∷ [] else Fresh ∷ []) words) (ne_eqb (length words) 2 (λ e. omega (arith, e))) h in
+    let alone : AllSuit names (Fresh ∷ []) words = subst (λ t. AllSuit names (if t then Fresh ∷ Message ∷ [] else Fresh ∷ []) words) (ne_eqb (length words) 2 (λ e. omega (arith, e))) h in
     absurd alone.1
 
-pub made_with : (names : List Given) (name : Bor (List ℕ)) (words : Words) (message : ℕ) → map (λ w. digits_value 10 w.now) words ≡ message ∷ [] → makes_by names declares.MVar (bytes (name ∷ words)) ≡ Some (makes.MVarInit message)
+pub made_with : (names : List Given) (name : Bor (List ℕ)) (words : Words) (message : List ℕ) → map (λ w. w.now) words ≡ message ∷ [] → makes_by names declares.MVar (bytes (name ∷ words)) ≡ Some (makes.MVarInit message)
 made_with names name [] message e = absurd (let f = ap length e in omega (arith, f))
-made_with names name (w ∷ []) message e = let same : digits_value 10 w.now ≡ message = cc in ap (λ m. Some (makes.MVarInit m)) same
+made_with names name (w ∷ []) message e = let same : w.now ≡ message = cc in ap (λ m. Some (makes.MVarInit m)) same
 made_with names name (v ∷ w ∷ ws) message e = absurd (let f = ap length e in omega (arith, f))
 
 -- what a step with a message asks for
-message_means : (names : List Given) (v : Verb) (make : ℕ → ℕ → Action)
-    → ((object word : List ℕ) → action_by names v (object ∷ word ∷ []) ≡ option_map (λ i. make i (digits_value 10 word)) (position_of names object))
-    → (object : List ℕ) (words : Words) (at message : ℕ) → position_of names object ≡ Some at → map (λ w. digits_value 10 w.now) words ≡ message ∷ []
+message_means : (names : List Given) (v : Verb) (make : ℕ → List ℕ → Action)
+    → ((object word : List ℕ) → action_by names v (object ∷ word ∷ []) ≡ option_map (λ i. make i word) (position_of names object))
+    → (object : List ℕ) (words : Words) (at : ℕ) (message : List ℕ) → position_of names object ≡ Some at → map (λ w. w.now) words ≡ message ∷ []
     → action_by names v (object ∷ bytes words) ≡ Some (make at message)
 message_means names v make asks object [] at message found e = absurd (let f = ap length e in omega (arith, f))
 message_means names v make asks object (w ∷ []) at message found e =
-    let same : digits_value 10 w.now ≡ message = cc in
-    asks object w.now ∙ ap (option_map (λ i. make i (digits_value 10 w.now))) found ∙ ap (λ m. Some (make at m)) same
+    let same : w.now ≡ message = cc in
+    asks object w.now ∙ ap (option_map (λ i. make i w.now)) found ∙ ap (λ m. Some (make at m)) same
 message_means names v make asks object (u ∷ w ∷ ws) at message found e = absurd (let f = ap length e in omega (arith, f))
 
-module _ (names : List Given) (object : List ℕ) (words : Words) (at message : ℕ) (found : position_of names object ≡ Some at) (value : map (λ w. digits_value 10 w.now) words ≡ message ∷ []) where
+module _ (names : List Given) (object : List ℕ) (words : Words) (at : ℕ) (message : List ℕ) (found : position_of names object ≡ Some at) (value : map (λ w. w.now) words ≡ message ∷ []) where
   pub send_means : action_by names verb.Send (object ∷ bytes words) ≡ Some (action.Send at message)
   send_means = message_means names verb.Send action.Send (λ o w. refl) object words at message found value
 
@@ -167,7 +167,7 @@ fresh_word-bytes (Receiver ∷ places) (w ∷ words) = fresh_word-bytes places w
 fresh_word-bytes (Polled ∷ places) (w ∷ words) = fresh_word-bytes places words
 fresh_word-bytes (Variable ∷ places) (w ∷ words) = fresh_word-bytes places words
 fresh_word-bytes (MVar ∷ places) (w ∷ words) = fresh_word-bytes places words
-fresh_word-bytes (Number ∷ places) (w ∷ words) = fresh_word-bytes places words
+fresh_word-bytes (Message ∷ places) (w ∷ words) = fresh_word-bytes places words
 fresh_word-bytes (Capacity ∷ places) (w ∷ words) = fresh_word-bytes places words
 
 pub fresh_found : (places : List Place) (words : Words) (found : Option (Place × Bor (List ℕ))) → found ≡ find (λ p. is_fresh p.0) (zip places words) → option_map (λ p. p.1.now) found ≡ fresh_word places (bytes words)

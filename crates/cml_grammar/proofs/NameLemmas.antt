@@ -1,6 +1,8 @@
 -- Names and numbers: what the look-ups of a map of texts give, and which words are numbers.
 use Rattle.std.proofs.Common.{◌≡◌, ◌≢◌, ℕ, suc, ◌^◌, ◌<◌, ◌≤◌, Bool, true, false, not, cond, ◌&&◌, ◌||◌, ◌==◌, nat_lt, List, [], ◌∷◌, ◌++◌, length, slice_get, position, Option, Some, None, is_some, Result, Ok, Err, refl, sym, ap, ◌∙◌, arith, get_or, eq-eqb, if◌then◌else◌, String, string_bytes, true≢false}
 use Rattle.std.proofs.Common.{◌⊎◌, inl, inr, subst}
+use Rattle.cml_text.specs.Text.{is_text}
+use Rattle.cml_text.proofs.TextLemmas.{number_is_text}
 use Rattle.std.specs.Fmt.{decimal}
 use Rattle.std.proofs.lemmas.Fmt.{decimal-digits_value, digits_decimal, digits_value-decimal, decimal_nonempty, first_decimal, decimal_digit}
 use Rattle.std.proofs.lemmas.Bool.{or_cases, cases_lt}
@@ -11,7 +13,7 @@ use Rattle.std.specs.Result.{result_ok, OkIff}
 use Rattle.std.specs.Str.{bytes_eq, all_ascii_digits}
 use Rattle.std.specs.Str.Parse.{digits_value, ParsesUnsigned}
 use Rattle.std.specs.Map.{lookup, keys_of}
-use Rattle.std.proofs.lemmas.Bool.{lt-ltb, le-leb, ltb-true, and_parts, and_from, eqb-true, false_from_ne_true, ne_eqb}
+use Rattle.std.proofs.lemmas.Bool.{not-false, lt-ltb, le-leb, ltb-true, and_parts, and_from, eqb-true, false_from_ne_true, ne_eqb}
 use Rattle.std.proofs.lemmas.Str.Parse.{parse_plain, numerals_by_value, tells_all_ascii_digits}
 use Rattle.std.specs.String.{string_eq}
 use Rattle.std.specs.declared.hash.FoldHasher.{FoldHasher}
@@ -165,6 +167,20 @@ printed_number (b ∷ bs) h =
     lone : b ≡ 48 → (not (b == 48) ≡ true) ⊎ ((length bs == 0) ≡ true) → length (b ∷ bs) ≡ 1
     lone e (inl n) = absurd (true≢false (sym n ∙ ap not (eq-eqb b 48 e)))
     lone e (inr z) = omega (arith, eqb-true (length bs) 0 z)
+
+-- a number is below 2 ^ 64
+number_small : (word : List ℕ) → is_number word ≡ true → digits_value 10 word < 2 ^ 64
+number_small [] h = absurd (true≢false (sym h))
+number_small (b ∷ bs) h = ltb-true _ _ (and_parts _ _ h).1
+
+-- and its word is a text
+pub number_word_is_text : (word : List ℕ) → is_number word ≡ true → is_text word ≡ true
+number_word_is_text word h = ap is_text (printed_number word h) ∙ number_is_text (digits_value 10 word) (number_small word h)
+
+-- the word in a message's place of a line without fault is a text, in either version
+pub message_word_is_text : (texts : Bool) (word : List ℕ) → (not texts && not (is_number word)) ≡ false → (texts && not (is_text word)) ≡ false → is_text word ≡ true
+message_word_is_text true word number text = not-false _ text
+message_word_is_text false word number text = number_word_is_text word (not-false _ number)
 
 pub read_number : (n : ℕ) → n < 2 ^ 64 → is_number (decimal n) ≡ true
 read_number n small =

@@ -7,7 +7,7 @@ use Rattle.cml_grammar.specs.declared.fault.What.{What}
 use Rattle.cml_grammar.specs.declared.fault.What.TheVariants.{Memory}
 use Rattle.cml_grammar.specs.Words.{parts_of, words_of}
 use Rattle.cml_grammar.specs.Forms.{form_of}
-use Rattle.cml_grammar.specs.Faults.{Scope, start, says, fault_in, after, at_line, fault_at, fault_from, is_declaration, is_lane, is_step, IsWhat}
+use Rattle.cml_grammar.specs.Faults.{Scope, start, version_of, says, fault_in, after, at_line, fault_at, fault_from, is_declaration, is_lane, is_step, IsWhat}
 use Rattle.cml_grammar.specs.Script.{SourceLine, Lines, source, with_line}
 use Rattle.cml_grammar.specs.Meaning.{scope_of, names_of}
 use Rattle.cml_grammar.specs.Reading.{with_next, with_words}
@@ -116,17 +116,17 @@ with_line-length false line lines = omega (arith, length-append lines [])
 
 -- what has been read, and what is left, are the whole text
 pub record ReadsOn (text : List ℕ) (script : Lines) (k : ℕ) (rest : List ℕ) : Type 0 where
-  pub fault : fault_from (scope_of script) k (parts_of rest) ≡ fault_from start 1 (parts_of text)
-  pub declared : script.declarations ++ declared_from (scope_of script) k (parts_of rest) ≡ declared_from start 1 (parts_of text)
-  pub laid : script.lanes ++ laid_from (scope_of script) k (parts_of rest) ≡ laid_from start 1 (parts_of text)
-  pub asked : script.steps ++ asked_from (scope_of script) k (parts_of rest) ≡ asked_from start 1 (parts_of text)
-  pub version : script.version ≡ 1
+  pub fault : fault_from (scope_of script) k (parts_of rest) ≡ fault_from (start (version_of text)) 1 (parts_of text)
+  pub declared : script.declarations ++ declared_from (scope_of script) k (parts_of rest) ≡ declared_from (start (version_of text)) 1 (parts_of text)
+  pub laid : script.lanes ++ laid_from (scope_of script) k (parts_of rest) ≡ laid_from (start (version_of text)) 1 (parts_of text)
+  pub asked : script.steps ++ asked_from (scope_of script) k (parts_of rest) ≡ asked_from (start (version_of text)) 1 (parts_of text)
+  pub version : script.version ≡ version_of text
   pub few : length script.declarations < k
   pub narrow : length script.lanes < k
   pub short : length script.steps < k
   pub place : k + length rest ≤ length text + 1
 
-pub reads_on-start : (text : List ℕ) (script : Lines) → script ≡ record { version = 1; declarations = []; lanes = []; steps = [] } → ReadsOn text script 1 text
+pub reads_on-start : (text : List ℕ) (script : Lines) → script ≡ record { version = version_of text; declarations = []; lanes = []; steps = [] } → ReadsOn text script 1 text
 reads_on-start text script e = subst (λ (s : Lines). ReadsOn text s 1 text) (sym e)
     (record { fault = refl; declared = refl; laid = refl; asked = refl; version = refl; few = omega arith; narrow = omega arith; short = omega arith; place = omega arith })
 
@@ -179,10 +179,10 @@ reads_on-line text script next k rest line later so_far cut shorter fits read sc
 
 -- a fault of a line is the text's
 pub fault-line : (text : List ℕ) (script : Lines) (k : ℕ) (rest line later : List ℕ) (what : What) → ReadsOn text script k rest → parts_of rest ≡ line ∷ parts_of later
-    → IsWhat what (fault_in (scope_of script) k line) → (fault_at k what ≡ at_line 0 Memory) ⊎ (fault_from start 1 (parts_of text) ≡ Some (fault_at k what))
+    → IsWhat what (fault_in (scope_of script) k line) → (fault_at k what ≡ at_line 0 Memory) ⊎ (fault_from (start (version_of text)) 1 (parts_of text) ≡ Some (fault_at k what))
 fault-line text script k rest line later what so_far cut h =
     ⊎_elim (λ e. inl (ap (fault_at k) e)) (λ found. by what (sym so_far.fault ∙ ap (fault_from (scope_of script) k) cut ∙ fault_from-fault (scope_of script) k line later what found)) h
   where
-    by : (w : What) → fault_from start 1 (parts_of text) ≡ Some (at_line k w) → (fault_at k w ≡ at_line 0 Memory) ⊎ (fault_from start 1 (parts_of text) ≡ Some (fault_at k w))
+    by : (w : What) → fault_from (start (version_of text)) 1 (parts_of text) ≡ Some (at_line k w) → (fault_at k w ≡ at_line 0 Memory) ⊎ (fault_from (start (version_of text)) 1 (parts_of text) ≡ Some (fault_at k w))
     by Memory e = inl refl
     by _ e = inr e

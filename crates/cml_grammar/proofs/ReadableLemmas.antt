@@ -17,7 +17,7 @@ use Rattle.cml_grammar.specs.declared.script.Step.{Step}
 use Rattle.cml_grammar.specs.Words.{parts_of, words_of, is_bad_byte}
 use Rattle.cml_grammar.specs.Names.{is_name}
 use Rattle.cml_grammar.specs.Forms.{Form, unknown, declaration, lane, no_step, step, form_of, step_places, fresh_word, owner_of, named_by}
-use Rattle.cml_grammar.specs.Faults.{Scope, start, says, fault_in, fault_in_words, is_bad_header, is_declaration, is_lane, is_step, after, after_words, given_as}
+use Rattle.cml_grammar.specs.Faults.{Scope, start, version_of, says, fault_in, fault_in_words, is_bad_header, is_declaration, is_lane, is_step, after, after_words, given_as}
 use Rattle.cml_grammar.specs.Script.{SourceLine, Lines, source, with_line, Says, IsScript}
 use Rattle.cml_grammar.specs.Meaning.{scope_of}
 use Rattle.cml_grammar.specs.Reading.{source_of, view_of, texts_of, threads_by, capacities_of, IsReadSoFar, IsReading}
@@ -30,21 +30,21 @@ use Rattle.cml_grammar.proofs.LaneLemmas.{Laying, laid_scope, laid_so_far}
 use Rattle.cml_grammar.proofs.KeepingLemmas.{declared_scope, declared_so_far, asked_scope, asked_so_far}
 
 -- these lines were read, and leave this scope
-record Reads (scope : Scope) (declared laid asked : List SourceLine) : Type 0 where
+record Reads (v : ℕ) (scope : Scope) (declared laid asked : List SourceLine) : Type 0 where
   entries : List (String Global × Named)
   declarations : List Declaration
   lanes : List Lane
   steps : List Step
   threads : ℕ
-  so_far : IsReadSoFar (view_of 1 declarations lanes steps) entries declarations lanes (capacities_of lanes) steps threads
-  leaves : scope_of (view_of 1 declarations lanes steps) ≡ scope
+  so_far : IsReadSoFar (view_of v declarations lanes steps) entries declarations lanes (capacities_of lanes) steps threads
+  leaves : scope_of (view_of v declarations lanes steps) ≡ scope
   declared_lines : map (λ d. source_of d.line) declarations ≡ declared
   laid_lines : map (λ l. source_of l.line) lanes ≡ laid
   asked_lines : map (λ s. source_of s.line) steps ≡ asked
 
 -- no line was
-nothing : Reads start [] [] []
-nothing = record {
+nothing : (v : ℕ) → Reads v (start v) [] [] []
+nothing v = record {
   entries = [];
   declarations = [];
   lanes = [];
@@ -80,12 +80,12 @@ abbrev name_string : (word : List ℕ) → is_name word ≡ true → String Glob
 name_string word named = string_from word (name_text word named) (name_short word named)
 
 -- ---- one line more
-module _ (k : ℕ) (line : List ℕ) (small : length line < 2 ^ 63) (text : list_any is_bad_byte line ≡ false)
+module _ (v k : ℕ) (line : List ℕ) (small : length line < 2 ^ 63) (text : list_any is_bad_byte line ≡ false)
     (es : List (String Global × Named)) (ds : List Declaration) (ls : List Lane) (ss : List Step) (threads : ℕ)
-    (so_far : IsReadSoFar (view_of 1 ds ls ss) es ds ls (capacities_of ls) ss threads)
-    (none : fault_in_words (scope_of (view_of 1 ds ls ss)) (words_of line) ≡ None) where
+    (so_far : IsReadSoFar (view_of v ds ls ss) es ds ls (capacities_of ls) ss threads)
+    (none : fault_in_words (scope_of (view_of v ds ls ss)) (words_of line) ≡ None) where
   abbrev now : Scope
-  now = scope_of (view_of 1 ds ls ss)
+  now = scope_of (view_of v ds ls ss)
 
   abbrev kept : Line
   kept = record { number = k; text = string_from line (text_from_bytes line text) small }
@@ -99,7 +99,7 @@ module _ (k : ℕ) (line : List ℕ) (small : length line < 2 ^ 63) (text : list
       (es ++ entry ∷ [], map-append (λ (e : String Global × Named). (string_bytes e.0, e.1)) es (entry ∷ []))
 
   words_read : (form : Form) → form_of now.names (words_of line) ≡ form → Passes now form
-      → Reads (after_words now (words_of line)) (map (λ d. source_of d.line) ds ++ with_line (is_declaration form) (source k line) []) (map (λ l. source_of l.line) ls ++ with_line (is_lane form) (source k line) []) (map (λ s. source_of s.line) ss ++ with_line (is_step form) (source k line) [])
+      → Reads v (after_words now (words_of line)) (map (λ d. source_of d.line) ds ++ with_line (is_declaration form) (source k line) []) (map (λ l. source_of l.line) ls ++ with_line (is_lane form) (source k line) []) (map (λ s. source_of s.line) ss ++ with_line (is_step form) (source k line) [])
   words_read unknown is passes = absurd (true≢false passes.known)
   words_read (no_step seat) is passes = absurd (true≢false passes.does_something)
   words_read (declaration what rest) is passes =
@@ -113,8 +113,8 @@ module _ (k : ℕ) (line : List ℕ) (small : length line < 2 ^ 63) (text : list
         lanes = ls;
         steps = ss;
         threads = threads + threads_by what;
-        so_far = declared_so_far 1 es ds ls (capacities_of ls) ss threads d what rest this.name so_far none is this.gives this.makes this.well (es ++ entry ∷ []) (map-append (λ (e : String Global × Named). (string_bytes e.0, e.1)) es (entry ∷ []));
-        leaves = declared_scope 1 es ds ls (capacities_of ls) ss threads d what rest this.name so_far none is this.gives this.makes this.well;
+        so_far = declared_so_far v es ds ls (capacities_of ls) ss threads d what rest this.name so_far none is this.gives this.makes this.well (es ++ entry ∷ []) (map-append (λ (e : String Global × Named). (string_bytes e.0, e.1)) es (entry ∷ []));
+        leaves = declared_scope v es ds ls (capacities_of ls) ss threads d what rest this.name so_far none is this.gives this.makes this.well;
         declared_lines = map-append (λ (x : Declaration). source_of x.line) ds (d ∷ []);
         laid_lines = sym (append-nil (map (λ (l : Lane). source_of l.line) ls));
         asked_lines = sym (append-nil (map (λ (s : Step). source_of s.line) ss));
@@ -129,8 +129,8 @@ module _ (k : ℕ) (line : List ℕ) (small : length line < 2 ^ 63) (text : list
         lanes = ls ++ l ∷ [];
         steps = ss;
         threads = threads;
-        so_far = laid_so_far 1 es ds ls (capacities_of ls) ss threads l rest so_far none is laying (capacities_of (ls ++ l ∷ [])) (map-append (λ (x : Lane). ((x.seat, x.target), x.capacity)) ls (l ∷ []));
-        leaves = laid_scope 1 es ds ls (capacities_of ls) ss threads l rest so_far none is laying;
+        so_far = laid_so_far v es ds ls (capacities_of ls) ss threads l rest so_far none is laying (capacities_of (ls ++ l ∷ [])) (map-append (λ (x : Lane). ((x.seat, x.target), x.capacity)) ls (l ∷ []));
+        leaves = laid_scope v es ds ls (capacities_of ls) ss threads l rest so_far none is laying;
         declared_lines = sym (append-nil (map (λ (d : Declaration). source_of d.line) ds));
         laid_lines = map-append (λ (x : Lane). source_of x.line) ls (l ∷ []);
         asked_lines = sym (append-nil (map (λ (s : Step). source_of s.line) ss));
@@ -146,8 +146,8 @@ module _ (k : ℕ) (line : List ℕ) (small : length line < 2 ^ 63) (text : list
         lanes = ls;
         steps = ss ++ s ∷ [];
         threads = threads;
-        so_far = asked_so_far 1 es ds ls (capacities_of ls) ss threads s verb rest so_far none is this.asks this.uses later.0 later.1;
-        leaves = asked_scope 1 es ds ls (capacities_of ls) ss threads s verb rest so_far none is this.asks this.uses;
+        so_far = asked_so_far v es ds ls (capacities_of ls) ss threads s verb rest so_far none is this.asks this.uses later.0 later.1;
+        leaves = asked_scope v es ds ls (capacities_of ls) ss threads s verb rest so_far none is this.asks this.uses;
         declared_lines = sym (append-nil (map (λ (d : Declaration). source_of d.line) ds));
         laid_lines = sym (append-nil (map (λ (l : Lane). source_of l.line) ls));
         asked_lines = map-append (λ (x : Step). source_of x.line) ss (s ∷ []);
@@ -157,9 +157,9 @@ module _ (k : ℕ) (line : List ℕ) (small : length line < 2 ^ 63) (text : list
 abbrev with_read : Bool → Scope → (Form → Bool) → ℕ → List ℕ → List SourceLine → List SourceLine
 with_read t scope test k line lines = lines ++ with_line (t && test (form_of scope.names (words_of line))) (source k line) []
 
-line_read : (scope : Scope) (k : ℕ) (line : List ℕ) (declared laid asked : List SourceLine) → length line < 2 ^ 63 → Reads scope declared laid asked → fault_in scope k line ≡ None
-    → Reads (after scope k line) (with_read (says k line) scope is_declaration k line declared) (with_read (says k line) scope is_lane k line laid) (with_read (says k line) scope is_step k line asked)
-line_read scope k line declared laid asked small reads none = by_says (says k line) header.1
+line_read : (v : ℕ) (scope : Scope) (k : ℕ) (line : List ℕ) (declared laid asked : List SourceLine) → length line < 2 ^ 63 → Reads v scope declared laid asked → fault_in scope k line ≡ None
+    → Reads v (after scope k line) (with_read (says k line) scope is_declaration k line declared) (with_read (says k line) scope is_lane k line laid) (with_read (says k line) scope is_step k line asked)
+line_read v scope k line declared laid asked small reads none = by_says (says k line) header.1
   where
     bytes : (list_any is_bad_byte line ≡ false) × ((if is_bad_header k line then Some BadHeader else if says k line then fault_in_words scope (words_of line) else None) ≡ None)
     bytes = not_first (list_any is_bad_byte line) BadBytes _ none
@@ -168,21 +168,21 @@ line_read scope k line declared laid asked small reads none = by_says (says k li
     header = not_first (is_bad_header k line) BadHeader _ bytes.1
 
     by_says : (t : Bool) → (if t then fault_in_words scope (words_of line) else None) ≡ None
-        → Reads (if t then after_words scope (words_of line) else scope) (with_read t scope is_declaration k line declared) (with_read t scope is_lane k line laid) (with_read t scope is_step k line asked)
+        → Reads v (if t then after_words scope (words_of line) else scope) (with_read t scope is_declaration k line declared) (with_read t scope is_lane k line laid) (with_read t scope is_step k line asked)
     by_says false fits =
-        subst (λ ls. Reads scope ls (laid ++ []) (asked ++ [])) (sym (append-nil declared))
-        (subst (λ ls. Reads scope declared ls (asked ++ [])) (sym (append-nil laid))
-        (subst (Reads scope declared laid) (sym (append-nil asked)) reads))
+        subst (λ ls. Reads v scope ls (laid ++ []) (asked ++ [])) (sym (append-nil declared))
+        (subst (λ ls. Reads v scope declared ls (asked ++ [])) (sym (append-nil laid))
+        (subst (Reads v scope declared laid) (sym (append-nil asked)) reads))
     by_says true fits =
         let r = reads in
-        let now : Scope = scope_of (view_of 1 r.declarations r.lanes r.steps) in
+        let now : Scope = scope_of (view_of v r.declarations r.lanes r.steps) in
         let there = subst (λ (sc : Scope). fault_in_words sc (words_of line) ≡ None) (sym r.leaves) fits in
-        let words = words_read k line small bytes.0 r.entries r.declarations r.lanes r.steps r.threads r.so_far there (form_of now.names (words_of line)) refl (words_pass now (words_of line) there).1 in
-        let at_scope = subst (λ (sc : Scope). Reads (after_words sc (words_of line)) (with_read true sc is_declaration k line (map (λ d. source_of d.line) r.declarations)) (with_read true sc is_lane k line (map (λ l. source_of l.line) r.lanes)) (with_read true sc is_step k line (map (λ s. source_of s.line) r.steps)))
+        let words = words_read v k line small bytes.0 r.entries r.declarations r.lanes r.steps r.threads r.so_far there (form_of now.names (words_of line)) refl (words_pass now (words_of line) there).1 in
+        let at_scope = subst (λ (sc : Scope). Reads v (after_words sc (words_of line)) (with_read true sc is_declaration k line (map (λ d. source_of d.line) r.declarations)) (with_read true sc is_lane k line (map (λ l. source_of l.line) r.lanes)) (with_read true sc is_step k line (map (λ s. source_of s.line) r.steps)))
         r.leaves words in
-        subst (λ ls. Reads (after_words scope (words_of line)) (with_read true scope is_declaration k line ls) (with_read true scope is_lane k line laid) (with_read true scope is_step k line asked)) r.declared_lines
-        (subst (λ ls. Reads (after_words scope (words_of line)) (with_read true scope is_declaration k line (map (λ d. source_of d.line) r.declarations)) (with_read true scope is_lane k line ls) (with_read true scope is_step k line asked)) r.laid_lines
-        (subst (λ ls. Reads (after_words scope (words_of line)) (with_read true scope is_declaration k line (map (λ d. source_of d.line) r.declarations)) (with_read true scope is_lane k line (map (λ l. source_of l.line) r.lanes)) (with_read true scope is_step k line ls)) r.asked_lines at_scope))
+        subst (λ ls. Reads v (after_words scope (words_of line)) (with_read true scope is_declaration k line ls) (with_read true scope is_lane k line laid) (with_read true scope is_step k line asked)) r.declared_lines
+        (subst (λ ls. Reads v (after_words scope (words_of line)) (with_read true scope is_declaration k line (map (λ d. source_of d.line) r.declarations)) (with_read true scope is_lane k line ls) (with_read true scope is_step k line asked)) r.laid_lines
+        (subst (λ ls. Reads v (after_words scope (words_of line)) (with_read true scope is_declaration k line (map (λ d. source_of d.line) r.declarations)) (with_read true scope is_lane k line (map (λ l. source_of l.line) r.lanes)) (with_read true scope is_step k line ls)) r.asked_lines at_scope))
 
 -- ---- all lines
 -- no part is longer
@@ -190,23 +190,23 @@ AreShort : ℕ → List (List ℕ) → Type 0
 AreShort n [] = ⊤
 AreShort n (part ∷ parts) = (length part ≤ n) × AreShort n parts
 
-parts_read : (scope : Scope) (k : ℕ) (parts : List (List ℕ)) (declared laid asked later_declared later_laid later_asked : List SourceLine) → AreShort 1048576 parts → Reads scope declared laid asked → Says scope k parts later_declared later_laid later_asked
-    → (last : Scope) × Reads last (declared ++ later_declared) (laid ++ later_laid) (asked ++ later_asked)
+parts_read : (v : ℕ) (scope : Scope) (k : ℕ) (parts : List (List ℕ)) (declared laid asked later_declared later_laid later_asked : List SourceLine) → AreShort 1048576 parts → Reads v scope declared laid asked → Says scope k parts later_declared later_laid later_asked
+    → (last : Scope) × Reads v last (declared ++ later_declared) (laid ++ later_laid) (asked ++ later_asked)
 unfolding AreShort
-parts_read scope k [] declared laid asked later_declared later_laid later_asked short reads said = absurd said
-parts_read scope k (part ∷ []) declared laid asked later_declared later_laid later_asked short reads said = (
+parts_read v scope k [] declared laid asked later_declared later_laid later_asked short reads said = absurd said
+parts_read v scope k (part ∷ []) declared laid asked later_declared later_laid later_asked short reads said = (
   scope,
-  subst (λ ls. Reads scope ls (laid ++ later_laid) (asked ++ later_asked)) (sym (ap (λ ls. declared ++ ls) said.2 ∙ append-nil declared))
-      (subst (λ ls. Reads scope declared ls (asked ++ later_asked)) (sym (ap (λ ls. laid ++ ls) said.3 ∙ append-nil laid))
-      (subst (Reads scope declared laid) (sym (ap (λ ls. asked ++ ls) said.4 ∙ append-nil asked)) reads)),
+  subst (λ ls. Reads v scope ls (laid ++ later_laid) (asked ++ later_asked)) (sym (ap (λ ls. declared ++ ls) said.2 ∙ append-nil declared))
+      (subst (λ ls. Reads v scope declared ls (asked ++ later_asked)) (sym (ap (λ ls. laid ++ ls) said.3 ∙ append-nil laid))
+      (subst (Reads v scope declared laid) (sym (ap (λ ls. asked ++ ls) said.4 ∙ append-nil asked)) reads)),
 )
-parts_read scope k (line ∷ next ∷ more) declared laid asked later_declared later_laid later_asked short reads said =
-    let here = line_read scope k line declared laid asked (omega (arith, short.0)) reads said.0 in
-    let rest = parts_read (after scope k line) (suc k) (next ∷ more) _ _ _ said.1 said.2 said.3 short.1 here said.7 in (
+parts_read v scope k (line ∷ next ∷ more) declared laid asked later_declared later_laid later_asked short reads said =
+    let here = line_read v scope k line declared laid asked (omega (arith, short.0)) reads said.0 in
+    let rest = parts_read v (after scope k line) (suc k) (next ∷ more) _ _ _ said.1 said.2 said.3 short.1 here said.7 in (
       rest.0,
-      subst (λ ls. Reads rest.0 ls (laid ++ later_laid) (asked ++ later_asked)) (with_line-append _ (source k line) declared said.1 ∙ ap (λ ls. declared ++ ls) (sym said.4))
-          (subst (λ ls. Reads rest.0 (with_read (says k line) scope is_declaration k line declared ++ said.1) ls (asked ++ later_asked)) (with_line-append _ (source k line) laid said.2 ∙ ap (λ ls. laid ++ ls) (sym said.5))
-          (subst (Reads rest.0 (with_read (says k line) scope is_declaration k line declared ++ said.1) (with_read (says k line) scope is_lane k line laid ++ said.2)) (with_line-append _ (source k line) asked said.3 ∙ ap (λ ls. asked ++ ls) (sym said.6)) rest.1)),
+      subst (λ ls. Reads v rest.0 ls (laid ++ later_laid) (asked ++ later_asked)) (with_line-append _ (source k line) declared said.1 ∙ ap (λ ls. declared ++ ls) (sym said.4))
+          (subst (λ ls. Reads v rest.0 (with_read (says k line) scope is_declaration k line declared ++ said.1) ls (asked ++ later_asked)) (with_line-append _ (source k line) laid said.2 ∙ ap (λ ls. laid ++ ls) (sym said.5))
+          (subst (Reads v rest.0 (with_read (says k line) scope is_declaration k line declared ++ said.1) (with_read (says k line) scope is_lane k line laid ++ said.2)) (with_line-append _ (source k line) asked said.3 ∙ ap (λ ls. asked ++ ls) (sym said.6)) rest.1)),
     )
 
 -- each line says one thing at most
@@ -254,11 +254,12 @@ pub record CanBeRead (script : Lines) : Type 0 where
 
 pub can_be_read : (text : List ℕ) (script : Lines) → IsScript text script → CanBeRead script
 can_be_read text script is =
+    let v = version_of text in
     let few = parts_few text in
-    let lines = few_lines start 1 (parts_of text) script.declarations script.lanes script.steps is.says in
-    let r = (parts_read start 1 (parts_of text) [] [] [] script.declarations script.lanes script.steps (shorter (length text) 1048576 (parts_of text) is.short few.1) nothing is.says).1 in
+    let lines = few_lines (start v) 1 (parts_of text) script.declarations script.lanes script.steps is.says in
+    let r = (parts_read v (start v) 1 (parts_of text) [] [] [] script.declarations script.lanes script.steps (shorter (length text) 1048576 (parts_of text) is.short few.1) (nothing v) is.says).1 in
     let so_far = r.so_far in
-    let same : view_of 1 r.declarations r.lanes r.steps ≡ script = (λ i. record { version = (sym is.version) i; declarations = r.declared_lines i; lanes = r.laid_lines i; steps = r.asked_lines i }) in
+    let same : view_of v r.declarations r.lanes r.steps ≡ script = (λ i. record { version = (sym is.version) i; declarations = r.declared_lines i; lanes = r.laid_lines i; steps = r.asked_lines i }) in
     record {
       entries = r.entries;
       declarations = r.declarations;

@@ -29,8 +29,8 @@ abbrev lines_of : ℕ → List SourceLine → List SourceLine → List SourceLin
 lines_of version declared laid asked = record { version = version; declarations = declared; lanes = laid; steps = asked }
 
 -- the scope with these names, and with the lanes of these lines
-abbrev scope_with : Scope → List SourceLine → Scope
-scope_with named laid = record { names = named.names; started = named.started; lanes = all_ends named.names laid }
+abbrev scope_with : ℕ → Scope → List SourceLine → Scope
+scope_with version named laid = record { version = version; names = named.names; started = named.started; lanes = all_ends named.names laid }
 
 -- the lanes of these lines stay the same where more names are given
 abbrev pub KeepsEnds : List Given → List SourceLine → Type 0
@@ -44,27 +44,27 @@ lays_none names (no_step seat) h = refl
 lays_none names (step seat v rest) h = refl
 
 -- a line that is no lane line adds nothing to the lanes
-scope_with-words : (named : Scope) (laid : List SourceLine) (words : List (List ℕ)) → KeepsEnds named.names laid → is_lane (form_of named.names words) ≡ false → scope_with (after_words named words) laid ≡ after_words (scope_with named laid) words
-scope_with-words named laid words keeps none =
-    ap (λ (ends : List Ends). record { names = (after_words named words).names; started = (after_words named words).started; lanes = ends })
+scope_with-words : (version : ℕ) (named : Scope) (laid : List SourceLine) (words : List (List ℕ)) → KeepsEnds named.names laid → is_lane (form_of named.names words) ≡ false → scope_with version (after_words named words) laid ≡ after_words (scope_with version named laid) words
+scope_with-words version named laid words keeps none =
+    ap (λ (ends : List Ends). record { version = version; names = (after_words named words).names; started = (after_words named words).started; lanes = ends })
     (keeps (gives named.names (form_of named.names words)) ∙ sym (append-nil (all_ends named.names laid)) ∙ ap (λ ends. all_ends named.names laid ++ ends) (sym (lays_none named.names (form_of named.names words) none)))
 
 scope_of-declaration : (v : ℕ) (declared laid : List SourceLine) (line : SourceLine) → KeepsEnds (names_of (lines_of v declared laid [])) laid → is_lane (form_of (names_of (lines_of v declared laid [])) line.words) ≡ false
     → scope_of (lines_of v (declared ++ line ∷ []) laid []) ≡ after_words (scope_of (lines_of v declared laid [])) line.words
 scope_of-declaration v declared laid line keeps none =
-    ap (λ (s : Scope). scope_with s laid)
-    (ap (scope_after start) (append-nil (declared ++ line ∷ []))
-    ∙ scope_after-append start declared (line ∷ [])
-    ∙ ap (λ (s : Scope). after_words s line.words) (ap (scope_after start) (sym (append-nil declared))))
-    ∙ scope_with-words (scope_after start (declared ++ [])) laid line.words keeps none
+    ap (λ (s : Scope). scope_with v s laid)
+    (ap (scope_after (start v)) (append-nil (declared ++ line ∷ []))
+    ∙ scope_after-append (start v) declared (line ∷ [])
+    ∙ ap (λ (s : Scope). after_words s line.words) (ap (scope_after (start v)) (sym (append-nil declared))))
+    ∙ scope_with-words v (scope_after (start v) (declared ++ [])) laid line.words keeps none
 
 scope_of-step : (v : ℕ) (declared laid asked : List SourceLine) (line : SourceLine) → KeepsEnds (names_of (lines_of v declared laid asked)) laid → is_lane (form_of (names_of (lines_of v declared laid asked)) line.words) ≡ false
     → scope_of (lines_of v declared laid (asked ++ line ∷ [])) ≡ after_words (scope_of (lines_of v declared laid asked)) line.words
 scope_of-step v declared laid asked line keeps none =
-    ap (λ (s : Scope). scope_with s laid)
-    (ap (scope_after start) (sym (append_assoc declared asked (line ∷ [])))
-    ∙ scope_after-append start (declared ++ asked) (line ∷ []))
-    ∙ scope_with-words (scope_after start (declared ++ asked)) laid line.words keeps none
+    ap (λ (s : Scope). scope_with v s laid)
+    (ap (scope_after (start v)) (sym (append_assoc declared asked (line ∷ [])))
+    ∙ scope_after-append (start v) (declared ++ asked) (line ∷ []))
+    ∙ scope_with-words v (scope_after (start v) (declared ++ asked)) laid line.words keeps none
 
 all_ends-push : (names : List Given) (laid : List SourceLine) (line : SourceLine) → all_ends names (laid ++ line ∷ []) ≡ all_ends names laid ++ option_to_list (ends_of names line.words)
 all_ends-push names [] line = append-nil (option_to_list (ends_of names line.words))
@@ -80,6 +80,7 @@ scope_of-lane : (v : ℕ) (declared laid asked : List SourceLine) (line : Source
     → scope_of (lines_of v declared (laid ++ line ∷ []) asked) ≡ after_words (scope_of (lines_of v declared laid asked)) line.words
 scope_of-lane v declared laid asked line rest form =
     (λ j. record {
+      version = v;
       names = sym (ap (λ f. named.names ++ gives named.names f) form ∙ append-nil named.names) j;
       started = sym (ap (λ f. named.started || is_step f) form ∙ or_false named.started) j;
       lanes = ends j;
@@ -175,13 +176,13 @@ module _ (v : ℕ) (ds : List Declaration) (ls : List Lane) (ss : List Step) whe
       ∙ ap (with_source (source_of s.line)) (sym form)
 
 -- ---- what is found in a line of words behind a script, told by what is kept of it
-pub fault_found : (now script : Lines) (names : List Given) (started : Bool) (lanes : List Ends) (words said : List (List ℕ)) (form : Form)
-    → script ≡ now → names ≡ names_of script → started ≡ (scope_of script).started → lanes ≡ (scope_of script).lanes
+pub fault_found : (now script : Lines) (version : ℕ) (names : List Given) (started : Bool) (lanes : List Ends) (words said : List (List ℕ)) (form : Form)
+    → script ≡ now → version ≡ script.version → names ≡ names_of script → started ≡ (scope_of script).started → lanes ≡ (scope_of script).lanes
     → words ≡ said → has_empty_word words ≡ false → form ≡ form_of names words
-    → first_of (tests_of_form (record { names = names; started = started; lanes = lanes }) form) ≡ fault_in_words (scope_of now) said
-fault_found now script names started lanes words said form seen kept begun laid same full is =
-    let scope : Scope = record { names = names; started = started; lanes = lanes } in
-    let there : scope ≡ scope_of script = (λ j. record { names = kept j; started = begun j; lanes = laid j }) in
+    → first_of (tests_of_form (record { version = version; names = names; started = started; lanes = lanes }) form) ≡ fault_in_words (scope_of now) said
+fault_found now script version names started lanes words said form seen asked kept begun laid same full is =
+    let scope : Scope = record { version = version; names = names; started = started; lanes = lanes } in
+    let there : scope ≡ scope_of script = (λ j. record { version = asked j; names = kept j; started = begun j; lanes = laid j }) in
     ap (λ f. first_of (tests_of_form scope f)) is
     ∙ ap (λ t. if t then Some BadWords else first_of (tests_of_form scope (form_of names words))) (sym full)
     ∙ ap (λ (s : Scope). fault_in_words s words) (there ∙ ap scope_of seen)

@@ -8,7 +8,7 @@ use Rattle.cml_grammar.specs.declared.fault.What.TheVariants.{Memory, NoLineEnd,
 use Rattle.cml_grammar.specs.declared.fault.Fault.{Fault}
 use Rattle.cml_grammar.specs.Words.{parts_of, words_of}
 use Rattle.cml_grammar.specs.Forms.{form_of}
-use Rattle.cml_grammar.specs.Faults.{Scope, start, says, fault_in, after, at_line, fault_at_end, fault_from, fault_of, is_declaration, is_lane, is_step, IsFaultOf}
+use Rattle.cml_grammar.specs.Faults.{Scope, start, version_of, says, fault_in, after, at_line, fault_at_end, fault_from, fault_of, is_declaration, is_lane, is_step, IsFaultOf}
 use Rattle.cml_grammar.specs.Script.{SourceLine, Lines, source, with_line, Says, IsScript}
 use Rattle.cml_grammar.specs.Meaning.{scope_of}
 use Rattle.cml_grammar.specs.Laws.{ScriptsHaveNoFault, TextsAreOneScript, FaultlessTextsAreScripts}
@@ -64,48 +64,48 @@ said_once scope k (line ∷ next ∷ more) d d' l l' s s' h g =
       h.6 ∙ ap (with_line (says k line && is_step (form_of scope.names (words_of line))) (source k line)) same.2 ∙ sym g.6,
     )
 
-pub fault_of-short : (text : List ℕ) → length text ≤ 1048576 → fault_of text ≡ fault_from start 1 (parts_of text)
-fault_of-short text short = ap (λ t. if t then Some (at_line 0 TooLong) else fault_from start 1 (parts_of text)) (le-ltb 1048576 (length text) short)
+pub fault_of-short : (text : List ℕ) → length text ≤ 1048576 → fault_of text ≡ fault_from (start (version_of text)) 1 (parts_of text)
+fault_of-short text short = ap (λ t. if t then Some (at_line 0 TooLong) else fault_from (start (version_of text)) 1 (parts_of text)) (le-ltb 1048576 (length text) short)
 
 parts-some : (text : List ℕ) → 0 < length (parts_of text)
 parts-some text = let p = some_part text in subst (λ (ps : List (List ℕ)). 0 < length ps) (sym p.2) (omega arith)
 
 pub script_without_fault : ScriptsHaveNoFault
-script_without_fault text script h = fault_of-short text h.short ∙ no_fault start 1 (parts_of text) script.declarations script.lanes script.steps h.says
+script_without_fault text script h = fault_of-short text h.short ∙ no_fault (start (version_of text)) 1 (parts_of text) script.declarations script.lanes script.steps h.says
 
 pub one_script : TextsAreOneScript
 one_script text a b h g =
-    let same = said_once start 1 (parts_of text) a.declarations b.declarations a.lanes b.lanes a.steps b.steps h.says g.says in
+    let same = said_once (start (version_of text)) 1 (parts_of text) a.declarations b.declarations a.lanes b.lanes a.steps b.steps h.says g.says in
     (λ i. record { version = (h.version ∙ sym g.version) i; declarations = same.0 i; lanes = same.1 i; steps = same.2 i })
 
 pub faultless_script : FaultlessTextsAreScripts
 faultless_script text h = by (nat_lt 1048576 (length text)) refl h
   where
-    by : (t : Bool) → nat_lt 1048576 (length text) ≡ t → (if t then Some (at_line 0 TooLong) else fault_from start 1 (parts_of text)) ≡ None → (script : Lines) × IsScript text script
+    by : (t : Bool) → nat_lt 1048576 (length text) ≡ t → (if t then Some (at_line 0 TooLong) else fault_from (start (version_of text)) 1 (parts_of text)) ≡ None → (script : Lines) × IsScript text script
     by true e f = absurd (none-some (at_line 0 TooLong) (sym f))
     by false e f = (
-      record { version = 1; declarations = declared_from start 1 (parts_of text); lanes = laid_from start 1 (parts_of text); steps = asked_from start 1 (parts_of text) },
-      record { short = ltb-false 1048576 (length text) e; version = refl; says = says_from start 1 (parts_of text) (omega arith) (parts-some text) f },
+      record { version = version_of text; declarations = declared_from (start (version_of text)) 1 (parts_of text); lanes = laid_from (start (version_of text)) 1 (parts_of text); steps = asked_from (start (version_of text)) 1 (parts_of text) },
+      record { short = ltb-false 1048576 (length text) e; version = refl; says = says_from (start (version_of text)) 1 (parts_of text) (omega arith) (parts-some text) f },
     )
 
 -- ---- the end of the reading
 pub reads_all : (text : List ℕ) (script : Lines) (k : ℕ) (rest : List ℕ) → length text ≤ 1048576 → ReadsOn text script k rest → parts_of rest ≡ rest ∷ [] → fault_at_end k rest ≡ None → IsScript text script
 reads_all text script k rest short so_far last none =
-    let whole : fault_from start 1 (parts_of text) ≡ None = sym so_far.fault ∙ ap (fault_from (scope_of script) k) last ∙ none in
-    let declared : declared_from start 1 (parts_of text) ≡ script.declarations = sym so_far.declared ∙ ap (λ ps. script.declarations ++ declared_from (scope_of script) k ps) last ∙ append-nil script.declarations in
-    let laid : laid_from start 1 (parts_of text) ≡ script.lanes = sym so_far.laid ∙ ap (λ ps. script.lanes ++ laid_from (scope_of script) k ps) last ∙ append-nil script.lanes in
-    let asked : asked_from start 1 (parts_of text) ≡ script.steps = sym so_far.asked ∙ ap (λ ps. script.steps ++ asked_from (scope_of script) k ps) last ∙ append-nil script.steps in
+    let whole : fault_from (start (version_of text)) 1 (parts_of text) ≡ None = sym so_far.fault ∙ ap (fault_from (scope_of script) k) last ∙ none in
+    let declared : declared_from (start (version_of text)) 1 (parts_of text) ≡ script.declarations = sym so_far.declared ∙ ap (λ ps. script.declarations ++ declared_from (scope_of script) k ps) last ∙ append-nil script.declarations in
+    let laid : laid_from (start (version_of text)) 1 (parts_of text) ≡ script.lanes = sym so_far.laid ∙ ap (λ ps. script.lanes ++ laid_from (scope_of script) k ps) last ∙ append-nil script.lanes in
+    let asked : asked_from (start (version_of text)) 1 (parts_of text) ≡ script.steps = sym so_far.asked ∙ ap (λ ps. script.steps ++ asked_from (scope_of script) k ps) last ∙ append-nil script.steps in
     record {
       short = short;
       version = so_far.version;
-      says = subst (λ ds. Says start 1 (parts_of text) ds script.lanes script.steps) declared
-          (subst (λ ls. Says start 1 (parts_of text) (declared_from start 1 (parts_of text)) ls script.steps) laid
-          (subst (λ ss. Says start 1 (parts_of text) (declared_from start 1 (parts_of text)) (laid_from start 1 (parts_of text)) ss) asked (says_from start 1 (parts_of text) (omega arith) (parts-some text) whole)));
+      says = subst (λ ds. Says (start (version_of text)) 1 (parts_of text) ds script.lanes script.steps) declared
+          (subst (λ ls. Says (start (version_of text)) 1 (parts_of text) (declared_from (start (version_of text)) 1 (parts_of text)) ls script.steps) laid
+          (subst (λ ss. Says (start (version_of text)) 1 (parts_of text) (declared_from (start (version_of text)) 1 (parts_of text)) (laid_from (start (version_of text)) 1 (parts_of text)) ss) asked (says_from (start (version_of text)) 1 (parts_of text) (omega arith) (parts-some text) whole)));
     }
 
 pub fault_at_last : (text : List ℕ) (script : Lines) (k : ℕ) (rest : List ℕ) (fault : Fault) → length text ≤ 1048576 → ReadsOn text script k rest → parts_of rest ≡ rest ∷ [] → fault_at_end k rest ≡ Some fault → IsFaultOf text fault
 fault_at_last text script k rest fault short so_far last found =
     inr (fault_of-short text short ∙ sym so_far.fault ∙ ap (fault_from (scope_of script) k) last ∙ found)
 
-pub fault_of_text : (text : List ℕ) (fault : Fault) → length text ≤ 1048576 → (fault ≡ at_line 0 Memory) ⊎ (fault_from start 1 (parts_of text) ≡ Some fault) → IsFaultOf text fault
+pub fault_of_text : (text : List ℕ) (fault : Fault) → length text ≤ 1048576 → (fault ≡ at_line 0 Memory) ⊎ (fault_from (start (version_of text)) 1 (parts_of text) ≡ Some fault) → IsFaultOf text fault
 fault_of_text text fault short h = ⊎_elim (λ e. inl e) (λ e. inr (fault_of-short text short ∙ e)) h

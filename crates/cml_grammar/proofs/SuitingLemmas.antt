@@ -14,7 +14,7 @@ use Rattle.cml_grammar.specs.declared.forms.FeedMaking.{FeedMaking}
 use Rattle.cml_grammar.specs.declared.forms.Verb.{Verb}
 use Rattle.cml_grammar.specs.declared.forms.Verb.TheVariants as verb
 use Rattle.cml_grammar.specs.declared.forms.Place.{Place}
-use Rattle.cml_grammar.specs.declared.forms.Place.TheVariants.{Fresh, Thread, Mailbox, Channel, Target, Port, Receiver, Polled, Variable, MVar, Number, Capacity}
+use Rattle.cml_grammar.specs.declared.forms.Place.TheVariants.{Fresh, Thread, Mailbox, Channel, Target, Port, Receiver, Polled, Variable, MVar, Message, Capacity}
 use Rattle.cml_grammar.specs.declared.forms.Action.{Action}
 use Rattle.cml_grammar.specs.declared.forms.Action.TheVariants as action
 use Rattle.cml_grammar.specs.Names.{Given, is_name, is_number, is_capacity, position_of, seat_of, thread_count}
@@ -64,11 +64,6 @@ is_target_at names at h = by h.1 h.2 h.3
     by called.MVar e t = absurd (true≢false (sym t))
     by (called.Feed owner) e t = absurd (true≢false (sym t))
 
--- a number is below 2 ^ 64
-number_small : (word : List ℕ) → is_number word ≡ true → digits_value 10 word < 2 ^ 64
-number_small [] h = absurd (true≢false (sym h))
-number_small (b ∷ bs) h = ltb-true _ _ (and_parts _ _ h).1
-
 -- a capacity is from 1 to 1,024
 capacity_fits : (word : List ℕ) → is_capacity word ≡ true → IsCapacity (digits_value 10 word)
 capacity_fits word h =
@@ -89,7 +84,7 @@ fresh_is_name names (Receiver ∷ places) (w ∷ words) word h e = fresh_is_name
 fresh_is_name names (Polled ∷ places) (w ∷ words) word h e = fresh_is_name names places words word h.1 e
 fresh_is_name names (Variable ∷ places) (w ∷ words) word h e = fresh_is_name names places words word h.1 e
 fresh_is_name names (MVar ∷ places) (w ∷ words) word h e = fresh_is_name names places words word h.1 e
-fresh_is_name names (Number ∷ places) (w ∷ words) word h e = fresh_is_name names places words word h.1 e
+fresh_is_name names (Message ∷ places) (w ∷ words) word h e = fresh_is_name names places words word h.1 e
 fresh_is_name names (Capacity ∷ places) (w ∷ words) word h e = fresh_is_name names places words word h.1 e
 
 -- the words of one place, and of two
@@ -143,15 +138,15 @@ makes_this names declares.Port rest seats h =
 makes_this names declares.MVar [] seats h = absurd h
 makes_this names declares.MVar (w ∷ []) seats h = makes_alone names declares.MVar makes.MVar tt (λ w. refl) (λ w. refl) (w ∷ []) h
 makes_this names declares.MVar (w ∷ message ∷ []) seats h = record {
-  made = makes.MVarInit (digits_value 10 message);
+  made = makes.MVarInit message;
   name = w;
   makes = refl;
-  well = number_small message h.1.0;
+  well = h.1.0;
   gives = refl;
 }
 makes_this names declares.MVar (w ∷ v ∷ x ∷ ws) seats h =
     let words : List (List ℕ) = w ∷ v ∷ x ∷ ws in
-    let alone : AllSuit names (Fresh ∷ []) words = subst (λ t. AllSuit names (if t then Fresh ∷ Number ∷ [] else Fresh ∷ []) words) (ne_eqb (length words) 2 (λ e. omega (arith, e))) h in
+    let alone : AllSuit names (Fresh ∷ []) words = subst (λ t. AllSuit names (if t then Fresh ∷ Message ∷ [] else Fresh ∷ []) words) (ne_eqb (length words) 2 (λ e. omega (arith, e))) h in
     absurd alone.1
 makes_this names declares.Feed [] seats h = absurd h
 makes_this names declares.Feed (thread ∷ []) seats h = absurd h.1
@@ -207,32 +202,32 @@ pub record AsksThis (names : List Given) (v : Verb) (rest : List (List ℕ)) : T
 
 pub asks_this : (names : List Given) (v : Verb) (rest : List (List ℕ)) → AllSuit names (step_places v) rest → AsksThis names v rest
 asks_this names verb.Send rest h =
-    let w = two_words names Mailbox Number rest h in
+    let w = two_words names Mailbox Message rest h in
     subst (AsksThis names verb.Send) (sym w.2) (record {
-      action = action.Send w.3.0 (digits_value 10 w.1);
-      asks = ap (option_map (λ at. action.Send at (digits_value 10 w.1))) w.3.1;
-      uses = (is_mailbox_at names w.3.0 w.3.2, number_small w.1 w.4);
+      action = action.Send w.3.0 w.1;
+      asks = ap (option_map (λ at. action.Send at w.1)) w.3.1;
+      uses = (is_mailbox_at names w.3.0 w.3.2, w.4);
     })
 asks_this names verb.Multicast rest h =
-    let w = two_words names Channel Number rest h in
+    let w = two_words names Channel Message rest h in
     subst (AsksThis names verb.Multicast) (sym w.2) (record {
-      action = action.Multicast w.3.0 (digits_value 10 w.1);
-      asks = ap (option_map (λ at. action.Multicast at (digits_value 10 w.1))) w.3.1;
-      uses = (is_channel_at names w.3.0 w.3.2, number_small w.1 w.4);
+      action = action.Multicast w.3.0 w.1;
+      asks = ap (option_map (λ at. action.Multicast at w.1)) w.3.1;
+      uses = (is_channel_at names w.3.0 w.3.2, w.4);
     })
 asks_this names verb.Put rest h =
-    let w = two_words names Variable Number rest h in
+    let w = two_words names Variable Message rest h in
     subst (AsksThis names verb.Put) (sym w.2) (record {
-      action = action.Put w.3.0 (digits_value 10 w.1);
-      asks = ap (option_map (λ at. action.Put at (digits_value 10 w.1))) w.3.1;
-      uses = (is_variable_at names w.3.0 w.3.2, number_small w.1 w.4);
+      action = action.Put w.3.0 w.1;
+      asks = ap (option_map (λ at. action.Put at w.1)) w.3.1;
+      uses = (is_variable_at names w.3.0 w.3.2, w.4);
     })
 asks_this names verb.Swap rest h =
-    let w = two_words names MVar Number rest h in
+    let w = two_words names MVar Message rest h in
     subst (AsksThis names verb.Swap) (sym w.2) (record {
-      action = action.Swap w.3.0 (digits_value 10 w.1);
-      asks = ap (option_map (λ at. action.Swap at (digits_value 10 w.1))) w.3.1;
-      uses = (is_mvar_at names w.3.0 w.3.2, number_small w.1 w.4);
+      action = action.Swap w.3.0 w.1;
+      asks = ap (option_map (λ at. action.Swap at w.1)) w.3.1;
+      uses = (is_mvar_at names w.3.0 w.3.2, w.4);
     })
 asks_this names verb.Port rest h =
     let w = two_words names Channel Fresh rest h in

@@ -1,16 +1,17 @@
 -- What it means that a line fails each test of the table.
-use Rattle.std.proofs.Common.{◌≡◌, ℕ, Bool, true, false, ◌&&◌, List, [], ◌∷◌, length, slice_get, Option, Some, None, if◌then◌else◌, nat_le, refl, sym, ap, ◌∙◌, arith}
+use Rattle.std.proofs.Common.{◌≡◌, ℕ, ◌==◌, Bool, true, false, ◌&&◌, List, [], ◌∷◌, length, slice_get, Option, Some, None, if◌then◌else◌, nat_le, refl, sym, ap, ◌∙◌, arith}
 use Rattle.std.specs.List.{list_any, zip}
 use Rattle.std.specs.Option.{option_map, option_map_or, option_and_then}
 use Rattle.std.proofs.lemmas.Bool.{or_parts, not-false, true≢false, eqb-true}
 use Rattle.std.proofs.lemmas.Option.{none-some, same_Some}
 use Rattle.cml_grammar.specs.declared.fault.What.{What}
 use Rattle.cml_grammar.specs.declared.forms.Place.{Place}
-use Rattle.cml_grammar.specs.declared.forms.Place.TheVariants.{Fresh, Thread, Mailbox, Channel, Target, Port, Receiver, Polled, Variable, MVar, Number, Capacity}
+use Rattle.cml_grammar.specs.declared.forms.Place.TheVariants.{Fresh, Thread, Mailbox, Channel, Target, Port, Receiver, Polled, Variable, MVar, Message, Capacity}
 use Rattle.cml_grammar.specs.Names.{Given, thread_count, named, position_of, is_given}
 use Rattle.cml_grammar.specs.Words.{has_empty_word}
 use Rattle.cml_grammar.specs.Forms.{Form, form_of, places_of, rest_of, suits, fresh_word, seat_of_form}
-use Rattle.cml_grammar.specs.Faults.{Scope, first_of, tests_of_form, fault_in_words, any_word, is_unknown, is_late, is_no_step, is_bad_name, is_taken, is_unknown_name, is_wrong_kind, is_not_yours, is_bad_number, is_lane_taken, declares_thread}
+use Rattle.cml_grammar.specs.Faults.{Scope, first_of, tests_of_form, fault_in_words, any_word, is_unknown, is_late, is_no_step, is_bad_name, is_taken, is_unknown_name, is_wrong_kind, is_not_yours, is_bad_number, is_bad_text, is_lane_taken, declares_thread}
+use Rattle.cml_grammar.proofs.NameLemmas.{message_word_is_text}
 use Rattle.cml_grammar.specs.Suiting.{IsSuitedAt, IsUsed, Suits, AllSuit}
 
 -- each test of the table fails
@@ -24,7 +25,8 @@ pub record Passes (scope : Scope) (form : Form) : Type 0 where
   pub given : any_word (is_unknown_name scope.names) form ≡ false
   pub suited : any_word (is_wrong_kind scope.names) form ≡ false
   pub yours : any_word (is_not_yours scope.names (seat_of_form form)) form ≡ false
-  pub numbers : any_word is_bad_number form ≡ false
+  pub numbers : any_word (is_bad_number scope.version) form ≡ false
+  pub texts : any_word (is_bad_text scope.version) form ≡ false
   pub unlaid : is_lane_taken scope.names scope.lanes form ≡ false
   pub room : (declares_thread form && nat_le 64 (thread_count scope.names)) ≡ false
 
@@ -46,6 +48,7 @@ passes scope form h =
     let l = not_first _ _ _ k.1 in
     let m = not_first _ _ _ l.1 in
     let n = not_first _ _ _ m.1 in
+    let o = not_first _ _ _ n.1 in
     record {
       known = a.0;
       in_time = b.0;
@@ -57,8 +60,9 @@ passes scope form h =
       suited = j.0;
       yours = k.0;
       numbers = l.0;
-      unlaid = m.0;
-      room = n.0;
+      texts = m.0;
+      unlaid = n.0;
+      room = o.0;
     }
 
 -- a line of words without fault passes each test, and no word is empty
@@ -78,39 +82,41 @@ used_suits names place word h = by (position_of names word) refl h
     by None found t = absurd (true≢false (sym t))
     by (Some i) found t = let m = meant (slice_get names i) i refl t in (i, found, m)
 
-all_suit : (names : List Given) (places : List Place) (words : List (List ℕ)) → length words ≡ length places
+all_suit : (version : ℕ) (names : List Given) (places : List Place) (words : List (List ℕ)) → length words ≡ length places
     → list_any (λ p. is_bad_name p.0 p.1) (zip places words) ≡ false
     → list_any (λ p. is_taken names p.0 p.1) (zip places words) ≡ false
     → list_any (λ p. is_wrong_kind names p.0 p.1) (zip places words) ≡ false
-    → list_any (λ p. is_bad_number p.0 p.1) (zip places words) ≡ false
+    → list_any (λ p. is_bad_number version p.0 p.1) (zip places words) ≡ false
+    → list_any (λ p. is_bad_text version p.0 p.1) (zip places words) ≡ false
     → AllSuit names places words
-all_suit names [] [] count named fresh suited numbers = tt
-all_suit names [] (w ∷ words) count named fresh suited numbers = absurd (omega arith)
-all_suit names (place ∷ places) [] count named fresh suited numbers = absurd (omega arith)
-all_suit names (place ∷ places) (word ∷ words) count named fresh suited numbers =
+all_suit version names [] [] count named fresh suited numbers texts = tt
+all_suit version names [] (w ∷ words) count named fresh suited numbers texts = absurd (omega arith)
+all_suit version names (place ∷ places) [] count named fresh suited numbers texts = absurd (omega arith)
+all_suit version names (place ∷ places) (word ∷ words) count named fresh suited numbers texts =
     let a = or_parts _ _ named in
     let b = or_parts _ _ fresh in
     let d = or_parts _ _ suited in
     let e = or_parts _ _ numbers in
-    (one place a.0 b.0 d.0 e.0, all_suit names places words (omega arith) a.1 b.1 d.1 e.1)
+    let f = or_parts _ _ texts in
+    (one place a.0 b.0 d.0 e.0 f.0, all_suit version names places words (omega arith) a.1 b.1 d.1 e.1 f.1)
   where
-    one : (p : Place) → is_bad_name p word ≡ false → is_taken names p word ≡ false → is_wrong_kind names p word ≡ false → is_bad_number p word ≡ false → Suits names p word
-    one Fresh n f s k = (not-false _ n, f)
-    one Thread n f s k = used_suits names Thread word (not-false _ s)
-    one Mailbox n f s k = used_suits names Mailbox word (not-false _ s)
-    one Channel n f s k = used_suits names Channel word (not-false _ s)
-    one Target n f s k = used_suits names Target word (not-false _ s)
-    one Port n f s k = used_suits names Port word (not-false _ s)
-    one Receiver n f s k = used_suits names Receiver word (not-false _ s)
-    one Polled n f s k = used_suits names Polled word (not-false _ s)
-    one Variable n f s k = used_suits names Variable word (not-false _ s)
-    one MVar n f s k = used_suits names MVar word (not-false _ s)
-    one Number n f s k = not-false _ k
-    one Capacity n f s k = not-false _ k
+    one : (p : Place) → is_bad_name p word ≡ false → is_taken names p word ≡ false → is_wrong_kind names p word ≡ false → is_bad_number version p word ≡ false → is_bad_text version p word ≡ false → Suits names p word
+    one Fresh n f s k t = (not-false _ n, f)
+    one Thread n f s k t = used_suits names Thread word (not-false _ s)
+    one Mailbox n f s k t = used_suits names Mailbox word (not-false _ s)
+    one Channel n f s k t = used_suits names Channel word (not-false _ s)
+    one Target n f s k t = used_suits names Target word (not-false _ s)
+    one Port n f s k t = used_suits names Port word (not-false _ s)
+    one Receiver n f s k t = used_suits names Receiver word (not-false _ s)
+    one Polled n f s k t = used_suits names Polled word (not-false _ s)
+    one Variable n f s k t = used_suits names Variable word (not-false _ s)
+    one MVar n f s k t = used_suits names MVar word (not-false _ s)
+    one Message n f s k t = message_word_is_text (version == 2) word k t
+    one Capacity n f s k t = not-false _ k
 
 -- and each word suits its place
 pub all_suit-passes : (scope : Scope) (form : Form) → Passes scope form → AllSuit scope.names (places_of form) (rest_of form)
-all_suit-passes scope form p = all_suit scope.names (places_of form) (rest_of form) p.count p.names p.fresh p.suited p.numbers
+all_suit-passes scope form p = all_suit scope.version scope.names (places_of form) (rest_of form) p.count p.names p.fresh p.suited p.numbers p.texts
 
 -- a name that is given does not stand yet
 pub fresh_is_new : (names : List Given) (places : List Place) (words : List (List ℕ)) (word : List ℕ) → AllSuit names places words → fresh_word places words ≡ Some word → is_given names word ≡ false
@@ -126,5 +132,5 @@ fresh_is_new names (Receiver ∷ places) (w ∷ words) word h e = fresh_is_new n
 fresh_is_new names (Polled ∷ places) (w ∷ words) word h e = fresh_is_new names places words word h.1 e
 fresh_is_new names (Variable ∷ places) (w ∷ words) word h e = fresh_is_new names places words word h.1 e
 fresh_is_new names (MVar ∷ places) (w ∷ words) word h e = fresh_is_new names places words word h.1 e
-fresh_is_new names (Number ∷ places) (w ∷ words) word h e = fresh_is_new names places words word h.1 e
+fresh_is_new names (Message ∷ places) (w ∷ words) word h e = fresh_is_new names places words word h.1 e
 fresh_is_new names (Capacity ∷ places) (w ∷ words) word h e = fresh_is_new names places words word h.1 e

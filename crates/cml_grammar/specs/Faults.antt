@@ -8,10 +8,11 @@ use Rattle.cml_grammar.specs.declared.names.Named.TheVariants as called
 use Rattle.cml_grammar.specs.declared.names.Users.TheVariants as users
 use Rattle.cml_grammar.specs.declared.forms.Declares.TheVariants as declares
 use Rattle.cml_grammar.specs.declared.forms.Place.{Place}
-use Rattle.cml_grammar.specs.declared.forms.Place.TheVariants.{Number, Capacity}
+use Rattle.cml_grammar.specs.declared.forms.Place.TheVariants.{Message, Capacity}
 use Rattle.cml_grammar.specs.declared.fault.What.{What}
-use Rattle.cml_grammar.specs.declared.fault.What.TheVariants.{NoLineEnd, BadBytes, BadHeader, BadWords, UnknownLine, LateDeclaration, UnknownStep, WordCount, BadName, NameTaken, UnknownName, WrongKind, NotYours, BadNumber, LaneTaken, TooManyThreads, TooLong, Memory}
+use Rattle.cml_grammar.specs.declared.fault.What.TheVariants.{NoLineEnd, BadBytes, BadHeader, BadWords, UnknownLine, LateDeclaration, UnknownStep, WordCount, BadName, NameTaken, UnknownName, WrongKind, NotYours, BadNumber, BadText, LaneTaken, TooManyThreads, TooLong, Memory}
 use Rattle.cml_grammar.specs.declared.fault.Fault.{Fault}
+use Rattle.cml_text.specs.Text.{is_text}
 use Rattle.cml_grammar.specs.Words.{parts_of, words_of, is_bad_byte, is_skipped, has_empty_word}
 use Rattle.cml_grammar.specs.Names.{Given, is_name, is_number, is_capacity, position_of, is_given, named, seat_of, thread_count}
 use Rattle.cml_grammar.specs.Forms.{Form, unknown, declaration, lane, no_step, step, form_of, places_of, rest_of, is_name_place, is_fresh, is_used, suits, fresh_word, owner_of, named_by, declared_places, seat_of_form, is_others, step_places}
@@ -20,14 +21,27 @@ use Rattle.cml_grammar.specs.Forms.{Form, unknown, declaration, lane, no_step, s
 abbrev pub Ends : Type 0
 Ends = ℕ × ℕ
 
--- what the lines so far leave: the names that stand, whether a step was seen, and between which ends lanes were said
+-- the version that a first line asks for
+abbrev pub version_in : List ℕ → ℕ
+version_in line = if bytes_eq line (codes "cml 2") then 2 else 1
+
+abbrev pub first_version : List (List ℕ) → ℕ
+first_version [] = 1
+first_version (line ∷ lines) = version_in line
+
+-- the version of a text
+abbrev pub version_of : List ℕ → ℕ
+version_of text = first_version (parts_of text)
+
+-- what the lines so far leave: the version, the names that stand, whether a step was seen, and between which ends lanes were said
 pub record Scope : Type 0 where
+  pub version : ℕ
   pub names : List Given
   pub started : Bool
   pub lanes : List Ends
 
-abbrev pub start : Scope
-start = record { names = []; started = false; lanes = [] }
+abbrev pub start : ℕ → Scope
+start version = record { version = version; names = []; started = false; lanes = [] }
 
 -- a line says something where it isn't the header and isn't skipped
 abbrev pub says : ℕ → List ℕ → Bool
@@ -35,7 +49,7 @@ says k line = not (k == 1) && not (is_skipped line)
 
 -- the tests of the table, in its order: of a line, of its form, and of each word in its place
 abbrev pub is_bad_header : ℕ → List ℕ → Bool
-is_bad_header k line = (k == 1) && not (bytes_eq line (codes "cml 1"))
+is_bad_header k line = (k == 1) && not (bytes_eq line (codes "cml 1") || bytes_eq line (codes "cml 2"))
 
 abbrev pub is_unknown : Form → Bool
 is_unknown unknown = true
@@ -81,10 +95,16 @@ is_wrong_kind names place word = is_used place && not (option_map_or (suits plac
 abbrev pub is_not_yours : List Given → ℕ → Place → List ℕ → Bool
 is_not_yours names seat place word = is_used place && option_map_or (is_others seat) (named names word) false
 
-abbrev pub is_bad_number : Place → List ℕ → Bool
-is_bad_number Number word = not (is_number word)
-is_bad_number Capacity word = not (is_capacity word)
-is_bad_number _ word = false
+-- a message of version 1 is a number, and a capacity is one in either version
+abbrev pub is_bad_number : ℕ → Place → List ℕ → Bool
+is_bad_number version Message word = not (version == 2) && not (is_number word)
+is_bad_number version Capacity word = not (is_capacity word)
+is_bad_number version _ word = false
+
+-- a message of version 2 is a text
+abbrev pub is_bad_text : ℕ → Place → List ℕ → Bool
+is_bad_text version Message word = (version == 2) && not (is_text word)
+is_bad_text version _ word = false
 
 -- the ends that the words after `lane` say, where they name a thread and something
 abbrev pub ends_by : List Given → List (List ℕ) → Option Ends
@@ -127,7 +147,8 @@ tests_of_form scope form =
     ∷ (any_word (is_unknown_name scope.names) form, UnknownName)
     ∷ (any_word (is_wrong_kind scope.names) form, WrongKind)
     ∷ (any_word (is_not_yours scope.names (seat_of_form form)) form, NotYours)
-    ∷ (any_word is_bad_number form, BadNumber)
+    ∷ (any_word (is_bad_number scope.version) form, BadNumber)
+    ∷ (any_word (is_bad_text scope.version) form, BadText)
     ∷ (is_lane_taken scope.names scope.lanes form, LaneTaken)
     ∷ (declares_thread form && nat_le 64 (thread_count scope.names), TooManyThreads)
     ∷ []
@@ -188,6 +209,7 @@ abbrev pub after_words : Scope → List (List ℕ) → Scope
 after_words scope words =
     let form = form_of scope.names words in
     record {
+      version = scope.version;
       names = scope.names ++ gives scope.names form;
       started = scope.started || is_step form;
       lanes = scope.lanes ++ lays scope.names form;
@@ -221,7 +243,7 @@ fault_from scope k (line ∷ next ∷ more) =
 
 -- the fault of a text: too long before all, then the least line's
 abbrev pub fault_of : List ℕ → Option Fault
-fault_of text = if nat_lt 1048576 (length text) then Some (at_line 0 TooLong) else fault_from start 1 (parts_of text)
+fault_of text = if nat_lt 1048576 (length text) then Some (at_line 0 TooLong) else fault_from (start (version_of text)) 1 (parts_of text)
 
 -- what went wrong with a line is what was found there, unless memory ran out
 abbrev pub IsWhat : What → Option What → Type 0

@@ -11,7 +11,7 @@ use Rattle.cml_grammar.specs.declared.forms.Declares.TheVariants as declares
 use Rattle.cml_grammar.specs.declared.forms.Verb.{Verb}
 use Rattle.cml_grammar.specs.declared.forms.Verb.TheVariants as verb
 use Rattle.cml_grammar.specs.declared.forms.Place.{Place}
-use Rattle.cml_grammar.specs.declared.forms.Place.TheVariants.{Fresh, Thread, Mailbox, Channel, Target, Port, Receiver, Polled, Variable, MVar, Number, Capacity}
+use Rattle.cml_grammar.specs.declared.forms.Place.TheVariants.{Fresh, Thread, Mailbox, Channel, Target, Port, Receiver, Polled, Variable, MVar, Message, Capacity}
 use Rattle.cml_grammar.specs.Names.{Given, seat_of}
 
 -- the first word of a declaration that gives a name
@@ -32,7 +32,7 @@ declared_places declares.Mailbox rest = Fresh ∷ []
 declared_places declares.Channel rest = Fresh ∷ []
 declared_places declares.Port rest = Channel ∷ Fresh ∷ []
 declared_places declares.IVar rest = Fresh ∷ []
-declared_places declares.MVar rest = if length rest == 2 then Fresh ∷ Number ∷ [] else Fresh ∷ []
+declared_places declares.MVar rest = if length rest == 2 then Fresh ∷ Message ∷ [] else Fresh ∷ []
 declared_places declares.Thread rest = Fresh ∷ []
 declared_places declares.Feed rest = Thread ∷ Fresh ∷ Channel ∷ Capacity ∷ []
 
@@ -64,19 +64,19 @@ verb_of word =
 
 -- what stands after it
 abbrev pub step_places : Verb → List Place
-step_places verb.Send = Mailbox ∷ Number ∷ []
-step_places verb.Multicast = Channel ∷ Number ∷ []
+step_places verb.Send = Mailbox ∷ Message ∷ []
+step_places verb.Multicast = Channel ∷ Message ∷ []
 step_places verb.Recv = Receiver ∷ []
 step_places verb.Poll = Polled ∷ []
 step_places verb.Port = Channel ∷ Fresh ∷ []
 step_places verb.Copy = Port ∷ Fresh ∷ []
 step_places verb.Close = Port ∷ []
-step_places verb.Put = Variable ∷ Number ∷ []
+step_places verb.Put = Variable ∷ Message ∷ []
 step_places verb.Get = Variable ∷ []
 step_places verb.GetPoll = Variable ∷ []
 step_places verb.Take = MVar ∷ []
 step_places verb.TakePoll = MVar ∷ []
-step_places verb.Swap = MVar ∷ Number ∷ []
+step_places verb.Swap = MVar ∷ Message ∷ []
 
 -- what kind of line it is, with the words that are left
 pub data Form : Type 0 where
@@ -122,7 +122,7 @@ seat_of_form (step seat v rest) = seat
 
 -- whether a place is a name's, is for a name that the line gives, or for one that it uses
 abbrev pub is_name_place : Place → Bool
-is_name_place Number = false
+is_name_place Message = false
 is_name_place Capacity = false
 is_name_place _ = true
 

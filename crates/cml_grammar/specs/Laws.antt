@@ -1,5 +1,5 @@
 -- What faults and scripts have to do with each other, numbers with what is printed of them, and lines with their words.
-use Rattle.std.specs.Prelude.{ℕ, ◌≡◌, ◌<◌, ◌^◌, true, List, None}
+use Rattle.std.specs.Prelude.{ℕ, ◌≡◌, ◌<◌, ◌^◌, true, List, ◌∷◌, ◌++◌, None, codes}
 use Rattle.std.specs.Fmt.{decimal}
 use Rattle.std.specs.List.{join_with_byte}
 use Rattle.std.specs.Str.Parse.{digits_value}
@@ -27,6 +27,13 @@ NumbersArePrinted = (word : List ℕ) → is_number word ≡ true → word ≡ d
 -- and what a number prints as is its word
 abbrev pub PrintedNumbersAreRead : Type 0
 PrintedNumbersAreRead = (n : ℕ) → n < 2 ^ 64 → is_number (decimal n) ≡ true
+
+-- A script of version 1 is one of version 2 with the same lines, but for its first: its messages are numbers, and those are
+-- texts.
+abbrev pub NumbersAreTexts : Type 0
+NumbersAreTexts =
+    (body : List ℕ) (script : Lines) → IsScript (codes "cml 1" ++ 10 ∷ body) script
+    → IsScript (codes "cml 2" ++ 10 ∷ body) (record { version = 2; declarations = script.declarations; lanes = script.lanes; steps = script.steps })
 
 -- a line's words, with a space between each two, are the line
 abbrev pub WordsMakeLines : Type 0

@@ -33,8 +33,8 @@ all_ends names (line ∷ lines) = option_to_list (ends_of names line.words) ++ a
 -- the scope behind all lines of a script: only lane lines leave ends, and they leave nothing else
 abbrev pub scope_of : Lines → Scope
 scope_of script =
-    let named = scope_after start (script.declarations ++ script.steps) in
-    record { names = named.names; started = named.started; lanes = all_ends named.names script.lanes }
+    let named = scope_after (start script.version) (script.declarations ++ script.steps) in
+    record { version = script.version; names = named.names; started = named.started; lanes = all_ends named.names script.lanes }
 
 -- all names of a script, in text order
 abbrev pub names_of : Lines → List Given
@@ -53,7 +53,7 @@ makes_by names declares.Channel rest = Some makes.Channel
 makes_by names declares.Port (channel ∷ rest) = option_map makes.Port (position_of names channel)
 makes_by names declares.Port [] = None
 makes_by names declares.IVar rest = Some makes.IVar
-makes_by names declares.MVar (name ∷ message ∷ []) = Some (makes.MVarInit (digits_value 10 message))
+makes_by names declares.MVar (name ∷ message ∷ []) = Some (makes.MVarInit message)
 makes_by names declares.MVar rest = Some makes.MVar
 makes_by names declares.Thread rest = Some makes.Thread
 makes_by names declares.Feed rest = option_map makes.Feed (feed_by names rest)
@@ -65,22 +65,22 @@ makes_of names (word ∷ rest) = option_and_then (λ d. makes_by names d rest) (
 -- what a step of these words asks for, its names by their positions among the script's
 abbrev pub action_by : List Given → Verb → List (List ℕ) → Option Action
 action_by names verb.Send (mailbox ∷ message ∷ []) =
-    option_map (λ at. action.Send at (digits_value 10 message)) (position_of names mailbox)
+    option_map (λ at. action.Send at message) (position_of names mailbox)
 action_by names verb.Multicast (channel ∷ message ∷ []) =
-    option_map (λ at. action.Multicast at (digits_value 10 message)) (position_of names channel)
+    option_map (λ at. action.Multicast at message) (position_of names channel)
 action_by names verb.Recv (object ∷ []) = option_map action.Recv (position_of names object)
 action_by names verb.Poll (object ∷ []) = option_map action.Poll (position_of names object)
 action_by names verb.Port (channel ∷ name ∷ []) = option_map action.Port (position_of names channel)
 action_by names verb.Copy (port ∷ name ∷ []) = option_map action.Copy (position_of names port)
 action_by names verb.Close (port ∷ []) = option_map action.Close (position_of names port)
 action_by names verb.Put (variable ∷ message ∷ []) =
-    option_map (λ at. action.Put at (digits_value 10 message)) (position_of names variable)
+    option_map (λ at. action.Put at message) (position_of names variable)
 action_by names verb.Get (variable ∷ []) = option_map action.Get (position_of names variable)
 action_by names verb.GetPoll (variable ∷ []) = option_map action.GetPoll (position_of names variable)
 action_by names verb.Take (variable ∷ []) = option_map action.Take (position_of names variable)
 action_by names verb.TakePoll (variable ∷ []) = option_map action.TakePoll (position_of names variable)
 action_by names verb.Swap (variable ∷ message ∷ []) =
-    option_map (λ at. action.Swap at (digits_value 10 message)) (position_of names variable)
+    option_map (λ at. action.Swap at message) (position_of names variable)
 action_by names _ _ = None
 
 abbrev pub action_of : List Given → List (List ℕ) → Option Action

@@ -2,6 +2,7 @@
 use Rattle.std.specs.Prelude.{ℕ, ◌≡◌, ◌<◌, ◌≤◌, ◌==◌, ◌^◌, Bool, true, false, not, if◌then◌else◌, List, [], ◌++◌, length, map, Some, is_some, String, string_bytes, slice_get, All, ⊤, ◌⊎◌}
 use Rattle.std.specs.Global.{Global}
 use Rattle.std.specs.Map.{keys_of}
+use Rattle.cml_text.specs.Text.{is_text}
 use Rattle.cml_grammar.specs.declared.names.Named.{Named}
 use Rattle.cml_grammar.specs.declared.names.Named.TheVariants as called
 use Rattle.cml_grammar.specs.declared.names.Users.{Users}
@@ -82,19 +83,19 @@ IsVariableAt names at = IsIVarAt names at ⊎ IsMVarAt names at
 
 -- each name that a step uses stands, for something that can take the step
 abbrev pub UsesWell : List Given → Action → Type 0
-UsesWell names (Send at message) = IsMailboxAt names at × (message < 2 ^ 64)
-UsesWell names (Multicast at message) = IsChannelAt names at × (message < 2 ^ 64)
+UsesWell names (Send at message) = IsMailboxAt names at × (is_text message ≡ true)
+UsesWell names (Multicast at message) = IsChannelAt names at × (is_text message ≡ true)
 UsesWell names (Recv at) = IsReceiverAt names at
 UsesWell names (Poll at) = IsPolledAt names at
 UsesWell names (Port at) = IsChannelAt names at
 UsesWell names (Copy at) = IsPortAt names at
 UsesWell names (Close at) = IsPortAt names at
-UsesWell names (Put at message) = IsVariableAt names at × (message < 2 ^ 64)
+UsesWell names (Put at message) = IsVariableAt names at × (is_text message ≡ true)
 UsesWell names (Get at) = IsVariableAt names at
 UsesWell names (GetPoll at) = IsVariableAt names at
 UsesWell names (Take at) = IsMVarAt names at
 UsesWell names (TakePoll at) = IsMVarAt names at
-UsesWell names (Swap at message) = IsMVarAt names at × (message < 2 ^ 64)
+UsesWell names (Swap at message) = IsMVarAt names at × (is_text message ≡ true)
 
 -- the position of the name that a step uses
 abbrev pub used_by : Action → ℕ
@@ -139,7 +140,7 @@ IsCapacity capacity = (1 ≤ capacity) × (capacity ≤ 1024)
 -- 64 bits, and a feed is a declared thread's and has a capacity from 1 to 1,024
 abbrev pub IsMadeWell : List Given → ℕ → Makes → Type 0
 IsMadeWell names i (makes.Port channel) = IsChannelAt names channel × (channel < i)
-IsMadeWell names i (makes.MVarInit message) = message < 2 ^ 64
+IsMadeWell names i (makes.MVarInit message) = is_text message ≡ true
 IsMadeWell names i (makes.Feed f) = IsChannelAt names f.channel × (f.channel < i) × IsSeat names f.seat × IsCapacity f.capacity
 IsMadeWell names i _ = ⊤
 

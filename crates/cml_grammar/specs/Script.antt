@@ -2,7 +2,7 @@
 use Rattle.std.specs.Prelude.{ℕ, suc, ◌≡◌, ◌<◌, ◌≤◌, ◌&&◌, Bool, List, [], ◌∷◌, length, if◌then◌else◌, None}
 use Rattle.cml_grammar.specs.Words.{parts_of, words_of}
 use Rattle.cml_grammar.specs.Forms.{form_of}
-use Rattle.cml_grammar.specs.Faults.{Scope, start, says, fault_in, is_declaration, is_lane, is_step, after}
+use Rattle.cml_grammar.specs.Faults.{Scope, start, version_of, says, fault_in, is_declaration, is_lane, is_step, after}
 
 -- a line: its number, from 1, and its words
 pub record SourceLine : Type 0 where
@@ -41,5 +41,5 @@ Says scope k (line ∷ next ∷ more) declarations lanes steps =
 -- the text is this script
 pub record IsScript (text : List ℕ) (script : Lines) : Type 0 where
   pub short : length text ≤ 1048576
-  pub version : script.version ≡ 1
-  pub says : Says start 1 (parts_of text) script.declarations script.lanes script.steps
+  pub version : script.version ≡ version_of text
+  pub says : Says (start (version_of text)) 1 (parts_of text) script.declarations script.lanes script.steps

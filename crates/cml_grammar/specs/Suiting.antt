@@ -1,7 +1,8 @@
 -- Words that may stand in their places.
 use Rattle.std.specs.Prelude.{ℕ, ◌≡◌, true, false, List, [], ◌∷◌, slice_get, Some, ⊤}
+use Rattle.cml_text.specs.Text.{is_text}
 use Rattle.cml_grammar.specs.declared.forms.Place.{Place}
-use Rattle.cml_grammar.specs.declared.forms.Place.TheVariants.{Fresh, Number, Capacity}
+use Rattle.cml_grammar.specs.declared.forms.Place.TheVariants.{Fresh, Message, Capacity}
 use Rattle.cml_grammar.specs.declared.names.Named.{Named}
 use Rattle.cml_grammar.specs.Names.{Given, is_name, is_number, is_capacity, is_given, position_of}
 use Rattle.cml_grammar.specs.Forms.{suits}
@@ -14,10 +15,10 @@ IsSuitedAt names place at = (word : List ℕ) × (n : Named) × (slice_get names
 abbrev pub IsUsed : List Given → Place → List ℕ → Type 0
 IsUsed names place word = (at : ℕ) × (position_of names word ≡ Some at) × IsSuitedAt names place at
 
--- a fresh name is none of those that stand
+-- A fresh name is none of those that stand. A message is a text in either version, since a number's word is one.
 abbrev pub Suits : List Given → Place → List ℕ → Type 0
 Suits names Fresh word = (is_name word ≡ true) × (is_given names word ≡ false)
-Suits names Number word = is_number word ≡ true
+Suits names Message word = is_text word ≡ true
 Suits names Capacity word = is_capacity word ≡ true
 Suits names place word = IsUsed names place word
 

@@ -4,7 +4,7 @@ ghost use Rattle.std.specs.Map.{keys_of};
 ghost use Rattle.std.specs.Option.{option_map_or};
 ghost use Rattle.cml_grammar.specs.Names.{thread_count, named};
 ghost use Rattle.cml_grammar.specs.Forms.{suits, is_others};
-ghost use Rattle.cml_grammar.specs.Faults.{is_late, is_bad_number, is_lane_taken, declares_thread, first_of, any_word, tests_of_form};
+ghost use Rattle.cml_grammar.specs.Faults.{is_late, is_bad_number, is_bad_text, is_lane_taken, declares_thread, first_of, any_word, tests_of_form};
 ghost use Rattle.cml_grammar.specs.Flaws.{has_flaw};
 ghost use Rattle.cml_grammar.specs.Reading.{texts_of};
 ghost use Rattle.cml_grammar.specs.Shown.{shown};
@@ -13,6 +13,7 @@ use crate::fault::What;
 use crate::forms::{Form, Place};
 use crate::meaning::ends_by;
 use crate::names::{Named, capacity_in, find_named, is_given, is_name, number_of};
+use cml_text::is_text;
 use indexmap::IndexMap;
 
 /// The most threads that a script may declare.
@@ -27,7 +28,10 @@ enum Flaw {
     WrongKind,
     /// It names a port or a feed of another seat than this one.
     NotYours(u64),
-    BadNumber,
+    /// It is no number where a script of this version has one.
+    BadNumber(u64),
+    /// It is no text where a script of this version has one.
+    BadText(u64),
 }
 
 fn has_flaw(names: &IndexMap<String, Named>, flaw: Flaw, place: Place, word: &str) -> bool
@@ -39,16 +43,28 @@ fn has_flaw(names: &IndexMap<String, Named>, flaw: Flaw, place: Place, word: &st
         Flaw::UnknownName => place.is_used() && !is_given(names, word),
         Flaw::WrongKind => place.is_used() && !names_suiting(names, place, word),
         Flaw::NotYours(seat) => place.is_used() && names_others(names, seat, word),
-        Flaw::BadNumber => is_bad_number(place, word),
+        Flaw::BadNumber(version) => is_bad_number(version, place, word),
+        Flaw::BadText(version) => is_bad_text(version, place, word),
     }
 }
 
-fn is_bad_number(place: Place, word: &str) -> bool
-    ensures { result ≡ is_bad_number place word.now }
+/// Messages of version 1 are numbers, and so are capacities.
+fn is_bad_number(version: u64, place: Place, word: &str) -> bool
+    ensures { result ≡ is_bad_number version place word.now }
 {
     match place {
-        Place::Number => number_of(word).is_none(),
+        Place::Message => version != 2 && number_of(word).is_none(),
         Place::Capacity => capacity_in(word).is_none(),
+        _ => false,
+    }
+}
+
+/// Messages of version 2 are texts.
+fn is_bad_text(version: u64, place: Place, word: &str) -> bool
+    ensures { result ≡ is_bad_text version place word.now }
+{
+    match place {
+        Place::Message => version == 2 && !is_text(word.as_bytes()),
         _ => false,
     }
 }
@@ -125,9 +141,10 @@ fn first_of(tests: &[(bool, What)]) -> Option<What>
     None
 }
 
-/// What is wrong with a line of this form, where these names stand, so many of them threads', a step was seen or not, and
-/// there are lanes between these ends.
+/// What is wrong with a line of this form in a script of this version, where these names stand, so many of them threads', a
+/// step was seen or not, and there are lanes between these ends.
 pub(crate) fn fault_in_form(
+    version: u64,
     names: &IndexMap<String, Named>,
     threads: u64,
     started: bool,
@@ -135,7 +152,7 @@ pub(crate) fn fault_in_form(
     form: &Form,
 ) -> Option<What>
     requires { threads ≡ thread_count (texts_of names.now.entries) }
-    ensures { result ≡ first_of (tests_of_form (record { names = texts_of names.now.entries; started = started; lanes = keys_of lanes.now.entries }) (shown form.now)) }
+    ensures { result ≡ first_of (tests_of_form (record { version = version; names = texts_of names.now.entries; started = started; lanes = keys_of lanes.now.entries }) (shown form.now)) }
 {
     let seat = form.seat();
     let tests = [
@@ -148,7 +165,11 @@ pub(crate) fn fault_in_form(
         (any_word(names, form, Flaw::UnknownName), What::UnknownName),
         (any_word(names, form, Flaw::WrongKind), What::WrongKind),
         (any_word(names, form, Flaw::NotYours(seat)), What::NotYours),
-        (any_word(names, form, Flaw::BadNumber), What::BadNumber),
+        (
+            any_word(names, form, Flaw::BadNumber(version)),
+            What::BadNumber,
+        ),
+        (any_word(names, form, Flaw::BadText(version)), What::BadText),
         (is_lane_taken(names, lanes, form), What::LaneTaken),
         (is_thread_too_many(threads, form), What::TooManyThreads),
     ];

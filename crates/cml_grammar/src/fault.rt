@@ -40,6 +40,8 @@ pub enum What {
     NotYours,
     #[error("bad number")]
     BadNumber,
+    #[error("bad text")]
+    BadText,
     #[error("lane taken")]
     LaneTaken,
     #[error("too many threads")]

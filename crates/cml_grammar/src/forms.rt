@@ -8,6 +8,7 @@ ghost use Rattle.cml_grammar.specs.Reading.{texts_of};
 ghost use Rattle.cml_grammar.specs.Shown.{shown};
 
 use crate::names::{Named, seat_of};
+use cml_text::Text;
 use indexmap::IndexMap;
 
 /// What stands behind `lane`.
@@ -66,8 +67,8 @@ pub enum Place {
     Variable,
     /// An m-variable's name.
     MVar,
-    /// A message.
-    Number,
+    /// A message: a number in version 1, a text in version 2.
+    Message,
     /// A number from 1 to 1,024.
     Capacity,
 }
@@ -82,7 +83,7 @@ pub struct FeedMaking {
 
 /// What a declaration makes. A port's channel is a position in the script's list of names, and an m-variable may have a
 /// first message.
-#[derive(Clone, Copy, Debug, PartialEq, Eq)]
+#[derive(Debug, Drop)]
 pub enum Makes {
     Thread,
     Mailbox,
@@ -90,26 +91,27 @@ pub enum Makes {
     Port(usize),
     IVar,
     MVar,
-    MVarInit(u64),
+    MVarInit(Text),
     Feed(FeedMaking),
 }
 
-/// What a step asks for. The name that it uses is a position in the script's list of names.
-#[derive(Clone, Copy, Debug, PartialEq, Eq)]
+/// What a step asks for. The name that it uses is a position in the script's list of names. A message is its word as it
+/// stands, in either version.
+#[derive(Debug, Drop)]
 pub enum Action {
-    Send(usize, u64),
-    Multicast(usize, u64),
+    Send(usize, Text),
+    Multicast(usize, Text),
     Recv(usize),
     Poll(usize),
     Port(usize),
     Copy(usize),
     Close(usize),
-    Put(usize, u64),
+    Put(usize, Text),
     Get(usize),
     GetPoll(usize),
     Take(usize),
     TakePoll(usize),
-    Swap(usize, u64),
+    Swap(usize, Text),
 }
 
 /// What kind of line it is, with the words that are left.
@@ -149,7 +151,7 @@ impl Declares {
             Declares::Port => &[Place::Channel, Place::Fresh],
             Declares::MVar => {
                 if rest.len() == 2 {
-                    &[Place::Fresh, Place::Number]
+                    &[Place::Fresh, Place::Message]
                 } else {
                     &[Place::Fresh]
                 }
@@ -185,17 +187,17 @@ impl Verb {
         ensures { result.now ≡ step_places self }
     {
         match self {
-            Verb::Send => &[Place::Mailbox, Place::Number],
-            Verb::Multicast => &[Place::Channel, Place::Number],
+            Verb::Send => &[Place::Mailbox, Place::Message],
+            Verb::Multicast => &[Place::Channel, Place::Message],
             Verb::Recv => &[Place::Receiver],
             Verb::Poll => &[Place::Polled],
             Verb::Port => &[Place::Channel, Place::Fresh],
             Verb::Copy => &[Place::Port, Place::Fresh],
             Verb::Close => &[Place::Port],
-            Verb::Put => &[Place::Variable, Place::Number],
+            Verb::Put => &[Place::Variable, Place::Message],
             Verb::Get | Verb::GetPoll => &[Place::Variable],
             Verb::Take | Verb::TakePoll => &[Place::MVar],
-            Verb::Swap => &[Place::MVar, Place::Number],
+            Verb::Swap => &[Place::MVar, Place::Message],
         }
     }
 }
@@ -204,7 +206,7 @@ impl Place {
     pub(crate) fn is_name_place(self) -> bool
         ensures { result ≡ is_name_place self }
     {
-        self != Place::Number && self != Place::Capacity
+        self != Place::Message && self != Place::Capacity
     }
 
     pub(crate) fn is_fresh(self) -> bool

@@ -1,5 +1,5 @@
 //! Laws of the definitions, each the contract of a function that does nothing.
-ghost use Rattle.cml_grammar.specs.Laws.{ScriptsHaveNoFault, TextsAreOneScript, FaultlessTextsAreScripts, NumbersArePrinted, PrintedNumbersAreRead, WordsMakeLines};
+ghost use Rattle.cml_grammar.specs.Laws.{ScriptsHaveNoFault, TextsAreOneScript, FaultlessTextsAreScripts, NumbersArePrinted, PrintedNumbersAreRead, WordsMakeLines, NumbersAreTexts};
 
 /// A text that is a script has no fault.
 pub fn scripts_have_no_fault()
@@ -25,4 +25,10 @@ pub fn numbers_are_as_printed()
 /// A line's words, with a space between each two, are the line.
 pub fn words_make_lines()
     ensures { WordsMakeLines }
+{}
+
+/// A script of version 1 is one of version 2 with the same declarations, lanes and steps, where `cml 2` stands in its first
+/// line.
+pub fn numbers_are_texts()
+    ensures { NumbersAreTexts }
 {}

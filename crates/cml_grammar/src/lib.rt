@@ -15,7 +15,7 @@ mod words;
 pub use fault::{Fault, What};
 pub use forms::{Action, Declares, FeedMaking, Makes, Place, Verb};
 pub use laws::{
-    faultless_texts_are_scripts, numbers_are_as_printed, scripts_have_no_fault,
+    faultless_texts_are_scripts, numbers_are_as_printed, numbers_are_texts, scripts_have_no_fault,
     texts_are_one_script, words_make_lines,
 };
 pub use names::{Named, Users};

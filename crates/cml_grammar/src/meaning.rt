@@ -1,8 +1,9 @@
 //! What a line that is without fault asks for.
-ghost use Rattle.std.specs.Prelude.{◌≡◌, ◌+◌, ◌^◌, ◌<◌, [], ◌∷◌, length, map, Some, true, is_some, All};
+ghost use Rattle.std.specs.Prelude.{◌≡◌, ◌+◌, ◌^◌, ◌<◌, [], ◌∷◌, length, map, Some, true, is_some, All, IfOk};
 ghost use Rattle.std.specs.Option.{option_map};
 ghost use Rattle.std.specs.Str.Parse.{digits_value};
-ghost use Rattle.cml_grammar.specs.Names.{is_number, is_capacity, is_given, position_of, seat_of, thread_count};
+ghost use Rattle.cml_text.specs.Text.{is_text};
+ghost use Rattle.cml_grammar.specs.Names.{is_capacity, is_given, position_of, seat_of, thread_count};
 ghost use Rattle.cml_grammar.specs.Forms.{declared_places, lane_places, step_places, fresh_word, owner_of, named_by};
 ghost use Rattle.cml_grammar.specs.Faults.{ends_by};
 ghost use Rattle.cml_grammar.specs.Meaning.{feed_by, makes_by, action_by};
@@ -11,9 +12,11 @@ ghost use Rattle.cml_grammar.specs.Reading.{texts_of, UsesWell, IsSeat, IsCapaci
 ghost use Rattle.cml_grammar.specs.Suiting.{AllSuit};
 
 use crate::forms::{Action, Declares, FeedMaking, Makes, Verb, fresh_word};
-use crate::names::{Named, Users, capacity_in, number_of, position_of, seat_of};
+use crate::names::{Named, Users, capacity_in, position_of, seat_of};
 use crate::script::{Lane, Line};
+use cml_text::Text;
 use indexmap::IndexMap;
+use std::alloc::{AllocError, Global};
 
 /// The position of a name that was given.
 fn given_position(names: &IndexMap<String, Named>, word: &str) -> usize
@@ -23,16 +26,19 @@ fn given_position(names: &IndexMap<String, Named>, word: &str) -> usize
     position_of(names, word).unwrap()
 }
 
-/// The message that the words are, a number alone.
-fn message_in(words: &[&str]) -> u64
-    requires { map (λ w. is_number w.now) words.now ≡ true ∷ [] }
-    ensures value { map (λ w. digits_value 10 w.now) words.now ≡ result ∷ [] }
-    ensures fits { result < 2 ^ 64 }
+/// The message that the words are, one word alone.
+fn message_in(alloc: Global, words: &[&str]) -> Result<Text, AllocError>
+    requires { map (λ w. is_text w.now) words.now ≡ true ∷ [] }
+    ensures value { IfOk result (λ message. map (λ w. w.now) words.now ≡ message ∷ []) }
+    ensures fits { IfOk result (λ message. is_text message ≡ true) }
 {
     let Some(word) = words.first() else {
         unreachable!();
     };
-    number_of(word).unwrap()
+    match Text::from_bytes(alloc, word.as_bytes())? {
+        Ok(message) => Ok(message),
+        Err(_) => unreachable!(),
+    }
 }
 
 /// The seat of a thread that was declared.
@@ -96,26 +102,34 @@ pub(crate) fn ends_by(names: &IndexMap<String, Named>, rest: &[&str]) -> Option<
 }
 
 /// What a declaration makes whose words suit their places.
-pub(crate) fn makes_by(names: &IndexMap<String, Named>, declares: Declares, rest: &[&str]) -> Makes
+pub(crate) fn makes_by(
+    alloc: Global,
+    names: &IndexMap<String, Named>,
+    declares: Declares,
+    rest: &[&str],
+) -> Result<Makes, AllocError>
     requires suits { AllSuit (texts_of names.now.entries) (declared_places declares (map (λ w. w.now) rest.now)) (map (λ w. w.now) rest.now) }
     requires seats { All (λ g. IsSeatedWithin (thread_count (texts_of names.now.entries)) g.1) (texts_of names.now.entries) }
-    ensures makes { makes_by (texts_of names.now.entries) declares (map (λ w. w.now) rest.now) ≡ Some result }
-    ensures uses { IsMadeWell (texts_of names.now.entries) (length (texts_of names.now.entries)) result }
+    ensures makes { IfOk result (λ made. makes_by (texts_of names.now.entries) declares (map (λ w. w.now) rest.now) ≡ Some made) }
+    ensures uses { IfOk result (λ made. IsMadeWell (texts_of names.now.entries) (length (texts_of names.now.entries)) made) }
 {
     match declares {
-        Declares::Mailbox => Makes::Mailbox,
-        Declares::Channel => Makes::Channel,
+        Declares::Mailbox => Ok(Makes::Mailbox),
+        Declares::Channel => Ok(Makes::Channel),
         Declares::Port => match rest.first() {
-            Some(channel) => Makes::Port(given_position(names, channel)),
+            Some(channel) => Ok(Makes::Port(given_position(names, channel))),
             None => unreachable!(),
         },
-        Declares::IVar => Makes::IVar,
+        Declares::IVar => Ok(Makes::IVar),
         Declares::MVar => match rest.split_first() {
-            Some((_, message)) if !message.is_empty() => Makes::MVarInit(message_in(message)),
-            _ => Makes::MVar,
+            Some((_, words)) if !words.is_empty() => {
+                let message = message_in(alloc, words)?;
+                Ok(Makes::MVarInit(message))
+            }
+            _ => Ok(Makes::MVar),
         },
-        Declares::Thread => Makes::Thread,
-        Declares::Feed => Makes::Feed(feed_by(names, rest)),
+        Declares::Thread => Ok(Makes::Thread),
+        Declares::Feed => Ok(Makes::Feed(feed_by(names, rest))),
     }
 }
 
@@ -181,28 +195,45 @@ pub(crate) fn threads_with(declares: Declares, threads: u64) -> u64
 }
 
 /// What a step asks for whose words suit their places.
-pub(crate) fn action_by(names: &IndexMap<String, Named>, verb: Verb, rest: &[&str]) -> Action
+pub(crate) fn action_by(
+    alloc: Global,
+    names: &IndexMap<String, Named>,
+    verb: Verb,
+    rest: &[&str],
+) -> Result<Action, AllocError>
     requires { AllSuit (texts_of names.now.entries) (step_places verb) (map (λ w. w.now) rest.now) }
-    ensures action { action_by (texts_of names.now.entries) verb (map (λ w. w.now) rest.now) ≡ Some result }
-    ensures uses { UsesWell (texts_of names.now.entries) result }
+    ensures action { IfOk result (λ action. action_by (texts_of names.now.entries) verb (map (λ w. w.now) rest.now) ≡ Some action) }
+    ensures uses { IfOk result (λ action. UsesWell (texts_of names.now.entries) action) }
 {
     let Some((object, more)) = rest.split_first() else {
         unreachable!();
     };
     let at = given_position(names, object);
     match verb {
-        Verb::Send => Action::Send(at, message_in(more)),
-        Verb::Multicast => Action::Multicast(at, message_in(more)),
-        Verb::Recv => Action::Recv(at),
-        Verb::Poll => Action::Poll(at),
-        Verb::Port => Action::Port(at),
-        Verb::Copy => Action::Copy(at),
-        Verb::Close => Action::Close(at),
-        Verb::Put => Action::Put(at, message_in(more)),
-        Verb::Get => Action::Get(at),
-        Verb::GetPoll => Action::GetPoll(at),
-        Verb::Take => Action::Take(at),
-        Verb::TakePoll => Action::TakePoll(at),
-        Verb::Swap => Action::Swap(at, message_in(more)),
+        Verb::Send => {
+            let message = message_in(alloc, more)?;
+            Ok(Action::Send(at, message))
+        }
+        Verb::Multicast => {
+            let message = message_in(alloc, more)?;
+            Ok(Action::Multicast(at, message))
+        }
+        Verb::Recv => Ok(Action::Recv(at)),
+        Verb::Poll => Ok(Action::Poll(at)),
+        Verb::Port => Ok(Action::Port(at)),
+        Verb::Copy => Ok(Action::Copy(at)),
+        Verb::Close => Ok(Action::Close(at)),
+        Verb::Put => {
+            let message = message_in(alloc, more)?;
+            Ok(Action::Put(at, message))
+        }
+        Verb::Get => Ok(Action::Get(at)),
+        Verb::GetPoll => Ok(Action::GetPoll(at)),
+        Verb::Take => Ok(Action::Take(at)),
+        Verb::TakePoll => Ok(Action::TakePoll(at)),
+        Verb::Swap => {
+            let message = message_in(alloc, more)?;
+            Ok(Action::Swap(at, message))
+        }
     }
 }

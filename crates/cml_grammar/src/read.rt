@@ -1,11 +1,11 @@
 //! A text is cut into lines, and read line by line.
 ghost use Rattle.std.specs.Prelude.{◌≡◌, ◌==◌, ◌≤◌, ◌<◌, ◌∷◌, [], position, length, MatchOption, IfOk, IfErr};
 ghost use Rattle.cml_grammar.specs.Words.{parts_of};
-ghost use Rattle.cml_grammar.specs.Faults.{start, fault_at_end, IsFaultOf};
+ghost use Rattle.cml_grammar.specs.Faults.{start, version_in, version_of, fault_at_end, IsFaultOf};
 ghost use Rattle.cml_grammar.specs.Script.{Says, IsScript};
 
 use crate::fault::{Fault, What};
-use crate::reading::Reading;
+use crate::reading::{Reading, version_in};
 use crate::script::Script;
 use std::alloc::Global;
 
@@ -33,7 +33,7 @@ fn read_lines(alloc: Global, text: &[u8]) -> Result<Reading, Fault>
     ensures short { IfOk result (λ script. length script.steps ≤ 1048576) }
     ensures fault { IfErr result (λ fault. IsFaultOf text.now fault) }
 {
-    let mut reading = Reading::new(alloc);
+    let mut reading = Reading::new(alloc, version_of(text));
     let mut rest = text;
     let mut number = 1;
     while let Some((line, later)) = cut_line(rest) {
@@ -46,6 +46,16 @@ fn read_lines(alloc: Global, text: &[u8]) -> Result<Reading, Fault>
     match fault_at_end(number, rest) {
         Some(fault) => Err(fault),
         None => Ok(reading),
+    }
+}
+
+/// The version that the first line asks for.
+fn version_of(text: &[u8]) -> u64
+    ensures { result ≡ version_of text.now }
+{
+    match cut_line(text) {
+        Some((line, _)) => version_in(line),
+        None => version_in(text),
     }
 }
 

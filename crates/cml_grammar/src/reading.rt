@@ -1,7 +1,7 @@
 //! The lines of a script so far, and how one more is read.
 ghost use Rattle.std.specs.Prelude.{◌≡◌, ◌+◌, ◌<◌, ◌≤◌, [], length, map, None, OnOk, IfErr};
 ghost use Rattle.cml_grammar.specs.Words.{words_of, is_bad_byte};
-ghost use Rattle.cml_grammar.specs.Faults.{fault_in, fault_in_words, is_bad_header, says, after, after_words, IsWhat};
+ghost use Rattle.cml_grammar.specs.Faults.{version_in, fault_in, fault_in_words, is_bad_header, says, after, after_words, IsWhat};
 
 use crate::checks::fault_in_form;
 use crate::fault::What;
@@ -18,9 +18,12 @@ use std::marker::Model;
 
 const HEADER: &[u8; 5] = b"cml 1";
 
+const HEADER_WITH_TEXTS: &[u8; 5] = b"cml 2";
+
 /// The lines so far. Contracts see them as a script.
 #[derive(Drop)]
 pub(crate) struct Reading {
+    version: u64,
     names: IndexMap<String, Named>,
     threads: u64,
     declarations: Vec<Declaration>,
@@ -36,15 +39,26 @@ impl Model for Reading {
 
     ghost use Rattle.cml_grammar.specs.Reading.{view_of, IsReadSoFar};
 
-    ghost view = { λ r. view_of 1 r.declarations.items r.lanes.items r.steps.items };
+    ghost view = { λ r. view_of r.version r.declarations.items r.lanes.items r.steps.items };
 
-    ghost invariant = { λ r. IsReadSoFar (view_of 1 r.declarations.items r.lanes.items r.steps.items) r.names.entries r.declarations.items r.lanes.items r.capacities.entries r.steps.items r.threads };
+    ghost invariant = { λ r. IsReadSoFar (view_of r.version r.declarations.items r.lanes.items r.steps.items) r.names.entries r.declarations.items r.lanes.items r.capacities.entries r.steps.items r.threads };
 }
 
 fn is_bad_header(number: u64, line: &[u8]) -> bool
     ensures { result ≡ is_bad_header number line.now }
 {
-    number == 1 && line != HEADER.as_slice()
+    number == 1 && line != HEADER.as_slice() && line != HEADER_WITH_TEXTS.as_slice()
+}
+
+/// The version that a first line asks for.
+pub(crate) fn version_in(line: &[u8]) -> u64
+    ensures { result ≡ version_in line.now }
+{
+    if line == HEADER_WITH_TEXTS.as_slice() {
+        2
+    } else {
+        1
+    }
 }
 
 /// Whether the line says something: it is not the header, and is not skipped.
@@ -61,10 +75,11 @@ impl Reading {
     ghost use Rattle.cml_grammar.specs.Meaning.{scope_of, names_of};
     ghost use Rattle.cml_grammar.specs.Reading.{with_words, with_next};
 
-    pub(crate) fn new(alloc: Global) -> Reading
-        ensures { result ≡ record { version = 1; declarations = []; lanes = []; steps = [] } }
+    pub(crate) fn new(alloc: Global, version: u64) -> Reading
+        ensures { result ≡ record { version = version; declarations = []; lanes = []; steps = [] } }
     {
         Reading {
+            version,
             names: IndexMap::new(alloc),
             threads: 0,
             declarations: Vec::new(alloc),
@@ -108,6 +123,7 @@ impl Reading {
         let form = Form::of_words(&self.names, &words);
         let started = !self.steps.is_empty();
         if let Some(what) = fault_in_form(
+            self.version,
             &self.names,
             self.threads,
             started,
@@ -143,7 +159,7 @@ impl Reading {
         let owner = owner_of(&self.names, rest);
         let named = named_by(declares, self.threads, owner);
         let threads = threads_with(declares, self.threads);
-        let makes = makes_by(&self.names, declares, rest);
+        let makes = makes_by(alloc, &self.names, declares, rest)?;
         let name = String::from_str(alloc, name_by(&self.names, declares, rest))?;
         self.declarations.reserve(1)?;
         self.names.insert(name, named)?;
@@ -183,7 +199,7 @@ impl Reading {
         ensures scope { OnOk result (scope_of self.new ≡ after_words (scope_of self.old) (words_of (string_bytes line.text))) }
         ensures memory { IfErr result (λ what. what ≡ What.Memory) }
     {
-        let action = action_by(&self.names, verb, rest);
+        let action = action_by(alloc, &self.names, verb, rest)?;
         let step = Step { line, seat, action };
         match name_given(verb, rest) {
             None => {
@@ -208,6 +224,7 @@ impl Reading {
         ensures { result ≡ self }
     {
         let Reading {
+            version,
             names,
             threads: _,
             declarations,
@@ -215,6 +232,6 @@ impl Reading {
             capacities,
             steps,
         } = self;
-        Script::new(1, names, declarations, lanes, capacities, steps)
+        Script::new(version, names, declarations, lanes, capacities, steps)
     }
 }

@@ -1,5 +1,5 @@
 use Rattle.std.proofs.Common.{◌&&◌, nat_le, [], ◌∷◌, ap, ◌∙◌}
-use Rattle.cml_grammar.specs.declared.fault.What.TheVariants.{UnknownLine, LateDeclaration, UnknownStep, WordCount, BadName, NameTaken, UnknownName, WrongKind, NotYours, BadNumber, LaneTaken, TooManyThreads}
+use Rattle.cml_grammar.specs.declared.fault.What.TheVariants.{UnknownLine, LateDeclaration, UnknownStep, WordCount, BadName, NameTaken, UnknownName, WrongKind, NotYours, BadNumber, BadText, LaneTaken, TooManyThreads}
 use Rattle.cml_grammar.specs.Faults.{first_of, declares_thread, any_word, is_not_yours}
 use Rattle.cml_grammar.specs.Reading.{texts_of}
 use Rattle.cml_grammar.specs.Shown.{shown}
@@ -19,6 +19,7 @@ returns c =
     ∷ (c.any_word-4.ensures j, WrongKind)
     ∷ ((c.any_word-5.ensures ∙ ap (λ n. any_word (is_not_yours (texts_of c.args.names.now.entries) n) (shown c.args.form.now)) c.seat-seat.ensures) j, NotYours)
     ∷ (c.any_word-6.ensures j, BadNumber)
+    ∷ (c.any_word-7.ensures j, BadText)
     ∷ (c.is_lane_taken.ensures j, LaneTaken)
     ∷ ((c.is_thread_too_many.ensures ∙ ap (λ n. declares_thread (shown c.args.form.now) && nat_le 64 n) c.requires) j, TooManyThreads)
     ∷ []))

@@ -5,34 +5,34 @@ use Rattle.cml_grammar.specs.Forms.{step_places}
 use Rattle.cml_grammar.specs.Meaning.{action_by}
 use Rattle.cml_grammar.specs.Reading.{texts_of}
 use Rattle.cml_grammar.specs.Suiting.{AllSuit}
-use Rattle.cml_grammar.proofs.MeaningLemmas.{Words, bytes, number_alone, send_means, multicast_means, put_means, swap_means, receiver_found, polled_found, port_found, variable_found, mvar_found}
+use Rattle.cml_grammar.proofs.MeaningLemmas.{Words, bytes, message_alone, send_means, multicast_means, put_means, swap_means, receiver_found, polled_found, port_found, variable_found, mvar_found}
 use Rattle.cml_grammar.proofs.meaning.action_by.Goals as goal
 
 pub message_in-requires : goal.message_in-requires
 message_in-requires c =
     let names = texts_of c.args.names.now.entries in
     let suit = subst (λ (v : Verb). AllSuit names (step_places v) (bytes c.args.rest.now)) c.in-Send.is c.requires in
-    number_alone names c.in-Some.more.now (subst (λ (ws : Words). AllSuit names (step_places Send) (bytes ws)) c.in-Some.ensures.cases.0 suit).1
+    message_alone names c.in-Some.more.now (subst (λ (ws : Words). AllSuit names (step_places Send) (bytes ws)) c.in-Some.ensures.cases.0 suit).1
 
 pub message_in-requires-in-Multicast : goal.message_in-requires-in-Multicast
 message_in-requires-in-Multicast c =
     let names = texts_of c.args.names.now.entries in
     let suit = subst (λ (v : Verb). AllSuit names (step_places v) (bytes c.args.rest.now)) c.in-Multicast.is c.requires in
-    number_alone names c.in-Some.more.now (subst (λ (ws : Words). AllSuit names (step_places Multicast) (bytes ws)) c.in-Some.ensures.cases.0 suit).1
+    message_alone names c.in-Some.more.now (subst (λ (ws : Words). AllSuit names (step_places Multicast) (bytes ws)) c.in-Some.ensures.cases.0 suit).1
 
-pub returns-in-Send-clause-action : goal.returns-in-Send-clause-action
-returns-in-Send-clause-action c =
+pub returns-in_ok-message-in-Send-clause-action : goal.returns-in_ok-message-in-Send-clause-action
+returns-in_ok-message-in-Send-clause-action c =
     let names = texts_of c.args.names.now.entries in
     ap (λ (v : Verb). action_by names v (bytes c.args.rest.now)) c.in-Send.is
     ∙ ap (λ (ws : Words). action_by names Send (bytes ws)) c.in-Some.ensures.cases.0
-    ∙ send_means names c.in-Some.object.now.now c.in-Some.more.now _ _ c.given_position-at.ensures c.message_in.ensures.value
+    ∙ send_means names c.in-Some.object.now.now c.in-Some.more.now _ _ c.given_position-at.ensures c.in_ok-message-in-Send.ensures.value
 
-pub returns-in-Multicast-clause-action : goal.returns-in-Multicast-clause-action
-returns-in-Multicast-clause-action c =
+pub returns-in_ok-message-in-Multicast-clause-action : goal.returns-in_ok-message-in-Multicast-clause-action
+returns-in_ok-message-in-Multicast-clause-action c =
     let names = texts_of c.args.names.now.entries in
     ap (λ (v : Verb). action_by names v (bytes c.args.rest.now)) c.in-Multicast.is
     ∙ ap (λ (ws : Words). action_by names Multicast (bytes ws)) c.in-Some.ensures.cases.0
-    ∙ multicast_means names c.in-Some.object.now.now c.in-Some.more.now _ _ c.given_position-at.ensures c.message_in-in-Multicast.ensures.value
+    ∙ multicast_means names c.in-Some.object.now.now c.in-Some.more.now _ _ c.given_position-at.ensures c.in_ok-message-in-Multicast.ensures.value
 
 pub returns-in-Recv-clause-uses : goal.returns-in-Recv-clause-uses
 returns-in-Recv-clause-uses c =
@@ -62,33 +62,33 @@ pub message_in-requires-in-Put : goal.message_in-requires-in-Put
 message_in-requires-in-Put c =
     let names = texts_of c.args.names.now.entries in
     let suit = subst (λ (v : Verb). AllSuit names (step_places v) (bytes c.args.rest.now)) c.in-Put.is c.requires in
-    number_alone names c.in-Some.more.now (subst (λ (ws : Words). AllSuit names (step_places Put) (bytes ws)) c.in-Some.ensures.cases.0 suit).1
+    message_alone names c.in-Some.more.now (subst (λ (ws : Words). AllSuit names (step_places Put) (bytes ws)) c.in-Some.ensures.cases.0 suit).1
 
-pub returns-in-Put-clause-action : goal.returns-in-Put-clause-action
-returns-in-Put-clause-action c =
+pub returns-in_ok-message-in-Put-clause-action : goal.returns-in_ok-message-in-Put-clause-action
+returns-in_ok-message-in-Put-clause-action c =
     let names = texts_of c.args.names.now.entries in
     ap (λ (v : Verb). action_by names v (bytes c.args.rest.now)) c.in-Put.is
     ∙ ap (λ (ws : Words). action_by names Put (bytes ws)) c.in-Some.ensures.cases.0
-    ∙ put_means names c.in-Some.object.now.now c.in-Some.more.now _ _ c.given_position-at.ensures c.message_in-in-Put.ensures.value
+    ∙ put_means names c.in-Some.object.now.now c.in-Some.more.now _ _ c.given_position-at.ensures c.in_ok-message-in-Put.ensures.value
 
 pub message_in-requires-in-Swap : goal.message_in-requires-in-Swap
 message_in-requires-in-Swap c =
     let names = texts_of c.args.names.now.entries in
     let suit = subst (λ (v : Verb). AllSuit names (step_places v) (bytes c.args.rest.now)) c.in-Swap.is c.requires in
-    number_alone names c.in-Some.more.now (subst (λ (ws : Words). AllSuit names (step_places Swap) (bytes ws)) c.in-Some.ensures.cases.0 suit).1
+    message_alone names c.in-Some.more.now (subst (λ (ws : Words). AllSuit names (step_places Swap) (bytes ws)) c.in-Some.ensures.cases.0 suit).1
 
-pub returns-in-Swap-clause-action : goal.returns-in-Swap-clause-action
-returns-in-Swap-clause-action c =
+pub returns-in_ok-message-in-Swap-clause-action : goal.returns-in_ok-message-in-Swap-clause-action
+returns-in_ok-message-in-Swap-clause-action c =
     let names = texts_of c.args.names.now.entries in
     ap (λ (v : Verb). action_by names v (bytes c.args.rest.now)) c.in-Swap.is
     ∙ ap (λ (ws : Words). action_by names Swap (bytes ws)) c.in-Some.ensures.cases.0
-    ∙ swap_means names c.in-Some.object.now.now c.in-Some.more.now _ _ c.given_position-at.ensures c.message_in-in-Swap.ensures.value
+    ∙ swap_means names c.in-Some.object.now.now c.in-Some.more.now _ _ c.given_position-at.ensures c.in_ok-message-in-Swap.ensures.value
 
-pub returns-in-Put-clause-uses : goal.returns-in-Put-clause-uses
-returns-in-Put-clause-uses c =
+pub returns-in_ok-message-in-Put-clause-uses : goal.returns-in_ok-message-in-Put-clause-uses
+returns-in_ok-message-in-Put-clause-uses c =
     let names = texts_of c.args.names.now.entries in
     let suit = subst (λ (v : Verb). AllSuit names (step_places v) (bytes c.args.rest.now)) c.in-Put.is c.requires in
-    (variable_found names c.in-Some.object.now.now _ (subst (λ (ws : Words). AllSuit names (step_places Put) (bytes ws)) c.in-Some.ensures.cases.0 suit).0 c.given_position-at.ensures, c.message_in-in-Put.ensures.fits)
+    (variable_found names c.in-Some.object.now.now _ (subst (λ (ws : Words). AllSuit names (step_places Put) (bytes ws)) c.in-Some.ensures.cases.0 suit).0 c.given_position-at.ensures, c.in_ok-message-in-Put.ensures.fits)
 
 pub returns-in-Get-clause-uses : goal.returns-in-Get-clause-uses
 returns-in-Get-clause-uses c =
@@ -114,11 +114,11 @@ returns-in-TakePoll-clause-uses c =
     let suit = subst (λ (v : Verb). AllSuit names (step_places v) (bytes c.args.rest.now)) c.in-TakePoll.is c.requires in
     mvar_found names c.in-Some.object.now.now _ (subst (λ (ws : Words). AllSuit names (step_places TakePoll) (bytes ws)) c.in-Some.ensures.cases.0 suit).0 c.given_position-at.ensures
 
-pub returns-in-Swap-clause-uses : goal.returns-in-Swap-clause-uses
-returns-in-Swap-clause-uses c =
+pub returns-in_ok-message-in-Swap-clause-uses : goal.returns-in_ok-message-in-Swap-clause-uses
+returns-in_ok-message-in-Swap-clause-uses c =
     let names = texts_of c.args.names.now.entries in
     let suit = subst (λ (v : Verb). AllSuit names (step_places v) (bytes c.args.rest.now)) c.in-Swap.is c.requires in
-    (mvar_found names c.in-Some.object.now.now _ (subst (λ (ws : Words). AllSuit names (step_places Swap) (bytes ws)) c.in-Some.ensures.cases.0 suit).0 c.given_position-at.ensures, c.message_in-in-Swap.ensures.fits)
+    (mvar_found names c.in-Some.object.now.now _ (subst (λ (ws : Words). AllSuit names (step_places Swap) (bytes ws)) c.in-Some.ensures.cases.0 suit).0 c.given_position-at.ensures, c.in_ok-message-in-Swap.ensures.fits)
 
 pub returns-in-Poll-clause-action : goal.returns-in-Poll-clause-action
 returns-in-Poll-clause-action c = search rules

@@ -21,7 +21,7 @@ returns-clause-scope c =
     let said = c.lane_by-lane.ensures in
     let laying : Laying (texts_of i.names.entries) l rest = record { says = said.says; seated = said.seated; target = said.target; capacity = said.capacity } in
     let read = subst (λ (line : Line). IsLaid c.args.self.now (record { line = line; seat = l.seat; target = l.target; capacity = l.capacity }) rest) (sym said.line) (record { fits = c.requires.fits; form = c.requires.form }) in
-    laid_scopes 1 c.args.self.now i.names i.capacities i.declarations.items i.lanes.items _ i.steps.items i.threads l rest c.self.view_is c.self.invariant read laying
+    laid_scopes i.version c.args.self.now i.names i.capacities i.declarations.items i.lanes.items _ i.steps.items i.threads l rest c.self.view_is c.self.invariant read laying
     (c.push_reserved.ensures.items ∙ ap (λ (xs : List Lane). xs ++ l ∷ []) c.reserve.ensures.items)
     ∙ ap (λ (line : Line). after_words (scope_of c.args.self.now) (words_of (string_bytes line.text))) said.line
 
@@ -33,6 +33,6 @@ invariant_of-self-2 c =
     let said = c.lane_by-lane.ensures in
     let laying : Laying (texts_of i.names.entries) l rest = record { says = said.says; seated = said.seated; target = said.target; capacity = said.capacity } in
     let read = subst (λ (line : Line). IsLaid c.args.self.now (record { line = line; seat = l.seat; target = l.target; capacity = l.capacity }) rest) (sym said.line) (record { fits = c.requires.fits; form = c.requires.form }) in
-    laid_closes 1 c.args.self.now i.names i.capacities i.declarations.items i.lanes.items _ i.steps.items i.threads l rest c.self.view_is c.self.invariant read laying
+    laid_closes i.version c.args.self.now i.names i.capacities i.declarations.items i.lanes.items _ i.steps.items i.threads l rest c.self.view_is c.self.invariant read laying
     (c.push_reserved.ensures.items ∙ ap (λ (xs : List Lane). xs ++ l ∷ []) c.reserve.ensures.items)
     _ c.in_ok-insert.ensures.entries

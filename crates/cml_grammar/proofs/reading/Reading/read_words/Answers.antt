@@ -1,4 +1,4 @@
-use Rattle.std.proofs.Common.{◌≡◌, ℕ, ◌==◌, not, List, map, Some, None, Bor, inr, sym, ap, ◌∙◌, string_bytes}
+use Rattle.std.proofs.Common.{◌≡◌, ℕ, ◌==◌, not, List, map, Some, None, Bor, inr, refl, sym, ap, ◌∙◌, string_bytes}
 use Rattle.std.specs.Map.{keys_of}
 use Rattle.cml_grammar.specs.Words.{words_of, has_empty_word}
 use Rattle.cml_grammar.specs.Forms.{form_of}
@@ -12,8 +12,8 @@ use Rattle.cml_grammar.proofs.reading.Reading.read_words.Goals as goal
 pub returns-in-Some-clause-fault : goal.returns-in-Some-clause-fault
 returns-in-Some-clause-fault c =
     let i = c.self.inside in
-    let found = c.fault_in_form.ensures ∙ fault_found c.args.self.now _ (texts_of i.names.entries) (not c.is_empty-started.result) (keys_of i.capacities.entries) (map (λ (w : Bor (List ℕ)). w.now) c.in_ok-words.words.items) (words_of c.args.text.now) (shown c.of_words-form.result)
-    c.self.view_is c.self.invariant.names (ap not c.is_empty-started.ensures ∙ ap (λ n. not (n == 0)) i.steps.ok.0 ∙ sym c.self.invariant.started) (sym c.self.invariant.ends)
+    let found = c.fault_in_form.ensures ∙ fault_found c.args.self.now _ i.version (texts_of i.names.entries) (not c.is_empty-started.result) (keys_of i.capacities.entries) (map (λ (w : Bor (List ℕ)). w.now) c.in_ok-words.words.items) (words_of c.args.text.now) (shown c.of_words-form.result)
+    c.self.view_is refl c.self.invariant.names (ap not c.is_empty-started.ensures ∙ ap (λ n. not (n == 0)) i.steps.ok.0 ∙ sym c.self.invariant.started) (sym c.self.invariant.ends)
     c.in_ok-words.ensures (ap (λ (ws : List (Bor (List ℕ))). has_empty_word (map (λ w. w.now) ws)) (sym c.deref.ensures.value) ∙ sym c.has_empty_word.ensures ∙ c.if-has_empty_word.false)
     (c.of_words-form.ensures ∙ ap (λ (ws : List (Bor (List ℕ))). form_of (texts_of i.names.entries) (map (λ w. w.now) ws)) c.deref-2.ensures.value) in
     inr (sym found ∙ c.in-Some.is)
@@ -21,8 +21,8 @@ returns-in-Some-clause-fault c =
 pub lay-requires-clause-fits : goal.lay-requires-clause-fits
 lay-requires-clause-fits c =
     let i = c.self.inside in
-    let found = c.fault_in_form.ensures ∙ fault_found c.args.self.now _ (texts_of i.names.entries) (not c.is_empty-started.result) (keys_of i.capacities.entries) (map (λ (w : Bor (List ℕ)). w.now) c.in_ok-words.words.items) (words_of c.args.text.now) (shown c.of_words-form.result)
-    c.self.view_is c.self.invariant.names (ap not c.is_empty-started.ensures ∙ ap (λ n. not (n == 0)) i.steps.ok.0 ∙ sym c.self.invariant.started) (sym c.self.invariant.ends)
+    let found = c.fault_in_form.ensures ∙ fault_found c.args.self.now _ i.version (texts_of i.names.entries) (not c.is_empty-started.result) (keys_of i.capacities.entries) (map (λ (w : Bor (List ℕ)). w.now) c.in_ok-words.words.items) (words_of c.args.text.now) (shown c.of_words-form.result)
+    c.self.view_is refl c.self.invariant.names (ap not c.is_empty-started.ensures ∙ ap (λ n. not (n == 0)) i.steps.ok.0 ∙ sym c.self.invariant.started) (sym c.self.invariant.ends)
     c.in_ok-words.ensures (ap (λ (ws : List (Bor (List ℕ))). has_empty_word (map (λ w. w.now) ws)) (sym c.deref.ensures.value) ∙ sym c.has_empty_word.ensures ∙ c.if-has_empty_word.false)
     (c.of_words-form.ensures ∙ ap (λ (ws : List (Bor (List ℕ))). form_of (texts_of i.names.entries) (map (λ w. w.now) ws)) c.deref-2.ensures.value) in
     ap (λ bytes. fault_in_words (scope_of c.args.self.now) (words_of bytes)) c.in_ok-text.ensures.ok ∙ sym found ∙ nothing_left c.fault_in_form.result c.in_default.not-Some
@@ -30,9 +30,27 @@ lay-requires-clause-fits c =
 pub returns-in-Lane-clause-fits : goal.returns-in-Lane-clause-fits
 returns-in-Lane-clause-fits c =
     let i = c.self.inside in
-    let found = c.fault_in_form.ensures ∙ fault_found c.args.self.now _ (texts_of i.names.entries) (not c.is_empty-started.result) (keys_of i.capacities.entries) (map (λ (w : Bor (List ℕ)). w.now) c.in_ok-words.words.items) (words_of c.args.text.now) (shown c.of_words-form.result)
-    c.self.view_is c.self.invariant.names (ap not c.is_empty-started.ensures ∙ ap (λ n. not (n == 0)) i.steps.ok.0 ∙ sym c.self.invariant.started) (sym c.self.invariant.ends)
+    let found = c.fault_in_form.ensures ∙ fault_found c.args.self.now _ i.version (texts_of i.names.entries) (not c.is_empty-started.result) (keys_of i.capacities.entries) (map (λ (w : Bor (List ℕ)). w.now) c.in_ok-words.words.items) (words_of c.args.text.now) (shown c.of_words-form.result)
+    c.self.view_is refl c.self.invariant.names (ap not c.is_empty-started.ensures ∙ ap (λ n. not (n == 0)) i.steps.ok.0 ∙ sym c.self.invariant.started) (sym c.self.invariant.ends)
     c.in_ok-words.ensures (ap (λ (ws : List (Bor (List ℕ))). has_empty_word (map (λ w. w.now) ws)) (sym c.deref.ensures.value) ∙ sym c.has_empty_word.ensures ∙ c.if-has_empty_word.false)
     (c.of_words-form.ensures ∙ ap (λ (ws : List (Bor (List ℕ))). form_of (texts_of i.names.entries) (map (λ w. w.now) ws)) c.deref-2.ensures.value) in
     let none = sym found ∙ nothing_left c.fault_in_form.result c.in_default.not-Some in
     whichever c.lay.result none
+
+pub declare-requires-clause-fits : goal.declare-requires-clause-fits
+declare-requires-clause-fits c =
+    let i = c.self.inside in
+    let found = c.fault_in_form.ensures ∙ fault_found c.args.self.now _ i.version (texts_of i.names.entries) (not c.is_empty-started.result) (keys_of i.capacities.entries) (map (λ (w : Bor (List ℕ)). w.now) c.in_ok-words.words.items) (words_of c.args.text.now) (shown c.of_words-form.result)
+    c.self.view_is refl c.self.invariant.names (ap not c.is_empty-started.ensures ∙ ap (λ n. not (n == 0)) i.steps.ok.0 ∙ sym c.self.invariant.started) (sym c.self.invariant.ends)
+    c.in_ok-words.ensures (ap (λ (ws : List (Bor (List ℕ))). has_empty_word (map (λ w. w.now) ws)) (sym c.deref.ensures.value) ∙ sym c.has_empty_word.ensures ∙ c.if-has_empty_word.false)
+    (c.of_words-form.ensures ∙ ap (λ (ws : List (Bor (List ℕ))). form_of (texts_of i.names.entries) (map (λ w. w.now) ws)) c.deref-2.ensures.value) in
+    ap (λ bytes. fault_in_words (scope_of c.args.self.now) (words_of bytes)) c.in_ok-text.ensures.ok ∙ sym found ∙ nothing_left c.fault_in_form.result c.in_default.not-Some
+
+pub step-requires-clause-fits : goal.step-requires-clause-fits
+step-requires-clause-fits c =
+    let i = c.self.inside in
+    let found = c.fault_in_form.ensures ∙ fault_found c.args.self.now _ i.version (texts_of i.names.entries) (not c.is_empty-started.result) (keys_of i.capacities.entries) (map (λ (w : Bor (List ℕ)). w.now) c.in_ok-words.words.items) (words_of c.args.text.now) (shown c.of_words-form.result)
+    c.self.view_is refl c.self.invariant.names (ap not c.is_empty-started.ensures ∙ ap (λ n. not (n == 0)) i.steps.ok.0 ∙ sym c.self.invariant.started) (sym c.self.invariant.ends)
+    c.in_ok-words.ensures (ap (λ (ws : List (Bor (List ℕ))). has_empty_word (map (λ w. w.now) ws)) (sym c.deref.ensures.value) ∙ sym c.has_empty_word.ensures ∙ c.if-has_empty_word.false)
+    (c.of_words-form.ensures ∙ ap (λ (ws : List (Bor (List ℕ))). form_of (texts_of i.names.entries) (map (λ w. w.now) ws)) c.deref-2.ensures.value) in
+    ap (λ bytes. fault_in_words (scope_of c.args.self.now) (words_of bytes)) c.in_ok-text.ensures.ok ∙ sym found ∙ nothing_left c.fault_in_form.result c.in_default.not-Some
