@@ -1,5 +1,5 @@
 -- What the steps of a history gave the names: each step that was performed and gives a name gave it a port.
-use Rattle.std.proofs.Common.{◌≡◌, ◌≢◌, ℕ, ◌+◌, ◌<◌, ◌≤◌, Bool, true, false, cond, eqb, ltb, [], ◌∷◌, ◌++◌, length, take, slice_get, Option, Some, None, MatchBool, IsTrue, IsSome, IfSome, ◌⊎◌, refl, sym, ap, subst, ◌∙◌, arith, inl, inr}
+use Rattle.std.proofs.Common.{◌≡◌, ◌≢◌, ℕ, ◌+◌, ◌<◌, ◌≤◌, Bool, true, false, cond, eqb, ltb, [], ◌∷◌, ◌++◌, length, take, slice_get, Option, Some, None, MatchBool, IsTrue, IsSome, IfSome, ◌⊎◌, refl, sym, ap, subst, ◌∙◌, arith, inl, inr, List}
 use Rattle.std.specs.Prelude.{⊤, not}
 use Rattle.std.specs.Option.{option_map, option_map_or, option_and_then}
 use Rattle.std.proofs.lemmas.Option.{same_Some, none-some}
@@ -32,17 +32,17 @@ use Rattle.cml_script.proofs.GivingLemmas.{giver, given_at, given_once, next_at,
 use Rattle.cml_script.proofs.LineLemmas.{called_seated}
 
 -- a call that asks for a port
-abbrev pub asks_port : Call ℕ → Bool
+abbrev pub asks_port : Call (List ℕ) → Bool
 asks_port (call.NewPort name) = true
 asks_port (call.CopyPort name) = true
 asks_port _ = false
 
-mapped : (f : ℕ → Call ℕ) (o : Option ℕ) (c : Call ℕ) (t : Bool) → ((n : ℕ) → asks_port (f n) ≡ t) → option_map f o ≡ Some c → asks_port c ≡ t
+mapped : (f : ℕ → Call (List ℕ)) (o : Option ℕ) (c : Call (List ℕ)) (t : Bool) → ((n : ℕ) → asks_port (f n) ≡ t) → option_map f o ≡ Some c → asks_port c ≡ t
 mapped f None c t all e = absurd (none-some c e)
 mapped f (Some n) c t all e = ap asks_port (sym (same_Some _ _ e)) ∙ all n
 
 -- the call of a step that gives a name asks for a port
-call_asks : (object : ℕ → Option ℕ) (a : Action) (c : Call ℕ) → call_of object a ≡ Some c → asks_port c ≡ gives_name a
+call_asks : (object : ℕ → Option ℕ) (a : Action) (c : Call (List ℕ)) → call_of object a ≡ Some c → asks_port c ≡ gives_name a
 call_asks object (action.Send at message) c e = mapped (λ o. call.Send (record { 0 = o }) message) (object at) c false (λ n. refl) e
 call_asks object (action.Multicast at message) c e = mapped (λ o. call.Cast (record { 0 = o }) message) (object at) c false (λ n. refl) e
 call_asks object (action.Recv at) c e = mapped (λ o. call.Recv (record { 0 = o })) (object at) c false (λ n. refl) e
@@ -57,7 +57,7 @@ call_asks object (action.Take at) c e = mapped (λ o. call.Take (record { 0 = o 
 call_asks object (action.TakePoll at) c e = mapped (λ o. call.TakePoll (record { 0 = o })) (object at) c false (λ n. refl) e
 call_asks object (action.Swap at message) c e = mapped (λ o. call.Swap (record { 0 = o }) message) (object at) c false (λ n. refl) e
 
-step_asks : (script : Lines) (before : History) (i : ℕ) (c : Call ℕ) (line : SourceLine) → AsksForPorts script → slice_get script.steps i ≡ Some line → step_call script before i ≡ Some c → is_giving line ≡ true → asks_port c ≡ true
+step_asks : (script : Lines) (before : History) (i : ℕ) (c : Call (List ℕ)) (line : SourceLine) → AsksForPorts script → slice_get script.steps i ≡ Some line → step_call script before i ≡ Some c → is_giving line ≡ true → asks_port c ≡ true
 step_asks script before i c line asks found calls gives =
     by_action (action_of (names_of script) line.words) refl
     (sym (ap (option_and_then (λ (l : SourceLine). option_and_then (call_of (object_of script before)) (action_of (names_of script) l.words))) found) ∙ calls)
@@ -83,12 +83,12 @@ port_origin (Some mvar) some is = absurd (false≢true is)
 port_origin (Some (port c s)) some is = (c, s, refl)
 
 -- the reply binds a port
-record Binds (before : History) (asked : Call ℕ) (r : Reply ℕ) : Type 0 where
+record Binds (before : History) (asked : Call (List ℕ)) (r : Reply (List ℕ)) : Type 0 where
   object : ℕ
   bound : port_bound (bound_by asked r) ≡ Some object
-  kind : (entry : Entry ℕ) → entry.call ≡ asked → entry.reply ≡ r → kind_of (entry ∷ before) object ≡ Some kind.Port
+  kind : (entry : Entry (List ℕ)) → entry.call ≡ asked → entry.reply ≡ r → kind_of (entry ∷ before) object ≡ Some kind.Port
 
-made_port : (before : History) (asked : Call ℕ) (c s : ℕ) → begun_by (made before) before asked ≡ port c s ∷ [] → Binds before asked (new_name before)
+made_port : (before : History) (asked : Call (List ℕ)) (c s : ℕ) → begun_by (made before) before asked ≡ port c s ∷ [] → Binds before asked (new_name before)
 made_port before asked c s begun = record {
   object = length (made before);
   bound = refl;
@@ -99,7 +99,7 @@ made_port before asked c s begun = record {
       ∙ ap (option_map kind_by) (slice_get_pushed (made before) (port c s) (length (made before)) refl);
 }
 
-binds : (before : History) (asked : Call ℕ) (r : Reply ℕ) → asks_port asked ≡ true → Fits before asked → answer before asked ≡ Some r → Binds before asked r
+binds : (before : History) (asked : Call (List ℕ)) (r : Reply (List ℕ)) → asks_port asked ≡ true → Fits before asked → answer before asked ≡ Some r → Binds before asked r
 binds before (call.NewPort name) r asks fits answers =
     subst (Binds before (call.NewPort name)) (same_Some _ _ answers) (made_port before (call.NewPort name) name.0 (length (sent before name.0)) refl)
 binds before (call.CopyPort name) r asks fits answers = by_open (is_open before name.0) answers
@@ -134,7 +134,7 @@ binds before (call.TakePoll name) r asks fits answers = absurd (false≢true ask
 binds before (call.Swap name message) r asks fits answers = absurd (false≢true asks)
 
 -- a call that asks for a port is given one
-abbrev pub GivesPort : Entry ℕ → Type 0
+abbrev pub GivesPort : Entry (List ℕ) → Type 0
 GivesPort entry = asks_port entry.call ≡ true → IsSome (port_bound (bound_by entry.call entry.reply))
 
 -- each entry is no thread's, or the next step of its thread
@@ -150,7 +150,7 @@ maker_is_none script k = by_test (option_map_or (is_feed script) (slice_get (obj
     by_test true = refl
     by_test false = refl
 
-pub lawful_gives : (before : History) (entry : Entry ℕ) → Fits before entry.call → answer before entry.call ≡ Some entry.reply → GivesPort entry
+pub lawful_gives : (before : History) (entry : Entry (List ℕ)) → Fits before entry.call → answer before entry.call ≡ Some entry.reply → GivesPort entry
 lawful_gives before entry fits answers = λ asks. subst IsSome (sym (binds before entry.call entry.reply asks fits answers).bound) refl
 
 pub script_steps : (script : Lines) (history : History) → IsOfScript script history → Lawful history → AreSteps script history
@@ -180,7 +180,7 @@ next_seat script before (Feed f) i e = absurd (none-some i e)
 
 module _ (script : Lines) (asks : AsksForPorts script) (seats : HasSeats script) where
   -- a step that gives a name asks for a port
-  next_asks : (before : History) (entry : Entry ℕ) (at : ℕ) → IsNextOfThread script before entry → giver script before entry.who ≡ Some at → asks_port entry.call ≡ true
+  next_asks : (before : History) (entry : Entry (List ℕ)) (at : ℕ) → IsNextOfThread script before entry → giver script before entry.who ≡ Some at → asks_port entry.call ≡ true
   next_asks before entry at n gives = by_line (slice_get script.steps n.step) refl
     where
       given : given_by script n.step ≡ Some at
@@ -196,11 +196,11 @@ module _ (script : Lines) (asks : AsksForPorts script) (seats : HasSeats script)
           absurd (none-some at (sym (ap (λ (l : Option SourceLine). cond (option_map_or is_giving l false) (Some (names_before script.declarations script.steps n.step)) None) e) ∙ given))
       by_line (Some line) e = by_gives line (is_giving line) e refl
 
-  other_gives_nothing : (before : History) (entry : Entry ℕ) → is_of_thread entry.who ≡ false → giver script before entry.who ≡ None
+  other_gives_nothing : (before : History) (entry : Entry (List ℕ)) → is_of_thread entry.who ≡ false → giver script before entry.who ≡ None
   other_gives_nothing before entry by = ap (option_and_then (given_by script)) (none_other script before seats entry.who by)
 
   -- one entry more
-  pub bound_more : (before : History) (entry : Entry ℕ) (at : ℕ) (g : Option ℕ) → giver script before entry.who ≡ g → binding_of script (entry ∷ before) at ≡ cond (option_map_or (λ n. eqb n at) g false) (bound_by entry.call entry.reply) (binding_of script before at)
+  pub bound_more : (before : History) (entry : Entry (List ℕ)) (at : ℕ) (g : Option ℕ) → giver script before entry.who ≡ g → binding_of script (entry ∷ before) at ≡ cond (option_map_or (λ n. eqb n at) g false) (bound_by entry.call entry.reply) (binding_of script before at)
   bound_more before entry at g e = ap (λ t. cond t (bound_by entry.call entry.reply) (binding_of script before at)) (gives_as script before entry.who at g e)
 
   -- a name that a step gave stands for a port
@@ -220,7 +220,7 @@ module _ (script : Lines) (asks : AsksForPorts script) (seats : HasSeats script)
       by_gives true e is earlier_one = now (gives_that script before entry.who at e) is
       by_gives false e is earlier_one = kind_kept entry before n kind.Port (earlier_one is)
 
-  gave_more : (before : History) (entry : Entry ℕ) (i seat : ℕ) (line : SourceLine) → (is_of_thread entry.who ≡ false) ⊎ (IsNextOfThread script before entry × GivesPort entry) → slice_get script.steps i ≡ Some line → is_called script seat line ≡ true → is_giving line ≡ true
+  gave_more : (before : History) (entry : Entry (List ℕ)) (i seat : ℕ) (line : SourceLine) → (is_of_thread entry.who ≡ false) ⊎ (IsNextOfThread script before entry × GivesPort entry) → slice_get script.steps i ≡ Some line → is_called script seat line ≡ true → is_giving line ≡ true
       → (earlier script seat i < performed before seat → IsSome (port_bound (binding_of script before (names_before script.declarations script.steps i)))) → earlier script seat i < performed (entry ∷ before) seat
       → IsSome (port_bound (binding_of script (entry ∷ before) (names_before script.declarations script.steps i)))
   gave_more before entry i seat line either found seated gives ih done = elim either [ inl first ↦ declared first | inr next ↦ stepped next.0 next.1 ]

@@ -17,12 +17,12 @@ use Rattle.cml_script.specs.Course.{may_wait}
 use Rattle.cml_script.proofs.ListLemmas.{mapped_at}
 use Rattle.cml_script.proofs.LineLemmas.{all_at}
 
-mapped_waits : (f : ℕ → Call ℕ) (o : Option ℕ) (t : Bool) (asked : Call ℕ) → ((n : ℕ) → waits (f n) ≡ t) → option_map f o ≡ Some asked → waits asked ≡ t
+mapped_waits : (f : ℕ → Call (List ℕ)) (o : Option ℕ) (t : Bool) (asked : Call (List ℕ)) → ((n : ℕ) → waits (f n) ≡ t) → option_map f o ≡ Some asked → waits asked ≡ t
 mapped_waits f None t asked so e = absurd (none-some asked e)
 mapped_waits f (Some n) t asked so e = ap waits (sym (same_Some _ _ e)) ∙ so n
 
 -- a call may wait where its step may
-action_waits : (object : ℕ → Option ℕ) (a : Action) (asked : Call ℕ) → call_of object a ≡ Some asked → waits asked ≡ may_wait a
+action_waits : (object : ℕ → Option ℕ) (a : Action) (asked : Call (List ℕ)) → call_of object a ≡ Some asked → waits asked ≡ may_wait a
 action_waits object (action.Send at message) asked e = mapped_waits (λ o. call.Send (record { 0 = o }) message) (object at) false asked (λ n. refl) e
 action_waits object (action.Multicast at message) asked e = mapped_waits (λ o. call.Cast (record { 0 = o }) message) (object at) false asked (λ n. refl) e
 action_waits object (action.Recv at) asked e = mapped_waits (λ o. call.Recv (record { 0 = o })) (object at) true asked (λ n. refl) e
@@ -37,7 +37,7 @@ action_waits object (action.Take at) asked e = mapped_waits (λ o. call.Take (re
 action_waits object (action.TakePoll at) asked e = mapped_waits (λ o. call.TakePoll (record { 0 = o })) (object at) false asked (λ n. refl) e
 action_waits object (action.Swap at message) asked e = mapped_waits (λ o. call.Swap (record { 0 = o }) message) (object at) true asked (λ n. refl) e
 
-pub step_waits : (script : Lines) (history : History) (items : List Step) (i : ℕ) (d : Step) (asked : Call ℕ) → map (λ x. source_of x.line) items ≡ script.steps → All (ReadsStep (names_of script)) items → i < length items → step_call script history i ≡ Some asked
+pub step_waits : (script : Lines) (history : History) (items : List Step) (i : ℕ) (d : Step) (asked : Call (List ℕ)) → map (λ x. source_of x.line) items ≡ script.steps → All (ReadsStep (names_of script)) items → i < length items → step_call script history i ≡ Some asked
     → waits asked ≡ may_wait (get_or items i d).action
 step_waits script history items i d asked lines reads within is =
     let s = get_or items i d in

@@ -73,18 +73,18 @@ next_port play channel (is_channel, within, o, object, next) =
     subst (IsNextObject play) (ap (λ n. call.NewPort (record { 0 = n })) same) next
 
 -- the call that makes this makes the next object
-next_making : (play : Play) (m : Makes) (asked : Call ℕ) → making play.script m ≡ Some asked → IsNext play m → IsNextObject play asked
+next_making : (play : Play) (m : Makes) (asked : Call (List ℕ)) → making play.script m ≡ Some asked → IsNext play m → IsNextObject play asked
 next_making play makes.Thread asked e next = absurd (none-some asked e)
 next_making play makes.Mailbox asked e next = subst (IsNextObject play) (same_Some _ _ e) next
 next_making play makes.Channel asked e next = subst (IsNextObject play) (same_Some _ _ e) next
 next_making play makes.IVar asked e next = subst (IsNextObject play) (same_Some _ _ e) next
 next_making play makes.MVar asked e next = subst (IsNextObject play) (same_Some _ _ e) next
-next_making play (makes.MVarInit message) asked e next = subst (IsNextObject play) (same_Some _ _ e) next.0
+next_making play (makes.MVarInit message) asked e next = subst (IsNextObject play) (same_Some _ _ e) next
 next_making play (makes.Port channel) asked e next = subst (IsNextObject play) (same_Some _ _ e) (next_port play channel next)
 next_making play (makes.Feed feed) asked e next = subst (IsNextObject play) (same_Some _ _ e) (next_port play feed.channel next)
 
 -- what it makes is an object, but for a thread
-made_one : (script : Lines) (m : Makes) (asked : Call ℕ) → making script m ≡ Some asked → makes_object m ≡ true
+made_one : (script : Lines) (m : Makes) (asked : Call (List ℕ)) → making script m ≡ Some asked → makes_object m ≡ true
 made_one script makes.Thread asked e = absurd (none-some asked e)
 made_one script makes.Mailbox asked e = refl
 made_one script makes.Channel asked e = refl
@@ -136,7 +136,7 @@ module _ (script : Lines) (known : IsKnown script) {i : ℕ} {made : Option Made
       ap (option_and_then (λ (l : SourceLine). option_and_then capacity_made (makes_of (names_of script) l.words))) at ∙ ap (option_and_then capacity_made) reads.makes ∙ ap capacity_made e
 
   -- an entry more, by who makes the next object
-  one_more : (asked : Call ℕ) (entry : Entry ℕ) (opened : List ℕ) (later : Option Made) → AreOpened script opened → length opened ≡ one_if (is_of_feed entry) + length so_far.opened → IsMadeWell (names_of script) i d.makes → making script d.makes ≡ Some asked → entry.call ≡ asked → entry.who ≡ by_feed (makes_feed d.makes) (how_many is_of_feed so_far.entries)
+  one_more : (asked : Call (List ℕ)) (entry : Entry (List ℕ)) (opened : List ℕ) (later : Option Made) → AreOpened script opened → length opened ≡ one_if (is_of_feed entry) + length so_far.opened → IsMadeWell (names_of script) i d.makes → making script d.makes ≡ Some asked → entry.call ≡ asked → entry.who ≡ by_feed (makes_feed d.makes) (how_many is_of_feed so_far.entries)
       → one_if (is_of_feed entry) ≡ one_if (makes_feed d.makes) → IfSome later (λ tells. tells ≡ record { seat = 0; entries = entry ∷ so_far.entries; opened = opened; apart = []; is_sending = false; refused = None }) → IsDeclaring script (i + 1) later
   one_more asked entry opened later so each well is called by feeds told = record {
     entries = entry ∷ so_far.entries;
@@ -167,17 +167,17 @@ module _ (script : Lines) (known : IsKnown script) {i : ℕ} {made : Option Made
   unfolding by_feed
   made_more later well has = by_makes d.makes refl has
     where
-      told_by : (entry : Entry ℕ) (opened : List ℕ) (adds : Made → Made) → adds (record { seat = 0; entries = so_far.entries; opened = so_far.opened; apart = []; is_sending = false; refused = None }) ≡ record { seat = 0; entries = entry ∷ so_far.entries; opened = opened; apart = []; is_sending = false; refused = None } → later ≡ option_map adds made → IfSome later (λ tells. tells ≡ record { seat = 0; entries = entry ∷ so_far.entries; opened = opened; apart = []; is_sending = false; refused = None })
+      told_by : (entry : Entry (List ℕ)) (opened : List ℕ) (adds : Made → Made) → adds (record { seat = 0; entries = so_far.entries; opened = so_far.opened; apart = []; is_sending = false; refused = None }) ≡ record { seat = 0; entries = entry ∷ so_far.entries; opened = opened; apart = []; is_sending = false; refused = None } → later ≡ option_map adds made → IfSome later (λ tells. tells ≡ record { seat = 0; entries = entry ∷ so_far.entries; opened = opened; apart = []; is_sending = false; refused = None })
       told_by entry opened adds one more = subst (λ (o : Option Made). IfSome o (λ tells. tells ≡ record { seat = 0; entries = entry ∷ so_far.entries; opened = opened; apart = []; is_sending = false; refused = None })) (sym more) (by_made made so_far.told)
         where
           by_made : (o : Option Made) → IfSome o (λ tells. tells ≡ record { seat = 0; entries = so_far.entries; opened = so_far.opened; apart = []; is_sending = false; refused = None }) → IfSome (option_map adds o) (λ tells. tells ≡ record { seat = 0; entries = entry ∷ so_far.entries; opened = opened; apart = []; is_sending = false; refused = None })
           by_made None told = tt
           by_made (Some tells) told = ap adds told ∙ one
 
-      called : (m : Makes) → d.makes ≡ m → makes_feed m ≡ false → (asked : Call ℕ) × (answered : Reply ℕ) × (making script m ≡ Some asked) × (later ≡ option_map (with_call asked answered) made) → IsDeclaring script (i + 1) later
+      called : (m : Makes) → d.makes ≡ m → makes_feed m ≡ false → (asked : Call (List ℕ)) × (answered : Reply (List ℕ)) × (making script m ≡ Some asked) × (later ≡ option_map (with_call asked answered) made) → IsDeclaring script (i + 1) later
       called m e unfed (asked, answered, is, more) =
           let plain : makes_feed d.makes ≡ false = ap makes_feed e ∙ unfed in
-          let entry : Entry ℕ = record { who = Seat 0; call = asked; reply = answered } in
+          let entry : Entry (List ℕ) = record { who = Seat 0; call = asked; reply = answered } in
           one_more asked entry so_far.opened later so_far.so (omega arith) well (ap (making script) e ∙ is) refl (sym (ap (λ t. by_feed t (how_many is_of_feed so_far.entries)) plain)) (sym (ap one_if plain))
           (told_by entry so_far.opened (with_call asked answered) refl more)
 
@@ -186,8 +186,8 @@ module _ (script : Lines) (known : IsKnown script) {i : ℕ} {made : Option Made
       by_makes (makes.Feed feed) e (port, more) =
           let is_feed_one : makes_feed d.makes ≡ true = ap makes_feed e in
           let channel : Name = record { 0 = number_of script feed.channel } in
-          let asked : Call ℕ = call.NewPort channel in
-          let entry : Entry ℕ = record { who = Feed (how_many is_of_feed so_far.entries); call = asked; reply = reply.Made port } in
+          let asked : Call (List ℕ) = call.NewPort channel in
+          let entry : Entry (List ℕ) = record { who = Feed (how_many is_of_feed so_far.entries); call = asked; reply = reply.Made port } in
           one_more asked entry (feed.capacity ∷ so_far.opened) later (capacity_is feed e, so_far.so) (omega arith) well (ap (making script) e) refl (sym (ap (λ t. by_feed t (how_many is_of_feed so_far.entries)) is_feed_one)) (sym (ap one_if is_feed_one))
           (told_by entry (feed.capacity ∷ so_far.opened) (with_feed channel feed.capacity port) refl more)
       by_makes makes.Mailbox e has = called makes.Mailbox e refl has

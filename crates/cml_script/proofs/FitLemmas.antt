@@ -67,11 +67,11 @@ module _ (names : List Given) (at : ℕ) where
   polled_object (inr (word, owner, found)) = (kind.Port, (word, called.Feed owner, found, refl))
 
 -- a call on an object of a kind that takes it
-pub fits_kind : (history : History) (name : Name) (k : Kind) (c : Call ℕ) → kind_of history name.0 ≡ Some k → object_in c ≡ Some name → takes k c ≡ true → Fits history c
+pub fits_kind : (history : History) (name : Name) (k : Kind) (c : Call (List ℕ)) → kind_of history name.0 ≡ Some k → object_in c ≡ Some name → takes k c ≡ true → Fits history c
 fits_kind history name k c is on taken = rw (on, is) (refl, taken)
 
 -- a receive or a poll on a mailbox or a port
-pub fits_receiver : (names : List Given) (at : ℕ) (history : History) (name : Name) (c : Call ℕ) → IsReceiverAt names at → ((k : Kind) → IsObjectAt names at k → kind_of history name.0 ≡ Some k)
+pub fits_receiver : (names : List Given) (at : ℕ) (history : History) (name : Name) (c : Call (List ℕ)) → IsReceiverAt names at → ((k : Kind) → IsObjectAt names at k → kind_of history name.0 ≡ Some k)
     → object_in c ≡ Some name → takes kind.Mailbox c ≡ true → takes kind.Port c ≡ true → Fits history c
 fits_receiver names at history name c (inl (word, found)) kinds on by_mailbox by_port =
     fits_kind history name kind.Mailbox c (kinds kind.Mailbox (word, called.Mailbox, found, refl)) on by_mailbox
@@ -79,7 +79,7 @@ fits_receiver names at history name c (inr (word, whose, found)) kinds on by_mai
     fits_kind history name kind.Port c (kinds kind.Port (word, called.Port whose, found, refl)) on by_port
 
 -- a put or a get on a variable
-pub fits_variable : (names : List Given) (at : ℕ) (history : History) (name : Name) (c : Call ℕ) → IsVariableAt names at → ((k : Kind) → IsObjectAt names at k → kind_of history name.0 ≡ Some k)
+pub fits_variable : (names : List Given) (at : ℕ) (history : History) (name : Name) (c : Call (List ℕ)) → IsVariableAt names at → ((k : Kind) → IsObjectAt names at k → kind_of history name.0 ≡ Some k)
     → object_in c ≡ Some name → takes kind.IVar c ≡ true → takes kind.MVar c ≡ true → Fits history c
 fits_variable names at history name c (inl (word, found)) kinds on by_ivar by_mvar =
     fits_kind history name kind.IVar c (kinds kind.IVar (word, called.IVar, found, refl)) on by_ivar
@@ -87,7 +87,7 @@ fits_variable names at history name c (inr (word, found)) kinds on by_ivar by_mv
     fits_kind history name kind.MVar c (kinds kind.MVar (word, called.MVar, found, refl)) on by_mvar
 
 -- the call of a step is what it was read as
-pub step_calls : (script : Lines) (history : History) (items : List Step) (i : ℕ) (s : Step) (c : Call ℕ) → map (λ x. source_of x.line) items ≡ script.steps → All (ReadsStep (names_of script)) items → slice_get items i ≡ Some s
+pub step_calls : (script : Lines) (history : History) (items : List Step) (i : ℕ) (s : Step) (c : Call (List ℕ)) → map (λ x. source_of x.line) items ≡ script.steps → All (ReadsStep (names_of script)) items → slice_get items i ≡ Some s
     → call_of (object_of script history) s.action ≡ Some c → step_call script history i ≡ Some c
 step_calls script history items i s c lines reads found calls =
     ap (option_and_then (λ line. option_and_then (call_of (object_of script history)) (action_of (names_of script) line.words))) (mapped_at (λ x. source_of x.line) items script.steps i s lines found)

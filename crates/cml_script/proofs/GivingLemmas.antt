@@ -73,7 +73,7 @@ module _ (script : Lines) where
 
   module _ (history : History) where
     -- the step that is ready is its thread's next
-    pub next_is : (seat i : ℕ) (asked : Call ℕ) → IsReady script history i seat asked → next_position script history (Seat seat) ≡ Some i
+    pub next_is : (seat i : ℕ) (asked : Call (List ℕ)) → IsReady script history i seat asked → next_position script history (Seat seat) ≡ Some i
     next_is seat i asked ready =
         ap (slice_get (positions_from script seat 0 script.steps)) (sym ready.next) ∙ position_of_step (is_called script seat) 0 script.steps i ready.line ready.found ready.seated ∙ ap Some (zero-add i)
 

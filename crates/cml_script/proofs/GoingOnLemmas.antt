@@ -1,5 +1,5 @@
 -- A script has a schedule, and where it ends stalled each thread with steps left waits.
-use Rattle.std.proofs.Common.{◌≡◌, ℕ, zero, suc, ◌+◌, ◌<◌, ◌≤◌, ◌⊎◌, [], ◌∷◌, length, slice_get, Option, Some, None, MatchOption, refl, sym, subst, ◌∙◌, arith, inl, inr}
+use Rattle.std.proofs.Common.{◌≡◌, ℕ, zero, suc, ◌+◌, ◌<◌, ◌≤◌, ◌⊎◌, [], ◌∷◌, length, slice_get, Option, Some, None, MatchOption, refl, sym, subst, ◌∙◌, arith, inl, inr, List}
 use Rattle.std.proofs.lemmas.Option.{same_Some, none-some}
 use Rattle.std.proofs.lemmas.Bool.{cases_lt}
 use Rattle.cml_board.specs.declared.call.Call.{Call}
@@ -26,7 +26,7 @@ use Rattle.cml_script.proofs.NextLemmas.{next_call, next_making, least_ready}
 
 -- one more entry comes next
 record GoesOn (script : Lines) (history : History) : Type 0 where
-  entry : Entry ℕ
+  entry : Entry (List ℕ)
   lawful : Lawful (entry ∷ history)
   follows : Follows script (entry ∷ history)
 
@@ -34,7 +34,7 @@ module _ (script : Lines) (read : CanBeRead script) (plain : first_ring script �
   declares : (history : History) → Lawful history → Follows script history → length history < declared_count script → GoesOn script history
   declares history lawful follows lt =
       let making = next_making script read plain history lawful follows lt in
-      let entry : Entry ℕ = record { who = Seat 0; call = making.asked; reply = new_name history } in
+      let entry : Entry (List ℕ) = record { who = Seat 0; call = making.asked; reply = new_name history } in
       record {
         entry = entry;
         lawful = (making.fits, making.answers, lawful);
@@ -49,10 +49,10 @@ module _ (script : Lines) (read : CanBeRead script) (plain : first_ring script �
           let c = next_call script read plain history lawful follows l.seat i all (next_is script history l.seat i l.asked l.ready) in
           subst (Fits history) (same_Some _ _ (sym c.calls ∙ l.ready.calls)) c.fits
 
-      by_answer : (r : Option (Reply ℕ)) → answer history l.asked ≡ r → GoesOn script history
+      by_answer : (r : Option (Reply (List ℕ))) → answer history l.asked ≡ r → GoesOn script history
       by_answer None e = absurd (l.ready.answered e)
       by_answer (Some r) e =
-          let entry : Entry ℕ = record { who = Seat l.seat; call = l.asked; reply = r } in
+          let entry : Entry (List ℕ) = record { who = Seat l.seat; call = l.asked; reply = r } in
           record {
             entry = entry;
             lawful = (fits, e, lawful);
@@ -110,7 +110,7 @@ module _ (script : Lines) (read : CanBeRead script) (plain : first_ring script �
         waits = by_answer next.0 c.asked (answer history c.asked) next.1 c.calls refl;
       }
     where
-      by_answer : (i : ℕ) (call : Call ℕ) (r : Option (Reply ℕ)) → slice_get (positions_from script seat 0 script.steps) (performed history seat) ≡ Some i → step_call script history i ≡ Some call → answer history call ≡ r → answer history call ≡ None
+      by_answer : (i : ℕ) (call : Call (List ℕ)) (r : Option (Reply (List ℕ))) → slice_get (positions_from script seat 0 script.steps) (performed history seat) ≡ Some i → step_call script history i ≡ Some call → answer history call ≡ r → answer history call ≡ None
       by_answer i call None next calls e = e
       by_answer i call (Some r) next calls e =
           let ready = ready_there script history seat i call next calls (λ none. none-some r (sym none ∙ e)) in

@@ -26,29 +26,29 @@ use Rattle.cml_script.specs.Schedule.{History, IsDeclaration, declared_count, ob
 use Rattle.cml_script.proofs.ListLemmas.{slice_get-append_left, slice_get_pushed, filter_at, counted_mono}
 
 -- what is made behind a list of objects, by a call that makes one
-pub record MakesOne (before : History) (entry : Entry ℕ) (k : Option Kind) : Type 0 where
+pub record MakesOne (before : History) (entry : Entry (List ℕ)) (k : Option Kind) : Type 0 where
   pub origin : Origin
   pub made : if_made entry.reply (begun_by (made before) before entry.call) ≡ origin ∷ []
   pub kind : Some (kind_by origin) ≡ k
 
-reply_is : (before : History) (entry : Entry ℕ) (c : Call ℕ) → c ≡ entry.call → answer before c ≡ Some (new_name before) → answer before entry.call ≡ Some entry.reply → new_name before ≡ entry.reply
+reply_is : (before : History) (entry : Entry (List ℕ)) (c : Call (List ℕ)) → c ≡ entry.call → answer before c ≡ Some (new_name before) → answer before entry.call ≡ Some entry.reply → new_name before ≡ entry.reply
 reply_is before entry c e new answers = same_Some _ _ (sym new ∙ ap (answer before) e ∙ answers)
 
-makes_begun : (before : History) (entry : Entry ℕ) (c : Call ℕ) (origin : Origin) → c ≡ entry.call → begun_by (made before) before c ≡ origin ∷ [] → new_name before ≡ entry.reply → MakesOne before entry (Some (kind_by origin))
+makes_begun : (before : History) (entry : Entry (List ℕ)) (c : Call (List ℕ)) (origin : Origin) → c ≡ entry.call → begun_by (made before) before c ≡ origin ∷ [] → new_name before ≡ entry.reply → MakesOne before entry (Some (kind_by origin))
 makes_begun before entry c origin e begun reply = record {
   origin = origin;
   made = ap (λ r. if_made r (begun_by (made before) before entry.call)) (sym reply) ∙ ap (begun_by (made before) before) (sym e) ∙ begun;
   kind = refl;
 }
 
-makes_port : (before : History) (entry : Entry ℕ) (source : Option ℕ) → option_map (λ n. call.NewPort (record { 0 = n })) source ≡ Some entry.call → answer before entry.call ≡ Some entry.reply → MakesOne before entry (Some kind.Port)
+makes_port : (before : History) (entry : Entry (List ℕ)) (source : Option ℕ) → option_map (λ n. call.NewPort (record { 0 = n })) source ≡ Some entry.call → answer before entry.call ≡ Some entry.reply → MakesOne before entry (Some kind.Port)
 makes_port before entry None none answers = absurd (none-some entry.call none)
 makes_port before entry (Some n) some answers =
     let same = same_Some _ _ some in
     makes_begun before entry (call.NewPort (record { 0 = n })) (port n (length (sent before n))) same refl (reply_is before entry (call.NewPort (record { 0 = n })) same refl answers)
 
 -- a declared object is of its kind
-makes_one : (before : History) (entry : Entry ℕ) (object : ℕ → Option ℕ) (m : Makes) → making_call object m ≡ Some entry.call → answer before entry.call ≡ Some entry.reply → MakesOne before entry (kind_made m)
+makes_one : (before : History) (entry : Entry (List ℕ)) (object : ℕ → Option ℕ) (m : Makes) → making_call object m ≡ Some entry.call → answer before entry.call ≡ Some entry.reply → MakesOne before entry (kind_made m)
 makes_one before entry object makes.Thread e answers = absurd (none-some entry.call e)
 makes_one before entry object makes.Mailbox e answers =
     let same = same_Some _ _ e in makes_begun before entry call.NewMailbox mailbox same refl (reply_is before entry call.NewMailbox same refl answers)
@@ -63,7 +63,7 @@ makes_one before entry object (makes.MVarInit message) e answers =
 makes_one before entry object (makes.Port source) e answers = makes_port before entry (object source) e answers
 makes_one before entry object (makes.Feed feed) e answers = makes_port before entry (object feed.channel) e answers
 
-declared_one : (script : Lines) (before : History) (entry : Entry ℕ) (line : Option SourceLine) → option_and_then (call_in script before) line ≡ Some entry.call → answer before entry.call ≡ Some entry.reply
+declared_one : (script : Lines) (before : History) (entry : Entry (List ℕ)) (line : Option SourceLine) → option_and_then (call_in script before) line ≡ Some entry.call → answer before entry.call ≡ Some entry.reply
     → MakesOne before entry (option_and_then (kind_declared script) line)
 declared_one script before entry None e answers = absurd (none-some entry.call e)
 declared_one script before entry (Some line) e answers = by_makes (makes_of (names_of script) line.words) e
@@ -81,11 +81,11 @@ pub record MakesDeclared (script : Lines) (history : History) : Type 0 where
   pub each : (k : ℕ) → k < length history → k < declared_count script → kind_of history k ≡ kind_at script k
 
 -- an object that was made stays of its kind
-kind_kept : (before : History) (entry : Entry ℕ) (k : ℕ) → k < length (made before) → kind_of (entry ∷ before) k ≡ kind_of before k
+kind_kept : (before : History) (entry : Entry (List ℕ)) (k : ℕ) → k < length (made before) → kind_of (entry ∷ before) k ≡ kind_of before k
 kind_kept before entry k lt =
     ap (option_map kind_by) (slice_get-append_left (made before) (if_made entry.reply (begun_by (made before) before entry.call)) k lt)
 
-declared_next : (script : Lines) (before : History) (entry : Entry ℕ) → length before < declared_count script → IsDeclaration script before entry → answer before entry.call ≡ Some entry.reply → MakesDeclared script before → MakesDeclared script (entry ∷ before)
+declared_next : (script : Lines) (before : History) (entry : Entry (List ℕ)) → length before < declared_count script → IsDeclaration script before entry → answer before entry.call ≡ Some entry.reply → MakesDeclared script before → MakesDeclared script (entry ∷ before)
 declared_next script before entry within declares answers m =
     let one = declared_one script before entry (slice_get (objects_of script) (length before)) declares.makes answers in
     let all : length (made before) ≡ length before = m.short (omega arith) in
@@ -101,7 +101,7 @@ declared_next script before entry within declares answers m =
       ];
     }
 
-kept_next : (script : Lines) (before : History) (entry : Entry ℕ) → declared_count script ≤ length before → declared_count script ≤ length (made before) → MakesDeclared script before → MakesDeclared script (entry ∷ before)
+kept_next : (script : Lines) (before : History) (entry : Entry (List ℕ)) → declared_count script ≤ length before → declared_count script ≤ length (made before) → MakesDeclared script before → MakesDeclared script (entry ∷ before)
 kept_next script before entry declared many m = record {
   short = λ le. absurd (omega (arith, le));
   each = λ k lt low. kind_kept before entry k (omega arith) ∙ m.each k (omega arith) low;
@@ -193,7 +193,7 @@ next_object play names i d made found reads uses = by_makes d.makes refl uses
     line : SourceLine
     line = source_of d.line
 
-    next : (m : Makes) (c : Call ℕ) → d.makes ≡ m → makes_object m ≡ true → making_call (declared_object play.script play.history) m ≡ Some c → IsNextObject play c
+    next : (m : Makes) (c : Call (List ℕ)) → d.makes ≡ m → makes_object m ≡ true → making_call (declared_object play.script play.history) m ≡ Some c → IsNextObject play c
     next m c e object making =
         let makes : makes_of (names_of play.script) line.words ≡ Some m = reads.makes ∙ ap Some e in
         let is : is_object play.script line ≡ true = ap (λ o. option_map_or makes_object o false) makes ∙ object in
@@ -222,6 +222,6 @@ next_object play names i d made found reads uses = by_makes d.makes refl uses
     by_makes makes.Channel e uses = next makes.Channel call.NewChannel e refl refl
     by_makes makes.IVar e uses = next makes.IVar call.NewIVar e refl refl
     by_makes makes.MVar e uses = next makes.MVar call.NewMVar e refl refl
-    by_makes (makes.MVarInit message) e small = (next (makes.MVarInit message) (call.MVarInit message) e refl refl, small)
+    by_makes (makes.MVarInit message) e small = next (makes.MVarInit message) (call.MVarInit message) e refl refl
     by_makes (makes.Port source) e (is_channel, earlier) = port_next source (makes.Port source) e refl refl is_channel earlier
     by_makes (makes.Feed feed) e (is_channel, earlier, seat, capacity) = port_next feed.channel (makes.Feed feed) e refl refl is_channel earlier

@@ -45,13 +45,13 @@ known script read = record {
 
 -- the call of a step is there, and fits
 pub record IsCall (script : Lines) (history : History) (i : ℕ) : Type 0 where
-  pub asked : Call ℕ
+  pub asked : Call (List ℕ)
   pub calls : step_call script history i ≡ Some asked
   pub fits : Fits history asked
 
 -- the call that makes the next declared object is there, fits, and makes it
 pub record IsMaking (play : Play) : Type 0 where
-  pub asked : Call ℕ
+  pub asked : Call (List ℕ)
   pub next : IsNextObject play asked
   pub fits : Fits play.history asked
   pub answers : answer play.history asked ≡ Some (new_name play.history)
@@ -118,7 +118,7 @@ module _ (script : Lines) (read : CanBeRead script) (plain : first_ring script �
   candidate : declared_count script ≤ length history → (seat : ℕ) → Candidate script history seat
   candidate all seat = by_next (next_position script history (Seat seat)) refl
     where
-      by_answer : (i : ℕ) (c : Call ℕ) (r : Option (Reply ℕ)) → next_position script history (Seat seat) ≡ Some i → step_call script history i ≡ Some c → answer history c ≡ r → Candidate script history seat
+      by_answer : (i : ℕ) (c : Call (List ℕ)) (r : Option (Reply (List ℕ))) → next_position script history (Seat seat) ≡ Some i → step_call script history i ≡ Some c → answer history c ≡ r → Candidate script history seat
       by_answer i c None next calls e = (None, waits_there script history seat i c next calls e)
       by_answer i c (Some r) next calls e = (Some i, ready_there script history seat i c next calls (λ none. none-some r (sym none ∙ e)))
 
@@ -168,6 +168,6 @@ module _ (script : Lines) (read : CanBeRead script) (plain : first_ring script �
       by_makes makes.Channel is next = record { asked = call.NewChannel; next = next; fits = (tt, tt); answers = refl }
       by_makes makes.IVar is next = record { asked = call.NewIVar; next = next; fits = (tt, tt); answers = refl }
       by_makes makes.MVar is next = record { asked = call.NewMVar; next = next; fits = (tt, tt); answers = refl }
-      by_makes (makes.MVarInit message) is next = record { asked = call.MVarInit message; next = next.0; fits = (tt, tt); answers = refl }
+      by_makes (makes.MVarInit message) is next = record { asked = call.MVarInit message; next = next; fits = (tt, tt); answers = refl }
       by_makes (makes.Port channel) is next = by_port channel next
       by_makes (makes.Feed feed) is next = by_port feed.channel next

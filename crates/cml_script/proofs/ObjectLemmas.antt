@@ -1,9 +1,9 @@
 -- Who makes the declared objects, where they are declared, and to which lanes lead.
-use Rattle.std.proofs.Common.{◌≡◌, ℕ, zero, suc, ◌+◌, ◌<◌, ◌≤◌, ◌||◌, Bool, true, false, cond, eqb, List, [], ◌∷◌, ◌++◌, length, take, filter, slice_get, slice_set, replicate, Option, Some, refl, sym, ap, ◌∙◌, arith, inl, inr, one-add, zero-add}
+use Rattle.std.proofs.Common.{◌≡◌, ℕ, zero, suc, ◌+◌, ◌<◌, ◌≤◌, ◌||◌, Bool, true, false, cond, eqb, List, [], ◌∷◌, ◌++◌, length, take, filter, slice_get, slice_set, Option, Some, refl, sym, ap, ◌∙◌, arith, inl, inr, one-add, zero-add}
 use Rattle.std.specs.Option.{option_map_or}
 use Rattle.std.specs.List.{list_any}
 use Rattle.std.proofs.lemmas.Option.{same_Some, slice_get_within}
-use Rattle.std.proofs.lemmas.List.{length_push, length-set, length-replicate, length-take-le, append-nil}
+use Rattle.std.proofs.lemmas.List.{length_push, length-set, length-take-le, append-nil}
 use Rattle.std.proofs.lemmas.Bool.{cases_lt, cases_eq, eq-eqb, ne_eqb, true≢false}
 use Rattle.cml_board.specs.declared.call.Kind.{Kind}
 use Rattle.cml_board.specs.declared.call.Kind.TheVariants as kind
@@ -159,14 +159,6 @@ module _ (script : Lines) where
   pub record AreLaidSoFar (i : ℕ) (laid : List Bool) : Type 0 where
     pub all : length laid ≡ declared_count script
     pub each : (k : ℕ) → option_map_or (λ t. t) (slice_get laid k) false ≡ list_any (leads_to script k) (take i script.lanes)
-
-  pub laid_none : (n : ℕ) → n ≡ declared_count script → AreLaidSoFar 0 (replicate n false)
-  laid_none n all = record { all = length-replicate n false ∙ all; each = λ k. none_set n k }
-    where
-      none_set : (n k : ℕ) → option_map_or (λ t. t) (slice_get (replicate n false) k) false ≡ false
-      none_set zero k = refl
-      none_set (suc n) zero = refl
-      none_set (suc n) (suc k) = none_set n k
 
   pub laid_more : (i : ℕ) (laid : List Bool) (line : SourceLine) (object : ℕ) → slice_get script.lanes i ≡ Some line → object < declared_count script → ((k : ℕ) → leads_to script k line ≡ eqb object k) → AreLaidSoFar i laid → AreLaidSoFar (i + 1) (slice_set laid object true)
   laid_more i laid line object found lt leads so_far = record {

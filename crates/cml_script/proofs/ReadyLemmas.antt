@@ -1,5 +1,5 @@
 -- Which steps are ready, thread by thread.
-use Rattle.std.proofs.Common.{◌≡◌, ◌≢◌, ℕ, ◌+◌, ◌<◌, ◌≤◌, min, length, take, slice_get, Option, Some, None, MatchOption, sym, ap, subst, ◌∙◌, arith, inl, inr}
+use Rattle.std.proofs.Common.{◌≡◌, ◌≢◌, ℕ, ◌+◌, ◌<◌, ◌≤◌, min, length, take, slice_get, Option, Some, None, MatchOption, sym, ap, subst, ◌∙◌, arith, inl, inr, List}
 use Rattle.std.proofs.lemmas.Option.{same_Some, none-some, slice_get_within}
 use Rattle.std.proofs.lemmas.Bool.{cases_lt}
 use Rattle.cml_board.specs.declared.call.Call.{Call}
@@ -14,7 +14,7 @@ use Rattle.cml_script.proofs.QueueLemmas.{position_is, position_of_step}
 
 module _ (script : Lines) (history : History) where
   -- what stands in a thread's queue behind the steps that it performed is its next step, and the only one that may be ready
-  pub ready_is : (seat i j : ℕ) (asked : Call ℕ) → slice_get (positions_from script seat 0 script.steps) (performed history seat) ≡ Some i → IsReady script history j seat asked → j ≡ i
+  pub ready_is : (seat i j : ℕ) (asked : Call (List ℕ)) → slice_get (positions_from script seat 0 script.steps) (performed history seat) ≡ Some i → IsReady script history j seat asked → j ≡ i
   ready_is seat i j asked at ready =
       let there = position_of_step (is_called script seat) 0 script.steps j ready.line ready.found ready.seated in
       let same : Some (0 + j) ≡ Some i = sym there ∙ ap (slice_get (positions_from script seat 0 script.steps)) ready.next ∙ at in
@@ -30,13 +30,13 @@ module _ (script : Lines) (history : History) where
       let s = position_is (is_called script seat) 0 script.steps (performed history seat) i at in
       omega (arith, slice_get_within script.steps s.place s.line s.found, s.at)
 
-  pub waits_there : (seat i : ℕ) (call : Call ℕ) → slice_get (positions_from script seat 0 script.steps) (performed history seat) ≡ Some i → step_call script history i ≡ Some call → answer history call ≡ None → NoneReadyOf script history seat
+  pub waits_there : (seat i : ℕ) (call : Call (List ℕ)) → slice_get (positions_from script seat 0 script.steps) (performed history seat) ≡ Some i → step_call script history i ≡ Some call → answer history call ≡ None → NoneReadyOf script history seat
   waits_there seat i call at calls waits j asked ready =
       let same = ready_is seat i j asked at ready in
       let one : asked ≡ call = same_Some asked call (sym ready.calls ∙ ap (step_call script history) same ∙ calls) in
       ready.answered (ap (answer history) one ∙ waits)
 
-  pub ready_there : (seat i : ℕ) (call : Call ℕ) → slice_get (positions_from script seat 0 script.steps) (performed history seat) ≡ Some i → step_call script history i ≡ Some call → answer history call ≢ None → IsReadyOf script history seat i
+  pub ready_there : (seat i : ℕ) (call : Call (List ℕ)) → slice_get (positions_from script seat 0 script.steps) (performed history seat) ≡ Some i → step_call script history i ≡ Some call → answer history call ≢ None → IsReadyOf script history seat i
   ready_there seat i call at calls answers =
       let s = position_is (is_called script seat) 0 script.steps (performed history seat) i at in
       let here : s.place ≡ i = omega (arith, s.at) in (
@@ -51,20 +51,20 @@ module _ (script : Lines) (history : History) where
         },
       )
 
-  none_before : HasSeats script → (seat i : ℕ) (asked : Call ℕ) → seat ≤ 0 → IsReady script history i seat asked → ⊥
+  none_before : HasSeats script → (seat i : ℕ) (asked : Call (List ℕ)) → seat ≤ 0 → IsReady script history i seat asked → ⊥
   none_before seats seat i asked le ready = absurd (omega (arith, (seats i ready.line seat ready.found (called_seated script seat ready.line ready.seated)).0))
 
   pub least_at_first : HasSeats script → IsLeastBelow script history 0 None
   least_at_first seats = λ seat i asked le ready. none_before seats seat i asked le ready
 
   -- one thread has one step at most that is ready
-  same_step : (seat j other : ℕ) (asked call : Call ℕ) → IsReady script history j seat asked → IsReady script history other seat call → other ≡ j
+  same_step : (seat j other : ℕ) (asked call : Call (List ℕ)) → IsReady script history j seat asked → IsReady script history other seat call → other ≡ j
   same_step seat j other asked call one two =
       let there = position_of_step (is_called script seat) 0 script.steps j one.line one.found one.seated in
       let here : 0 + j ≡ j = omega arith in
       ready_is seat j other call (ap (slice_get (positions_from script seat 0 script.steps)) (sym one.next) ∙ there ∙ ap Some here) two
 
-  at_thread : (thread seat i : ℕ) (asked : Call ℕ) → seat ≤ thread + 1 → thread + 1 ≤ seat → IsReady script history i seat asked → IsReady script history i (thread + 1) asked
+  at_thread : (thread seat i : ℕ) (asked : Call (List ℕ)) → seat ≤ thread + 1 → thread + 1 ≤ seat → IsReady script history i seat asked → IsReady script history i (thread + 1) asked
   at_thread thread seat i asked low high ready =
       let same : seat ≡ thread + 1 = omega arith in subst (λ s. IsReady script history i s asked) same ready
 

@@ -1,14 +1,15 @@
 -- A script with a lane or a feed is not replayed.
-use Rattle.std.proofs.Common.{◌≡◌, ℕ, List, Option, Some, Result, Ok, Err, inl, inr, refl, sym, subst, arith}
+use Rattle.std.proofs.Common.{◌≡◌, ℕ, List, Option, Some, None, Result, Ok, Err, inl, inr, refl, sym, subst, arith}
 use Rattle.std.specs.Prelude.{IfOk, IfErr, string_bytes}
+use Rattle.std.specs.Io.KnownBytes.{Keeps}
 use Rattle.cml_grammar.specs.declared.fault.What.TheVariants.{NeedsRun}
 use Rattle.cml_grammar.specs.Faults.{at_line}
 use Rattle.cml_grammar.specs.Rings.{first_ring}
 use Rattle.cml_grammar.specs.Script.{Lines, IsScript}
 use Rattle.cml_script.specs.declared.stop.Stop.{Stop}
 use Rattle.cml_script.specs.Play.{IsPlayed}
-use Rattle.cml_script.specs.Replay.{IsRead, IsForRun, IsPlayedOf, EndsUnplayed}
-use Rattle.cml_script.specs.Running.{EndsUntold, IsReportOf, IsRunOf, IsRefused, IsUnsettled}
+use Rattle.cml_script.specs.Replay.{IsRead, IsForRun, IsPlayedOf, EndsUnplayed, Replays}
+use Rattle.cml_script.specs.Running.{EndsUntold, IsReportOf, IsRunOf, IsUnsettled}
 use Rattle.cml_script.specs.Schedule.{History}
 use Rattle.cml_script.specs.Report.{Tallied}
 use Rattle.cml_script.specs.declared.perform.Played.{Played}
@@ -40,6 +41,22 @@ played_of limit old new text script stop report read says played = record {
 pub unplayed : (old new : Option (List ℕ)) (text : List ℕ) (script : Lines) (line : ℕ) (ended : Ending) → IsRead old new text → IsScript text script → Some line ≡ first_ring script → ended ≡ ending.Fault (at_line line NeedsRun) → EndsUnplayed old new ended
 unplayed old new text script line ended read says first is = subst (EndsUnplayed old new) (sym is) (inr (for_run old new text script line read says first))
 
+pub kept : (held : Option (List ℕ)) → Keeps held held
+kept None = tt
+kept (Some bytes) = refl
+
+-- where nothing was played nothing is written
+pub replays_unplayed : (limit : ℕ) (old new held holds : Option (List ℕ)) (ended : Ending) → Keeps held holds → EndsUnplayed old new ended → Replays limit old new held holds ended
+replays_unplayed limit old new held holds (ending.Fault fault) keeps why = (why, keeps)
+replays_unplayed limit old new held holds ending.ReadFault keeps why = keeps
+replays_unplayed limit old new held holds ending.NoMemory keeps why = keeps
+replays_unplayed limit old new held holds ending.Done keeps why = absurd why
+replays_unplayed limit old new held holds ending.Stalled keeps why = absurd why
+replays_unplayed limit old new held holds ending.Full keeps why = absurd why
+replays_unplayed limit old new held holds ending.WriteFault keeps why = absurd why
+replays_unplayed limit old new held holds (ending.NotLawful at) keeps why = absurd why
+replays_unplayed limit old new held holds ending.Held keeps why = absurd why
+
 -- What a run tells.
 
 pub run_of : (limit : ℕ) (old new : Option (List ℕ)) (text : List ℕ) (script : Lines) (history : History) (tally : Tallied) (stop : Stop) (r : Result Played Ending) → IsRead old new text → IsScript text script
@@ -55,22 +72,6 @@ run_of limit old new text script history tally stop (Ok p) read says stops told 
   tally = tally;
   told = subst (λ s. IsReportOf script limit history tally s (string_bytes p.report)) (sym stops) told;
 }
-
--- what is not reported is told as an unsettled switchboard is
-pub refused_unsettled : (script : Lines) (limit : ℕ) (history : History) (tally : Tallied) (stop : Stop) (r : Result Played Ending) → IfErr r (λ ended. IsRefused script limit history tally stop ended) → IfErr r IsUnsettled
-refused_unsettled script limit history tally stop (Ok p) refused = tt
-refused_unsettled script limit history tally stop (Err ended) refused = by_ending ended refused
-  where
-    by_ending : (e : Ending) → IsRefused script limit history tally stop e → IsUnsettled e
-    by_ending ending.NoMemory refused = tt
-    by_ending (ending.NotLawful at) refused = tt
-    by_ending (ending.Fault fault) refused = absurd refused
-    by_ending ending.ReadFault refused = absurd refused
-    by_ending ending.WriteFault refused = absurd refused
-    by_ending ending.Done refused = absurd refused
-    by_ending ending.Stalled refused = absurd refused
-    by_ending ending.Full refused = absurd refused
-    by_ending ending.Held refused = absurd refused
 
 unsettled_ends : (old new : Option (List ℕ)) (ended : Ending) → IsUnsettled ended → EndsUntold old new ended
 unsettled_ends old new ending.NoMemory unsettled = tt

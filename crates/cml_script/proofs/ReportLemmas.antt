@@ -3,7 +3,7 @@ use Rattle.std.proofs.Common.{◌≡◌, ℕ, zero, suc, ◌+◌, ◌<◌, ◌�
 use Rattle.std.specs.Prelude.{map, string_bytes}
 use Rattle.std.specs.Option.{option_map_or, option_and_then}
 use Rattle.std.proofs.lemmas.Option.{same_Some, none-some, slice_get_past, slice_get_within}
-use Rattle.std.proofs.lemmas.List.{append_assoc, append-nil, drop_all}
+use Rattle.std.proofs.lemmas.List.{append_assoc}
 use Rattle.std.proofs.lemmas.List.Splits.{join_with_byte-slice_split}
 use Rattle.std.proofs.lemmas.Bool.{le-ltb, lt-ltb, cases_lt}
 use Rattle.cml_board.specs.declared.entry.Entry.{Entry}
@@ -46,12 +46,12 @@ module _ (script : Lines) where
       ∙ join_with_byte-slice_split 32 (string_bytes s.line.text)
 
   -- one more entry behind the declared objects, and one that makes such an object
-  pub line_more : (before : History) (entry : Entry ℕ) → declared_count script ≤ length before → entry_lines script (entry ∷ before) ≡ entry_lines script before ++ entry_line script before entry
+  pub line_more : (before : History) (entry : Entry (List ℕ)) → declared_count script ≤ length before → entry_lines script (entry ∷ before) ≡ entry_lines script before ++ entry_line script before entry
   line_more before entry ge =
       let test : ltb (length before) (declared_count script) ≡ false = le-ltb _ _ ge in
       rw test refl
 
-  pub no_line : (before : History) (entry : Entry ℕ) → length before < declared_count script → entry_lines script (entry ∷ before) ≡ entry_lines script before
+  pub no_line : (before : History) (entry : Entry (List ℕ)) → length before < declared_count script → entry_lines script (entry ∷ before) ≡ entry_lines script before
   no_line before entry lt =
       let test : ltb (length before) (declared_count script) ≡ true = lt-ltb _ _ lt in
       rw test refl
@@ -63,19 +63,15 @@ module _ (script : Lines) where
       ∙ ap (λ n. written ++ (object_line script history tally at given ++ object_lines_from script history tally n (drop (at + 1) names))) (add-one at)
       ∙ ap (λ l. written ++ object_lines_from script history tally at l) (sym (dropped names at given found))
 
-  pub object_lines_end : (history : History) (tally : Tallied) (names : List Given) (at : ℕ) (written : List ℕ) → length names ≤ at → written ++ object_lines_from script history tally at (drop at names) ≡ written
-  object_lines_end history tally names at written all =
-      ap (λ l. written ++ object_lines_from script history tally at l) (drop_all at names all) ∙ append-nil written
-
 -- what a trail tells behind so many entries
-module _ (p : Progress) (script : Lines) (journal : List (Entry ℕ)) (k : ℕ) (s : p.script ≡ script) (j : p.journal ≡ journal) (f : p.followed ≡ k) where
+module _ (p : Progress) (script : Lines) (journal : List (Entry (List ℕ))) (k : ℕ) (s : p.script ≡ script) (j : p.journal ≡ journal) (f : p.followed ≡ k) where
   pub begun_at : declared_count p.script ≤ length (history_of p) → declared_count script ≤ length (before journal k)
   begun_at ge = rw (sym s, sym j, sym f) ge
 
   pub not_begun_at : (declared_count p.script ≤ length (history_of p) → ⊥) → length (before journal k) < declared_count script
   not_begun_at never = elim (cases_lt (length (before journal k)) (declared_count script)) [ inl lt ↦ lt | inr ge ↦ absurd (never (rw (s, j, f) ge)) ]
 
-  pub entry_at : (entry : Entry ℕ) → entry_line p.script (history_of p) entry ≡ entry_line script (before journal k) entry
+  pub entry_at : (entry : Entry (List ℕ)) → entry_line p.script (history_of p) entry ≡ entry_line script (before journal k) entry
   entry_at entry = rw (s, j, f) refl
 
 -- the name of a declaration

@@ -22,11 +22,11 @@ use Rattle.cml_script.specs.Laws.{SchedulesAreOne}
 use Rattle.cml_script.proofs.LineLemmas.{called_seated}
 use Rattle.cml_script.proofs.GivingLemmas.{next_is}
 
-entry_equal : (e f : Entry ℕ) → e.who ≡ f.who → e.call ≡ f.call → e.reply ≡ f.reply → e ≡ f
+entry_equal : (e f : Entry (List ℕ)) → e.who ≡ f.who → e.call ≡ f.call → e.reply ≡ f.reply → e ≡ f
 entry_equal e f who asked replied =
-    ap (λ (w : Who). let made : Entry ℕ = record { who = w; call = e.call; reply = e.reply } in made) who
-    ∙ ap (λ (c : Call ℕ). let made : Entry ℕ = record { who = f.who; call = c; reply = e.reply } in made) asked
-    ∙ ap (λ (r : Reply ℕ). let made : Entry ℕ = record { who = f.who; call = f.call; reply = r } in made) replied
+    ap (λ (w : Who). let made : Entry (List ℕ) = record { who = w; call = e.call; reply = e.reply } in made) who
+    ∙ ap (λ (c : Call (List ℕ)). let made : Entry (List ℕ) = record { who = f.who; call = c; reply = e.reply } in made) asked
+    ∙ ap (λ (r : Reply (List ℕ)). let made : Entry (List ℕ) = record { who = f.who; call = f.call; reply = r } in made) replied
 
 all_other : (xs : List ℕ) (j : ℕ) → ((q : ℕ) → list_any (eqb q) xs ≡ true → eqb j q ≡ false) → AllByRecursion (λ y. eqb j y ≡ false) xs
 all_other [] j other = tt
@@ -45,10 +45,10 @@ with_step false None rest = rest
 with_step false (Some i) rest = i ∷ rest
 
 module _ (script : Lines) where
-  pub declares : (before : History) (entry : Entry ℕ) → Follows script (entry ∷ before) → length before < declared_count script → IsDeclaration script before entry
+  pub declares : (before : History) (entry : Entry (List ℕ)) → Follows script (entry ∷ before) → length before < declared_count script → IsDeclaration script before entry
   declares before entry follows lt = subst (λ t. MatchBool t (IsDeclaration script before entry) (IsStep script before entry)) (lt-ltb (length before) (declared_count script) lt) follows.0
 
-  pub steps : (before : History) (entry : Entry ℕ) → Follows script (entry ∷ before) → declared_count script ≤ length before → IsStep script before entry
+  pub steps : (before : History) (entry : Entry (List ℕ)) → Follows script (entry ∷ before) → declared_count script ≤ length before → IsStep script before entry
   steps before entry follows ge = subst (λ t. MatchBool t (IsDeclaration script before entry) (IsStep script before entry)) (le-ltb (length before) (declared_count script) ge) follows.0
 
   -- a line is one thread's
@@ -65,12 +65,12 @@ module _ (script : Lines) where
   steps_of [] = []
   steps_of (entry ∷ before) = with_step (ltb (length before) (declared_count script)) (next_position script before entry.who) (steps_of before)
 
-  declared_steps : (before : History) (entry : Entry ℕ) → length before < declared_count script → steps_of (entry ∷ before) ≡ steps_of before
+  declared_steps : (before : History) (entry : Entry (List ℕ)) → length before < declared_count script → steps_of (entry ∷ before) ≡ steps_of before
   unfolding with_step
   declared_steps before entry lt =
       ap (λ t. with_step t (next_position script before entry.who) (steps_of before)) (lt-ltb (length before) (declared_count script) lt)
 
-  more_steps : (before : History) (entry : Entry ℕ) → declared_count script ≤ length before → (s : IsStep script before entry) → steps_of (entry ∷ before) ≡ s.step ∷ steps_of before
+  more_steps : (before : History) (entry : Entry (List ℕ)) → declared_count script ≤ length before → (s : IsStep script before entry) → steps_of (entry ∷ before) ≡ s.step ∷ steps_of before
   unfolding with_step
   more_steps before entry ge s =
       let next : next_position script before entry.who ≡ Some s.step = ap (next_position script before) s.by ∙ next_is script before s.seat s.step entry.call s.ready in
@@ -85,7 +85,7 @@ module _ (script : Lines) where
     seated : is_called script seat line ≡ true
     behind : earlier script seat i < performed history seat
 
-  later : (before : History) (entry : Entry ℕ) (i : ℕ) → IsPast before i → IsPast (entry ∷ before) i
+  later : (before : History) (entry : Entry (List ℕ)) (i : ℕ) → IsPast before i → IsPast (entry ∷ before) i
   later before entry i past = record {
     seat = past.seat;
     line = past.line;
@@ -94,10 +94,10 @@ module _ (script : Lines) where
     behind = omega (arith, past.behind);
   }
 
-  performed_one : (before : History) (entry : Entry ℕ) (seat : ℕ) → entry.who ≡ Seat seat → performed (entry ∷ before) seat ≡ performed before seat + 1
+  performed_one : (before : History) (entry : Entry (List ℕ)) (seat : ℕ) → entry.who ≡ Seat seat → performed (entry ∷ before) seat ≡ performed before seat + 1
   performed_one before entry seat by = ap (λ w. one_if (is_seat seat w) + performed before seat) by ∙ ap (λ t. one_if t + performed before seat) (eq-eqb seat seat refl) ∙ omega arith
 
-  this_past : (before : History) (entry : Entry ℕ) (s : IsStep script before entry) → IsPast (entry ∷ before) s.step
+  this_past : (before : History) (entry : Entry (List ℕ)) (s : IsStep script before entry) → IsPast (entry ∷ before) s.step
   this_past before entry s = record {
     seat = s.seat;
     line = s.ready.line;
@@ -115,7 +115,7 @@ module _ (script : Lines) where
         by_first before entry q s (are_past before follows.1 q) (eqb q s.step) refl (ap (list_any (eqb q)) (sym (more_steps before entry ge s)) ∙ there)
   ]
     where
-      by_first : (before : History) (entry : Entry ℕ) (q : ℕ) (s : IsStep script before entry) → (list_any (eqb q) (steps_of before) ≡ true → IsPast before q) → (t : Bool) → eqb q s.step ≡ t → (t || list_any (eqb q) (steps_of before)) ≡ true → IsPast (entry ∷ before) q
+      by_first : (before : History) (entry : Entry (List ℕ)) (q : ℕ) (s : IsStep script before entry) → (list_any (eqb q) (steps_of before) ≡ true → IsPast before q) → (t : Bool) → eqb q s.step ≡ t → (t || list_any (eqb q) (steps_of before)) ≡ true → IsPast (entry ∷ before) q
       by_first before entry q s earlier_ones true e there = subst (IsPast (entry ∷ before)) (sym (eqb-true q s.step e)) (this_past before entry s)
       by_first before entry q s earlier_ones false e there = later before entry q (earlier_ones there)
 
@@ -130,7 +130,7 @@ module _ (script : Lines) where
         subst (IsDistinct eqb) (sym (more_steps before entry ge s)) (IsDistinct-cons eqb s.step (steps_of before) (all_other (steps_of before) s.step (λ q there. ne_eqb s.step q (λ same. new_step before entry s q (are_past before follows.1 q there) same))) (distinct before follows.1))
   ]
     where
-      new_step : (before : History) (entry : Entry ℕ) (s : IsStep script before entry) (q : ℕ) → IsPast before q → s.step ≡ q → ⊥
+      new_step : (before : History) (entry : Entry (List ℕ)) (s : IsStep script before entry) (q : ℕ) → IsPast before q → s.step ≡ q → ⊥
       new_step before entry s q past same =
           let line : s.ready.line ≡ past.line = same_Some _ _ (sym s.ready.found ∙ ap (slice_get script.steps) same ∙ past.found) in
           let seat : s.seat ≡ past.seat = one_seat s.ready.line past.line s.seat past.seat line (called_seated script s.seat s.ready.line s.ready.seated) (called_seated script past.seat past.line past.seated) in
@@ -155,7 +155,7 @@ module _ (script : Lines) where
       )
 
   -- where a history ends no entry comes next
-  ended : (limit : ℕ) (history : History) (stop : Stop) (entry : Entry ℕ) → Ends script limit history stop → Follows script (entry ∷ history) → length history < limit → ⊥
+  ended : (limit : ℕ) (history : History) (stop : Stop) (entry : Entry (List ℕ)) → Ends script limit history stop → Follows script (entry ∷ history) → length history < limit → ⊥
   ended limit history Full entry (full, rest) follows room = absurd (omega (arith, full, room))
   ended limit history Held entry ends follows room = absurd ends
   ended limit history Stalled entry (room, declared, rest, none) follows within =
@@ -165,7 +165,7 @@ module _ (script : Lines) where
 
   -- One entry at most comes next.
 
-  one_entry : (before : History) (e f : Entry ℕ) → Follows script (e ∷ before) → Follows script (f ∷ before) → answer before e.call ≡ Some e.reply → answer before f.call ≡ Some f.reply → e ≡ f
+  one_entry : (before : History) (e f : Entry (List ℕ)) → Follows script (e ∷ before) → Follows script (f ∷ before) → answer before e.call ≡ Some e.reply → answer before f.call ≡ Some f.reply → e ≡ f
   one_entry before e f first second answered told = elim (cases_lt (length before) (declared_count script)) [
     | inl lt ↦
         let a = declares before e first lt in

@@ -32,7 +32,7 @@ no_lane None capacity e = cc
 no_lane (Some feed) capacity e = cc
 
 -- what goes by a lane is a send or a multicast
-lane_action : (script : Lines) (seat : Option ℕ) (a : Action) (capacity : ℕ) → route_of script seat a ≡ route.Lane capacity → ((at m : ℕ) → a ≡ action.Send at m → ⊥) → ((at m : ℕ) → a ≡ action.Multicast at m → ⊥) → ⊥
+lane_action : (script : Lines) (seat : Option ℕ) (a : Action) (capacity : ℕ) → route_of script seat a ≡ route.Lane capacity → ((at : ℕ) (m : List ℕ) → a ≡ action.Send at m → ⊥) → ((at : ℕ) (m : List ℕ) → a ≡ action.Multicast at m → ⊥) → ⊥
 lane_action script seat (action.Send at message) capacity e no_send no_multicast = no_send at message refl
 lane_action script seat (action.Multicast at message) capacity e no_send no_multicast = no_multicast at message refl
 lane_action script seat (action.Poll at) capacity e no_send no_multicast = no_lane (feed_at script at) capacity e
@@ -48,7 +48,7 @@ lane_action script seat (action.TakePoll at) capacity e no_send no_multicast = c
 lane_action script seat (action.Swap at message) capacity e no_send no_multicast = cc
 
 pub lane_sends : (script : Lines) (items : List Step) (i capacity : ℕ) (d : Step) → map (λ x. source_of x.line) items ≡ script.steps → All (ReadsStep (names_of script)) items → i < length items → route_at script i ≡ route.Lane capacity
-    → ((at m : ℕ) → (get_or items i d).action ≡ action.Send at m → ⊥) → ((at m : ℕ) → (get_or items i d).action ≡ action.Multicast at m → ⊥) → ⊥
+    → ((at : ℕ) (m : List ℕ) → (get_or items i d).action ≡ action.Send at m → ⊥) → ((at : ℕ) (m : List ℕ) → (get_or items i d).action ≡ action.Multicast at m → ⊥) → ⊥
 lane_sends script items i capacity d lines reads within goes =
     let found = slice_get-get_or items i d within in
     lane_action script (seat_of_step (names_of script) (source_of (get_or items i d).line).words) (get_or items i d).action capacity (sym (step_route script items i (get_or items i d) lines reads found) ∙ goes)
@@ -79,12 +79,12 @@ declared_name script known at k is other = elim (cases_lt at (length script.decl
   | inr ge ↦ absurd (other (given_port script [] known at k ge is))
 ]
 
-pub target_of_send : (script : Lines) (known : IsKnown script) (items : List Step) (i at m : ℕ) (d : Step) → All (ReadsStep (names_of script)) items → i < length items → (get_or items i d).action ≡ action.Send at m → at < length script.declarations
+pub target_of_send : (script : Lines) (known : IsKnown script) (items : List Step) (i at : ℕ) (m : List ℕ) (d : Step) → All (ReadsStep (names_of script)) items → i < length items → (get_or items i d).action ≡ action.Send at m → at < length script.declarations
 target_of_send script known items i at m d reads within e =
     let uses : UsesWell (names_of script) (action.Send at m) = subst (UsesWell (names_of script)) e (all_at (ReadsStep (names_of script)) items i (get_or items i d) reads (slice_get-get_or items i d within)).uses in
     declared_name script known at kind.Mailbox (uses.0.0, called.Mailbox, uses.0.1, refl) (λ (e : Some kind.Port ≡ Some kind.Mailbox). cc)
 
-pub target_of_multicast : (script : Lines) (known : IsKnown script) (items : List Step) (i at m : ℕ) (d : Step) → All (ReadsStep (names_of script)) items → i < length items → (get_or items i d).action ≡ action.Multicast at m → at < length script.declarations
+pub target_of_multicast : (script : Lines) (known : IsKnown script) (items : List Step) (i at : ℕ) (m : List ℕ) (d : Step) → All (ReadsStep (names_of script)) items → i < length items → (get_or items i d).action ≡ action.Multicast at m → at < length script.declarations
 target_of_multicast script known items i at m d reads within e =
     let uses : UsesWell (names_of script) (action.Multicast at m) = subst (UsesWell (names_of script)) e (all_at (ReadsStep (names_of script)) items i (get_or items i d) reads (slice_get-get_or items i d within)).uses in
     declared_name script known at kind.Channel (uses.0.0, called.Channel, uses.0.1, refl) (λ (e : Some kind.Port ≡ Some kind.Channel). cc)

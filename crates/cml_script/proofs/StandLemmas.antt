@@ -97,9 +97,6 @@ module _ (script : Lines) (history : History) (named : NamesObjects script) wher
       )
 
 module _ {play : Play} {counts : List ℕ} {bindings : List Binding} (stands : Stands play counts bindings) where
-  pub binding_is : (at : ℕ) (b : Binding) → at < length (names_of play.script) → b ≡ get_or bindings at b → b ≡ binding_of play.script play.history at
-  binding_is at b = binding_at play.script play.history bindings at b stands.bound
-
   pub count_is : (thread n : ℕ) → thread < 64 → n ≡ get_or counts thread n → n ≡ performed play.history (thread + 1)
   count_is thread n = count_at play.history counts thread n stands.counted
 
@@ -108,10 +105,10 @@ module _ {play : Play} {counts : List ℕ} {bindings : List Binding} (stands : S
 
 -- counts
 
-performed_by : (seat : ℕ) (entry : Entry ℕ) (history : History) (by : ℕ) → entry.who ≡ Seat by → performed (entry ∷ history) seat ≡ one_if (eqb by seat) + performed history seat
+performed_by : (seat : ℕ) (entry : Entry (List ℕ)) (history : History) (by : ℕ) → entry.who ≡ Seat by → performed (entry ∷ history) seat ≡ one_if (eqb by seat) + performed history seat
 performed_by seat entry history by e = ap (λ w. one_if (is_seat seat w) + performed history seat) e
 
-pub counts_declared : (history : History) (entry : Entry ℕ) (counts : List ℕ) → entry.who ≡ Seat 0 → AreCounts history counts → AreCounts (entry ∷ history) counts
+pub counts_declared : (history : History) (entry : Entry (List ℕ)) (counts : List ℕ) → entry.who ≡ Seat 0 → AreCounts history counts → AreCounts (entry ∷ history) counts
 counts_declared history entry counts e c = record {
   seats = c.seats;
   each = λ thread lt.
@@ -119,7 +116,7 @@ counts_declared history entry counts e c = record {
       c.each thread lt ∙ ap Some (sym (performed_by (thread + 1) entry history 0 e ∙ ap (λ t. one_if t + performed history (thread + 1)) other ∙ omega arith));
 }
 
-pub counts_performed : (history : History) (entry : Entry ℕ) (counts : List ℕ) (at n : ℕ) → entry.who ≡ Seat (at + 1) → at < 64 → n ≡ performed history (at + 1) → AreCounts history counts → AreCounts (entry ∷ history) (slice_set counts at (n + 1))
+pub counts_performed : (history : History) (entry : Entry (List ℕ)) (counts : List ℕ) (at n : ℕ) → entry.who ≡ Seat (at + 1) → at < 64 → n ≡ performed history (at + 1) → AreCounts history counts → AreCounts (entry ∷ history) (slice_set counts at (n + 1))
 counts_performed history entry counts at n e lt same c = record {
   seats = length-set counts at (n + 1) ∙ c.seats;
   each = λ thread within. elim (cases_eq thread at) [
@@ -136,16 +133,16 @@ counts_performed history entry counts at n e lt same c = record {
 
 -- one more entry
 
-pub follows_declaration : (script : Lines) (before : History) (entry : Entry ℕ) → length before < declared_count script → IsDeclaration script before entry → Follows script before → Follows script (entry ∷ before)
+pub follows_declaration : (script : Lines) (before : History) (entry : Entry (List ℕ)) → length before < declared_count script → IsDeclaration script before entry → Follows script before → Follows script (entry ∷ before)
 follows_declaration script before entry lt declares follows =
     (subst (λ t. MatchBool t (IsDeclaration script before entry) (IsStep script before entry)) (sym (lt-ltb (length before) (declared_count script) lt)) declares, follows)
 
-pub follows_step : (script : Lines) (before : History) (entry : Entry ℕ) → declared_count script ≤ length before → IsStep script before entry → Follows script before → Follows script (entry ∷ before)
+pub follows_step : (script : Lines) (before : History) (entry : Entry (List ℕ)) → declared_count script ≤ length before → IsStep script before entry → Follows script before → Follows script (entry ∷ before)
 follows_step script before entry ge step follows =
     (subst (λ t. MatchBool t (IsDeclaration script before entry) (IsStep script before entry)) (sym (le-ltb (length before) (declared_count script) ge)) step, follows)
 
 -- a name that was given something, and all others as they were
-pub bindings_more : (script : Lines) (before : History) (entry : Entry ℕ) (bindings : List Binding) (g : Option ℕ) → AsksForPorts script → HasSeats script → giver script before entry.who ≡ g → AreBindings script before bindings → AreBindings script (entry ∷ before) (with_binding bindings g (bound_by entry.call entry.reply))
+pub bindings_more : (script : Lines) (before : History) (entry : Entry (List ℕ)) (bindings : List Binding) (g : Option ℕ) → AsksForPorts script → HasSeats script → giver script before entry.who ≡ g → AreBindings script before bindings → AreBindings script (entry ∷ before) (with_binding bindings g (bound_by entry.call entry.reply))
 bindings_more script before entry bindings None asks seats e b = record {
   all = b.all;
   each = λ at lt. b.each at lt ∙ ap Some (sym (bound_more script asks seats before entry at None e));
@@ -166,7 +163,7 @@ bindings_more script before entry bindings (Some n) asks seats e b = record {
   ];
 }
 
-pub stands_more : (play new : Play) (counts later : List ℕ) (bindings : List Binding) (g : Option ℕ) (entry : Entry ℕ) → new ≡ with_entry play entry → Stands play counts bindings → Fits play.history entry.call → length play.history < play.limit → answer play.history entry.call ≡ Some entry.reply → Follows play.script (entry ∷ play.history) → AreCounts (entry ∷ play.history) later → giver play.script play.history entry.who ≡ g → Stands new later (with_binding bindings g (bound_by entry.call entry.reply))
+pub stands_more : (play new : Play) (counts later : List ℕ) (bindings : List Binding) (g : Option ℕ) (entry : Entry (List ℕ)) → new ≡ with_entry play entry → Stands play counts bindings → Fits play.history entry.call → length play.history < play.limit → answer play.history entry.call ≡ Some entry.reply → Follows play.script (entry ∷ play.history) → AreCounts (entry ∷ play.history) later → giver play.script play.history entry.who ≡ g → Stands new later (with_binding bindings g (bound_by entry.call entry.reply))
 stands_more play new counts later bindings g entry e s fits room answers follows counted gives = subst (λ r. Stands r later (with_binding bindings g (bound_by entry.call entry.reply))) (sym e) (record {
   lawful = (fits, answers, s.lawful);
   room = room;
@@ -178,14 +175,14 @@ stands_more play new counts later bindings g entry e s fits room answers follows
   bound = bindings_more play.script play.history entry bindings g s.known.asks s.known.seats gives s.bound;
 })
 
-pub new_play : (script : Lines) (history later : History) (limit same : ℕ) (entry : Entry ℕ) → later ≡ entry ∷ history → same ≡ limit → ◌≡◌ {A = Play} (record { script = script; history = later; limit = same }) (with_entry (record { script = script; history = history; limit = limit }) entry)
+pub new_play : (script : Lines) (history later : History) (limit same : ℕ) (entry : Entry (List ℕ)) → later ≡ entry ∷ history → same ≡ limit → ◌≡◌ {A = Play} (record { script = script; history = later; limit = same }) (with_entry (record { script = script; history = history; limit = limit }) entry)
 new_play script history later limit same entry h l = rw (h, l) refl
 
 -- a declared object was made
-pub stands_declared : (p old : Play) (counts : List ℕ) (bindings : List Binding) (later : History) (same : ℕ) (asked : Call ℕ) (r : Reply ℕ) → p ≡ old → Stands p counts bindings → IsNextObject old asked
+pub stands_declared : (p old : Play) (counts : List ℕ) (bindings : List Binding) (later : History) (same : ℕ) (asked : Call (List ℕ)) (r : Reply (List ℕ)) → p ≡ old → Stands p counts bindings → IsNextObject old asked
     → later ≡ (record { who = Seat 0; call = asked; reply = r }) ∷ p.history → same ≡ p.limit → Fits p.history asked → length p.history < p.limit → answer p.history asked ≡ Some r → Stands (record { script = p.script; history = later; limit = same }) counts bindings
 stands_declared p old counts bindings later same asked r view s next grown kept fits room answers =
-    let entry : Entry ℕ = record { who = Seat 0; call = asked; reply = r } in
+    let entry : Entry (List ℕ) = record { who = Seat 0; call = asked; reply = r } in
     let here = subst (λ (q : Play). IsNextObject q asked) (sym view) next in
     stands_more p (record { script = p.script; history = later; limit = same }) counts counts bindings None entry (new_play p.script p.history later p.limit same entry grown kept) s fits room answers
     (follows_declaration p.script p.history entry here.left (record {
@@ -195,7 +192,7 @@ stands_declared p old counts bindings later same asked r view s next grown kept 
     (counts_declared p.history entry counts refl s.counted)
     (ap (option_and_then (given_by p.script)) (none_first p.script p.history s.known.seats))
 
-pub step_of : (script : Lines) (before : History) (entry : Entry ℕ) (i : ℕ) → IsStepAt script before entry i → IsStep script before entry
+pub step_of : (script : Lines) (before : History) (entry : Entry (List ℕ)) (i : ℕ) → IsStepAt script before entry i → IsStep script before entry
 step_of script before entry i s = record {
   step = i;
   seat = s.least.seat;
@@ -218,14 +215,14 @@ pub seat_high : (script : Lines) (items : List Step) (i : ℕ) (s : Step) → Al
 seat_high script items i s reads found few =
     let read = all_at (ReadsStep (names_of script)) items i s reads found in omega (arith, read.seated.1, few)
 
-pub step_at : (script : Lines) (history : History) (i : ℕ) (seat : ℕ) (asked : Call ℕ) (reply : Reply ℕ) (l : IsLeast script history i) → seat ≡ l.seat → step_call script history i ≡ Some asked → IsStepAt script history (record { who = Seat seat; call = asked; reply = reply }) i
+pub step_at : (script : Lines) (history : History) (i : ℕ) (seat : ℕ) (asked : Call (List ℕ)) (reply : Reply (List ℕ)) (l : IsLeast script history i) → seat ≡ l.seat → step_call script history i ≡ Some asked → IsStepAt script history (record { who = Seat seat; call = asked; reply = reply }) i
 step_at script history i seat asked reply l same calls = record {
   least = l;
   who = ap Seat same;
   call = same_Some _ _ (sym calls ∙ l.ready.calls);
 }
 
-pub stands_performed : (p new : Play) (counts : List ℕ) (bindings : List Binding) (entry : Entry ℕ) (i seat n : ℕ) (g : Option ℕ) → Stands p counts bindings → new ≡ with_entry p entry → Fits p.history entry.call → length p.history < p.limit → answer p.history entry.call ≡ Some entry.reply → declared_count p.script ≤ length p.history → IsStepAt p.script p.history entry i → entry.who ≡ Seat seat → 1 ≤ seat → seat ≤ 64 → n ≡ get_or counts (seat - 1) n → g ≡ given_by p.script i → Stands new (slice_set counts (seat - 1) (n + 1)) (with_binding bindings g (bound_by entry.call entry.reply))
+pub stands_performed : (p new : Play) (counts : List ℕ) (bindings : List Binding) (entry : Entry (List ℕ)) (i seat n : ℕ) (g : Option ℕ) → Stands p counts bindings → new ≡ with_entry p entry → Fits p.history entry.call → length p.history < p.limit → answer p.history entry.call ≡ Some entry.reply → declared_count p.script ≤ length p.history → IsStepAt p.script p.history entry i → entry.who ≡ Seat seat → 1 ≤ seat → seat ≤ 64 → n ≡ get_or counts (seat - 1) n → g ≡ given_by p.script i → Stands new (slice_set counts (seat - 1) (n + 1)) (with_binding bindings g (bound_by entry.call entry.reply))
 stands_performed p new counts bindings entry i seat n g s e fits room answers declared step who low high read given =
     let here : seat - 1 + 1 ≡ seat = omega (arith, low) in
     let lt : seat - 1 < 64 = omega (arith, low, high) in
@@ -241,13 +238,13 @@ count_fits p counts bindings seat n s low high read room =
     omega (arith, count_is s (seat - 1) n lt read, performed_small s (seat - 1 + 1), room, s.bounded)
 
 -- the step that is performed, as it was read
-pub record IsPerformed (p : Play) (i : ℕ) (s : Step) (asked : Call ℕ) : Type 0 where
+pub record IsPerformed (p : Play) (i : ℕ) (s : Step) (asked : Call (List ℕ)) : Type 0 where
   pub low : 1 ≤ s.seat
   pub high : s.seat ≤ 64
   pub declared : declared_count p.script ≤ length p.history
-  pub step : (reply : Reply ℕ) → IsStepAt p.script p.history (record { who = Seat s.seat; call = asked; reply = reply }) i
+  pub step : (reply : Reply (List ℕ)) → IsStepAt p.script p.history (record { who = Seat s.seat; call = asked; reply = reply }) i
 
-pub is_performed : (p old : Play) (items : List Step) (i : ℕ) (d : Step) (asked : Call ℕ) → p ≡ old → map (λ x. source_of x.line) items ≡ p.script.steps → All (ReadsStep (names_of p.script)) items → thread_count (names_of p.script) ≤ 64 → IsLeast old.script old.history i → declared_count old.script ≤ length old.history → step_call old.script old.history i ≡ Some asked → IsPerformed p i (get_or items i d) asked
+pub is_performed : (p old : Play) (items : List Step) (i : ℕ) (d : Step) (asked : Call (List ℕ)) → p ≡ old → map (λ x. source_of x.line) items ≡ p.script.steps → All (ReadsStep (names_of p.script)) items → thread_count (names_of p.script) ≤ 64 → IsLeast old.script old.history i → declared_count old.script ≤ length old.history → step_call old.script old.history i ≡ Some asked → IsPerformed p i (get_or items i d) asked
 is_performed p old items i d asked view lines reads few ready declared calls =
     let l = subst (λ (r : Play). IsLeast r.script r.history i) (sym view) ready in
     let within : i < length items = omega (arith, slice_get_within p.script.steps i l.ready.line l.ready.found, ap length lines, length-map items (λ (x : Step). source_of x.line)) in
@@ -261,7 +258,7 @@ is_performed p old items i d asked view lines reads few ready declared calls =
           (subst (λ (r : Play). step_call r.script r.history i ≡ Some asked) (sym view) calls);
     }
 
-pub performs : (p old new : Play) (i : ℕ) (s : Step) (asked : Call ℕ) (reply : Reply ℕ) → p ≡ old → new ≡ with_entry p (record { who = Seat s.seat; call = asked; reply = reply }) → IsPerformed p i s asked → (entry : Entry ℕ) × (new ≡ with_entry old entry) × IsStepAt old.script old.history entry i
+pub performs : (p old new : Play) (i : ℕ) (s : Step) (asked : Call (List ℕ)) (reply : Reply (List ℕ)) → p ≡ old → new ≡ with_entry p (record { who = Seat s.seat; call = asked; reply = reply }) → IsPerformed p i s asked → (entry : Entry (List ℕ)) × (new ≡ with_entry old entry) × IsStepAt old.script old.history entry i
 performs p old new i s asked reply view e performed = (
   record { who = Seat s.seat; call = asked; reply = reply },
   e ∙ ap (λ (r : Play). with_entry r (record { who = Seat s.seat; call = asked; reply = reply })) view,

@@ -1,25 +1,23 @@
 -- What a trail keeps of a journal, and how it goes on behind one more entry.
-use Rattle.std.proofs.Common.{◌≡◌, ℕ, ◌+◌, ◌-◌, ◌<◌, ◌≤◌, Bool, true, false, cond, List, [], ◌∷◌, ◌++◌, length, take, map, filter, slice_get, Option, Some, None, MatchBool, IfSome, refl, sym, ap, subst, ◌∙◌, arith, inl, inr}
+use Rattle.std.proofs.Common.{◌≡◌, ℕ, ◌+◌, ◌-◌, ◌<◌, ◌≤◌, Bool, true, false, cond, List, ◌∷◌, length, take, map, slice_get, Option, Some, None, MatchBool, IfSome, refl, sym, ap, subst, ◌∙◌, arith, inl, inr}
 use Rattle.std.specs.Prelude.{All}
 use Rattle.std.specs.Option.{option_map, option_map_or, option_and_then}
-use Rattle.std.proofs.lemmas.Option.{same_Some, none-some, slice_get-map, slice_get_within}
-use Rattle.std.proofs.lemmas.List.{length-map, map-append, append-nil}
-use Rattle.std.proofs.lemmas.List.Elements.{All-push, filter-append}
+use Rattle.std.proofs.lemmas.Option.{none-some, slice_get_within}
+use Rattle.std.proofs.lemmas.List.{length-map}
 use Rattle.std.proofs.lemmas.Bool.{le-ltb, lt-ltb, cases_lt, false≢true}
 use Rattle.cml_board.specs.declared.entry.Who.{Who}
 use Rattle.cml_board.specs.declared.entry.Who.TheVariants.{Seat, Lane, Feed}
 use Rattle.cml_board.specs.declared.entry.Entry.{Entry}
 use Rattle.cml_board.specs.declared.call.Name.{Name}
 use Rattle.cml_grammar.specs.declared.forms.Action.{Action}
-use Rattle.cml_grammar.specs.declared.forms.Makes.{Makes}
-use Rattle.cml_grammar.specs.declared.forms.Makes.TheVariants as makes
+use Rattle.cml_grammar.specs.declared.script.Declaration.{Declaration}
 use Rattle.cml_grammar.specs.declared.script.Step.{Step}
 use Rattle.cml_grammar.specs.Script.{SourceLine, Lines}
-use Rattle.cml_grammar.specs.Meaning.{names_of, makes_of, action_of}
+use Rattle.cml_grammar.specs.Meaning.{names_of, action_of}
 use Rattle.cml_grammar.specs.Giving.{NamesAreGiven}
-use Rattle.cml_grammar.specs.Reading.{source_of, IsMadeWell, ReadsStep, used_by}
+use Rattle.cml_grammar.specs.Reading.{source_of, ReadsDeclaration, ReadsStep, used_by}
 use Rattle.cml_board.specs.Positions.{before}
-use Rattle.cml_script.specs.Audit.{IsOwn, IsOfCaller, IsNextOfThread, IsOfFeed, sent_to}
+use Rattle.cml_script.specs.Audit.{IsOwn, IsOfCaller, IsOfFeed}
 use Rattle.cml_board.specs.declared.call.Call.{Call}
 use Rattle.cml_board.specs.declared.call.Call.TheVariants as call
 use Rattle.cml_script.specs.Counting.{how_many}
@@ -29,15 +27,15 @@ use Rattle.cml_script.specs.Schedule.{History, IsDeclaration, objects_of, declar
 use Rattle.cml_script.specs.Plan.{HasSeats}
 use Rattle.cml_script.specs.Bindings.{AreBindings, with_binding}
 use Rattle.cml_script.specs.Stage.{AreCounts, call_on}
-use Rattle.cml_script.specs.Makes.{AreMakes, IsMadeOfDeclared}
 use Rattle.cml_script.specs.Trail.{Progress, history_of, with_next, IsFollowed, IsNoThread, CountsOneMore, next_given, next_call}
 use Rattle.cml_script.proofs.ListLemmas.{mapped_at, counted_mono}
-use Rattle.cml_script.proofs.KindLemmas.{length_filter, counted_below}
+use Rattle.cml_script.proofs.KindLemmas.{counted_below}
 use Rattle.cml_script.proofs.QueueLemmas.{position_is, positions_count}
 use Rattle.cml_script.proofs.StandLemmas.{given_within, bindings_more}
 use Rattle.cml_script.proofs.LineLemmas.{all_at, called_seated, feed_object, stands}
 use Rattle.cml_script.proofs.ObjectLemmas.{maker_is, counted_filter}
 use Rattle.cml_script.proofs.FitLemmas.{call_is}
+use Rattle.cml_script.proofs.ReportLemmas.{placed_line, placed_within}
 use Rattle.cml_script.proofs.JournalLemmas.{before_more}
 
 pub followed_at : {p q : Progress} {kept : Objects} {counts : List ℕ} {bindings : List Binding} → p ≡ q → IsFollowed p kept counts bindings → IsFollowed q kept counts bindings
@@ -45,53 +43,20 @@ followed_at {kept = kept} {counts = counts} {bindings = bindings} e f = subst (�
 
 -- What the declarations make.
 
-module _ (script : Lines) where
-  abbrev pub meant : SourceLine → Option Makes
-  meant line = makes_of (names_of script) line.words
+module _ (script : Lines) (places : List ℕ) (placed : places ≡ positions_where (is_object script) 0 script.declarations) where
+  pub places_length : length places ≡ declared_count script
+  places_length = ap length placed ∙ positions_count (is_object script) 0 script.declarations
 
-  pub declares_of_declared : (i : ℕ) (m : Makes) → i < length script.declarations → IsMadeWell (names_of script) i m → IsMadeOfDeclared script m
-  declares_of_declared i (makes.Port channel) within well = omega (arith, well.1)
-  declares_of_declared i (makes.Feed feed) within well = omega (arith, well.1)
-  declares_of_declared i makes.Thread within well = tt
-  declares_of_declared i makes.Mailbox within well = tt
-  declares_of_declared i makes.Channel within well = tt
-  declares_of_declared i makes.IVar within well = tt
-  declares_of_declared i makes.MVar within well = tt
-  declares_of_declared i (makes.MVarInit message) within well = tt
-
-  -- one declaration more
-  pub makes_kept : (lines : List SourceLine) (list : List Makes) (line : SourceLine) → is_object script line ≡ false → AreMakes script lines list → AreMakes script (lines ++ line ∷ []) list
-  makes_kept lines list line is made = record {
-    each = made.each
-        ∙ ap (map meant) (sym (filter-append (is_object script) lines (line ∷ []) ∙ ap (λ t. filter (is_object script) lines ++ cond t (line ∷ []) []) is ∙ append-nil (filter (is_object script) lines)));
-    declared = made.declared;
-  }
-
-  pub makes_added : (lines : List SourceLine) (list : List Makes) (line : SourceLine) (m : Makes) → is_object script line ≡ true → meant line ≡ Some m → IsMadeOfDeclared script m → AreMakes script lines list → AreMakes script (lines ++ line ∷ []) (list ++ m ∷ [])
-  makes_added lines list line m is means declared made = record {
-    each = map-append (λ (x : Makes). Some x) list (m ∷ []) ∙ ap (λ l. l ++ Some m ∷ []) made.each ∙ ap (λ o. map meant (filter (is_object script) lines) ++ o ∷ []) (sym means)
-        ∙ sym (map-append meant (filter (is_object script) lines) (line ∷ []))
-        ∙ ap (map meant) (sym (filter-append (is_object script) lines (line ∷ []) ∙ ap (λ t. filter (is_object script) lines ++ cond t (line ∷ []) []) is));
-    declared = All-push (IsMadeOfDeclared script) list m made.declared declared;
-  }
-
-  pub makes_length : (list : List Makes) → AreMakes script script.declarations list → length list ≡ declared_count script
-  makes_length list made =
-      sym (length-map list (λ (x : Makes). Some x)) ∙ ap length made.each ∙ length-map (objects_of script) meant ∙ length_filter (is_object script) script.declarations
+  pub place_within : (k at : ℕ) → slice_get places k ≡ Some at → at < length script.declarations
+  place_within k at found = placed_within (is_object script) script.declarations k (Some at) (sym found ∙ ap (λ l. slice_get l k) placed)
 
   -- the call that makes the k-th declared object
-  pub makes_at : (history : History) (list : List Makes) (k : ℕ) (m : Makes) → AreMakes script script.declarations list → slice_get list k ≡ Some m
-      → option_and_then (call_in script history) (slice_get (objects_of script) k) ≡ making_call (declared_object script history) m
-  makes_at history list k m made found = by_line (slice_get (objects_of script) k) refl
-    where
-      both : option_map (λ x. Some x) (slice_get list k) ≡ option_map meant (slice_get (objects_of script) k)
-      both = sym (slice_get-map (λ (x : Makes). Some x) list k) ∙ ap (λ l. slice_get l k) made.each ∙ slice_get-map meant (objects_of script) k
-
-      by_line : (o : Option SourceLine) → slice_get (objects_of script) k ≡ o → option_and_then (call_in script history) o ≡ making_call (declared_object script history) m
-      by_line None e = absurd (none-some (Some m) (sym (ap (option_map (λ (x : Makes). Some x)) (sym found) ∙ both ∙ ap (option_map meant) e)))
-      by_line (Some line) e =
-          let same : Some (Some m) ≡ Some (meant line) = ap (option_map (λ (x : Makes). Some x)) (sym found) ∙ both ∙ ap (option_map meant) e in
-          ap (option_and_then (making_call (declared_object script history))) (sym (same_Some _ _ same))
+  pub makes_at : (history : History) (k at : ℕ) (d : Declaration) → slice_get places k ≡ Some at → slice_get script.declarations at ≡ Some (source_of d.line) → ReadsDeclaration (names_of script) d
+      → option_and_then (call_in script history) (slice_get (objects_of script) k) ≡ making_call (declared_object script history) d.makes
+  makes_at history k at d found line reads =
+      let there : slice_get (objects_of script) k ≡ Some (source_of d.line) =
+      placed_line (is_object script) script.declarations k ∙ ap (λ l. option_and_then (slice_get script.declarations) (slice_get l k)) (sym placed) ∙ ap (option_and_then (slice_get script.declarations)) found ∙ line in
+      ap (option_and_then (call_in script history)) there ∙ ap (option_and_then (making_call (declared_object script history))) reads.makes
 
 -- Which step is next.
 
@@ -119,7 +84,7 @@ next_given_within script None (Some at) given e = absurd (none-some at (sym e))
 next_given_within script (Some i) (Some at) given e = given_within script i at given (sym e)
 
 -- one entry more
-pub follows_more : (p q : Progress) (kept : Objects) (counts later : List ℕ) (bindings after : List Binding) (entry : Entry ℕ) (g : Option ℕ) → p ≡ q → IsFollowed p kept counts bindings
+pub follows_more : (p q : Progress) (kept : Objects) (counts later : List ℕ) (bindings after : List Binding) (entry : Entry (List ℕ)) (g : Option ℕ) → p ≡ q → IsFollowed p kept counts bindings
     → slice_get p.journal p.followed ≡ Some entry → g ≡ next_given q.script (history_of q) entry.who → CountsOneMore counts entry.who later → after ≡ with_binding bindings g (bound_by entry.call entry.reply) → IsFollowed (with_next p) kept later after
 follows_more p q kept counts later bindings after entry g e f found gives counted bound =
     let more = sym (before_more p.journal p.followed entry found) in
@@ -177,50 +142,24 @@ called_at p q who items i used s r e next lines reads found uses is =
     next_calls q.script (history_of q) who items i used s r next (lines ∙ ap (λ (x : Progress). x.script.steps) e) (subst (λ (x : Progress). All (ReadsStep (names_of x.script)) items) e reads) found uses is
 
 -- what is the script's behind the entries that were followed
-pub own_at : (p : Progress) (script : Lines) (journal : List (Entry ℕ)) (k : ℕ) (entry : Entry ℕ) → p.script ≡ script → p.journal ≡ journal → p.followed ≡ k → IsOwn script (before journal k) entry → IsOwn p.script (history_of p) entry
+pub own_at : (p : Progress) (script : Lines) (journal : List (Entry (List ℕ))) (k : ℕ) (entry : Entry (List ℕ)) → p.script ≡ script → p.journal ≡ journal → p.followed ≡ k → IsOwn script (before journal k) entry → IsOwn p.script (history_of p) entry
 own_at p script journal k entry s j f own = rw (s, j, f) own
 
 -- Which entries are the script's.
 
 module _ (script : Lines) (history : History) where
-  -- the caller's next call is the next of its thread's steps
-  pub next_of_thread : (entry : Entry ℕ) → next_call script history entry.who ≡ Some entry.call → IsNextOfThread script history entry
-  next_of_thread entry = by_next (next_position script history entry.who) refl
-    where
-      by_next : (o : Option ℕ) → next_position script history entry.who ≡ o → option_and_then (step_call script history) o ≡ Some entry.call → IsNextOfThread script history entry
-      by_next None e calls = absurd (none-some entry.call calls)
-      by_next (Some i) e calls = record { step = i; next = e; calls = calls }
-
-  pub of_thread_next : (entry : Entry ℕ) → IsNextOfThread script history entry → next_call script history entry.who ≡ Some entry.call
-  of_thread_next entry next = ap (option_and_then (step_call script history)) next.next ∙ next.calls
-
   -- behind the declared objects and before
-  pub late_own : (entry : Entry ℕ) → declared_count script ≤ length history → IsOfCaller script history entry entry.who → IsOwn script history entry
+  pub late_own : (entry : Entry (List ℕ)) → declared_count script ≤ length history → IsOfCaller script history entry entry.who → IsOwn script history entry
   late_own entry ge = subst (λ t. MatchBool t (IsDeclaration script history entry) (IsOfCaller script history entry entry.who)) (sym (le-ltb (length history) (declared_count script) ge))
 
-  pub own_late : (entry : Entry ℕ) → declared_count script ≤ length history → IsOwn script history entry → IsOfCaller script history entry entry.who
+  pub own_late : (entry : Entry (List ℕ)) → declared_count script ≤ length history → IsOwn script history entry → IsOfCaller script history entry entry.who
   own_late entry ge = subst (λ t. MatchBool t (IsDeclaration script history entry) (IsOfCaller script history entry entry.who)) (le-ltb (length history) (declared_count script) ge)
 
-  pub early_own : (entry : Entry ℕ) → length history < declared_count script → IsDeclaration script history entry → IsOwn script history entry
+  pub early_own : (entry : Entry (List ℕ)) → length history < declared_count script → IsDeclaration script history entry → IsOwn script history entry
   early_own entry lt = subst (λ t. MatchBool t (IsDeclaration script history entry) (IsOfCaller script history entry entry.who)) (sym (lt-ltb (length history) (declared_count script) lt))
 
-  pub own_early : (entry : Entry ℕ) → length history < declared_count script → IsOwn script history entry → IsDeclaration script history entry
+  pub own_early : (entry : Entry (List ℕ)) → length history < declared_count script → IsOwn script history entry → IsDeclaration script history entry
   own_early entry lt = subst (λ t. MatchBool t (IsDeclaration script history entry) (IsOfCaller script history entry entry.who)) (lt-ltb (length history) (declared_count script) lt)
-
--- what a send or a multicast goes to
-pub sent_name : (asked : Call ℕ) (name : Name) → Some name ≡ named (sent_to asked) → sent_to asked ≡ Some name.0
-sent_name asked name e = by_sent (sent_to asked) e
-  where
-    by_sent : (o : Option ℕ) → Some name ≡ named o → o ≡ Some name.0
-    by_sent None e = absurd (none-some name (sym e))
-    by_sent (Some n) e = ap (λ (x : Name). Some x.0) (sym (same_Some _ _ e))
-
-pub not_sent : (asked : Call ℕ) → None ≡ named (sent_to asked) → sent_to asked ≡ None
-not_sent asked e = by_sent (sent_to asked) e
-  where
-    by_sent : (o : Option ℕ) → None ≡ named o → o ≡ None
-    by_sent None e = refl
-    by_sent (Some n) e = absurd (none-some (record { 0 = n }) e)
 
 is_fed : Who → Bool
 is_fed (Feed f) = true
@@ -285,16 +224,16 @@ module _ (script : Lines) where
       let a = made_by k feed made in
       omega (arith, counted_below (is_feed script) (objects_of script) k a.0 a.1 a.2, a.3, counted_filter (is_object script) (is_feed script) (feed_object script) script.declarations)
 
-  pub of_feed : (feed at : ℕ) (asked : Call ℕ) → slice_get (positions_where (is_feed script) 0 script.declarations) feed ≡ Some at → asked ≡ call.Recv (record { 0 = number_of script at }) → IsOfFeed script feed asked
+  pub of_feed : (feed at : ℕ) (asked : Call (List ℕ)) → slice_get (positions_where (is_feed script) 0 script.declarations) feed ≡ Some at → asked ≡ call.Recv (record { 0 = number_of script at }) → IsOfFeed script feed asked
   of_feed feed at asked found is = record { object = number_of script at; made = (feed_there feed at found).1; receives = is }
 
-  pub feed_of : (feed at : ℕ) (asked : Call ℕ) → slice_get (positions_where (is_feed script) 0 script.declarations) feed ≡ Some at → IsOfFeed script feed asked → asked ≡ call.Recv (record { 0 = number_of script at })
+  pub feed_of : (feed at : ℕ) (asked : Call (List ℕ)) → slice_get (positions_where (is_feed script) 0 script.declarations) feed ≡ Some at → IsOfFeed script feed asked → asked ≡ call.Recv (record { 0 = number_of script at })
   feed_of feed at asked found own = own.receives ∙ ap (λ n. call.Recv (record { 0 = n })) (one_maker own.object (number_of script at) feed own.made (feed_there feed at found).1)
 
   pub feed_within : (feed at : ℕ) → slice_get (positions_where (is_feed script) 0 script.declarations) feed ≡ Some at → at < length script.declarations
   feed_within feed at found = (feed_there feed at found).0
 
-  pub no_feed_there : (feed : ℕ) (asked : Call ℕ) → slice_get (positions_where (is_feed script) 0 script.declarations) feed ≡ None → IsOfFeed script feed asked → ⊥
+  pub no_feed_there : (feed : ℕ) (asked : Call (List ℕ)) → slice_get (positions_where (is_feed script) 0 script.declarations) feed ≡ None → IsOfFeed script feed asked → ⊥
   no_feed_there feed asked none own =
       let lt : feed < length (positions_where (is_feed script) 0 script.declarations) = omega (arith, feed_counted own.object feed own.made, positions_count (is_feed script) 0 script.declarations) in
       let there = stands (positions_where (is_feed script) 0 script.declarations) feed lt in

@@ -77,7 +77,7 @@ module _ (script : Lines) where
         total_least x.seat threads read.seated.0 read.seated.1,
       )
 
-  performed_by : (before : History) (entry : Entry ℕ) (seat : ℕ) → entry.who ≡ Seat seat → total (performed (entry ∷ before)) threads ≤ total (performed before) threads + 1
+  performed_by : (before : History) (entry : Entry (List ℕ)) (seat : ℕ) → entry.who ≡ Seat seat → total (performed (entry ∷ before)) threads ≤ total (performed before) threads + 1
   performed_by before entry seat by =
       let own = λ (s : ℕ). one_if (is_seat s entry.who) in
       omega (
@@ -87,7 +87,7 @@ module _ (script : Lines) where
         total_most seat threads,
       )
 
-  performed_first : (before : History) (entry : Entry ℕ) → is_of_thread entry.who ≡ false → (n : ℕ) → total (performed (entry ∷ before)) n ≡ total (performed before) n
+  performed_first : (before : History) (entry : Entry (List ℕ)) → is_of_thread entry.who ≡ false → (n : ℕ) → total (performed (entry ∷ before)) n ≡ total (performed before) n
   performed_first before entry by zero = refl
   performed_first before entry by (suc n) =
       omega (arith, performed_first before entry by n, ap one_if (none_seated (suc n) (omega arith) entry.who by))

@@ -1,6 +1,6 @@
 -- A board whose journal nobody cut.
-use Rattle.std.proofs.Common.{◌≡◌, ◌+◌, ◌^◌, ◌<◌, ◌≤◌, List, [], ◌++◌, reverse, sym, ap, ◌∙◌, arith}
-use Rattle.std.proofs.Math.Nat.{min-eq_left, min-le_left}
+use Rattle.std.proofs.Common.{◌≡◌, ◌+◌, ◌<◌, ◌≤◌, List, [], ◌++◌, reverse, sym, ap, ◌∙◌, arith}
+use Rattle.std.proofs.Math.Nat.{min-le_left}
 use Rattle.std.proofs.lemmas.List.{append-nil, reverse-reverse}
 use Rattle.cml_board.specs.declared.entry.Entry.{Entry}
 use Rattle.cml_board.specs.History.{entries_in}
@@ -15,11 +15,6 @@ module _ {M : Type 0} where
       sym (reverse-reverse journal) ∙ ap reverse all
 
   -- its limit is that of all entries
-  pub whole_limit : (board : Shown M) → board.past ≡ [] → board.limit ≤ 2 ^ 32 → full_at board ≡ board.limit
-  whole_limit board whole bounded =
-      let past : entries_in board.past ≡ 0 = ap entries_in whole in
-      omega (arith, past, min-eq_left {n = entries_in board.past + board.limit} {m = 18446744073709551615} (omega (arith, past, bounded)))
-
   pub whole_room : (board : Shown M) → board.past ≡ [] → entries_in board.history ≤ full_at board → entries_in board.history ≤ board.limit
   whole_room board whole room =
       omega (arith, room, ap entries_in whole, min-le_left (entries_in board.past + board.limit) 18446744073709551615)

@@ -62,7 +62,7 @@ unfolding an_opening
 is_opening script = record { all = opening_long script (declared_count script); by = opening_made script (declared_count script) }
 
 -- none of its entries is a thread's
-none_first : (script : Lines) (first : History) (entry : Entry ℕ) → entry.who ≡ maker script (length first) → is_of_thread entry.who ≡ false
+none_first : (script : Lines) (first : History) (entry : Entry (List ℕ)) → entry.who ≡ maker script (length first) → is_of_thread entry.who ≡ false
 none_first script first entry by = ap is_of_thread by ∙ maker_is_none script (length first)
 
 opening_performed : (script : Lines) (first : History) (seat : ℕ) → 1 ≤ seat → AreByMakers script first → performed first seat ≡ 0
@@ -84,7 +84,7 @@ opening_steps script (entry ∷ first) by = (inl (none_first script first entry 
 -- A thread's entries.
 
 -- a call that asks for a port is given one
-suits_gives : (c : Call ℕ) (r : Reply ℕ) → suits c r ≡ true → asks_port c ≡ true → IsSome (port_bound (bound_by c r))
+suits_gives : (c : Call (List ℕ)) (r : Reply (List ℕ)) → suits c r ≡ true → asks_port c ≡ true → IsSome (port_bound (bound_by c r))
 suits_gives (call.NewPort name) (reply.Made made) suit asks = refl
 suits_gives (call.NewPort name) reply.Done suit asks = absurd (false≢true suit)
 suits_gives (call.NewPort name) (reply.Got message) suit asks = absurd (false≢true suit)
@@ -266,7 +266,7 @@ closed_before script seat place {course} w later now under same is =
     still false false = refl
 
 -- so that none is open at a call that may
-pub may_call : (script : Lines) (seat place : ℕ) {course : Course} {made : Option Made} (sending w : Bool) (asked : Call ℕ) → IsUnderWay script seat place course made → course.is_sending ≡ (sending && not w) → waits asked ≡ w → MayCall asked made
+pub may_call : (script : Lines) (seat place : ℕ) {course : Course} {made : Option Made} (sending w : Bool) (asked : Call (List ℕ)) → IsUnderWay script seat place course made → course.is_sending ≡ (sending && not w) → waits asked ≡ w → MayCall asked made
 may_call script seat place {course} {made} sending w asked under closed is = by_made made under.told
   where
     none_open : (s w : Bool) → w ≡ true → (s && not w) ≡ false
@@ -279,7 +279,7 @@ may_call script seat place {course} {made} sending w asked under closed is = by_
     by_made (Some tells) told = λ wait. ap (λ (m : Made). m.is_sending) told ∙ closed ∙ none_open sending w (sym is ∙ wait)
 
 -- a turn that is the seat's was performed
-pub more_made : (script : Lines) (seat : ℕ) (low : 1 ≤ seat) (i : ℕ) {course : Course} {made : Option Made} (under : IsUnderWay script seat i course made) (known : IsKnown script) (turn : IsTurn script seat i) (asked : Call ℕ) (r : Reply ℕ) (g : Option ℕ) (next : Course) (later : Option Made)
+pub more_made : (script : Lines) (seat : ℕ) (low : 1 ≤ seat) (i : ℕ) {course : Course} {made : Option Made} (under : IsUnderWay script seat i course made) (known : IsKnown script) (turn : IsTurn script seat i) (asked : Call (List ℕ)) (r : Reply (List ℕ)) (g : Option ℕ) (next : Course) (later : Option Made)
     → is_by_ring (route_of_line script turn.line) ≡ false → suits asked r ≡ true
     → ((history : History) → length history ≡ course.made → AreBindings script history course.bindings.items → step_call script history i ≡ Some asked)
     → g ≡ given_by script i → later ≡ option_map (with_call asked r) made → next.made ≡ course.made + 1 → next.bindings.items ≡ with_binding course.bindings.items g (bound_by asked r) → next.is_sending ≡ course.is_sending
@@ -312,7 +312,7 @@ more_made script seat low i {course} {made} under known turn asked r g next late
     called : is_called script seat turn.line ≡ true
     called = turn_called script seat i turn false seated
 
-    entry : Entry ℕ
+    entry : Entry (List ℕ)
     entry = record { who = Seat seat; call = asked; reply = r }
 
 -- a turn that goes by a lane or a feed

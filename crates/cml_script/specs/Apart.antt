@@ -13,7 +13,7 @@ use Rattle.cml_script.specs.Schedule.{number_of, is_seated, is_apart, route_of_l
 
 -- a message sent by the lane to this object, which has room for so many, or a poll of the feed of this number
 pub data Apart : Type 0 where
-  by_lane : Name → ℕ → ℕ → Apart
+  by_lane : Name → ℕ → List ℕ → Apart
   by_feed : ℕ → Apart
 
 abbrev pub is_by_lane : Apart → Bool

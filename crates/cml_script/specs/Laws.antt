@@ -30,7 +30,7 @@ steps_of_seat script seat = how_many (is_seated script seat) script.steps
 -- the thread with this seat has a next step, whose call fits and would wait
 pub record WaitsAtNext (script : Lines) (history : History) (seat : ℕ) : Type 0 where
   pub step : ℕ
-  pub asked : Call ℕ
+  pub asked : Call (List ℕ)
   pub next : next_position script history (Seat seat) ≡ Some step
   pub calls : step_call script history step ≡ Some asked
   pub fits : Fits history asked

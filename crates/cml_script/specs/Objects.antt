@@ -7,7 +7,6 @@ use Rattle.cml_grammar.specs.Script.{Lines}
 use Rattle.cml_script.specs.declared.objects.Objects.{Objects}
 use Rattle.cml_script.specs.Schedule.{is_object, is_feed, declared_count, maker, positions_where}
 use Rattle.cml_script.specs.Audit.{leads_to}
-use Rattle.cml_script.specs.Makes.{AreMakes}
 
 -- by object, who makes it
 pub record AreMakers (script : Lines) (makers : List Who) : Type 0 where
@@ -19,10 +18,9 @@ pub record AreLaid (script : Lines) (laid : List Bool) : Type 0 where
   pub all : length laid ≡ declared_count script
   pub each : (k : ℕ) → option_map_or (λ t. t) (slice_get laid k) false ≡ list_any (leads_to script k) script.lanes
 
--- what is kept of the declared objects is so: what each is and who makes it, where it is declared, and so each feed, and to
+-- what is kept of the declared objects is so: who makes each, where it is declared, and so each feed, and to
 -- which of them lanes lead
 pub record AreObjects (script : Lines) (objects : Objects) : Type 0 where
-  pub made : AreMakes script script.declarations objects.makes.items
   pub makers : AreMakers script objects.makers.items
   pub placed : objects.places.items ≡ positions_where (is_object script) 0 script.declarations
   pub fed : objects.feeds.items ≡ positions_where (is_feed script) 0 script.declarations

@@ -41,13 +41,20 @@ line_end = 10 ∷ []
 
 -- First part: a line for each entry behind the declarations.
 
-abbrev pub reply_word : Reply ℕ → List ℕ
-reply_word reply.Done = codes "done"
-reply_word (reply.Made name) = codes "made"
-reply_word (reply.Got message) = decimal message
-reply_word reply.Nothing = codes "none"
-reply_word reply.Put = codes "put"
-reply_word reply.Closed = codes "closed"
+-- what stands before a message in reports of scripts of this version
+abbrev pub message_mark : ℕ → List ℕ
+message_mark version = if version == 2 then codes "=" else []
+
+abbrev pub message_word : ℕ → List ℕ → List ℕ
+message_word version message = message_mark version ++ message
+
+abbrev pub reply_word : ℕ → Reply (List ℕ) → List ℕ
+reply_word version reply.Done = codes "done"
+reply_word version (reply.Made name) = codes "made"
+reply_word version (reply.Got message) = message_word version message
+reply_word version reply.Nothing = codes "none"
+reply_word version reply.Put = codes "put"
+reply_word version reply.Closed = codes "closed"
 
 -- the step's line as it stands in the script
 abbrev pub line_text : SourceLine → List ℕ
@@ -62,20 +69,20 @@ abbrev pub given_word : Option SourceLine → List ℕ
 given_word line = option_map_or (λ word. word) (option_and_then (λ (l : SourceLine). declared_word l.words) line) []
 
 -- what a lane made: its object is told by its declared name
-abbrev pub sent_text : Lines → Call ℕ → List ℕ
-sent_text script (call.Send name message) = codes " send " ++ given_word (slice_get (objects_of script) name.0) ++ codes " " ++ decimal message
-sent_text script (call.Cast name message) = codes " multicast " ++ given_word (slice_get (objects_of script) name.0) ++ codes " " ++ decimal message
+abbrev pub sent_text : Lines → Call (List ℕ) → List ℕ
+sent_text script (call.Send name message) = codes " send " ++ given_word (slice_get (objects_of script) name.0) ++ codes " " ++ message_word script.version message
+sent_text script (call.Cast name message) = codes " multicast " ++ given_word (slice_get (objects_of script) name.0) ++ codes " " ++ message_word script.version message
 sent_text script _ = []
 
 -- what its caller made: a step is told as it stands in the script
-abbrev pub made_text : Lines → History → Call ℕ → Who → List ℕ
+abbrev pub made_text : Lines → History → Call (List ℕ) → Who → List ℕ
 made_text script before asked (who.Seat seat) = option_map_or line_text (next_step script before (who.Seat seat)) []
 made_text script before asked (who.Lane lane) = codes "lane " ++ decimal lane ++ sent_text script asked
 made_text script before asked (who.Feed feed) =
     codes "feed " ++ decimal feed ++ codes " recv " ++ given_word (slice_get (filter (is_feed script) script.declarations) feed)
 
-abbrev pub entry_line : Lines → History → Entry ℕ → List ℕ
-entry_line script before entry = made_text script before entry.call entry.who ++ codes ": " ++ reply_word entry.reply ++ line_end
+abbrev pub entry_line : Lines → History → Entry (List ℕ) → List ℕ
+entry_line script before entry = made_text script before entry.call entry.who ++ codes ": " ++ reply_word script.version entry.reply ++ line_end
 
 abbrev pub entry_lines : Lines → History → List ℕ
 entry_lines script [] = []
@@ -129,13 +136,13 @@ abbrev pub feed_line : Lines → History → Tallied → ℕ → List ℕ → Li
 feed_line script history tally at name =
     codes "feed " ++ name ++ counts_or_not_made (feed_counts script history tally at) (made_of script history at) ++ line_end
 
-abbrev pub held_text : Option ℕ → List ℕ
-held_text None = codes ": empty"
-held_text (Some message) = codes ": full " ++ decimal message
+abbrev pub held_text : ℕ → Option (List ℕ) → List ℕ
+held_text version None = codes ": empty"
+held_text version (Some message) = codes ": full " ++ message_word version message
 
 abbrev pub variable_line : Lines → History → ℕ → List ℕ → List ℕ → List ℕ
 variable_line script history at word name =
-    word ++ codes " " ++ name ++ counts_or_not_made (λ object. held_text (held history object)) (made_of script history at) ++ line_end
+    word ++ codes " " ++ name ++ counts_or_not_made (λ object. held_text script.version (held history object)) (made_of script history at) ++ line_end
 
 abbrev pub named_line : Lines → History → Tallied → ℕ → List ℕ → Named → List ℕ
 named_line script history tally at name (Thread seat) = []
@@ -168,7 +175,7 @@ is_of_thread (who.Seat seat) = not (seat == 0)
 is_of_thread (who.Lane lane) = false
 is_of_thread (who.Feed feed) = false
 
-abbrev pub is_step_entry : Entry ℕ → Bool
+abbrev pub is_step_entry : Entry (List ℕ) → Bool
 is_step_entry entry = is_of_thread entry.who
 
 -- how many steps were not performed, by the threads' seats or by their lanes and feeds

@@ -27,7 +27,7 @@ use Rattle.cml_script.specs.declared.stop.Stop.TheVariants.{Done, Stalled, Full,
 
 -- a script's history is the whole journal of a board since it was made: behind its oldest entry stands nothing
 abbrev pub History : Type 0
-History = List (Entry ℕ)
+History = List (Entry (List ℕ))
 
 -- Declarations.
 
@@ -70,7 +70,7 @@ declared_object script history at =
     if nat_lt object (entries_in history) then Some object else None
 
 -- the call that makes what a declaration makes, of the objects that its names stand for
-abbrev pub making_call : (ℕ → Option ℕ) → Makes → Option (Call ℕ)
+abbrev pub making_call : (ℕ → Option ℕ) → Makes → Option (Call (List ℕ))
 making_call object makes.Thread = None
 making_call object makes.Mailbox = Some call.NewMailbox
 making_call object makes.Channel = Some call.NewChannel
@@ -80,7 +80,7 @@ making_call object (makes.MVarInit message) = Some (call.MVarInit message)
 making_call object (makes.Port channel) = option_map (λ o. call.NewPort (record { 0 = o })) (object channel)
 making_call object (makes.Feed feed) = option_map (λ o. call.NewPort (record { 0 = o })) (object feed.channel)
 
-abbrev pub call_in : Lines → History → SourceLine → Option (Call ℕ)
+abbrev pub call_in : Lines → History → SourceLine → Option (Call (List ℕ))
 call_in script history line = option_and_then (making_call (declared_object script history)) (makes_of (names_of script) line.words)
 
 -- Steps.
@@ -136,7 +136,7 @@ is_seat seat (Seat s) = s == seat
 is_seat seat (Lane l) = false
 is_seat seat (Feed f) = false
 
-abbrev pub is_by : ℕ → Entry ℕ → Bool
+abbrev pub is_by : ℕ → Entry (List ℕ) → Bool
 is_by seat entry = is_seat seat entry.who
 
 -- how many calls that thread has made
@@ -167,12 +167,12 @@ given_by script i =
     if option_map_or is_giving (slice_get script.steps i) false then Some (names_before script.declarations script.steps i) else None
 
 -- a copy that is answered closed gives the name of the port that it was to copy
-abbrev pub closed_by : Call ℕ → Binding
+abbrev pub closed_by : Call (List ℕ) → Binding
 closed_by (call.CopyPort port) = binding.Closed port
 closed_by _ = binding.Unbound
 
 -- what a call and its reply give the name
-abbrev pub bound_by : Call ℕ → Reply ℕ → Binding
+abbrev pub bound_by : Call (List ℕ) → Reply (List ℕ) → Binding
 bound_by asked (reply.Made name) = binding.Made name
 bound_by asked reply.Closed = closed_by asked
 bound_by asked _ = binding.Unbound
@@ -211,7 +211,7 @@ made_of script history at =
 -- What comes next.
 
 -- what a step asks of the objects that its names stand for
-abbrev pub call_of : (ℕ → Option ℕ) → Action → Option (Call ℕ)
+abbrev pub call_of : (ℕ → Option ℕ) → Action → Option (Call (List ℕ))
 call_of object (action.Send at message) = option_map (λ o. call.Send (record { 0 = o }) message) (object at)
 call_of object (action.Multicast at message) = option_map (λ o. call.Cast (record { 0 = o }) message) (object at)
 call_of object (action.Recv at) = option_map (λ o. call.Recv (record { 0 = o })) (object at)
@@ -227,12 +227,12 @@ call_of object (action.TakePoll at) = option_map (λ o. call.TakePoll (record { 
 call_of object (action.Swap at message) = option_map (λ o. call.Swap (record { 0 = o }) message) (object at)
 
 -- the call of the i-th step, after this history
-abbrev pub step_call : Lines → History → ℕ → Option (Call ℕ)
+abbrev pub step_call : Lines → History → ℕ → Option (Call (List ℕ))
 step_call script history i =
     option_and_then (λ line. option_and_then (call_of (object_of script history)) (action_of (names_of script) line.words)) (slice_get script.steps i)
 
 -- the i-th step is the next of its thread, with this seat and this call, and its call wouldn't wait
-pub record IsReady (script : Lines) (history : History) (i seat : ℕ) (asked : Call ℕ) : Type 0 where
+pub record IsReady (script : Lines) (history : History) (i seat : ℕ) (asked : Call (List ℕ)) : Type 0 where
   pub line : SourceLine
   pub found : slice_get script.steps i ≡ Some line
   pub seated : is_called script seat line ≡ true
@@ -242,18 +242,18 @@ pub record IsReady (script : Lines) (history : History) (i seat : ℕ) (asked : 
 
 -- no step is ready
 abbrev pub NoneReady : Lines → History → Type 0
-NoneReady script history = (i seat : ℕ) (asked : Call ℕ) → IsReady script history i seat asked → ⊥
+NoneReady script history = (i seat : ℕ) (asked : Call (List ℕ)) → IsReady script history i seat asked → ⊥
 
 -- the entry is the call of the least step that is ready
-pub record IsStep (script : Lines) (before : History) (entry : Entry ℕ) : Type 0 where
+pub record IsStep (script : Lines) (before : History) (entry : Entry (List ℕ)) : Type 0 where
   pub step : ℕ
   pub seat : ℕ
   pub by : entry.who ≡ Seat seat
   pub ready : IsReady script before step seat entry.call
-  pub least : (i other : ℕ) (asked : Call ℕ) → IsReady script before i other asked → step ≤ i
+  pub least : (i other : ℕ) (asked : Call (List ℕ)) → IsReady script before i other asked → step ≤ i
 
 -- the entry makes the next declared object, by seat 0 or by its feed
-pub record IsDeclaration (script : Lines) (before : History) (entry : Entry ℕ) : Type 0 where
+pub record IsDeclaration (script : Lines) (before : History) (entry : Entry (List ℕ)) : Type 0 where
   pub by : entry.who ≡ maker script (entries_in before)
   pub makes : option_and_then (call_in script before) (slice_get (objects_of script) (entries_in before)) ≡ Some entry.call
 

@@ -1,5 +1,5 @@
 -- The inside of `play`: a script under way, what its stage shows, and what it keeps.
-use Rattle.std.specs.Prelude.{ℕ, ◌≡◌, ◌+◌, ◌<◌, List, ◌∷◌, ◌≤◌, ◌^◌, length, min, slice_get, Option, Some, None, ⊤}
+use Rattle.std.specs.Prelude.{ℕ, ◌≡◌, ◌+◌, ◌<◌, List, ◌∷◌, ◌≤◌, ◌^◌, length, min, slice_get, Option, Some, None, ⊤, Bool, IsTrue, ◌↔◌}
 use Rattle.std.specs.Option.{option_and_then}
 use Rattle.cml_board.specs.declared.call.Name.{Name}
 use Rattle.cml_board.specs.declared.call.Call.{Call}
@@ -7,7 +7,7 @@ use Rattle.cml_board.specs.declared.call.Call.TheVariants as call
 use Rattle.cml_board.specs.declared.call.Kind.{Kind}
 use Rattle.cml_board.specs.declared.entry.Who.TheVariants.{Seat}
 use Rattle.cml_board.specs.declared.entry.Entry.{Entry}
-use Rattle.cml_board.specs.History.{entries_in, Lawful, kind_of}
+use Rattle.cml_board.specs.History.{entries_in, Lawful, kind_of, Fits, answer}
 use Rattle.cml_grammar.specs.Script.{Lines}
 use Rattle.cml_grammar.specs.Meaning.{names_of}
 use Rattle.cml_grammar.specs.declared.forms.Makes.{Makes}
@@ -44,11 +44,11 @@ pub record Stands (play : Play) (counts : List ℕ) (bindings : List Binding) : 
   pub bound : AreBindings play.script play.history bindings
 
 -- one entry more was performed
-abbrev pub with_entry : Play → Entry ℕ → Play
+abbrev pub with_entry : Play → Entry (List ℕ) → Play
 with_entry play entry = record { script = play.script; history = entry ∷ play.history; limit = play.limit }
 
 -- what a step asks of the object that its name stands for
-abbrev pub call_on : Action → Name → Call ℕ
+abbrev pub call_on : Action → Name → Call (List ℕ)
 call_on (action.Send at message) name = call.Send name message
 call_on (action.Multicast at message) name = call.Cast name message
 call_on (action.Recv at) name = call.Recv name
@@ -71,31 +71,35 @@ earlier_of (Some i) (Some j) = Some (min i j)
 
 -- the i-th step is ready, and is its thread's
 abbrev pub IsReadyOf : Lines → History → ℕ → ℕ → Type 0
-IsReadyOf script history seat i = (asked : Call ℕ) × IsReady script history i seat asked
+IsReadyOf script history seat i = (asked : Call (List ℕ)) × IsReady script history i seat asked
 
 -- no step of that thread is
 abbrev pub NoneReadyOf : Lines → History → ℕ → Type 0
-NoneReadyOf script history seat = (i : ℕ) (asked : Call ℕ) → IsReady script history i seat asked → ⊥
+NoneReadyOf script history seat = (i : ℕ) (asked : Call (List ℕ)) → IsReady script history i seat asked → ⊥
 
 -- the i-th step is the least of all that are ready
 pub record IsLeast (script : Lines) (history : History) (i : ℕ) : Type 0 where
   pub seat : ℕ
-  pub asked : Call ℕ
+  pub asked : Call (List ℕ)
   pub ready : IsReady script history i seat asked
-  pub least : (other by : ℕ) (call : Call ℕ) → IsReady script history other by call → i ≤ other
+  pub least : (other by : ℕ) (call : Call (List ℕ)) → IsReady script history other by call → i ≤ other
 
 -- the entry is the call of the i-th step, the least that was ready
-pub record IsStepAt (script : Lines) (before : History) (entry : Entry ℕ) (i : ℕ) : Type 0 where
+pub record IsStepAt (script : Lines) (before : History) (entry : Entry (List ℕ)) (i : ℕ) : Type 0 where
   pub least : IsLeast script before i
   pub who : entry.who ≡ Seat least.seat
   pub call : entry.call ≡ least.asked
 
 -- of the threads before this one, none has a step that is ready, or this is the least such step
 abbrev pub IsLeastBelow : Lines → History → ℕ → Option ℕ → Type 0
-IsLeastBelow script history thread None = (seat i : ℕ) (asked : Call ℕ) → seat ≤ thread → IsReady script history i seat asked → ⊥
+IsLeastBelow script history thread None = (seat i : ℕ) (asked : Call (List ℕ)) → seat ≤ thread → IsReady script history i seat asked → ⊥
 IsLeastBelow script history thread (Some i) =
-    (seat : ℕ) × (asked : Call ℕ) × IsReady script history i seat asked
-    × ((by other : ℕ) (call : Call ℕ) → by ≤ thread → IsReady script history other by call → i ≤ other)
+    (seat : ℕ) × (asked : Call (List ℕ)) × IsReady script history i seat asked
+    × ((by other : ℕ) (call : Call (List ℕ)) → by ≤ thread → IsReady script history other by call → i ≤ other)
+
+-- this call would be made, on objects that are there and can take it, and it would wait just where the test says so
+abbrev pub WaitsIf : History → Option (Call (List ℕ)) → Bool → Type 0
+WaitsIf history made test = (asked : Call (List ℕ)) × (made ≡ Some asked) × Fits history asked × (IsTrue test ↔ (answer history asked ≡ None))
 
 -- the step is its thread's next
 abbrev pub IsNextStep : Play → ℕ → Type 0
@@ -109,7 +113,7 @@ pub record IsBound (play : Play) (at : ℕ) : Type 0 where
   pub kind : (k : Kind) → IsObjectAt (names_of play.script) at k → kind_of play.history object ≡ Some k
 
 -- the call makes the next declared object
-pub record IsNextObject (play : Play) (making : Call ℕ) : Type 0 where
+pub record IsNextObject (play : Play) (making : Call (List ℕ)) : Type 0 where
   pub left : entries_in play.history < declared_count play.script
   pub makes : option_and_then (call_in play.script play.history) (slice_get (objects_of play.script) (entries_in play.history)) ≡ Some making
 
@@ -126,6 +130,6 @@ IsNext play makes.Mailbox = IsNextObject play call.NewMailbox
 IsNext play makes.Channel = IsNextObject play call.NewChannel
 IsNext play makes.IVar = IsNextObject play call.NewIVar
 IsNext play makes.MVar = IsNextObject play call.NewMVar
-IsNext play (makes.MVarInit message) = IsNextObject play (call.MVarInit message) × (message < 2 ^ 64)
+IsNext play (makes.MVarInit message) = IsNextObject play (call.MVarInit message)
 IsNext play (makes.Port channel) = IsNextPort play channel
 IsNext play (makes.Feed feed) = IsNextPort play feed.channel

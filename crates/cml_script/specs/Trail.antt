@@ -20,7 +20,7 @@ use Rattle.cml_script.specs.Stage.{AreCounts}
 -- the script, a journal, and how many of its entries were followed
 pub record Progress : Type 0 where
   pub script : Lines
-  pub journal : List (Entry ℕ)
+  pub journal : List (Entry (List ℕ))
   pub followed : ℕ
 
 -- the entries that were followed, newest first
@@ -45,18 +45,18 @@ AreSmallCounts counts = (history : History) × AreCounts history counts × (entr
 
 -- the same of any history with one more entry by this caller
 abbrev pub CountsOneMore : List ℕ → Who → List ℕ → Type 0
-CountsOneMore counts who later = (history : History) (entry : Entry ℕ) → entry.who ≡ who → AreCounts history counts → AreCounts (entry ∷ history) later
+CountsOneMore counts who later = (history : History) (entry : Entry (List ℕ)) → entry.who ≡ who → AreCounts history counts → AreCounts (entry ∷ history) later
 
 -- the name that the caller's next step gives
 abbrev pub next_given : Lines → History → Who → Option ℕ
 next_given script history who = option_and_then (given_by script) (next_position script history who)
 
 -- the call of the caller's next step
-abbrev pub next_call : Lines → History → Who → Option (Call ℕ)
+abbrev pub next_call : Lines → History → Who → Option (Call (List ℕ))
 next_call script history who = option_and_then (step_call script history) (next_position script history who)
 
 -- the call that makes the next declared object
-abbrev pub declared_call : Lines → History → Option (Call ℕ)
+abbrev pub declared_call : Lines → History → Option (Call (List ℕ))
 declared_call script history = option_and_then (call_in script history) (slice_get (objects_of script) (entries_in history))
 
 -- the line of the caller's next step, if it has one

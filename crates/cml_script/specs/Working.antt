@@ -39,10 +39,10 @@ pub record Made : Type 0 where
   pub refused : Option Refusal
 
 -- with a call that its seat was answered
-abbrev pub with_call : Call ℕ → Reply ℕ → Made → Made
+abbrev pub with_call : Call (List ℕ) → Reply (List ℕ) → Made → Made
 with_call asked answered made = record made { entries = (record { who = Seat made.seat; call = asked; reply = answered }) ∷ made.entries }
 
-abbrev pub is_of_feed : Entry ℕ → Bool
+abbrev pub is_of_feed : Entry (List ℕ) → Bool
 is_of_feed entry = is_feed_of entry.who
   where
     is_feed_of : Who → Bool
@@ -67,7 +67,7 @@ abbrev pub with_refused : Refusal → Made → Made
 with_refused refusal made = record made { refused = Some refusal }
 
 -- a call that waits where it can't be answered
-abbrev pub waits : Call ℕ → Bool
+abbrev pub waits : Call (List ℕ) → Bool
 waits (call.Recv name) = true
 waits (call.Get name) = true
 waits (call.Take name) = true
@@ -75,7 +75,7 @@ waits (call.Swap name message) = true
 waits _ = false
 
 -- no lane may be open while such a call waits
-abbrev pub MayCall : Call ℕ → Option Made → Type 0
+abbrev pub MayCall : Call (List ℕ) → Option Made → Type 0
 MayCall asked made = IfSome made (λ made. waits asked ≡ true → made.is_sending ≡ false)
 
 -- it has this seat, and made nothing yet, where it tells what it makes

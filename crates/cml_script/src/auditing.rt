@@ -4,7 +4,7 @@ ghost use Rattle.cml_script.specs.Audit.{IsOfScript, IsFirstForeign, Judges};
 
 use crate::trail::Trail;
 use crate::verdict::Verdict;
-use cml_board::{Entry, check};
+use cml_board::{Entry, Text, check};
 use cml_grammar::Script;
 use std::alloc::{AllocError, Global};
 
@@ -12,7 +12,7 @@ use std::alloc::{AllocError, Global};
 /// thread's in order. Else where it first isn't. A journal that breaks off is judged as far as it goes. It takes memory
 /// in proportion to the script and the journal, and as much time as making the journal's calls again: in proportion
 /// too, but that a receive looks at each open port of its channel.
-pub fn audit(alloc: Global, script: &Script, entries: &[Entry<u64>]) -> Result<Verdict, AllocError>
+pub fn audit(alloc: Global, script: &Script, entries: &[Entry<Text>]) -> Result<Verdict, AllocError>
     requires { length entries.now ≤ 2 ^ 32 }
     ensures { IfOk result (λ verdict. Judges script.now entries.now verdict) }
 {
@@ -30,7 +30,7 @@ pub fn audit(alloc: Global, script: &Script, entries: &[Entry<u64>]) -> Result<V
 fn first_foreign(
     alloc: Global,
     script: &Script,
-    entries: &[Entry<u64>],
+    entries: &[Entry<Text>],
 ) -> Result<Option<usize>, AllocError>
     ensures { IfOk result (λ first. MatchOption first (IsOfScript script.now (reverse entries.now)) (IsFirstForeign script.now entries.now)) }
 {

@@ -4,7 +4,7 @@ ghost use Rattle.std.specs.Option.{option_map};
 ghost use Rattle.cml_script.specs.Schedule.{bound_by, closed_by, port_bound, port_made};
 ghost use Rattle.cml_script.specs.Bindings.{with_binding};
 
-use cml_board::{Call, Name, Reply};
+use cml_board::{Call, Name, Reply, Text};
 
 /// What a name that a step gives stands for.
 #[derive(Clone, Copy, Debug, PartialEq, Eq)]
@@ -19,7 +19,7 @@ pub enum Binding {
 
 impl Binding {
     /// What its step's call and the reply give the name.
-    fn by(call: &Call<u64>, reply: &Reply<u64>) -> Binding
+    fn by(call: &Call<Text>, reply: &Reply<Text>) -> Binding
         ensures { result ≡ bound_by call.now reply.now }
     {
         match reply {
@@ -50,7 +50,7 @@ impl Binding {
     }
 }
 
-fn closed_by(call: &Call<u64>) -> Binding
+fn closed_by(call: &Call<Text>) -> Binding
     ensures { result ≡ closed_by call.now }
 {
     match call {
@@ -60,7 +60,12 @@ fn closed_by(call: &Call<u64>) -> Binding
 }
 
 /// Keeps what a step's call and its reply give the name at this position.
-pub fn bind(bindings: &mut Vec<Binding>, given: Option<usize>, call: &Call<u64>, reply: &Reply<u64>)
+pub fn bind(
+    bindings: &mut Vec<Binding>,
+    given: Option<usize>,
+    call: &Call<Text>,
+    reply: &Reply<Text>,
+)
     requires { IfSome given (λ at. at < length bindings.old.items) }
     ensures { bindings.new.items ≡ with_binding bindings.old.items given (bound_by call.now reply.now) }
 {

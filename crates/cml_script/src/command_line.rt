@@ -20,8 +20,9 @@ const ABOUT: &str = "Performs a script of threads that send each other messages"
 const LONG_ABOUT: &str = "Performs a script of threads that send each other messages.
 
 A script declares mailboxes, channels, ports, variables and threads, and lists the steps that each
-thread takes. It is replayed one step at a time, with the same report each time, or it is run, each
-of its threads as a thread of the operating system.";
+thread takes. Its messages are numbers where its first line is cml 1, and words where that is cml 2.
+It is replayed one step at a time, with the same report each time, or it is run, each of its threads
+as a thread of the operating system.";
 
 const REPLAY_ABOUT: &str =
     "Replays the script on standard input and writes its report to standard output";
@@ -32,7 +33,9 @@ const REPLAY_LONG_ABOUT: &str =
 It is replayed on one thread, always with the first step in text order that is its thread's next
 and needn't wait. So the same script gives the same report each time.
 
-A script with lanes or feeds needs threads: it is not replayed, but run.
+A script with lanes or feeds needs threads: it is not replayed, but run. Messages are numbers in a
+script whose first line is cml 1, and words of up to 64 bytes where that is cml 2; reports write =
+before these.
 
 The whole script is read and performed before anything is written.";
 

@@ -2,19 +2,16 @@
 ghost use Rattle.std.specs.Prelude.{◌≡◌, false, slice_get, IfOk};
 ghost use Rattle.std.specs.Option.{option_map_or};
 ghost use Rattle.cml_script.specs.Schedule.{is_object, is_feed, positions_where};
-ghost use Rattle.cml_script.specs.Makes.{AreMakes};
 ghost use Rattle.cml_script.specs.Objects.{AreMakers, AreLaid, AreObjects};
 
 use crate::plan::{Plan, makes_feed, makes_object};
 use cml_board::Who;
-use cml_grammar::{Makes, Script};
+use cml_grammar::Script;
 use std::alloc::{AllocError, Global};
 
 /// The objects that a script declares, by their numbers, and its feeds.
 #[derive(Drop)]
 pub struct Objects {
-    /// By object, what its declaration makes.
-    pub makes: Vec<Makes>,
     /// By object, who makes it.
     pub makers: Vec<Who>,
     /// By object, the position of its declaration.
@@ -30,13 +27,11 @@ impl Objects {
         ensures { IfOk result (AreObjects plan.now) }
     {
         let script = plan.script();
-        let makes = list_makes(alloc, script)?;
         let makers = list_makers(alloc, script)?;
         let places = list_places(alloc, script)?;
         let feeds = list_feeds(alloc, script)?;
         let laid = list_laid(alloc, plan)?;
         Ok(Objects {
-            makes,
             makers,
             places,
             feeds,
@@ -66,19 +61,6 @@ impl Objects {
     }
 }
 
-/// By object, what its declaration makes.
-fn list_makes(alloc: Global, script: &Script) -> Result<Vec<Makes>, AllocError>
-    ensures { IfOk result (λ list. AreMakes script.now script.now.declarations list.items) }
-{
-    let mut list = Vec::new(alloc);
-    for declaration in script.declarations() {
-        if makes_object(declaration.makes) {
-            list.push(declaration.makes)?;
-        }
-    }
-    Ok(list)
-}
-
 /// By object, who makes it.
 fn list_makers(alloc: Global, script: &Script) -> Result<Vec<Who>, AllocError>
     ensures { IfOk result (λ makers. AreMakers script.now makers.items) }
@@ -86,10 +68,10 @@ fn list_makers(alloc: Global, script: &Script) -> Result<Vec<Who>, AllocError>
     let mut makers = Vec::new(alloc);
     let mut feeds = 0;
     for declaration in script.declarations() {
-        if makes_feed(declaration.makes) {
+        if makes_feed(&declaration.makes) {
             makers.push(Who::Feed(feeds))?;
             feeds += 1;
-        } else if makes_object(declaration.makes) {
+        } else if makes_object(&declaration.makes) {
             makers.push(Who::Seat(0))?;
         }
     }
@@ -102,7 +84,7 @@ fn list_places(alloc: Global, script: &Script) -> Result<Vec<usize>, AllocError>
 {
     let mut places = Vec::new(alloc);
     for (at, declaration) in script.declarations().iter().enumerate() {
-        if makes_object(declaration.makes) {
+        if makes_object(&declaration.makes) {
             places.push(at)?;
         }
     }
@@ -115,7 +97,7 @@ fn list_feeds(alloc: Global, script: &Script) -> Result<Vec<usize>, AllocError>
 {
     let mut feeds = Vec::new(alloc);
     for (at, declaration) in script.declarations().iter().enumerate() {
-        if makes_feed(declaration.makes) {
+        if makes_feed(&declaration.makes) {
             feeds.push(at)?;
         }
     }

@@ -176,7 +176,7 @@ fn number_objects(alloc: Global, script: &Script) -> Result<Vec<u64>, AllocError
     let mut objects = 0;
     for declaration in declarations {
         numbers.push(objects)?;
-        objects += u64::from(makes_object(declaration.makes));
+        objects += u64::from(makes_object(&declaration.makes));
     }
     Ok(numbers)
 }
@@ -188,7 +188,7 @@ pub fn count_objects(script: &Script) -> usize
 {
     let mut objects = 0;
     for declaration in script.declarations() {
-        objects += usize::from(makes_object(declaration.makes));
+        objects += usize::from(makes_object(&declaration.makes));
     }
     objects
 }
@@ -199,13 +199,13 @@ pub fn count_feeds(script: &Script) -> usize
 {
     let mut feeds = 0;
     for declaration in script.declarations() {
-        feeds += usize::from(makes_feed(declaration.makes));
+        feeds += usize::from(makes_feed(&declaration.makes));
     }
     feeds
 }
 
-pub fn makes_object(makes: Makes) -> bool
-    ensures { result ≡ makes_object makes }
+pub fn makes_object(makes: &Makes) -> bool
+    ensures { result ≡ makes_object makes.now }
 {
     match makes {
         Makes::Thread => false,
@@ -214,8 +214,8 @@ pub fn makes_object(makes: Makes) -> bool
     }
 }
 
-pub fn makes_feed(makes: Makes) -> bool
-    ensures { result ≡ makes_feed makes }
+pub fn makes_feed(makes: &Makes) -> bool
+    ensures { result ≡ makes_feed makes.now }
 {
     matches!(makes, Makes::Feed(_))
 }
@@ -228,7 +228,7 @@ fn number_feeds(alloc: Global, script: &Script) -> Result<Vec<usize>, AllocError
     let mut feeds = 0;
     for declaration in script.declarations() {
         numbers.push(feeds)?;
-        feeds += usize::from(makes_feed(declaration.makes));
+        feeds += usize::from(makes_feed(&declaration.makes));
     }
     Ok(numbers)
 }
@@ -239,7 +239,7 @@ fn feed_at(script: &Script, feeds: &[usize], at: usize) -> Option<usize>
     ensures { result ≡ feed_at script.now at }
 {
     let declaration = script.declarations().get(at)?;
-    makes_feed(declaration.makes).then_some(feeds[at])
+    makes_feed(&declaration.makes).then_some(feeds[at])
 }
 
 /// How a step of the script goes, where by name so many feeds are declared before it.
@@ -248,9 +248,11 @@ fn route_of(script: &Script, feeds: &[usize], step: &Step) -> Route
     ensures route { result ≡ route_of script.now (Some step.now.seat) step.now.action }
     ensures fits { HasLaneRoom result }
 {
-    match step.action {
-        Action::Send(at, _) | Action::Multicast(at, _) => lane_route(script.lane_of(step.seat, at)),
-        Action::Poll(at) => feed_route(feed_at(script, feeds, at)),
+    match &step.action {
+        Action::Send(at, _) | Action::Multicast(at, _) => {
+            lane_route(script.lane_of(step.seat, *at))
+        }
+        Action::Poll(at) => feed_route(feed_at(script, feeds, *at)),
         Action::Recv(_)
         | Action::Port(_)
         | Action::Copy(_)
@@ -293,15 +295,15 @@ fn number_givings(alloc: Global, script: &Script) -> Result<Vec<Option<usize>>, 
     let mut givings = Vec::new(alloc);
     let mut names = script.declarations().len();
     for step in script.steps() {
-        let gives = gives_name(step.action);
+        let gives = gives_name(&step.action);
         givings.push(gives.then_some(names))?;
         names += usize::from(gives);
     }
     Ok(givings)
 }
 
-fn gives_name(action: Action) -> bool
-    ensures { result ≡ gives_name action }
+fn gives_name(action: &Action) -> bool
+    ensures { result ≡ gives_name action.now }
 {
     matches!(action, Action::Port(_) | Action::Copy(_))
 }

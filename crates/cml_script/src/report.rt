@@ -8,14 +8,14 @@ ghost use Rattle.cml_grammar.specs.Meaning.{names_of};
 ghost use Rattle.cml_grammar.specs.Reading.{IsPortAt, IsFeedAt, IsVariableAt};
 ghost use Rattle.cml_script.specs.Audit.{IsOfScript};
 ghost use Rattle.cml_script.specs.Trail.{history_of};
-ghost use Rattle.cml_script.specs.Report.{report, entry_lines, entry_line, sent_text, reply_word, line_end, port_line, feed_line, owed_or_closed, variable_line, named_line, object_lines_from, end_line};
+ghost use Rattle.cml_script.specs.Report.{report, entry_lines, entry_line, sent_text, message_mark, reply_word, line_end, port_line, feed_line, owed_or_closed, variable_line, named_line, object_lines_from, end_line};
 
 use crate::scene::Scene;
 use crate::stop::Stop;
 use crate::tally::Tally;
 use crate::trail::Trail;
 use crate::whole::journal;
-use cml_board::{Board, BoardLog, Call, Entry, Name, Reply, Who};
+use cml_board::{Board, BoardLog, Call, Entry, Name, Reply, Text, Who};
 use cml_grammar::{Named, Script};
 use std::alloc::{AllocError, Global};
 
@@ -24,7 +24,7 @@ use std::alloc::{AllocError, Global};
 pub fn report(
     alloc: Global,
     script: &Script,
-    board: &Board<u64, BoardLog<u64>>,
+    board: &Board<Text, BoardLog<Text>>,
     tally: &Tally,
     stop: Stop,
 ) -> Result<String, AllocError>
@@ -46,7 +46,7 @@ pub fn report(
 fn write_entries(
     report: &mut String,
     trail: &mut Trail<'_>,
-    journal: &[Entry<u64>],
+    journal: &[Entry<Text>],
 ) -> Result<(), AllocError>
     requires empty { string_bytes report.old ≡ [] }
     requires begins { trail.old.followed ≡ 0 }
@@ -65,7 +65,11 @@ fn write_entries(
 }
 
 /// Adds the line of the next entry, what its caller made and the reply.
-fn write_entry(report: &mut String, trail: &Trail<'_>, entry: &Entry<u64>) -> Result<(), AllocError>
+fn write_entry(
+    report: &mut String,
+    trail: &Trail<'_>,
+    entry: &Entry<Text>,
+) -> Result<(), AllocError>
     ensures { OnOk result (string_bytes report.new ≡ string_bytes report.old ++ entry_line trail.now.script (history_of trail.now) entry.now) }
 {
     match entry.who {
@@ -77,7 +81,7 @@ fn write_entry(report: &mut String, trail: &Trail<'_>, entry: &Entry<u64>) -> Re
         }
     }
     report.push_str(": ")?;
-    write_reply(report, &entry.reply)?;
+    write_reply(report, trail.script().version(), &entry.reply)?;
     report.push_str("\n")
 }
 
@@ -86,30 +90,39 @@ fn write_sent(
     report: &mut String,
     trail: &Trail<'_>,
     lane: u64,
-    call: &Call<u64>,
+    call: &Call<Text>,
 ) -> Result<(), AllocError>
     ensures { OnOk result (string_bytes report.new ≡ string_bytes report.old ++ (codes "lane " ++ decimal lane ++ sent_text trail.now.script call.now)) }
 {
+    let mark = message_mark(trail.script().version());
     match call {
         Call::Send(target, message) => {
             let name = trail.object_name(*target);
-            write!(report, "lane {lane} send {name} {message}")
+            write!(report, "lane {lane} send {name} {mark}{message}")
         }
         Call::Cast(target, message) => {
             let name = trail.object_name(*target);
-            write!(report, "lane {lane} multicast {name} {message}")
+            write!(report, "lane {lane} multicast {name} {mark}{message}")
         }
         _ => write!(report, "lane {lane}"),
     }
 }
 
-fn write_reply(report: &mut String, reply: &Reply<u64>) -> Result<(), AllocError>
-    ensures { OnOk result (string_bytes report.new ≡ string_bytes report.old ++ reply_word reply.now) }
+/// What stands before messages in reports: in version 2, so that no message is taken for another reply.
+fn message_mark(version: u64) -> &'static str
+    ensures { result.now ≡ message_mark version }
 {
+    if version == 2 { "=" } else { "" }
+}
+
+fn write_reply(report: &mut String, version: u64, reply: &Reply<Text>) -> Result<(), AllocError>
+    ensures { OnOk result (string_bytes report.new ≡ string_bytes report.old ++ reply_word version reply.now) }
+{
+    let mark = message_mark(version);
     match reply {
         Reply::Done => report.push_str("done"),
         Reply::Made(_) => report.push_str("made"),
-        Reply::Got(message) => write!(report, "{message}"),
+        Reply::Got(message) => write!(report, "{mark}{message}"),
         Reply::Nothing => report.push_str("none"),
         Reply::Put => report.push_str("put"),
         Reply::Closed => report.push_str("closed"),
@@ -266,8 +279,9 @@ fn write_variable(
     let Some(object) = scene.object(at) else {
         return writeln!(report, "{word} {name}: not made");
     };
+    let mark = message_mark(scene.script().version());
     match scene.board().held(object).unwrap() {
-        Some(message) => writeln!(report, "{word} {name}: full {message}"),
+        Some(message) => writeln!(report, "{word} {name}: full {mark}{message}"),
         None => writeln!(report, "{word} {name}: empty"),
     }
 }

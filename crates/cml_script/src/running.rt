@@ -17,7 +17,7 @@ use crate::stop::Stop;
 use crate::tally::Tally;
 use crate::writing::write_report;
 pub use caller::{Caller, Seated};
-use cml_board::BoardLog;
+use cml_board::{BoardLog, Text};
 use cml_grammar::{Script, read_script};
 use cml_threads::{PARTS, Settled, Switchboard};
 pub use concluding::conclude;
@@ -79,7 +79,7 @@ fn run_text<I: Read, R: Threads + Wait + Sync, G: Gate + Sync>(
 /// What a run leaves.
 #[derive(Drop)]
 struct Ran {
-    settled: Settled<u64, BoardLog<u64>>,
+    settled: Settled<Text, BoardLog<Text>>,
     tally: Tally,
     stop: Stop,
 }
@@ -101,7 +101,7 @@ fn settle_script<Led: Ledger + Send + Sync, R: Threads + Wait + Sync, G: Gate + 
     ensures unsettled { IfErr result (λ ending. IsUnsettled ending) }
     ensures open { IfOk result (λ ran. G.opens gate.now ≡ true → ran.stop ≢ Stop.Held) }
 {
-    let switchboard = Switchboard::<u64, BoardLog<u64>, Led>::new(alloc, limit, blank)?;
+    let switchboard = Switchboard::<Text, BoardLog<Text>, Led>::new(alloc, limit, blank)?;
     let ended = perform_in_threads(rt, alloc, script, &switchboard, gate)?;
     match switchboard.settle(ended.lefts) {
         Ok(settled) => Ok(Ran {
@@ -114,6 +114,6 @@ fn settle_script<Led: Ledger + Send + Sync, R: Threads + Wait + Sync, G: Gate + 
 }
 
 /// How many entries there are where not all answers are accounted for: what is not lawful comes behind them.
-fn entries_of<Led: Ledger>(switchboard: Switchboard<u64, BoardLog<u64>, Led>) -> usize {
+fn entries_of<Led: Ledger>(switchboard: Switchboard<Text, BoardLog<Text>, Led>) -> usize {
     switchboard.into_hall().board().journal().len()
 }

@@ -14,7 +14,7 @@ use crate::plan::count_objects;
 use crate::tally::Tally;
 use crate::trail::Trail;
 use crate::whole::journal;
-use cml_board::{Board, BoardLog, Entry, Name, Who};
+use cml_board::{Board, BoardLog, Entry, Name, Text, Who};
 use cml_grammar::Script;
 use std::marker::Model;
 
@@ -22,7 +22,7 @@ use std::marker::Model;
 #[derive(Drop)]
 pub struct Scene<'a> {
     trail: Trail<'a>,
-    board: &'a Board<u64, BoardLog<u64>>,
+    board: &'a Board<Text, BoardLog<Text>>,
     tally: &'a Tally,
 }
 
@@ -39,7 +39,7 @@ impl<'a> Model for Scene<'a> {
 impl<'a> Scene<'a> {
     pub fn new(
         trail: Trail<'a>,
-        board: &'a Board<u64, BoardLog<u64>>,
+        board: &'a Board<Text, BoardLog<Text>>,
         tally: &'a Tally,
     ) -> Scene<'a>
         requires followed { history_of trail ≡ board.now.history }
@@ -58,7 +58,7 @@ impl<'a> Scene<'a> {
         }
     }
 
-    pub fn board(&self) -> &'a Board<u64, BoardLog<u64>>
+    pub fn board(&self) -> &'a Board<Text, BoardLog<Text>>
         ensures history { result.now.history ≡ self.now.history }
         ensures lawful { Lawful self.now.history }
     {
@@ -105,7 +105,7 @@ impl<'a> Scene<'a> {
 }
 
 /// How many steps were not performed, by what a board's journal and a tally tell.
-pub fn unperformed(script: &Script, board: &Board<u64, BoardLog<u64>>, tally: &Tally) -> usize
+pub fn unperformed(script: &Script, board: &Board<Text, BoardLog<Text>>, tally: &Tally) -> usize
     requires { board.now.past ≡ no_entries }
     ensures { result ≡ unperformed script.now board.now.history tally.now }
 {
@@ -115,7 +115,7 @@ pub fn unperformed(script: &Script, board: &Board<u64, BoardLog<u64>>, tally: &T
 }
 
 /// How many entries are steps that threads' seats made.
-fn count_calls(journal: &[Entry<u64>]) -> usize
+fn count_calls(journal: &[Entry<Text>]) -> usize
     ensures { result ≡ how_many is_step_entry (reverse journal.now) }
 {
     let mut calls = 0;

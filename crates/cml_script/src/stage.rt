@@ -11,12 +11,12 @@ ghost use Rattle.cml_script.specs.Schedule.{NoneReady, Follows, left, declared_c
 ghost use Rattle.cml_script.specs.Report.{performed_count};
 ghost use Rattle.cml_script.specs.Counting.{one_if};
 ghost use Rattle.cml_script.specs.Plan.{IsObject, IsObjectAt};
-ghost use Rattle.cml_script.specs.Stage.{with_entry, IsNextObject, IsNext, IsNextStep, IsBound, earlier_of, IsLeast, IsReadyOf, NoneReadyOf, IsStepAt};
+ghost use Rattle.cml_script.specs.Stage.{with_entry, IsNextObject, IsNext, IsNextStep, IsBound, WaitsIf, earlier_of, IsLeast, IsReadyOf, NoneReadyOf, IsStepAt};
 
 use crate::binding::{Binding, bind};
-use crate::calls::{call_on, used_by};
+use crate::calls::{call_on, used_by, want_on};
 use crate::plan::{Plan, THREADS};
-use cml_board::{Board, BoardLog, Call, Name, Outcome, Refusal, Who};
+use cml_board::{Board, BoardLog, Call, Name, Outcome, Refusal, Text, Who, calls_wait_by_want};
 use cml_grammar::{Action, Makes, Script};
 use std::alloc::{AllocError, Global};
 use std::marker::Model;
@@ -25,7 +25,7 @@ use std::marker::Model;
 #[derive(Drop)]
 pub struct Stage<'a> {
     plan: Plan<'a>,
-    board: Board<u64, BoardLog<u64>>,
+    board: Board<Text, BoardLog<Text>>,
     // By thread, how many of its steps were performed.
     counts: Vec<usize>,
     // By name, what a step gave it.
@@ -64,7 +64,7 @@ impl<'a> Stage<'a> {
         })
     }
 
-    pub fn board(&self) -> &Board<u64, BoardLog<u64>>
+    pub fn board(&self) -> &Board<Text, BoardLog<Text>>
         ensures history { result.now.history ≡ self.now.history }
         ensures whole { result.now.past ≡ no_entries }
         ensures limit { result.now.limit ≡ self.now.limit }
@@ -100,7 +100,7 @@ impl<'a> Stage<'a> {
     {
         let script = self.plan.script();
         for declaration in script.declarations() {
-            if !self.declare_next(declaration.makes)? {
+            if !self.declare_next(&declaration.makes)? {
                 return Ok(false);
             }
         }
@@ -108,13 +108,13 @@ impl<'a> Stage<'a> {
     }
 
     /// Makes what the next declaration makes, and answers false where the journal is full.
-    fn declare_next(&mut self, makes: Makes) -> Result<bool, AllocError>
-        requires next { IsNext self.old makes }
-        requires plain { makes_feed makes ≡ false }
+    fn declare_next(&mut self, makes: &Makes) -> Result<bool, AllocError>
+        requires next { IsNext self.old makes.now }
+        requires plain { makes_feed makes.now ≡ false }
         ensures script { self.new.script ≡ self.old.script }
         ensures limit { self.new.limit ≡ self.old.limit }
         ensures made { IfOk result (λ made. MatchBool made
-            (entries_in self.new.history ≡ entries_in self.old.history + one_if (makes_object makes))
+            (entries_in self.new.history ≡ entries_in self.old.history + one_if (makes_object makes.now))
             ((entries_in self.new.history ≡ self.new.limit) × (entries_in self.new.history < declared_count self.new.script))) }
     {
         match makes {
@@ -123,19 +123,19 @@ impl<'a> Stage<'a> {
             Makes::Channel => self.make(Call::NewChannel),
             Makes::IVar => self.make(Call::NewIVar),
             Makes::MVar => self.make(Call::NewMVar),
-            Makes::MVarInit(message) => self.make(Call::MVarInit(message)),
-            Makes::Port(channel) => self.make(Call::NewPort(self.declared_object(channel))),
+            Makes::MVarInit(message) => self.make(Call::MVarInit(message.clone()?)),
+            Makes::Port(channel) => self.make(Call::NewPort(self.declared_object(*channel))),
             // The script has no rings.
             Makes::Feed(_) => unreachable!(),
         }
     }
 
     /// Makes the next declared object, and answers false where the journal is full.
-    fn make(&mut self, call: Call<u64>) -> Result<bool, AllocError>
+    fn make(&mut self, call: Call<Text>) -> Result<bool, AllocError>
         requires next { IsNextObject self.old call }
         requires fits { Fits self.old.history call }
         ensures made { IfOk result (λ made. MatchBool made
-            ((reply : Reply ℕ) × (self.new ≡ with_entry self.old (record { who = Who.Seat 0; call = call; reply = reply })))
+            ((reply : Reply (List ℕ)) × (self.new ≡ with_entry self.old (record { who = Who.Seat 0; call = call; reply = reply })))
             ((entries_in self.old.history ≡ self.old.limit) × (self.new ≡ self.old))) }
         ensures err { OnErr result (self.new ≡ self.old) }
     {
@@ -167,7 +167,7 @@ impl<'a> Stage<'a> {
             (λ i. IsReadyOf self.now.script self.now.history (thread + 1) i) }
     {
         let i = self.next_step(thread)?;
-        if self.board.would_wait(&self.call(i)) {
+        if self.waits(i) {
             return None;
         }
         Some(i)
@@ -181,25 +181,53 @@ impl<'a> Stage<'a> {
         self.plan.step(thread, self.counts[thread])
     }
 
-    /// The call of the i-th step, which is its thread's next.
-    fn call(&self, i: usize) -> Call<u64>
+    /// Whether the i-th step, which is its thread's next, would wait.
+    fn waits(&self, i: usize) -> bool
         requires within { i < length self.now.script.steps }
         requires next { IsNextStep self.now i }
         requires declared { declared_count self.now.script ≤ entries_in self.now.history }
-        ensures call { step_call self.now.script self.now.history i ≡ Some result }
-        ensures fits { Fits self.now.history result }
+        ensures { WaitsIf self.now.history (step_call self.now.script self.now.history i) result }
     {
-        self.call_for(self.plan.script().steps()[i].action)
+        self.waits_for(&self.plan.script().steps()[i].action)
+    }
+
+    /// Whether the call that asks for this would wait.
+    fn waits_for(&self, action: &Action) -> bool
+        requires uses { UsesWell (names_of self.now.script) action.now }
+        requires bound { IsBound self.now (used_by action.now) }
+        ensures { WaitsIf self.now.history (call_of (object_of self.now.script self.now.history) action.now) result }
+    {
+        // A call waits just where one with its want does.
+        calls_wait_by_want::<Text>();
+        let object = self.bound_object(used_by(action));
+        match want_on(action, object) {
+            Some(want) => self.board.waits(want),
+            None => false,
+        }
+    }
+
+    /// The call of the i-th step, which is its thread's next.
+    fn call(&self, i: usize) -> Result<Call<Text>, AllocError>
+        requires within { i < length self.now.script.steps }
+        requires next { IsNextStep self.now i }
+        requires declared { declared_count self.now.script ≤ entries_in self.now.history }
+        ensures call { IfOk result (λ call. step_call self.now.script self.now.history i ≡ Some call) }
+        ensures fits { IfOk result (λ call. Fits self.now.history call) }
+    {
+        let call = self.call_for(&self.plan.script().steps()[i].action)?;
+        Ok(call)
     }
 
     /// The call that asks for this.
-    fn call_for(&self, action: Action) -> Call<u64>
-        requires uses { UsesWell (names_of self.now.script) action }
-        requires bound { IsBound self.now (used_by action) }
-        ensures call { call_of (object_of self.now.script self.now.history) action ≡ Some result }
-        ensures fits { Fits self.now.history result }
+    fn call_for(&self, action: &Action) -> Result<Call<Text>, AllocError>
+        requires uses { UsesWell (names_of self.now.script) action.now }
+        requires bound { IsBound self.now (used_by action.now) }
+        ensures call { IfOk result (λ call. call_of (object_of self.now.script self.now.history) action.now ≡ Some call) }
+        ensures fits { IfOk result (λ call. Fits self.now.history call) }
     {
-        call_on(action, self.bound_object(used_by(action)))
+        let object = self.bound_object(used_by(action));
+        let call = call_on(action, object)?;
+        Ok(call)
     }
 
     /// The object that this name stands for.
@@ -228,11 +256,11 @@ impl<'a> Stage<'a> {
         requires ready { IsLeast self.old.script self.old.history i }
         requires declared { declared_count self.old.script ≤ entries_in self.old.history }
         requires room { entries_in self.old.history < self.old.limit }
-        ensures performed { OnOk result ((entry : Entry ℕ) × (self.new ≡ with_entry self.old entry)
+        ensures performed { OnOk result ((entry : Entry (List ℕ)) × (self.new ≡ with_entry self.old entry)
             × IsStepAt self.old.script self.old.history entry i) }
         ensures err { OnErr result (self.new ≡ self.old) }
     {
-        let call = self.call(i);
+        let call = self.call(i)?;
         let seat = self.plan.script().steps()[i].seat;
         match self.board.apply(Who::Seat(seat), call) {
             Outcome::Answered(answer) => {

@@ -11,10 +11,10 @@ ghost use Rattle.cml_script.specs.Report.{given_word};
 ghost use Rattle.cml_script.specs.Trail.{history_of, with_next, next_text, IsThread, IsNoThread, AreSmallCounts, CountsOneMore, next_given, next_call, declared_call};
 
 use crate::binding::{Binding, bind};
-use crate::calls::{call_on, used_by};
+use crate::calls::{is_call_on, used_by};
 use crate::objects::Objects;
 use crate::plan::{Plan, THREADS};
-use cml_board::{Call, Entry, Name, Who};
+use cml_board::{Call, Entry, Message, Name, Text, Who};
 use cml_grammar::{Makes, Script};
 use std::alloc::{AllocError, Global};
 use std::marker::Model;
@@ -23,7 +23,7 @@ use std::marker::Model;
 #[derive(Drop)]
 pub struct Trail<'a> {
     plan: Plan<'a>,
-    journal: &'a [Entry<u64>],
+    journal: &'a [Entry<Text>],
     followed: usize,
     objects: Objects,
     // By thread, how many calls it made.
@@ -47,7 +47,7 @@ impl<'a> Trail<'a> {
     pub fn new(
         alloc: Global,
         script: &'a Script,
-        journal: &'a [Entry<u64>],
+        journal: &'a [Entry<Text>],
     ) -> Result<Trail<'a>, AllocError>
         ensures { IfOk result (λ trail. trail ≡ record { script = script.now; journal = journal.now; followed = 0 }) }
     {
@@ -75,7 +75,7 @@ impl<'a> Trail<'a> {
     pub fn has_begun(&self) -> bool
         ensures { IsTrue result ↔ (declared_count self.now.script ≤ entries_in (history_of self.now)) }
     {
-        self.followed >= self.objects.makes.len()
+        self.followed >= self.objects.places.len()
     }
 
     /// The line of the step that the caller's next entry performs, or nothing where no step is left.
@@ -122,7 +122,7 @@ impl<'a> Trail<'a> {
     }
 
     /// Whether the script has this entry next.
-    pub fn is_own(&self, entry: &Entry<u64>) -> bool
+    pub fn is_own(&self, entry: &Entry<Text>) -> bool
         ensures { IsTrue result ↔ IsOwn self.now.script (history_of self.now) entry.now }
     {
         if self.has_begun() {
@@ -132,14 +132,14 @@ impl<'a> Trail<'a> {
     }
 
     /// Whether the entry makes the next declared object.
-    fn is_declaration(&self, entry: &Entry<u64>) -> bool
+    fn is_declaration(&self, entry: &Entry<Text>) -> bool
         requires { entries_in (history_of self.now) < declared_count self.now.script }
         ensures { IsTrue result ↔ IsDeclaration self.now.script (history_of self.now) entry.now }
     {
         if !self.is_maker(entry.who) {
             return false;
         }
-        is_call(self.declared_call(), &entry.call)
+        self.is_declared_call(&entry.call)
     }
 
     /// Whether this caller makes the next declared object.
@@ -151,18 +151,18 @@ impl<'a> Trail<'a> {
     }
 
     /// Whether its caller may have this entry behind the declared objects.
-    fn is_of_caller(&self, entry: &Entry<u64>) -> bool
+    fn is_of_caller(&self, entry: &Entry<Text>) -> bool
         ensures { IsTrue result ↔ IsOfCaller self.now.script (history_of self.now) entry.now entry.now.who }
     {
         match entry.who {
-            Who::Seat(_) => is_call(self.next_call(entry.who), &entry.call),
+            Who::Seat(_) => self.is_next_call(entry.who, &entry.call),
             Who::Lane(_) => self.is_of_lane(&entry.call),
             Who::Feed(feed) => self.is_of_feed(feed, &entry.call),
         }
     }
 
     /// Whether a lane may make this call.
-    fn is_of_lane(&self, call: &Call<u64>) -> bool
+    fn is_of_lane(&self, call: &Call<Text>) -> bool
         ensures { IsTrue result ↔ IsOfLane self.now.script call.now }
     {
         match sent_to(call) {
@@ -172,7 +172,7 @@ impl<'a> Trail<'a> {
     }
 
     /// Whether this feed may make this call.
-    fn is_of_feed(&self, feed: u64, call: &Call<u64>) -> bool
+    fn is_of_feed(&self, feed: u64, call: &Call<Text>) -> bool
         ensures { IsTrue result ↔ IsOfFeed self.now.script feed call.now }
     {
         match self.objects.feed_place(feed) {
@@ -193,38 +193,52 @@ impl<'a> Trail<'a> {
         self.followed += 1;
     }
 
-    /// The call that makes the next declared object.
-    fn declared_call(&self) -> Option<Call<u64>>
+    /// Whether the call makes the next declared object.
+    fn is_declared_call(&self, call: &Call<Text>) -> bool
         requires { entries_in (history_of self.now) < declared_count self.now.script }
-        ensures { result ≡ declared_call self.now.script (history_of self.now) }
+        ensures { IsTrue result ↔ (declared_call self.now.script (history_of self.now) ≡ Some call.now) }
     {
-        self.making_call(self.objects.makes[self.followed])
+        let at = self.objects.places[self.followed];
+        self.is_making(&self.plan.script().declarations()[at].makes, call)
     }
 
-    /// The call that makes this.
-    fn making_call(&self, makes: Makes) -> Option<Call<u64>>
-        requires { IsMadeOfDeclared self.now.script makes }
-        ensures { result ≡ making_call (declared_object self.now.script (history_of self.now)) makes }
+    /// Whether the call makes this.
+    fn is_making(&self, makes: &Makes, call: &Call<Text>) -> bool
+        requires { IsMadeOfDeclared self.now.script makes.now }
+        ensures { IsTrue result ↔ (making_call (declared_object self.now.script (history_of self.now)) makes.now ≡ Some call.now) }
     {
-        match makes {
-            Makes::Thread => None,
-            Makes::Mailbox => Some(Call::NewMailbox),
-            Makes::Channel => Some(Call::NewChannel),
-            Makes::IVar => Some(Call::NewIVar),
-            Makes::MVar => Some(Call::NewMVar),
-            Makes::MVarInit(message) => Some(Call::MVarInit(message)),
-            Makes::Port(channel) => Some(Call::NewPort(self.declared_object(channel)?)),
-            Makes::Feed(feed) => Some(Call::NewPort(self.declared_object(feed.channel)?)),
+        match (makes, call) {
+            (Makes::Mailbox, Call::NewMailbox) => true,
+            (Makes::Channel, Call::NewChannel) => true,
+            (Makes::IVar, Call::NewIVar) => true,
+            (Makes::MVar, Call::NewMVar) => true,
+            (Makes::MVarInit(wanted), Call::MVarInit(message)) => wanted.same(message),
+            (Makes::Port(channel), Call::NewPort(name)) => self.is_object(*channel, *name),
+            (Makes::Feed(feed), Call::NewPort(name)) => self.is_object(feed.channel, *name),
+            _ => false,
         }
     }
 
-    /// The call of the caller's next step.
-    fn next_call(&self, who: Who) -> Option<Call<u64>>
-        ensures { result ≡ next_call self.now.script (history_of self.now) who }
+    /// Whether a declared name stands for this object.
+    fn is_object(&self, at: usize, object: Name) -> bool
+        requires { at < length self.now.script.declarations }
+        ensures { IsTrue result ↔ (declared_object self.now.script (history_of self.now) at ≡ Some object.0) }
     {
-        let step = self.next_step(who)?;
-        let action = self.plan.script().steps()[step].action;
-        Some(call_on(action, self.object(used_by(action))?))
+        self.declared_object(at) == Some(object)
+    }
+
+    /// Whether it is the call of the caller's next step.
+    fn is_next_call(&self, who: Who, call: &Call<Text>) -> bool
+        ensures { IsTrue result ↔ (next_call self.now.script (history_of self.now) who ≡ Some call.now) }
+    {
+        let Some(step) = self.next_step(who) else {
+            return false;
+        };
+        let action = &self.plan.script().steps()[step].action;
+        match self.object(used_by(action)) {
+            Some(object) => is_call_on(action, object, call),
+            None => false,
+        }
     }
 
     /// The name that the caller's next step gives.
@@ -260,18 +274,8 @@ impl<'a> Trail<'a> {
     }
 }
 
-/// Whether the call is the one that is wanted.
-fn is_call(wanted: Option<Call<u64>>, call: &Call<u64>) -> bool
-    ensures { IsTrue result ↔ (wanted ≡ Some call.now) }
-{
-    match wanted {
-        Some(wanted) => wanted.same(call),
-        None => false,
-    }
-}
-
 /// The object that a send or a multicast goes to.
-fn sent_to(call: &Call<u64>) -> Option<Name>
+fn sent_to(call: &Call<Text>) -> Option<Name>
     ensures { result ≡ option_map (λ o. record { 0 = o }) (sent_to call.now) }
 {
     match call {

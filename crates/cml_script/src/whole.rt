@@ -2,10 +2,10 @@
 ghost use Rattle.std.specs.Prelude.{◌≡◌, ◌≤◌, reverse};
 ghost use Rattle.cml_board.specs.History.{no_entries, entries_in, Lawful};
 
-use cml_board::{Board, BoardLog, Entry};
+use cml_board::{Board, BoardLog, Entry, Text};
 
 /// All entries, oldest first.
-pub fn journal(board: &Board<u64, BoardLog<u64>>) -> &[Entry<u64>]
+pub fn journal(board: &Board<Text, BoardLog<Text>>) -> &[Entry<Text>]
     requires { board.now.past ≡ no_entries }
     ensures entries { result.now ≡ reverse board.now.history }
     ensures room { entries_in board.now.history ≤ board.now.limit }

@@ -7,7 +7,7 @@ ghost use Rattle.cml_script.specs.Apart.{by_lane, by_feed};
 ghost use Rattle.cml_script.specs.Working.{Made, MayCall, with_call, with_feed, with_apart, with_closed, with_refused};
 
 use super::rings::{Rings, Subscription};
-use cml_board::{Answer, BoardLog, Call, Name, Refusal};
+use cml_board::{Answer, BoardLog, Call, Name, Refusal, Text};
 use cml_threads::{Left, Seat, Switchboard};
 use std::alloc::{AllocError, Global};
 use std::sync::Wait;
@@ -23,7 +23,7 @@ pub trait Caller {
     ghost goes_on: { Self → Bool };
 
     /// Makes a call of its seat.
-    fn call(&mut self, call: Call<u64>) -> Result<Answer<u64>, Refusal>
+    fn call(&mut self, call: Call<Text>) -> Result<Answer<Text>, Refusal>
         requires goes_on { goes_on self.old ≡ true }
         requires closed { MayCall call (made self.old) }
         ensures goes_on { IfOk result (λ _. goes_on self.new ≡ true) }
@@ -41,7 +41,7 @@ pub trait Caller {
         ensures refused { IfErr result (λ refusal. made self.new ≡ option_map (with_refused refusal) (made self.old)) };
 
     /// Sends a message by a lane to this object, which has room for so many.
-    fn send_apart(&mut self, target: Name, capacity: usize, message: u64) -> Result<(), Refusal>
+    fn send_apart(&mut self, target: Name, capacity: usize, message: Text) -> Result<(), Refusal>
         requires goes_on { goes_on self.old ≡ true }
         requires capacity { IsCapacity capacity }
         ensures goes_on { OnOk result (goes_on self.new ≡ true) }
@@ -55,6 +55,12 @@ pub trait Caller {
         ensures made { OnOk result (made self.new ≡ option_map (with_apart (by_feed feed)) (made self.old)) }
         ensures refused { IfErr result (λ refusal. made self.new ≡ option_map (with_refused refusal) (made self.old)) };
 
+    /// Tells it that there was no memory for what it was to be asked, as if it had been asked and refused that.
+    fn lack_memory(&mut self) -> Refusal
+        requires { goes_on self.old ≡ true }
+        ensures refusal { result ≡ Refusal.NoMemory }
+        ensures made { made self.new ≡ option_map (with_refused Refusal.NoMemory) (made self.old) };
+
     /// Closes all lanes that it has open.
     fn close_lanes(&mut self) -> Result<(), Refusal>
         requires { goes_on self.old ≡ true }
@@ -67,7 +73,7 @@ pub trait Caller {
 #[derive(Drop)]
 pub struct Seated<'a, Led: Ledger, R: Wait> {
     rt: &'a R,
-    switchboard: &'a Switchboard<u64, BoardLog<u64>, Led>,
+    switchboard: &'a Switchboard<Text, BoardLog<Text>, Led>,
     seat: Seat<Led>,
     rings: Rings,
 }
@@ -76,7 +82,7 @@ impl<'a, Led: Ledger, R: Wait> Seated<'a, Led, R> {
     pub fn new(
         alloc: Global,
         rt: &'a R,
-        switchboard: &'a Switchboard<u64, BoardLog<u64>, Led>,
+        switchboard: &'a Switchboard<Text, BoardLog<Text>, Led>,
         seat: Seat<Led>,
     ) -> Seated<'a, Led, R> {
         Seated {
@@ -118,7 +124,7 @@ impl<'a, Led: Ledger, R: Wait> Caller for Seated<'a, Led, R> {
 
     ghost goes_on = { λ _. true };
 
-    fn call(&mut self, call: Call<u64>) -> Result<Answer<u64>, Refusal> {
+    fn call(&mut self, call: Call<Text>) -> Result<Answer<Text>, Refusal> {
         match self.switchboard.call(self.rt, &mut self.seat, call) {
             Ok(answer) => Ok(answer),
             Err((refusal, _)) => Err(refusal),
@@ -130,13 +136,17 @@ impl<'a, Led: Ledger, R: Wait> Caller for Seated<'a, Led, R> {
             .open_feed(self.rt, self.switchboard, channel, capacity)
     }
 
-    fn send_apart(&mut self, target: Name, capacity: usize, message: u64) -> Result<(), Refusal> {
+    fn send_apart(&mut self, target: Name, capacity: usize, message: Text) -> Result<(), Refusal> {
         self.rings
             .send(self.rt, self.switchboard, target, capacity, message)
     }
 
     fn poll_apart(&mut self, feed: usize) -> Result<(), Refusal> {
         self.rings.poll(self.rt, self.switchboard, feed as u64)
+    }
+
+    fn lack_memory(&mut self) -> Refusal {
+        Refusal::NoMemory
     }
 
     fn close_lanes(&mut self) -> Result<(), Refusal> {

@@ -14,7 +14,7 @@ use crate::stop::Stop;
 use crate::tally::Tally;
 use crate::verdict::Verdict;
 use crate::whole::journal;
-use cml_board::{Board, BoardLog};
+use cml_board::{Board, BoardLog, Text};
 use cml_grammar::Script;
 use std::alloc::Global;
 
@@ -22,7 +22,7 @@ use std::alloc::Global;
 pub fn conclude(
     alloc: Global,
     script: &Script,
-    board: &Board<u64, BoardLog<u64>>,
+    board: &Board<Text, BoardLog<Text>>,
     tally: &Tally,
     stop: Stop,
 ) -> Result<Played, Ending>
@@ -43,7 +43,7 @@ pub fn conclude(
 pub(super) fn conclude_under(
     alloc: Global,
     script: &Script,
-    board: &Board<u64, BoardLog<u64>>,
+    board: &Board<Text, BoardLog<Text>>,
     limit: u64,
     tally: &Tally,
     stop: Stop,
@@ -62,7 +62,7 @@ pub(super) fn conclude_under(
 fn tell(
     alloc: Global,
     script: &Script,
-    board: &Board<u64, BoardLog<u64>>,
+    board: &Board<Text, BoardLog<Text>>,
     tally: &Tally,
     stop: Stop,
 ) -> Result<Played, Ending>
@@ -83,7 +83,7 @@ fn tell(
 }
 
 /// Whether a run may end so with this journal and this tally.
-fn may_end(plan: &Plan<'_>, board: &Board<u64, BoardLog<u64>>, tally: &Tally, stop: Stop) -> bool
+fn may_end(plan: &Plan<'_>, board: &Board<Text, BoardLog<Text>>, tally: &Tally, stop: Stop) -> bool
     requires { board.now.past ≡ no_entries }
     ensures { IsTrue result ↔ MayEnd plan.now board.now.limit board.now.history tally.now stop }
 {
@@ -97,7 +97,7 @@ fn may_end(plan: &Plan<'_>, board: &Board<u64, BoardLog<u64>>, tally: &Tally, st
 }
 
 /// Whether so much is left.
-fn leaves(script: &Script, board: &Board<u64, BoardLog<u64>>, tally: &Tally, stop: Stop) -> bool
+fn leaves(script: &Script, board: &Board<Text, BoardLog<Text>>, tally: &Tally, stop: Stop) -> bool
     requires { board.now.past ≡ no_entries }
     ensures { IsTrue result ↔ Leaves script.now board.now.limit board.now.history tally.now stop }
 {
@@ -109,7 +109,7 @@ fn leaves(script: &Script, board: &Board<u64, BoardLog<u64>>, tally: &Tally, sto
 }
 
 /// Whether of no feed more was taken than its port received.
-fn takes_what_was_got(plan: &Plan<'_>, board: &Board<u64, BoardLog<u64>>, tally: &Tally) -> bool
+fn takes_what_was_got(plan: &Plan<'_>, board: &Board<Text, BoardLog<Text>>, tally: &Tally) -> bool
     ensures { IsTrue result ↔ ((at : ℕ) → at < length plan.now.declarations → IsTakenAt plan.now board.now.history tally.now at) }
 {
     for at in 0..plan.script().declarations().len() {
@@ -121,7 +121,7 @@ fn takes_what_was_got(plan: &Plan<'_>, board: &Board<u64, BoardLog<u64>>, tally:
 }
 
 /// Whether of the feed with this name, if it is one that was opened, no more was taken than its port received.
-fn is_taken(plan: &Plan<'_>, board: &Board<u64, BoardLog<u64>>, tally: &Tally, at: usize) -> bool
+fn is_taken(plan: &Plan<'_>, board: &Board<Text, BoardLog<Text>>, tally: &Tally, at: usize) -> bool
     requires { at < length plan.now.declarations }
     ensures { IsTrue result ↔ IsTakenAt plan.now board.now.history tally.now at }
 {

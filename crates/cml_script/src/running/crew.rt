@@ -10,7 +10,7 @@ use super::worker::{first_of, stop_of, work};
 use crate::plan::{Plan, THREADS, count_feeds};
 use crate::stop::Stop;
 use crate::tally::Tally;
-use cml_board::BoardLog;
+use cml_board::{BoardLog, Text};
 use cml_grammar::{Makes, Script};
 use cml_threads::{Left, Switchboard};
 use std::alloc::{AllocError, Global};
@@ -47,7 +47,7 @@ pub fn perform_in_threads<Led: Ledger + Send + Sync, R: Threads + Wait + Sync, G
     rt: &R,
     alloc: Global,
     script: &Script,
-    switchboard: &Switchboard<u64, BoardLog<u64>, Led>,
+    switchboard: &Switchboard<Text, BoardLog<Text>, Led>,
     gate: &G,
 ) -> Result<Ended<Led>, AllocError>
     ensures { IfOk result (λ ended. G.opens gate.now ≡ true → ended.stop ≢ Stop.Held) }
@@ -65,7 +65,7 @@ fn perform_by<
     rt: &R,
     alloc: Global,
     script: &Script,
-    switchboard: &Switchboard<u64, BoardLog<u64>, Led>,
+    switchboard: &Switchboard<Text, BoardLog<Text>, Led>,
     gate: &G,
 ) -> Result<Ended<Led>, AllocError>
     requires { P.opens ≡ G.opens gate.now }
@@ -94,7 +94,7 @@ fn perform_by<
 fn take_seat<'a, Led: Ledger, R: Wait>(
     rt: &'a R,
     alloc: Global,
-    switchboard: &'a Switchboard<u64, BoardLog<u64>, Led>,
+    switchboard: &'a Switchboard<Text, BoardLog<Text>, Led>,
 ) -> Result<Seated<'a, Led, R>, AllocError> {
     match switchboard.seat(rt) {
         Ok(seat) => Ok(Seated::new(alloc, rt, switchboard, seat)),
@@ -106,7 +106,7 @@ fn take_seat<'a, Led: Ledger, R: Wait>(
 fn take_seats<'a, Led: Ledger, R: Wait>(
     rt: &'a R,
     alloc: Global,
-    switchboard: &'a Switchboard<u64, BoardLog<u64>, Led>,
+    switchboard: &'a Switchboard<Text, BoardLog<Text>, Led>,
     threads: usize,
 ) -> Result<Vec<Seated<'a, Led, R>>, AllocError>
     requires { threads ≤ 64 }
@@ -125,7 +125,7 @@ fn count_threads(script: &Script) -> usize
 {
     let mut threads = 0;
     for declaration in script.declarations() {
-        threads += usize::from(declaration.makes == Makes::Thread);
+        threads += usize::from(matches!(declaration.makes, Makes::Thread));
     }
     // No script has more.
     threads.min(THREADS)

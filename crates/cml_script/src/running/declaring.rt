@@ -1,5 +1,5 @@
 //! The objects that a script declares.
-ghost use Rattle.std.specs.Prelude.{◌≡◌, ◌<◌, true, Some, None, length, IfSome, IfErr, OnOk, MatchOption};
+ghost use Rattle.std.specs.Prelude.{◌≡◌, ◌<◌, true, Some, None, length, IfSome, IfOk, IfErr, OnOk, MatchOption};
 ghost use Rattle.std.specs.Option.{option_map};
 ghost use Rattle.cml_script.specs.Plan.{IsKnown};
 ghost use Rattle.cml_script.specs.Makes.{IsMadeOfDeclared};
@@ -8,8 +8,9 @@ ghost use Rattle.cml_script.specs.Declaring.{HasCapacity, HasMade, making};
 
 use super::caller::Caller;
 use crate::plan::Plan;
-use cml_board::{Call, Refusal};
+use cml_board::{Call, Refusal, Text};
 use cml_grammar::Makes;
+use std::alloc::AllocError;
 
 /// Makes the declared objects in text order, a feed's port by opening the feed. It stops at the first that is refused.
 pub fn declare<C: Caller>(plan: &Plan<'_>, caller: &mut C) -> Result<(), Refusal>
@@ -19,43 +20,47 @@ pub fn declare<C: Caller>(plan: &Plan<'_>, caller: &mut C) -> Result<(), Refusal
     ensures { IfSome (C.made caller.new) (λ made. Declares plan.now made result) }
 {
     for declaration in plan.script().declarations() {
-        make(plan, declaration.makes, caller)?;
+        make(plan, &declaration.makes, caller)?;
     }
     Ok(())
 }
 
 /// Makes what a declaration makes.
-fn make<C: Caller>(plan: &Plan<'_>, makes: Makes, caller: &mut C) -> Result<(), Refusal>
-    requires declared { IsMadeOfDeclared plan.now makes }
-    requires capacity { HasCapacity makes }
+fn make<C: Caller>(plan: &Plan<'_>, makes: &Makes, caller: &mut C) -> Result<(), Refusal>
+    requires declared { IsMadeOfDeclared plan.now makes.now }
+    requires capacity { HasCapacity makes.now }
     requires goes_on { C.goes_on caller.old ≡ true }
     ensures goes_on { OnOk result (C.goes_on caller.new ≡ true) }
-    ensures made { OnOk result (HasMade plan.now makes (C.made caller.old) (C.made caller.new)) }
+    ensures made { OnOk result (HasMade plan.now makes.now (C.made caller.old) (C.made caller.new)) }
     ensures refused { IfErr result (λ refusal. C.made caller.new ≡ option_map (with_refused refusal) (C.made caller.old)) }
 {
     if let Makes::Feed(feed) = makes {
         caller.open_feed(plan.number(feed.channel), feed.capacity)?;
         return Ok(());
     }
-    if let Some(call) = making(plan, makes) {
-        caller.call(call)?;
+    match making(plan, makes) {
+        Ok(Some(call)) => {
+            caller.call(call)?;
+            Ok(())
+        }
+        Ok(None) => Ok(()),
+        Err(_) => Err(caller.lack_memory()),
     }
-    Ok(())
 }
 
-/// The call that makes this, if it is an object.
-fn making(plan: &Plan<'_>, makes: Makes) -> Option<Call<u64>>
-    requires { IsMadeOfDeclared plan.now makes }
-    ensures { result ≡ making plan.now makes }
+/// The call that makes this, if it is an object. Only want of memory refuses it.
+fn making(plan: &Plan<'_>, makes: &Makes) -> Result<Option<Call<Text>>, AllocError>
+    requires { IsMadeOfDeclared plan.now makes.now }
+    ensures { IfOk result (λ call. call ≡ making plan.now makes.now) }
 {
     match makes {
-        Makes::Thread => None,
-        Makes::Mailbox => Some(Call::NewMailbox),
-        Makes::Channel => Some(Call::NewChannel),
-        Makes::IVar => Some(Call::NewIVar),
-        Makes::MVar => Some(Call::NewMVar),
-        Makes::MVarInit(message) => Some(Call::MVarInit(message)),
-        Makes::Port(channel) => Some(Call::NewPort(plan.number(channel))),
-        Makes::Feed(feed) => Some(Call::NewPort(plan.number(feed.channel))),
+        Makes::Thread => Ok(None),
+        Makes::Mailbox => Ok(Some(Call::NewMailbox)),
+        Makes::Channel => Ok(Some(Call::NewChannel)),
+        Makes::IVar => Ok(Some(Call::NewIVar)),
+        Makes::MVar => Ok(Some(Call::NewMVar)),
+        Makes::MVarInit(message) => Ok(Some(Call::MVarInit(message.clone()?))),
+        Makes::Port(channel) => Ok(Some(Call::NewPort(plan.number(*channel)))),
+        Makes::Feed(feed) => Ok(Some(Call::NewPort(plan.number(feed.channel)))),
     }
 }

@@ -2,8 +2,8 @@
 ghost use Rattle.std.specs.Prelude.{◌≤◌, ◌<◌, vec_len};
 
 use crate::tally::Tally;
-use cml_board::{BoardLog, Name, Refusal};
-use cml_lanes::{Feed, Lane};
+use cml_board::{BoardLog, Name, Refusal, Text};
+use cml_lanes::{Feed, Lane, LaneFull};
 use cml_threads::Switchboard;
 use std::alloc::{AllocError, Global};
 use std::mem;
@@ -13,20 +13,20 @@ use std::sync::ledger::Ledger;
 /// As many messages as a feed's ring has room for at most.
 const MOST: usize = 1_024;
 
-/// The switchboard of a run, whose messages are numbers.
-pub type Numbers<Led> = Switchboard<u64, BoardLog<u64>, Led>;
+/// The switchboard of a run, whose messages are texts.
+pub type Texts<Led> = Switchboard<Text, BoardLog<Text>, Led>;
 
 /// A lane that is open, and the object that it goes to.
 #[derive(Drop)]
 struct OpenLane {
     target: Name,
-    lane: Lane<u64>,
+    lane: Lane<Text>,
 }
 
 /// A feed, and how many messages its thread took from it.
 #[derive(Drop)]
 pub struct Subscription {
-    feed: Feed<u64>,
+    feed: Feed<Text>,
     taken: u64,
 }
 
@@ -69,7 +69,7 @@ impl Rings {
     pub fn open_feed<Led: Ledger, R: Wait>(
         &mut self,
         rt: &R,
-        switchboard: &Numbers<Led>,
+        switchboard: &Texts<Led>,
         channel: Name,
         capacity: usize,
     ) -> Result<Name, Refusal>
@@ -90,55 +90,56 @@ impl Rings {
     pub fn send<Led: Ledger, R: Wait>(
         &mut self,
         rt: &R,
-        switchboard: &Numbers<Led>,
+        switchboard: &Texts<Led>,
         target: Name,
         capacity: usize,
-        message: u64,
+        message: Text,
     ) -> Result<(), Refusal>
         requires least { 1 ≤ capacity }
         requires most { capacity ≤ 1024 }
     {
-        let is_sent = match self.lanes.iter().position(|open| open.target == target) {
+        let unsent = match self.lanes.iter().position(|open| open.target == target) {
             Some(at) => self.send_on(rt, switchboard, at, message)?,
-            None => false,
+            None => Some(message),
         };
-        if !is_sent {
+        if let Some(message) = unsent {
             self.send_first(rt, switchboard, target, capacity, message)?;
         }
         self.performed = self.performed.saturating_add(1);
         Ok(())
     }
 
-    /// Sends a message on an open lane: whether it had room for it. Where it has none though it was drained, it is closed.
+    /// Sends a message on an open lane, or gives it back where it has no room for it. Where it has none though it was drained,
+    /// it is closed.
     fn send_on<Led: Ledger, R: Wait>(
         &mut self,
         rt: &R,
-        switchboard: &Numbers<Led>,
+        switchboard: &Texts<Led>,
         at: usize,
-        message: u64,
-    ) -> Result<bool, Refusal>
+        message: Text,
+    ) -> Result<Option<Text>, Refusal>
         requires { at < vec_len self.old.lanes }
     {
-        if self.lanes[at].lane.send(message).is_ok() {
-            return Ok(true);
-        }
+        let Err(LaneFull(message)) = self.lanes[at].lane.send(message) else {
+            return Ok(None);
+        };
         switchboard.drain(rt, self.lanes[at].lane.number())?;
-        if self.lanes[at].lane.send(message).is_ok() {
-            return Ok(true);
-        }
+        let Err(LaneFull(message)) = self.lanes[at].lane.send(message) else {
+            return Ok(None);
+        };
         let full = self.lanes.swap_remove(at);
         close(rt, switchboard, full.lane)?;
-        Ok(false)
+        Ok(Some(message))
     }
 
     /// Opens a lane, and sends its first message.
     fn send_first<Led: Ledger, R: Wait>(
         &mut self,
         rt: &R,
-        switchboard: &Numbers<Led>,
+        switchboard: &Texts<Led>,
         target: Name,
         capacity: usize,
-        message: u64,
+        message: Text,
     ) -> Result<(), Refusal>
         requires least { 1 ≤ capacity }
         requires most { capacity ≤ 1024 }
@@ -158,7 +159,7 @@ impl Rings {
     pub fn poll<Led: Ledger, R: Wait>(
         &mut self,
         rt: &R,
-        switchboard: &Numbers<Led>,
+        switchboard: &Texts<Led>,
         number: u64,
     ) -> Result<(), Refusal> {
         for subscription in self.feeds.iter_mut() {
@@ -178,7 +179,7 @@ impl Rings {
     pub fn close_lanes<Led: Ledger, R: Wait>(
         &mut self,
         rt: &R,
-        switchboard: &Numbers<Led>,
+        switchboard: &Texts<Led>,
     ) -> Result<(), Refusal> {
         while let Some(open) = self.lanes.pop() {
             close(rt, switchboard, open.lane)?;
@@ -187,21 +188,21 @@ impl Rings {
     }
 
     /// Ends what is left at a thread's end: lanes that are open are abandoned, and feeds ended.
-    pub fn end<Led: Ledger, R: Wait>(mut self, rt: &R, switchboard: &Numbers<Led>) -> Rings {
+    pub fn end<Led: Ledger, R: Wait>(mut self, rt: &R, switchboard: &Texts<Led>) -> Rings {
         self.abandon_lanes(rt, switchboard);
         self.end_feeds(rt, switchboard);
         self
     }
 
     /// Abandons all lanes that are open: what they have in their rings is lost.
-    fn abandon_lanes<Led: Ledger, R: Wait>(&mut self, rt: &R, switchboard: &Numbers<Led>) {
+    fn abandon_lanes<Led: Ledger, R: Wait>(&mut self, rt: &R, switchboard: &Texts<Led>) {
         while let Some(open) = self.lanes.pop() {
             let _ = switchboard.abandon_lane(rt, open.lane.number());
         }
     }
 
     /// Ends all feeds, and takes what is left in their rings.
-    fn end_feeds<Led: Ledger, R: Wait>(&mut self, rt: &R, switchboard: &Numbers<Led>) {
+    fn end_feeds<Led: Ledger, R: Wait>(&mut self, rt: &R, switchboard: &Texts<Led>) {
         for subscription in self.feeds.iter_mut() {
             let _ = switchboard.end_feed(rt, subscription.feed.number());
             subscription.take_rest();
@@ -231,8 +232,8 @@ impl Rings {
 /// Closes a lane. Where that is refused it is abandoned: what it has left in its ring is lost.
 fn close<Led: Ledger, R: Wait>(
     rt: &R,
-    switchboard: &Numbers<Led>,
-    lane: Lane<u64>,
+    switchboard: &Texts<Led>,
+    lane: Lane<Text>,
 ) -> Result<(), Refusal> {
     let number = lane.number();
     let told = finish(rt, switchboard, lane);
@@ -245,8 +246,8 @@ fn close<Led: Ledger, R: Wait>(
 /// Finishes a lane, and closes it.
 fn finish<Led: Ledger, R: Wait>(
     rt: &R,
-    switchboard: &Numbers<Led>,
-    lane: Lane<u64>,
+    switchboard: &Texts<Led>,
+    lane: Lane<Text>,
 ) -> Result<(), Refusal> {
     let number = lane.number();
     let Some(end) = lane.finish() else {
@@ -262,7 +263,7 @@ fn finish<Led: Ledger, R: Wait>(
 /// Closes a lane without its end. Each turn but the last moves what it can.
 fn drop_lane<Led: Ledger, R: Wait>(
     rt: &R,
-    switchboard: &Numbers<Led>,
+    switchboard: &Texts<Led>,
     number: u64,
 ) -> Result<(), Refusal> {
     for _ in rt.forever() {

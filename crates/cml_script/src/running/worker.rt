@@ -1,5 +1,5 @@
 //! What a thread does.
-ghost use Rattle.std.specs.Prelude.{◌≡◌, ◌+◌, ◌<◌, ◌^◌, ◌⊎◌, ◌&&◌, not, true, Some, Ok, length, IfSome, IfErr, IsSome, OnOk};
+ghost use Rattle.std.specs.Prelude.{◌≡◌, ◌+◌, ◌<◌, ◌^◌, ◌⊎◌, ◌&&◌, not, true, Some, Ok, length, IfSome, IfOk, IfErr, IsSome, OnOk};
 ghost use Rattle.std.specs.Option.{option_map};
 ghost use Rattle.cml_board.specs.History.{entries_in};
 ghost use Rattle.cml_script.specs.Schedule.{History, step_call};
@@ -16,7 +16,7 @@ use crate::calls::{call_on, used_by};
 use crate::plan::Plan;
 use crate::route::Route;
 use crate::stop::Stop;
-use cml_board::{Call, Refusal};
+use cml_board::{Call, Refusal, Text};
 use cml_grammar::Action;
 use std::alloc::{AllocError, Global};
 
@@ -128,8 +128,10 @@ fn perform_seated<C: Caller>(
     ensures way { OnOk result (IsUnderWay plan.now (thread + 1) (step + 1) course.new (C.made caller.new)) }
     ensures refused { IfErr result (λ refusal. IsRefusedSo refusal (C.made caller.old) (C.made caller.new)) }
 {
-    close_before(plan.script().steps()[step].action, course, caller)?;
-    let call = call_of(plan, step, course.made, &course.bindings);
+    close_before(&plan.script().steps()[step].action, course, caller)?;
+    let Ok(call) = call_of(plan, step, course.made, &course.bindings) else {
+        return Err(caller.lack_memory());
+    };
     let answer = caller.call(call)?;
     let given = plan.given(step);
     bind(&mut course.bindings, given, answer.call(), answer.reply());
@@ -139,15 +141,15 @@ fn perform_seated<C: Caller>(
 
 /// Closes what lanes are open before a step that may wait.
 fn close_before<C: Caller>(
-    action: Action,
+    action: &Action,
     course: &mut Course,
     caller: &mut C,
 ) -> Result<(), Refusal>
     requires { C.goes_on caller.old ≡ true }
     ensures goes_on { OnOk result (C.goes_on caller.new ≡ true) }
-    ensures made { OnOk result (C.made caller.new ≡ closed_if (course.old.is_sending && may_wait action) (C.made caller.old)) }
+    ensures made { OnOk result (C.made caller.new ≡ closed_if (course.old.is_sending && may_wait action.now) (C.made caller.old)) }
     ensures refused { IfErr result (λ refusal. C.made caller.new ≡ option_map (with_refused refusal) (C.made caller.old)) }
-    ensures course { OnOk result (course.new ≡ record course.old { is_sending = course.old.is_sending && not (may_wait action) }) }
+    ensures course { OnOk result (course.new ≡ record course.old { is_sending = course.old.is_sending && not (may_wait action.now) }) }
 {
     if course.is_sending && may_wait(action) {
         caller.close_lanes()?;
@@ -157,8 +159,8 @@ fn close_before<C: Caller>(
 }
 
 /// Whether a step waits where it can't be answered.
-fn may_wait(action: Action) -> bool
-    ensures { result ≡ may_wait action }
+fn may_wait(action: &Action) -> bool
+    ensures { result ≡ may_wait action.now }
 {
     matches!(
         action,
@@ -186,25 +188,34 @@ fn send_apart<C: Caller>(
     ensures way { OnOk result (IsUnderWay plan.now (thread + 1) (step + 1) course.new (C.made caller.new)) }
     ensures refused { IfErr result (λ refusal. C.made caller.new ≡ option_map (with_refused refusal) (C.made caller.old)) }
 {
-    course.is_sending = true;
-    match plan.script().steps()[step].action {
+    match &plan.script().steps()[step].action {
         Action::Send(at, message) | Action::Multicast(at, message) => {
-            caller.send_apart(plan.number(at), capacity, message)
+            let Ok(message) = message.clone() else {
+                return Err(caller.lack_memory());
+            };
+            course.is_sending = true;
+            caller.send_apart(plan.number(*at), capacity, message)
         }
         _ => unreachable!(),
     }
 }
 
-/// The call of a step, where so many entries are made and steps gave their names this.
-fn call_of(plan: &Plan<'_>, step: usize, made: usize, bindings: &[Binding]) -> Call<u64>
+/// The call of a step, with a message of its own, where so many entries are made and steps gave their names this.
+fn call_of(
+    plan: &Plan<'_>,
+    step: usize,
+    made: usize,
+    bindings: &[Binding],
+) -> Result<Call<Text>, AllocError>
     requires within { step < length plan.now.steps }
     requires stands { (history : History) × (entries_in history ≡ made) × AreBindings plan.now history bindings.now × IsSome (step_call plan.now history step) }
-    ensures { (history : History) → entries_in history ≡ made → AreBindings plan.now history bindings.now
-        → step_call plan.now history step ≡ Some result }
+    ensures { IfOk result (λ call. (history : History) → entries_in history ≡ made → AreBindings plan.now history bindings.now
+        → step_call plan.now history step ≡ Some call) }
 {
-    let action = plan.script().steps()[step].action;
+    let action = &plan.script().steps()[step].action;
     let object = plan.object(used_by(action), made as u64, bindings);
-    call_on(action, object.unwrap())
+    let call = call_on(action, object.unwrap())?;
+    Ok(call)
 }
 
 /// What a refusal stops a thread with.

@@ -1,13 +1,9 @@
-use Rattle.std.proofs.Common.{◌++◌, ◌+◌, ℕ, get_or, ap, sym, ◌∙◌, string_bytes}
-use Rattle.std.proofs.lemmas.Option.{slice_get-get_or}
+use Rattle.std.proofs.Common.{◌++◌, ◌+◌, ap, sym, ◌∙◌, string_bytes}
 use Rattle.std.proofs.lemmas.Bool.{false≢true}
-use Rattle.cml_board.specs.declared.call.Call.TheVariants as call
-use Rattle.cml_board.specs.declared.entry.Who.TheVariants.{Seat}
-use Rattle.cml_board.specs.declared.entry.Reply.TheVariants as reply
-use Rattle.cml_board.specs.declared.entry.Entry.{Entry}
 use Rattle.cml_board.specs.Positions.{before}
 use Rattle.cml_script.specs.Report.{entry_lines, entry_line}
 use Rattle.cml_script.specs.Trail.{Progress}
+use Rattle.cml_script.proofs.ListLemmas.{read_at}
 use Rattle.cml_script.proofs.JournalLemmas.{before_more}
 use Rattle.cml_script.proofs.ReportLemmas.{line_more, no_line, begun_at, not_begun_at, entry_at}
 use Rattle.std.specs.Global.{Global}
@@ -22,9 +18,8 @@ loop-entry-preserved c =
     let script = c.args.trail.now.script in
     let journal = c.args.journal.now in
     let k = c.loop-entry.entry-index in
-    let first : Entry ℕ = record { who = Seat 0; call = call.NewMailbox; reply = reply.Done } in
-    let entry = get_or journal k first in
-    let found = slice_get-get_or journal k first c.loop-entry-test.true in
+    let entry = c.entry-item.result in
+    let found = read_at journal k entry c.loop-entry-test.true c.entry-item.is in
     let more = before_more journal k entry found in
     record {
       script = ap (λ (p : Progress). p.script) c.follow.ensures ∙ so_far.script;

@@ -26,4 +26,4 @@ returns c = λ history all bound.
     let s = get_or c.steps.result.now c.args.step c.index-steps-step.result in
     let calls = step_calls c.args.plan.now history c.steps.result.now c.args.step c.used_by.result s c.object-object.result steps.lines steps.asked
     (slice_get-get_or c.steps.result.now c.args.step c.index-steps-step.result within) c.used_by.ensures (c.object-object.ensures history all bound) in
-    calls ∙ ap (option_map (call_on s.action)) c.unwrap.ensures ∙ ap Some (sym c.call_on.ensures)
+    calls ∙ ap (option_map (call_on s.action)) c.unwrap.ensures ∙ ap Some (sym c.in_ok-call.ensures)

@@ -13,8 +13,8 @@ use Rattle.cml_script.proofs.StandLemmas.{bind_within}
 use Rattle.cml_script.proofs.WorkLemmas.{an_opening, is_opening, closed_before, may_call, so_far, entries_are, next_called, call_known, turn_within, turn_goes, turn_called, more_made}
 use Rattle.cml_script.proofs.running.worker.perform_seated.Goals as goal
 
-pub call_of-call-requires-clause-stands : goal.call_of-call-requires-clause-stands
-call_of-call-requires-clause-stands g c =
+pub call_of-requires-clause-stands : goal.call_of-requires-clause-stands
+call_of-requires-clause-stands g c =
     let script = c.args.plan.now in
     let seat = c.args.thread + 1 in
     let turn = c.requires.turn in
@@ -49,10 +49,10 @@ call-requires-clause-closed g c =
     let steps = rw c.script.ensures at c.steps.ensures in
     let items = c.steps.result.now in
     let within = turn_within script seat c.args.step turn in
-    let calls : step_call script history c.args.step ≡ Some c.call_of-call.result =
-    c.call_of-call.ensures history (entries_are script seat (omega arith) first opening under) (subst (AreBindings script history) (sym c.deref.ensures.value) (under.bound first opening)) in
-    let waits = step_waits script history items c.args.step c.index-steps-step.result c.call_of-call.result steps.lines steps.asked (omega (arith, within, ap length steps.lines, length-map items (λ (x : Step). source_of x.line))) calls in
-    may_call script seat c.args.step c.args.course.now.is_sending _ c.call_of-call.result under (ap (λ (k : Course). k.is_sending) told.course) waits
+    let calls : step_call script history c.args.step ≡ Some c.in-Ok.call =
+    c.in-Ok.ensures history (entries_are script seat (omega arith) first opening under) (subst (AreBindings script history) (sym c.deref.ensures.value) (under.bound first opening)) in
+    let waits = step_waits script history items c.args.step c.index-steps-step.result c.in-Ok.call steps.lines steps.asked (omega (arith, within, ap length steps.lines, length-map items (λ (x : Step). source_of x.line))) calls in
+    may_call script seat c.args.step c.args.course.now.is_sending _ c.in-Ok.call under (ap (λ (k : Course). k.is_sending) told.course) waits
 
 pub given-given-requires : goal.given-given-requires
 given-given-requires g c = turn_within c.args.plan.now (c.args.thread + 1) c.args.step c.requires.turn
@@ -78,6 +78,6 @@ returns-clause-way g c =
     closed_before script seat c.args.step _ c.close_before.new.course (g.C.Caller.made c.close_before.new.caller) c.requires.way told.made told.course in
     let seated = ap is_by_ring (turn_goes script seat c.args.step turn route.Seat c.requires.called) in
     let bound = c.bind.ensures ∙ ap₂ (λ a r. with_binding c.close_before.new.course.bindings.items c.given-given.result (bound_by a r)) (c.call-2.ensures ∙ c.in_ok-answer.ensures.call) c.reply.ensures in
-    more_made script seat (omega arith) c.args.step under c.requires.known turn c.call_of-call.result c.in_ok-answer.answer.reply c.given-given.result _ _ seated c.in_ok-answer.ensures.reply
-    (λ history long is. c.call_of-call.ensures history long (subst (AreBindings script history) (sym c.deref.ensures.value) is))
+    more_made script seat (omega arith) c.args.step under c.requires.known turn c.in-Ok.call c.in_ok-answer.answer.reply c.given-given.result _ _ seated c.in_ok-answer.ensures.reply
+    (λ history long is. c.in-Ok.ensures history long (subst (AreBindings script history) (sym c.deref.ensures.value) is))
     c.given-given.ensures c.in_ok-answer.ensures.made refl bound refl

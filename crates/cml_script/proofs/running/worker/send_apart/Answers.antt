@@ -43,6 +43,7 @@ returns-clause-way g c =
       | inl e ↦ acts (action.Send at message) steps.lines steps.asked within turn.found goes e
       | inr e ↦ acts (action.Multicast at message) steps.lines steps.asked within turn.found goes e
     ] ∙ ap (λ n. Some (by_lane (record { 0 = n }) c.args.capacity message)) (sym c.number.ensures) in
+    let shared : act_of_line script turn.line ≡ Some (by_lane c.number.result c.args.capacity c.in-Ok.message) = sends ∙ ap (λ m. Some (by_lane c.number.result c.args.capacity m)) (sym c.in-Ok.ensures.cases) in
     on_ok c.send_apart.result
-    (λ made. more_gone script seat c.args.step c.requires.way turn (by_lane c.number.result c.args.capacity message) _ (g.C.Caller.made c.send_apart.new.self) (ap is_by_ring goes) sends made refl refl refl)
+    (λ made. more_gone script seat c.args.step c.requires.way turn (by_lane c.number.result c.args.capacity c.in-Ok.message) _ (g.C.Caller.made c.send_apart.new.self) (ap is_by_ring goes) shared made refl refl refl)
     c.send_apart.ensures.made

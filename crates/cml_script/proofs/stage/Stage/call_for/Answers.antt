@@ -12,13 +12,13 @@ use Rattle.cml_script.proofs.stage.Stage.call_for.Goals as goal
 pub returns-clause-call : goal.returns-clause-call
 returns-clause-call c =
     let at = object_of c.args.self.now.script c.args.self.now.history in
-    call_is at c.args.action
-    ∙ ap (λ n. option_map (λ (o : ℕ). call_on c.args.action (record { 0 = o })) (at n)) (sym c.used_by.ensures)
-    ∙ ap (option_map (λ (o : ℕ). call_on c.args.action (record { 0 = o }))) c.bound_object.ensures.object
-    ∙ ap Some (sym c.call_on.ensures)
+    call_is at c.args.action.now
+    ∙ ap (λ n. option_map (λ (o : ℕ). call_on c.args.action.now (record { 0 = o })) (at n)) (sym c.used_by.ensures)
+    ∙ ap (option_map (λ (o : ℕ). call_on c.args.action.now (record { 0 = o }))) c.bound_object-object.ensures.object
+    ∙ ap Some (sym c.in_ok-call.ensures)
 
 pub returns-clause-fits : goal.returns-clause-fits
 returns-clause-fits c =
     let names = names_of c.args.self.now.script in
-    let kinds = subst (λ n. (k : Kind) → IsObjectAt names n k → kind_of c.args.self.now.history c.bound_object.result.0 ≡ Some k) c.used_by.ensures c.bound_object.ensures.kind in
-    subst (Fits c.args.self.now.history) (sym c.call_on.ensures) (fits_use names c.args.action c.args.self.now.history c.bound_object.result c.requires.uses kinds)
+    let kinds = subst (λ n. (k : Kind) → IsObjectAt names n k → kind_of c.args.self.now.history c.bound_object-object.result.0 ≡ Some k) c.used_by.ensures c.bound_object-object.ensures.kind in
+    subst (Fits c.args.self.now.history) (sym c.in_ok-call.ensures) (fits_use names c.args.action.now c.args.self.now.history c.bound_object-object.result c.requires.uses kinds)

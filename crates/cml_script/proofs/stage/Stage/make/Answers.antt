@@ -1,4 +1,4 @@
-use Rattle.std.proofs.Common.{ap, ◌∙◌, ℕ}
+use Rattle.std.proofs.Common.{ap, ◌∙◌, ℕ, List}
 use Rattle.cml_board.specs.declared.entry.Who.TheVariants.{Seat}
 use Rattle.cml_board.specs.declared.entry.Entry.{Entry}
 use Rattle.cml_script.specs.Stage.{Play, with_entry}
@@ -9,7 +9,7 @@ use Rattle.cml_script.proofs.stage.Stage.make.Goals as goal
 pub returns-in-Answered-clause-made : goal.returns-in-Answered-clause-made
 returns-in-Answered-clause-made c =
     let adds = c.in-Answered.ensures.5 in
-    let entry : Entry ℕ = record { who = Seat 0; call = c.args.call; reply = c.in-Answered.field-0.reply } in (
+    let entry : Entry (List ℕ) = record { who = Seat 0; call = c.args.call; reply = c.in-Answered.field-0.reply } in (
       c.in-Answered.field-0.reply,
       new_play c.self.inside.plan c.self.inside.board.history _ c.self.inside.board.limit _ entry adds.history adds.limit
           ∙ ap (λ (p : Play). with_entry p entry) c.self.view_is,

@@ -16,20 +16,20 @@ use Rattle.cml_script.proofs.stage.Stage.perform.Goals as goal
 pub overflow_add-index_mut : goal.overflow_add-index_mut
 overflow_add-index_mut c =
     let steps = rw c.script.ensures at c.steps.ensures in
-    let performed = is_performed _ c.args.self.now c.steps.result.now c.args.i c.index-steps-i.result c.call-call.result c.self.view_is steps.lines steps.asked steps.threads c.requires.ready c.requires.declared c.call-call.ensures.call in
+    let performed = is_performed _ c.args.self.now c.steps.result.now c.args.i c.index-steps-i.result c.in_ok-call.call c.self.view_is steps.lines steps.asked steps.threads c.requires.ready c.requires.declared c.in_ok-call.ensures.call in
     let small = count_fits _ _ _ _ c.index_mut.result.now c.self.invariant.0 performed.low performed.high c.index_mut.ensures.value (whole_below c.self.inside.board c.self.invariant.1 c.in-Answered.ensures.1) in
     omega (arith, small)
 
 pub invariant_of-self : goal.invariant_of-self
 invariant_of-self c =
     let steps = rw c.script.ensures at c.steps.ensures in
-    let performed = is_performed _ c.args.self.now c.steps.result.now c.args.i c.index-steps-i.result c.call-call.result c.self.view_is steps.lines steps.asked steps.threads c.requires.ready c.requires.declared c.call-call.ensures.call in
+    let performed = is_performed _ c.args.self.now c.steps.result.now c.args.i c.index-steps-i.result c.in_ok-call.call c.self.view_is steps.lines steps.asked steps.threads c.requires.ready c.requires.declared c.in_ok-call.ensures.call in
     let answer = c.in-Answered.answer in
     let adds = c.in-Answered.ensures.5 in
-    let entry : Entry ℕ = record { who = Seat (get_or c.steps.result.now c.args.i c.index-steps-i.result).seat; call = c.call-call.result; reply = answer.reply } in
+    let entry : Entry (List ℕ) = record { who = Seat (get_or c.steps.result.now c.args.i c.index-steps-i.result).seat; call = c.in_ok-call.call; reply = answer.reply } in
     let room = whole_below c.self.inside.board c.self.invariant.1 c.in-Answered.ensures.1 in (
       subst (λ (bs : List Binding). Stands (record { script = c.self.inside.plan; history = c.apply.new.self.history; limit = c.apply.new.self.limit }) (slice_set c.self.inside.counts.items ((get_or c.steps.result.now c.args.i c.index-steps-i.result).seat - 1) (c.index_mut.result.now + 1)) bs)
-          (sym (c.bind.ensures ∙ ap (λ (asked : Call ℕ). with_binding c.self.inside.bindings.items c.given-given.result (bound_by asked c.reply.result.now)) (c.call.ensures ∙ c.in-Answered.ensures.3) ∙ ap (λ (r : Reply ℕ). with_binding c.self.inside.bindings.items c.given-given.result (bound_by c.call-call.result r)) c.reply.ensures)) (stands_performed _ _ _ _ entry c.args.i _ c.index_mut.result.now c.given-given.result c.self.invariant.0
+          (sym (c.bind.ensures ∙ ap (λ (asked : Call (List ℕ)). with_binding c.self.inside.bindings.items c.given-given.result (bound_by asked c.reply.result.now)) (c.call-in-Answered.ensures ∙ c.in-Answered.ensures.3) ∙ ap (λ (r : Reply (List ℕ)). with_binding c.self.inside.bindings.items c.given-given.result (bound_by c.in_ok-call.call r)) c.reply.ensures)) (stands_performed _ _ _ _ entry c.args.i _ c.index_mut.result.now c.given-given.result c.self.invariant.0
           (new_play c.self.inside.plan c.self.inside.board.history _ c.self.inside.board.limit _ entry adds.history adds.limit)
           c.in-Answered.ensures.0 room c.in-Answered.ensures.2 performed.declared (performed.step answer.reply) refl performed.low performed.high c.index_mut.ensures.value c.given-given.ensures),
       adds.past ∙ c.self.invariant.1,
@@ -38,16 +38,16 @@ invariant_of-self c =
 pub returns-in-Answered-clause-performed : goal.returns-in-Answered-clause-performed
 returns-in-Answered-clause-performed c =
     let steps = rw c.script.ensures at c.steps.ensures in
-    let performed = is_performed _ c.args.self.now c.steps.result.now c.args.i c.index-steps-i.result c.call-call.result c.self.view_is steps.lines steps.asked steps.threads c.requires.ready c.requires.declared c.call-call.ensures.call in
+    let performed = is_performed _ c.args.self.now c.steps.result.now c.args.i c.index-steps-i.result c.in_ok-call.call c.self.view_is steps.lines steps.asked steps.threads c.requires.ready c.requires.declared c.in_ok-call.ensures.call in
     let answer = c.in-Answered.answer in
     let adds = c.in-Answered.ensures.5 in
-    let entry : Entry ℕ = record { who = Seat (get_or c.steps.result.now c.args.i c.index-steps-i.result).seat; call = c.call-call.result; reply = answer.reply } in
-    performs _ c.args.self.now _ c.args.i _ c.call-call.result answer.reply c.self.view_is
+    let entry : Entry (List ℕ) = record { who = Seat (get_or c.steps.result.now c.args.i c.index-steps-i.result).seat; call = c.in_ok-call.call; reply = answer.reply } in
+    performs _ c.args.self.now _ c.args.i _ c.in_ok-call.call answer.reply c.self.view_is
     (new_play c.self.inside.plan c.self.inside.board.history _ c.self.inside.board.limit _ entry adds.history adds.limit)
     performed
 
-pub call-call-requires-clause-next : goal.call-call-requires-clause-next
-call-call-requires-clause-next c =
+pub call-requires-clause-next : goal.call-requires-clause-next
+call-requires-clause-next c =
     let ready = c.requires.ready in
     (ready.seat, next_is c.args.self.now.script c.args.self.now.history ready.seat c.args.i ready.asked ready.ready)
 

@@ -1,9 +1,5 @@
-use Rattle.std.proofs.Common.{ℕ, ◌<◌, get_or, ap, subst, sym, length, arith, IfSome}
+use Rattle.std.proofs.Common.{◌<◌, get_or, ap, subst, sym, length, arith, IfSome}
 use Rattle.std.proofs.lemmas.Option.{slice_get-get_or}
-use Rattle.cml_board.specs.declared.call.Call.TheVariants as call
-use Rattle.cml_board.specs.declared.entry.Who.TheVariants.{Seat}
-use Rattle.cml_board.specs.declared.entry.Reply.TheVariants as reply
-use Rattle.cml_board.specs.declared.entry.Entry.{Entry}
 use Rattle.cml_script.specs.Schedule.{next_position}
 use Rattle.cml_script.specs.Trail.{Progress, history_of}
 use Rattle.cml_script.proofs.JournalLemmas.{before_length}
@@ -29,6 +25,5 @@ pub invariant_of-self : goal.invariant_of-self
 invariant_of-self c =
     let trail = c.args.self.now in
     let within = subst (λ (p : Progress). p.followed < length p.journal) (sym c.self.view_is) c.requires in
-    let first : Entry ℕ = record { who = Seat 0; call = call.NewMailbox; reply = reply.Done } in
-    let entry = get_or c.self.inside.journal.now c.self.inside.followed first in
-    follows_more _ trail _ _ _ _ _ entry c.next_given-given.result c.self.view_is c.self.invariant (slice_get-get_or c.self.inside.journal.now c.self.inside.followed first within) c.next_given-given.ensures c.count.ensures c.bind.ensures
+    let entry = get_or c.self.inside.journal.now c.self.inside.followed c.index-self-self.result in
+    follows_more _ trail _ _ _ _ _ entry c.next_given-given.result c.self.view_is c.self.invariant (slice_get-get_or c.self.inside.journal.now c.self.inside.followed c.index-self-self.result within) c.next_given-given.ensures c.count.ensures c.bind.ensures
