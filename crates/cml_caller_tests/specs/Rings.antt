@@ -1,5 +1,5 @@
 -- What a floor and the other ends of its rings show of themselves.
-use Rattle.std.specs.Prelude.{ℕ, ◌≡◌, ◌+◌, Bool, true, false, ◌∷◌, length, filter}
+use Rattle.std.specs.Prelude.{ℕ, ◌≡◌, ◌+◌, Bool, true, false, List, ◌∷◌, length, filter}
 use Rattle.cml_board.specs.declared.call.Name.{Name}
 use Rattle.cml_board.specs.declared.call.Call.{Call}
 use Rattle.cml_board.specs.declared.call.Call.TheVariants.{NewPort}
@@ -12,12 +12,12 @@ use Rattle.cml_lanes.specs.Floor.{FloorShown}
 use Rattle.cml_script.specs.Schedule.{History}
 
 -- a seat's call, or the opening of a feed, and not what a lane or a feed moved
-abbrev pub is_asked_by : Who → Call ℕ → Bool
+abbrev pub is_asked_by : Who → Call (List ℕ) → Bool
 is_asked_by (Seat seat) call = true
 is_asked_by (Feed feed) (NewPort channel) = true
 is_asked_by who call = false
 
-abbrev pub is_asked : Entry ℕ → Bool
+abbrev pub is_asked : Entry (List ℕ) → Bool
 is_asked entry = is_asked_by entry.who entry.call
 
 -- what a journal has but for what lanes and feeds moved
@@ -31,7 +31,7 @@ pub record RingsShown : Type 0 where
   pub feeds : ℕ
 
 -- with a call that a seat was answered
-abbrev pub with_call : ℕ → Call ℕ → Reply ℕ → RingsShown → RingsShown
+abbrev pub with_call : ℕ → Call (List ℕ) → Reply (List ℕ) → RingsShown → RingsShown
 with_call seat call reply rings = record rings { asked = (record { who = Seat seat; call = call; reply = reply }) ∷ rings.asked }
 
 -- with a feed and its port: its number is how many were opened before
@@ -40,6 +40,6 @@ with_feed channel port rings =
     record rings { asked = (record { who = Feed rings.feeds; call = NewPort channel; reply = Made port }) ∷ rings.asked; feeds = rings.feeds + 1 }
 
 -- at most lanes and feeds moved something, and no feed was opened
-pub record IsUnasked (old new : FloorShown ℕ) : Type 0 where
+pub record IsUnasked (old new : FloorShown (List ℕ)) : Type 0 where
   pub asked : asked new.board.history ≡ asked old.board.history
   pub feeds : length new.feeds ≡ length old.feeds

@@ -1,6 +1,5 @@
 -- What a teller made.
 use Rattle.std.specs.Prelude.{ℕ, ◌≡◌, Bool, false, List, [], ◌++◌, map, reverse, Option, None}
-use Rattle.cml_board.specs.declared.entry.Entry.{Entry}
 use Rattle.cml_board.specs.declared.outcome.Refusal.{Refusal}
 use Rattle.cml_script.specs.Counting.{how_many}
 use Rattle.cml_script.specs.Schedule.{History}
@@ -13,15 +12,15 @@ abbrev pub went_so : Went → Apart
 went_so (Sent sent) = by_lane sent.target sent.capacity sent.message
 went_so (Polled feed) = by_feed feed
 
--- what a seat made: what it was answered, the capacities that it opened its feeds with, and what went by its lanes and feeds,
--- all kept oldest first
-abbrev pub made_by : ℕ → List (Entry ℕ) → List ℕ → List Went → Bool → Option Refusal → Made
+-- what a seat made: what it was answered, newest first, and the capacities that it opened its feeds with and what went by its
+-- lanes and feeds, both kept oldest first
+abbrev pub made_by : ℕ → History → List ℕ → List Went → Bool → Option Refusal → Made
 made_by seat entries opened went sending refused =
-    record { seat = seat; entries = reverse entries; opened = reverse opened; apart = map went_so (reverse went); is_sending = sending; refused = refused }
+    record { seat = seat; entries = entries; opened = reverse opened; apart = map went_so (reverse went); is_sending = sending; refused = refused }
 
 -- how many feeds these entries open
-abbrev pub feeds_told : List (Entry ℕ) → ℕ
-feeds_told entries = how_many is_of_feed (reverse entries)
+abbrev pub feeds_told : History → ℕ
+feeds_told entries = how_many is_of_feed entries
 
 -- the newest entries of a history are these
 abbrev pub EndsWith : History → History → Type 0

@@ -1,11 +1,11 @@
 //! A floor of one's own, and the ends of its rings that threads would have.
-ghost use Rattle.std.specs.Prelude.{◌≡◌, ◌^◌, ◌<◌, ◌≤◌, true, [], length, OnOk, OnErr, IfOk};
+ghost use Rattle.std.specs.Prelude.{◌≡◌, ◌^◌, ◌<◌, ◌≤◌, true, [], length, OnOk, OnErr, IfOk, IfSome};
 ghost use Rattle.cml_caller_tests.specs.Rings.{asked, with_call, with_feed, IsUnasked};
 ghost use Rattle.cml_threads.specs.Telling.{suits};
 ghost use Rattle.cml_grammar.specs.Reading.{IsCapacity};
 
-use cml_board::{Answer, Board, BoardLog, Call, Name, Outcome, Refusal};
-use cml_lanes::{Feed, Floor, Lane};
+use cml_board::{Answer, Board, BoardLog, Call, Name, Outcome, Refusal, Text};
+use cml_lanes::{Feed, Floor, Lane, LaneFull};
 use std::alloc::{AllocError, Global};
 use std::marker::Model;
 
@@ -13,16 +13,16 @@ use std::marker::Model;
 #[derive(Drop)]
 struct OpenLane {
     target: Name,
-    lane: Lane<u64>,
+    lane: Lane<Text>,
 }
 
 /// A floor, the lanes that are open on it, and its feeds, by their numbers. Nobody else is there: a call that would wait is
 /// stalled.
 #[derive(Drop)]
 pub struct Rings {
-    floor: Floor<u64, BoardLog<u64>>,
+    floor: Floor<Text, BoardLog<Text>>,
     lanes: Vec<OpenLane>,
-    feeds: Vec<Feed<u64>>,
+    feeds: Vec<Feed<Text>>,
 }
 
 impl Model for Rings {
@@ -52,7 +52,7 @@ impl Rings {
         })
     }
 
-    pub fn board(&self) -> &Board<u64, BoardLog<u64>>
+    pub fn board(&self) -> &Board<Text, BoardLog<Text>>
         ensures { asked result.now.history ≡ self.now.asked }
     {
         self.floor.board()
@@ -66,7 +66,7 @@ impl Rings {
     }
 
     /// Makes a call of a seat.
-    pub fn apply(&mut self, seat: u64, call: Call<u64>) -> Result<Answer<u64>, Refusal>
+    pub fn apply(&mut self, seat: u64, call: Call<Text>) -> Result<Answer<Text>, Refusal>
         ensures made { IfOk result (λ answer. self.new ≡ with_call seat call answer.reply self.old) }
         ensures refused { OnErr result (self.new ≡ self.old) }
         ensures call { IfOk result (λ answer. answer.call ≡ call) }
@@ -74,64 +74,65 @@ impl Rings {
     {
         match self.floor.apply(seat, call) {
             Outcome::Answered(answer) => Ok(answer),
-            Outcome::WouldWait(_) => Err(Refusal::Stalled),
-            Outcome::Refused(refusal, _) => Err(refusal),
+            Outcome::WouldWait(call) => Err(give_up(call, Refusal::Stalled)),
+            Outcome::Refused(refusal, call) => Err(give_up(call, refusal)),
         }
     }
 
-    /// Opens a feed from a channel, and tells its port and its number, which is how many were opened before.
-    pub fn open_feed(&mut self, channel: Name, capacity: usize) -> Result<(Name, u64), Refusal>
+    /// Opens a feed from a channel, and tells its port. Its number is how many were opened before.
+    pub fn open_feed(&mut self, channel: Name, capacity: usize) -> Result<Name, Refusal>
         requires { IsCapacity capacity }
-        ensures opened { IfOk result (λ opened. self.new ≡ with_feed channel opened.0 self.old) }
-        ensures number { IfOk result (λ opened. opened.1 ≡ self.old.feeds) }
+        ensures opened { IfOk result (λ port. self.new ≡ with_feed channel port self.old) }
         ensures refused { OnErr result (self.new ≡ self.old) }
     {
         if self.feeds.reserve(1).is_err() {
             return Err(Refusal::NoMemory);
         }
-        let (feed, number) = self.floor.open_feed(channel, capacity)?;
+        let (feed, _) = self.floor.open_feed(channel, capacity)?;
         let port = feed.port();
         self.feeds.push_reserved(feed);
-        Ok((port, number))
+        Ok(port)
     }
 
     /// Sends a message by the lane to this object, which is opened where none is open. A lane that has no room for it is
     /// drained; where it has none then, it is closed, and another is opened.
-    pub fn send(&mut self, target: Name, capacity: usize, message: u64) -> Result<(), Refusal>
+    pub fn send(&mut self, target: Name, capacity: usize, message: Text) -> Result<(), Refusal>
         requires { IsCapacity capacity }
         ensures same { self.new ≡ record self.old { lanes = self.new.lanes } }
         ensures refused { OnErr result (self.new.lanes ≤ self.old.lanes) }
     {
-        let is_sent = match self.lanes.iter().position(|open| open.target == target) {
+        let unsent = match self.lanes.iter().position(|open| open.target == target) {
             Some(at) => self.send_on(at, message)?,
-            None => false,
+            None => Some(message),
         };
-        if is_sent {
-            return Ok(());
+        match unsent {
+            Some(message) => self.send_first(target, capacity, message),
+            None => Ok(()),
         }
-        self.send_first(target, capacity, message)
     }
 
-    /// Sends a message on an open lane: whether it had room for it. Where it has none though it was drained, it is closed.
-    fn send_on(&mut self, at: usize, message: u64) -> Result<bool, Refusal>
+    /// Sends a message on an open lane, or gives it back where it has no room for it. Where it has none though it was drained,
+    /// it is closed.
+    fn send_on(&mut self, at: usize, message: Text) -> Result<Option<Text>, Refusal>
         requires { at < self.old.lanes }
         ensures same { self.new ≡ record self.old { lanes = self.new.lanes } }
         ensures lanes { self.new.lanes ≤ self.old.lanes }
+        ensures unsent { IfOk result (λ unsent. IfSome unsent (λ unsent. unsent ≡ message)) }
     {
-        if self.lanes[at].lane.send(message).is_ok() {
-            return Ok(true);
-        }
+        let Err(LaneFull(message)) = self.lanes[at].lane.send(message) else {
+            return Ok(None);
+        };
         drain(&mut self.floor, self.lanes[at].lane.number())?;
-        if self.lanes[at].lane.send(message).is_ok() {
-            return Ok(true);
-        }
+        let Err(LaneFull(message)) = self.lanes[at].lane.send(message) else {
+            return Ok(None);
+        };
         let full = self.lanes.swap_remove(at);
         close(&mut self.floor, full.lane)?;
-        Ok(false)
+        Ok(Some(message))
     }
 
     /// Opens a lane, and sends its first message.
-    fn send_first(&mut self, target: Name, capacity: usize, message: u64) -> Result<(), Refusal>
+    fn send_first(&mut self, target: Name, capacity: usize, message: Text) -> Result<(), Refusal>
         requires { IsCapacity capacity }
         ensures same { self.new ≡ record self.old { lanes = self.new.lanes } }
         ensures refused { OnErr result (self.new.lanes ≡ self.old.lanes) }
@@ -184,22 +185,29 @@ impl Rings {
     }
 }
 
+/// Lets go of a call that is not answered, and tells why.
+fn give_up(_call: Call<Text>, refusal: Refusal) -> Refusal
+    ensures { result ≡ refusal }
+{
+    refusal
+}
+
 /// Moves what is in a lane's ring.
-fn drain(floor: &mut Floor<u64, BoardLog<u64>>, lane: u64) -> Result<usize, Refusal>
+fn drain(floor: &mut Floor<Text, BoardLog<Text>>, lane: u64) -> Result<usize, Refusal>
     ensures { IsUnasked floor.old floor.new }
 {
     floor.drain(lane)
 }
 
 /// Pumps a feed.
-fn pump(floor: &mut Floor<u64, BoardLog<u64>>, feed: u64) -> Result<usize, Refusal>
+fn pump(floor: &mut Floor<Text, BoardLog<Text>>, feed: u64) -> Result<usize, Refusal>
     ensures { IsUnasked floor.old floor.new }
 {
     floor.pump(feed)
 }
 
 /// Closes a lane. Where that is refused it is abandoned: what it has left in its ring is lost.
-fn close(floor: &mut Floor<u64, BoardLog<u64>>, lane: Lane<u64>) -> Result<(), Refusal>
+fn close(floor: &mut Floor<Text, BoardLog<Text>>, lane: Lane<Text>) -> Result<(), Refusal>
     ensures { IsUnasked floor.old floor.new }
 {
     let number = lane.number();
@@ -211,7 +219,7 @@ fn close(floor: &mut Floor<u64, BoardLog<u64>>, lane: Lane<u64>) -> Result<(), R
 }
 
 /// Finishes a lane, and closes it where all that was sent on it is moved.
-fn finish(floor: &mut Floor<u64, BoardLog<u64>>, lane: Lane<u64>) -> Result<(), Refusal>
+fn finish(floor: &mut Floor<Text, BoardLog<Text>>, lane: Lane<Text>) -> Result<(), Refusal>
     ensures { IsUnasked floor.old floor.new }
 {
     let Some(end) = lane.finish() else {
@@ -224,7 +232,7 @@ fn finish(floor: &mut Floor<u64, BoardLog<u64>>, lane: Lane<u64>) -> Result<(), 
 }
 
 /// Closes a lane at once.
-fn abandon(floor: &mut Floor<u64, BoardLog<u64>>, lane: u64)
+fn abandon(floor: &mut Floor<Text, BoardLog<Text>>, lane: u64)
     ensures { IsUnasked floor.old floor.new }
 {
     let _ = floor.abandon_lane(lane);

@@ -4,7 +4,7 @@ ghost use Rattle.cml_caller_tests.specs.Rings.{asked};
 ghost use Rattle.cml_caller_tests.specs.Telling.{unmade, EndsWith};
 
 use crate::rings::Rings;
-use cml_board::{Answer, Board, BoardLog, Call, Entry, Name, Refusal, Reply, Who};
+use cml_board::{Answer, Board, BoardLog, Call, Name, Refusal, Text};
 use cml_script::Caller;
 use std::alloc::{AllocError, Global};
 use std::marker::Model;
@@ -14,7 +14,7 @@ use std::marker::Model;
 pub struct Sent {
     pub target: Name,
     pub capacity: usize,
-    pub message: u64,
+    pub message: Text,
 }
 
 /// What went by a lane or a feed.
@@ -26,14 +26,15 @@ pub enum Went {
 }
 
 /// Who makes the calls of one seat after the other, alone on a floor, and tells what the present one made: what it was
-/// answered, which feeds it opened, and what it sent by lanes and polled of feeds. What lanes and feeds move stands in the
-/// floor's journal alone.
+/// answered, which feeds it opened, and what it sent by lanes and polled of feeds. Since nobody else is there, what it was
+/// answered are the journal's newest entries but for what lanes and feeds moved, so it only counts them: a copy of an answer
+/// could be refused when the call is made already.
 #[derive(Drop)]
 pub struct Teller {
     alloc: Global,
     rings: Rings,
     seat: u64,
-    entries: Vec<Entry<u64>>,
+    told: u64,
     opened: Vec<usize>,
     went: Vec<Went>,
     is_sending: bool,
@@ -46,15 +47,13 @@ impl Model for Teller {
 
     ghost Value = { Made };
 
-    ghost use Rattle.std.specs.Prelude.{◌≡◌, false, length, reverse};
-    ghost use Rattle.cml_caller_tests.specs.Telling.{feeds_told, EndsWith};
+    ghost use Rattle.std.specs.Prelude.{◌≡◌, false, length, take};
+    ghost use Rattle.cml_caller_tests.specs.Telling.{feeds_told};
 
-    ghost view = { λ t. made_by t.seat t.entries.items t.opened.items t.went.items t.is_sending t.refused };
+    ghost view = { λ t. made_by t.seat (take t.told t.rings.asked) t.opened.items t.went.items t.is_sending t.refused };
 
-    // Where it tells that no lane is open none is; it tells of a feed for each that it opened; and what it tells stands in
-    // the journal.
-    ghost invariant = { λ t. (t.is_sending ≡ false → t.rings.lanes ≡ 0) × (feeds_told t.entries.items ≡ length t.opened.items)
-        × EndsWith (reverse t.entries.items) t.rings.asked };
+    // Where it tells that no lane is open none is; and it tells of a feed for each that it opened.
+    ghost invariant = { λ t. (t.is_sending ≡ false → t.rings.lanes ≡ 0) × (feeds_told (take t.told t.rings.asked) ≡ length t.opened.items) };
 }
 
 impl Teller {
@@ -85,7 +84,7 @@ impl Teller {
             alloc,
             rings,
             seat,
-            entries: Vec::new(alloc),
+            told: 0,
             opened: Vec::new(alloc),
             went: Vec::new(alloc),
             is_sending: false,
@@ -94,7 +93,7 @@ impl Teller {
     }
 
     /// The board. But for what lanes and feeds moved its journal ends with what this seat made.
-    pub fn board(&self) -> &Board<u64, BoardLog<u64>>
+    pub fn board(&self) -> &Board<Text, BoardLog<Text>>
         ensures { EndsWith self.now.entries (asked result.now.history) }
     {
         self.rings.board()
@@ -115,20 +114,14 @@ impl Caller for Teller {
 
     ghost goes_on = { λ _. true };
 
-    fn call(&mut self, call: Call<u64>) -> Result<Answer<u64>, Refusal> {
-        if self.entries.reserve(1).is_err() {
-            return Err(self.refuse(Refusal::NoMemory));
-        }
-        let Ok(asked) = call.share(self.alloc) else {
-            return Err(self.refuse(Refusal::NoMemory));
+    fn call(&mut self, call: Call<Text>) -> Result<Answer<Text>, Refusal> {
+        // It makes no more calls than it can count.
+        let Some(told) = self.told.checked_add(1) else {
+            return Err(self.refuse(Refusal::JournalFull));
         };
         match self.rings.apply(self.seat, call) {
             Ok(answer) => {
-                self.entries.push_reserved(Entry {
-                    who: Who::Seat(self.seat),
-                    call: asked,
-                    reply: same_reply(answer.reply()),
-                });
+                self.told = told;
                 Ok(answer)
             }
             Err(refusal) => Err(self.refuse(refusal)),
@@ -140,16 +133,15 @@ impl Caller for Teller {
         if self.rings.feeds() != self.opened.len() {
             return Err(self.refuse(Refusal::Busy));
         }
-        if self.entries.reserve(1).is_err() || self.opened.reserve(1).is_err() {
+        let Some(told) = self.told.checked_add(1) else {
+            return Err(self.refuse(Refusal::JournalFull));
+        };
+        if self.opened.reserve(1).is_err() {
             return Err(self.refuse(Refusal::NoMemory));
         }
         match self.rings.open_feed(channel, capacity) {
-            Ok((port, number)) => {
-                self.entries.push_reserved(Entry {
-                    who: Who::Feed(number),
-                    call: Call::NewPort(channel),
-                    reply: Reply::Made(port),
-                });
+            Ok(port) => {
+                self.told = told;
                 self.opened.push_reserved(capacity);
                 Ok(port)
             }
@@ -157,16 +149,20 @@ impl Caller for Teller {
         }
     }
 
-    fn send_apart(&mut self, target: Name, capacity: usize, message: u64) -> Result<(), Refusal> {
+    fn send_apart(&mut self, target: Name, capacity: usize, message: Text) -> Result<(), Refusal> {
         if self.went.reserve(1).is_err() {
             return Err(self.refuse(Refusal::NoMemory));
         }
+        // The lane takes the message, and its copy is not to be refused once it was sent.
+        let Ok(copy) = message.clone() else {
+            return Err(self.refuse(Refusal::NoMemory));
+        };
         match self.rings.send(target, capacity, message) {
             Ok(()) => {
                 self.went.push_reserved(Went::Sent(Sent {
                     target,
                     capacity,
-                    message,
+                    message: copy,
                 }));
                 self.is_sending = true;
                 Ok(())
@@ -188,6 +184,10 @@ impl Caller for Teller {
         }
     }
 
+    fn lack_memory(&mut self) -> Refusal {
+        self.refuse(Refusal::NoMemory)
+    }
+
     fn close_lanes(&mut self) -> Result<(), Refusal> {
         match self.rings.close_lanes() {
             Ok(()) => {
@@ -196,18 +196,5 @@ impl Caller for Teller {
             }
             Err(refusal) => Err(self.refuse(refusal)),
         }
-    }
-}
-
-fn same_reply(reply: &Reply<u64>) -> Reply<u64>
-    ensures { result ≡ reply.now }
-{
-    match reply {
-        Reply::Done => Reply::Done,
-        Reply::Made(name) => Reply::Made(*name),
-        Reply::Got(message) => Reply::Got(*message),
-        Reply::Nothing => Reply::Nothing,
-        Reply::Put => Reply::Put,
-        Reply::Closed => Reply::Closed,
     }
 }

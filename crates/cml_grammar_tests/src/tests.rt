@@ -1,12 +1,12 @@
 //! What scripts are read as, and that memory runs out; the texts of faults, and the laws.
-mod good;
+mod scripts;
 
 use cml_grammar::{
     Declaration, Fault, Lane, Script, Step, What, faultless_texts_are_scripts,
-    numbers_are_as_printed, read_script, scripts_have_no_fault, texts_are_one_script,
-    words_make_lines,
+    numbers_are_as_printed, numbers_are_texts, read_script, scripts_have_no_fault,
+    texts_are_one_script, words_make_lines,
 };
-use good::{GOOD, INBOX, PORTS_OF_STEPS, RINGS};
+use scripts::{INBOX, PORTS_OF_STEPS, RINGS, SCRIPTS, WORDS};
 use std::alloc::{AllocError, Global};
 use std::process::Abort;
 use std::test::Fail;
@@ -83,8 +83,8 @@ fn same(rt: &impl Abort, text: String, expected: &str, case: &str) {
 }
 
 #[test]
-fn reads_good_scripts(rt: HostRuntime) -> Result<(), Fail> {
-    for (case, script, expected) in GOOD.iter() {
+fn reads_scripts(rt: HostRuntime) -> Result<(), Fail> {
+    for (case, script, expected) in SCRIPTS.iter() {
         same(&rt, read(rt.alloc(), script)?, expected, case);
     }
     Ok(())
@@ -118,8 +118,14 @@ fn wants_memory_for_lanes_and_feeds(rt: HostRuntime) {
     wants_memory_or_reads(&rt, RINGS, 6);
 }
 
+#[test]
+fn wants_memory_for_texts(rt: HostRuntime) {
+    wants_memory_or_reads(&rt, WORDS, 6);
+}
+
 const FAULTS: &[(What, &str)] = &[
     (What::NotYours, "script: line 7: not yours"),
+    (What::BadText, "script: line 7: bad text"),
     (What::LaneTaken, "script: line 7: lane taken"),
     (What::NeedsRun, "script: line 7: needs run"),
     (What::TooManyThreads, "script: line 7: too many threads"),
@@ -146,4 +152,5 @@ fn laws_do_nothing(_rt: HostRuntime) {
     faultless_texts_are_scripts();
     numbers_are_as_printed();
     words_make_lines();
+    numbers_are_texts();
 }

@@ -1,7 +1,10 @@
 mod across;
 mod closing;
+mod counted;
 mod ending;
 mod floors;
+mod living;
+mod scene;
 
 use std::process::Abort;
 use std::test::Fail;
@@ -59,5 +62,17 @@ fn takes_what_another_thread_pumps(rt: HostRuntime) -> Result<(), Fail> {
         across::all_are_taken(&rt, rt.alloc())?,
         "taken otherwise",
     );
+    Ok(())
+}
+
+#[test]
+fn drops_each_message_once(rt: HostRuntime) -> Result<(), Fail> {
+    for rows in living::SCENES.iter() {
+        is_so(
+            &rt,
+            living::all_are_counted(rt.alloc(), rows)?,
+            "counted otherwise",
+        );
+    }
     Ok(())
 }

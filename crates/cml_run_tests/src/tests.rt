@@ -45,6 +45,12 @@ const RUNS: &[Run] = &[
         report: "B close p: done\nA recv p: closed\nchannel c: sent 0 kept 0 first 0\nport p: start 0 got 0 closed\nend: done 2\n",
     },
     Run {
+        script: "cml 2\nmailbox m\nthread A\nthread B\nA send m =x\nB recv m\n",
+        held: None,
+        ending: Ending::Done,
+        report: "A send m =x: done\nB recv m: ==x\nmailbox m: sent 1 got 1 waits 0\nend: done 2\n",
+    },
+    Run {
         script: "cml 1\nmailbox m\nthread B\nB recv m\n",
         held: None,
         ending: Ending::Stalled,

@@ -3,7 +3,7 @@ ghost use Rattle.std.specs.Prelude.{◌≡◌, ◌^◌};
 
 use super::hold::Hold;
 use super::{LIMIT, TWO_SEND};
-use cml_board::{Board, BoardLog, Call, Entry, Name, Refusal, Who};
+use cml_board::{Board, BoardLog, Call, Entry, Name, Refusal, Text, Who};
 use cml_script::{
     Ended, Ending, Fault, OpenGate, Plan, Script, Seated, Stop, Tally, conclude, declare,
     perform_in_threads, read_script, work,
@@ -15,8 +15,8 @@ use std::sync::Wait;
 use std::sync::ledger::{Blank, Ledger};
 use std::thread::Threads;
 
-/// A switchboard whose messages are numbers.
-type Numbers<Led> = Switchboard<u64, BoardLog<u64>, Led>;
+/// A switchboard whose messages are texts.
+type Texts<Led> = Switchboard<Text, BoardLog<Text>, Led>;
 
 #[derive(Clone, Copy)]
 pub enum Scene {
@@ -74,7 +74,7 @@ fn played_in<Led: Ledger + Send + Sync, R: Threads + Wait + Sync>(
     requires enough { blank.parts ≡ 2 ^ 63 }
 {
     let script = read_script(alloc, TWO_SEND.as_bytes())?;
-    let board: Numbers<Led> = Switchboard::new(alloc, LIMIT, blank)?;
+    let board: Texts<Led> = Switchboard::new(alloc, LIMIT, blank)?;
     match scene {
         Scene::OneAfterTheOther => one_after_the_other(rt, alloc, &script, &board),
         Scene::Answers => answers(rt, alloc, &script, board),
@@ -87,7 +87,7 @@ fn one_after_the_other<Led: Ledger, R: Wait>(
     rt: &R,
     alloc: Global,
     script: &Script,
-    board: &Numbers<Led>,
+    board: &Texts<Led>,
 ) -> Result<&'static str, Trouble> {
     let plan = Plan::new(alloc, script)?;
     let gate = Hold::new(Some(0));
@@ -107,7 +107,7 @@ fn answers<Led: Ledger + Send + Sync, R: Threads + Wait + Sync>(
     rt: &R,
     alloc: Global,
     script: &Script,
-    board: Numbers<Led>,
+    board: Texts<Led>,
 ) -> Result<&'static str, Trouble> {
     let ended = perform_in_threads(rt, alloc, script, &board, &OpenGate)?;
     let told = answers_of(alloc, &ended.lefts)?;
@@ -135,7 +135,7 @@ fn answers_of<Led: Ledger>(
     Ok(told)
 }
 
-fn entries_of(journal: &[Entry<u64>], seat: u64) -> u64 {
+fn entries_of(journal: &[Entry<Text>], seat: u64) -> u64 {
     let mut count: u64 = 0;
     for entry in journal {
         count = count.saturating_add(u64::from(entry.who == Who::Seat(seat)));
@@ -144,10 +144,11 @@ fn entries_of(journal: &[Entry<u64>], seat: u64) -> u64 {
 }
 
 fn foreign(alloc: Global, script: &Script) -> Result<&'static str, Trouble> {
-    let mut board: Board<u64, BoardLog<u64>> = Board::new(alloc, LIMIT)?;
+    let mut board: Board<Text, BoardLog<Text>> = Board::new(alloc, LIMIT)?;
     board.apply(Who::Seat(0), Call::NewMailbox);
-    board.apply(Who::Seat(1), Call::Send(Name(0), 5));
-    board.apply(Who::Seat(1), Call::Send(Name(0), 5));
+    let (first, again) = (Text::of_number(alloc, 5)?, Text::of_number(alloc, 5)?);
+    board.apply(Who::Seat(1), Call::Send(Name(0), first));
+    board.apply(Who::Seat(1), Call::Send(Name(0), again));
     // What is concluded is a board's whole history, and nothing tells it of a board but this.
     if board.cut_at() != 0 {
         return Ok("cut");

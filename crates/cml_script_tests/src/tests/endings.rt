@@ -1,8 +1,8 @@
 //! The status and the text of each ending, and the laws of histories and schedules.
-use cml_board::{lawful_at_every_position, reserved_lasts};
+use cml_board::{Text, lawful_at_every_position, reserved_lasts};
 use cml_script::{
-    Ending, Fault, What, schedules_are_one, scripts_have_a_schedule, stalled_threads_wait,
-    status_of,
+    Ending, Fault, What, reports_tell_what_is_left, schedules_are_one, scripts_have_a_schedule,
+    stalled_threads_wait, status_of,
 };
 use std::process::Abort;
 use std::test::Fail;
@@ -48,6 +48,9 @@ fn laws_do_nothing(_rt: HostRuntime) {
     schedules_are_one();
     scripts_have_a_schedule();
     stalled_threads_wait();
+    reports_tell_what_is_left();
     lawful_at_every_position::<u64>();
+    lawful_at_every_position::<Text>();
     reserved_lasts::<u64>();
+    reserved_lasts::<Text>();
 }

@@ -1,5 +1,5 @@
-//! Good scripts, and what all readers say of each: the version, where each name stands and what it names, and the
-//! declarations and steps with the numbers of their lines.
+//! Scripts, and what all readers say of each: the version, where each name stands and what it names, and the
+//! declarations and steps with the numbers of their lines. And scripts with messages that are none.
 
 pub const INBOX: &str = "cml 1
 
@@ -24,7 +24,7 @@ B at Some(3): Thread(2)
 5 thread A: Thread
 6 mailbox m_2: Mailbox
 7 thread B: Thread
-8 A send inbox 7: seat 1, Send(0, 7)
+8 A send inbox 7: seat 1, Send(0, \"7\")
 10 B recv inbox: seat 2, Recv(0)
 12 B poll m_2: seat 2, Poll(2)
 ";
@@ -101,12 +101,12 @@ B at Some(6): Thread(2)
 6 thread A: Thread
 7 port c q: Port(1)
 8 thread B: Thread
-9 A multicast d 5: seat 1, Multicast(2, 5)
+9 A multicast d 5: seat 1, Multicast(2, \"5\")
 10 B recv p: seat 2, Recv(3)
 11 A poll q: seat 1, Poll(5)
 12 B recv m: seat 2, Recv(0)
 13 A close p: seat 1, Close(3)
-14 A send m 6: seat 1, Send(0, 6)
+14 A send m 6: seat 1, Send(0, \"6\")
 ";
 
 pub const VARIABLES: &str = "cml 1
@@ -129,16 +129,16 @@ v at Some(1): MVar
 A at Some(2): Thread(1)
 w at Some(3): MVar
 2 ivar i: IVar
-3 mvar v 7: MVarInit(7)
+3 mvar v 7: MVarInit(\"7\")
 4 thread A: Thread
 5 mvar w: MVar
-6 A put v 8: seat 1, Put(1, 8)
+6 A put v 8: seat 1, Put(1, \"8\")
 7 A getpoll i: seat 1, GetPoll(0)
 8 A takepoll v: seat 1, TakePoll(1)
 9 A get v: seat 1, Get(1)
-10 A put i 6: seat 1, Put(0, 6)
+10 A put i 6: seat 1, Put(0, \"6\")
 11 A take w: seat 1, Take(3)
-12 A swap v 9: seat 1, Swap(1, 9)
+12 A swap v 9: seat 1, Swap(1, \"9\")
 ";
 
 pub const RINGS: &str = "cml 1
@@ -173,7 +173,7 @@ g at Some(5): Feed(1)
 5 lane A m 2: from seat 1 to 0, 2; told Some(2), of the next seat Some(7)
 7 lane A c 1024: from seat 1 to 1, 1024; told Some(1024), of the next seat None
 10 lane B m 7: from seat 2 to 0, 7; told Some(7), of the next seat None
-12 A send m 5: seat 1, Send(0, 5)
+12 A send m 5: seat 1, Send(0, \"5\")
 13 B poll f: seat 2, Poll(4)
 14 A poll g: seat 1, Poll(5)
 rings from line 5
@@ -197,8 +197,68 @@ f at Some(2): Feed(1)
 rings from line 4
 ";
 
-/// A case, the script, and what its readers say.
-pub const GOOD: &[(&str, &str, &str)] = &[
+/// Messages that are words of other meanings, and one of 64 bytes. The capacities are numbers.
+pub const WORDS: &str = "cml 2
+mailbox m
+channel c
+mvar v 05
+mvar w mvar
+thread A
+lane A c 7
+feed A f c 16
+A send m sixty-four_bytes,_which_is_as_long_as_a_text_may_be:############
+A multicast c #x
+A put v =
+A swap w A
+A send m 5
+";
+
+const WORDS_SHOWN: &str = "version 2
+m at Some(0): Mailbox
+c at Some(1): Channel
+v at Some(2): MVar
+w at Some(3): MVar
+A at Some(4): Thread(1)
+f at Some(5): Feed(1)
+2 mailbox m: Mailbox
+3 channel c: Channel
+4 mvar v 05: MVarInit(\"05\")
+5 mvar w mvar: MVarInit(\"mvar\")
+6 thread A: Thread
+8 feed A f c 16: Feed(FeedMaking { seat: 1, channel: 1, capacity: 16 })
+7 lane A c 7: from seat 1 to 1, 7; told Some(7), of the next seat None
+9 A send m sixty-four_bytes,_which_is_as_long_as_a_text_may_be:############: seat 1, Send(0, \"sixty-four_bytes,_which_is_as_long_as_a_text_may_be:############\")
+10 A multicast c #x: seat 1, Multicast(1, \"#x\")
+11 A put v =: seat 1, Put(2, \"=\")
+12 A swap w A: seat 1, Swap(3, \"A\")
+13 A send m 5: seat 1, Send(0, \"5\")
+rings from line 7
+";
+
+const LONG_TEXT: &str = "cml 2
+mailbox m
+thread A
+A send m sixty-four_bytes,_which_is_as_long_as_a_text_may_be:############+
+";
+
+const LONG_FIRST_TEXT: &str = "cml 2
+mvar v sixty-four_bytes,_which_is_as_long_as_a_text_may_be:############+
+";
+
+const LONG_WORD_IN_VERSION_1: &str = "cml 1
+mailbox m
+thread A
+A send m sixty-four_bytes,_which_is_as_long_as_a_text_may_be:############+
+";
+
+const CAPACITY_IN_WORDS: &str = "cml 2
+mailbox m
+thread A
+lane A m seven
+";
+
+/// A case, the script, and what its readers say, or its fault.
+pub const SCRIPTS: &[(&str, &str, &str)] = &[
     ("a header alone", "cml 1\n", "version 1\n"),
     ("names, declarations and steps", INBOX, INBOX_SHOWN),
     ("ports of steps", PORTS_OF_STEPS, PORTS_OF_STEPS_SHOWN),
@@ -210,4 +270,28 @@ pub const GOOD: &[(&str, &str, &str)] = &[
     ("variables", VARIABLES, VARIABLES_SHOWN),
     ("lanes and feeds", RINGS, RINGS_SHOWN),
     ("a feed before a lane", FEEDS, FEEDS_SHOWN),
+    ("words as messages", WORDS, WORDS_SHOWN),
+    ("a header of version 2", "cml 2\n", "version 2\n"),
+    ("65 bytes", LONG_TEXT, "script: line 4: bad text"),
+    (
+        "65 bytes in a variable",
+        LONG_FIRST_TEXT,
+        "script: line 2: bad text",
+    ),
+    (
+        "65 bytes in version 1",
+        LONG_WORD_IN_VERSION_1,
+        "script: line 4: bad number",
+    ),
+    (
+        "a word in version 1",
+        "cml 1\nmvar v 05\n",
+        "script: line 2: bad number",
+    ),
+    (
+        "a word as a capacity",
+        CAPACITY_IN_WORDS,
+        "script: line 4: bad number",
+    ),
+    ("another version", "cml 3\n", "script: line 1: bad header"),
 ];
