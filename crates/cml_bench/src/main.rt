@@ -1,5 +1,5 @@
-//! `cml_bench [N [log8|soak1|soak2]]`: with a number it tells how long a board's calls take, each workload done N times, or
-//! the one that is named alone; without, what each came to when it was done a few times.
+//! `cml_bench [N [NAME]]`: with a number it tells how long a board's calls take, each workload done N times, or the one that
+//! is named alone; without, what each came to when it was done a few times.
 #![tactic(auto)]
 
 mod check_run;
@@ -7,6 +7,7 @@ mod lane_run;
 mod log_run;
 mod soak_run;
 mod switchboard_run;
+mod text_run;
 
 use cml_board::{Board, BoardLog, Call, Name, Outcome, Reply, Who};
 use cml_log::{ChunkLog, MessageLog, PlainLog};
@@ -19,6 +20,7 @@ use std::sync::Wait;
 use std::thread::Threads;
 use std::time::{Duration, Instant};
 use std::{env, io};
+use text_run::TextRun;
 
 const SEAT: Who = Who::Seat(0);
 
@@ -50,12 +52,13 @@ enum Order {
     Usage,
 }
 
-/// A workload that can be done alone, since it takes the same memory however often it is done.
+/// A workload that can be done alone: texts, and those that take the same memory however often they are done.
 #[derive(Clone, Copy)]
 enum Alone {
     Logs,
     Soak,
     SharedSoak,
+    Texts(text_run::Workload),
 }
 
 #[derive(Clone, Copy)]
@@ -95,8 +98,11 @@ fn main(rt: HostRuntime) -> io::Result<ExitCode> {
         Order::TimesOf(Alone::SharedSoak, count) => {
             time_switchboard(&rt, rt.alloc(), switchboard_run::Workload::Soak, count)?;
         }
+        Order::TimesOf(Alone::Texts(workload), count) => time_texts(&rt, workload, count)?,
         Order::Usage => {
-            eprintln!(rt; "usage: cml_bench [N [log8|soak1|soak2]], N from 1 to {MOST}")?;
+            eprintln!(rt;
+                "usage: cml_bench [N [log8|soak1|soak2|pairs1_text|cast8_text]], N from 1 to {MOST}"
+            )?;
             return Ok(ExitCode::from(2));
         }
     }
@@ -121,7 +127,7 @@ fn one_alone(word: &str, name: &str) -> Option<Order> {
     } else if name == switchboard_run::Workload::Soak.name() {
         Alone::SharedSoak
     } else {
-        return None;
+        Alone::Texts(text_run::Workload::of_name(name)?)
     };
     Some(Order::TimesOf(alone, count_of(word)?))
 }
@@ -138,6 +144,7 @@ fn print_sums(rt: &HostRuntime) -> io::Result<()> {
         let run = performed(rt, *workload, FEW)?;
         print_sum(rt, workload.name(), run.sum)?;
     }
+    print_text_sums(rt)?;
     print_ports_sum(rt)?;
     print_log_sum::<PlainLog<u64, 4>>(rt, "log8_deque")?;
     print_log_sum::<ChunkLog<u64, 4>>(rt, "log8_chunks")?;
@@ -165,6 +172,15 @@ fn print_switchboard_sums<R: Print + Clock + Threads + Wait + Sync>(
 
 fn print_sum(rt: &HostRuntime, workload: &str, sum: u64) -> io::Result<()> {
     println!(rt; "{workload} {sum}")
+}
+
+fn print_text_sums(rt: &HostRuntime) -> io::Result<()> {
+    for workload in text_run::WORKLOADS.iter() {
+        let mut run = TextRun::new(rt.alloc())?;
+        run.perform(*workload, FEW)?;
+        print_sum(rt, workload.name(), run.sum)?;
+    }
+    Ok(())
 }
 
 fn print_ports_sum(rt: &HostRuntime) -> io::Result<()> {
@@ -209,6 +225,9 @@ fn print_times(rt: &HostRuntime, count: u64) -> io::Result<()> {
     for workload in WORKLOADS.iter() {
         time_board(rt, *workload, count)?;
     }
+    for workload in text_run::WORKLOADS.iter() {
+        time_texts(rt, *workload, count)?;
+    }
     for (name, ports) in MANY_PORTS.iter() {
         time_ports(rt, name, *ports)?;
     }
@@ -223,6 +242,14 @@ fn time_board(rt: &HostRuntime, workload: Workload, count: u64) -> io::Result<()
     let time = time_of(rt, &mut run, workload, count)?;
     let calls = run.board.journal().len();
     print_time(rt, workload.name(), "seryugo_board", time, calls)
+}
+
+fn time_texts(rt: &HostRuntime, workload: text_run::Workload, count: u64) -> io::Result<()> {
+    let mut run = TextRun::new(rt.alloc())?;
+    let start = Instant::now(rt)?;
+    run.perform(workload, count)?;
+    let time = start.elapsed(rt)?;
+    print_time(rt, workload.name(), "seryugo_board", time, run.calls())
 }
 
 fn time_of(

@@ -1,7 +1,7 @@
 //! Cuts of a journal, and what lines tell of one that was cut.
 use crate::facts::{tell_check, tell_entry};
 use crate::feeding::Feeding;
-use crate::fussy::Fussy;
+use crate::numbered::Numbered;
 use crate::outcome::{Numbers, refusal_word};
 use crate::rings::tell_done;
 use crate::words::number;
@@ -45,16 +45,16 @@ pub fn is_of_journal(word: &str) -> bool {
 }
 
 /// What has a board whose journal can be cut.
-pub trait Journaled {
-    fn board(&self) -> &Numbers;
+pub trait Journaled<M: Numbered> {
+    fn board(&self) -> &Numbers<M>;
 
     fn cut(&mut self) -> Result<(), Refusal>;
 
-    fn take_journal(&mut self) -> Result<Vec<Entry<Fussy>>, Refusal>;
+    fn take_journal(&mut self) -> Result<Vec<Entry<M>>, Refusal>;
 }
 
-impl Journaled for Numbers {
-    fn board(&self) -> &Numbers {
+impl<M: Numbered> Journaled<M> for Numbers<M> {
+    fn board(&self) -> &Numbers<M> {
         self
     }
 
@@ -63,33 +63,33 @@ impl Journaled for Numbers {
         Ok(())
     }
 
-    fn take_journal(&mut self) -> Result<Vec<Entry<Fussy>>, Refusal> {
+    fn take_journal(&mut self) -> Result<Vec<Entry<M>>, Refusal> {
         Ok(Board::take_journal(self))
     }
 }
 
 /// Entries that were handed over at once, and the position of the first.
 #[derive(Drop)]
-struct Piece {
+struct Piece<M: Numbered> {
     from: u64,
-    entries: Vec<Entry<Fussy>>,
+    entries: Vec<Entry<M>>,
 }
 
-impl Piece {
-    fn entry(&self, at: u64) -> Option<&Entry<Fussy>> {
+impl<M: Numbered> Piece<M> {
+    fn entry(&self, at: u64) -> Option<&Entry<M>> {
         self.entries.get(at.checked_sub(self.from)? as usize)
     }
 }
 
 /// All that a journal handed over, oldest first.
 #[derive(Drop)]
-pub struct Pieces {
+pub struct Pieces<M: Numbered> {
     alloc: Global,
-    pieces: Vec<Piece>,
+    pieces: Vec<Piece<M>>,
 }
 
-impl Pieces {
-    pub fn new(alloc: Global) -> Pieces {
+impl<M: Numbered> Pieces<M> {
+    pub fn new(alloc: Global) -> Pieces<M> {
         Pieces {
             alloc,
             pieces: Vec::new(alloc),
@@ -97,7 +97,7 @@ impl Pieces {
     }
 
     /// Cuts the journal this way, if in any, unless a lane or a feed is open.
-    pub fn cut_by<J: Journaled>(
+    pub fn cut_by<J: Journaled<M>>(
         &mut self,
         ground: &mut J,
         way: Option<Way>,
@@ -115,7 +115,7 @@ impl Pieces {
     }
 
     /// What a line about the journal comes to.
-    pub fn tell<J: Journaled>(
+    pub fn tell<J: Journaled<M>>(
         &mut self,
         text: &mut String,
         ground: &mut J,
@@ -140,7 +140,10 @@ impl Pieces {
     }
 
     /// Cuts the journal, and keeps the entries that it hands over: how many.
-    fn take<J: Journaled>(&mut self, ground: &mut J) -> Result<Result<usize, Refusal>, AllocError> {
+    fn take<J: Journaled<M>>(
+        &mut self,
+        ground: &mut J,
+    ) -> Result<Result<usize, Refusal>, AllocError> {
         self.pieces.reserve(1)?;
         let from = ground.board().cut_at();
         match ground.take_journal() {
@@ -154,7 +157,7 @@ impl Pieces {
     }
 
     /// Tells the entry at a position, which counts from the board's first entry on, also one that was handed over.
-    fn tell_noted(&self, text: &mut String, board: &Numbers, at: u64) -> Result<(), AllocError> {
+    fn tell_noted(&self, text: &mut String, board: &Numbers<M>, at: u64) -> Result<(), AllocError> {
         if let Some(index) = at.checked_sub(board.cut_at()) {
             return tell_entry(text, board.journal().get(index as usize));
         }
@@ -165,7 +168,7 @@ impl Pieces {
     }
 
     /// Tells whether all entries since the board was made are lawful, unless some were dropped.
-    fn tell_checked(&self, text: &mut String, board: &Numbers) -> Result<(), AllocError> {
+    fn tell_checked(&self, text: &mut String, board: &Numbers<M>) -> Result<(), AllocError> {
         if board.cut_at() == 0 {
             return tell_check(text, self.alloc, board.journal());
         }
@@ -185,7 +188,7 @@ impl Pieces {
     }
 
     /// Feeds all that was handed over, and then the journal, to a checker, and tells what it found.
-    fn tell_fed(&self, text: &mut String, board: &Numbers) -> Result<(), AllocError> {
+    fn tell_fed(&self, text: &mut String, board: &Numbers<M>) -> Result<(), AllocError> {
         let mut feeding = Feeding::new(self.alloc)?;
         for piece in self.pieces.iter() {
             feeding.feed(piece.entries.as_slice())?;

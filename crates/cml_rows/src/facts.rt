@@ -1,5 +1,5 @@
 //! What a board's readers tell of an object, and which objects take a call, in words.
-use crate::fussy::Fussy;
+use crate::numbered::Numbered;
 use crate::outcome::{Numbers, REFUSED_ONCE};
 use cml_board::{Call, Entry, Kind, Name, check};
 use std::alloc::{AllocError, Global};
@@ -13,7 +13,11 @@ const KINDS: [Kind; 5] = [
 ];
 
 /// Tells all that the readers have of an object; each that has nothing of it is left out.
-pub fn tell_object(text: &mut String, board: &Numbers, name: Name) -> Result<(), AllocError> {
+pub fn tell_object<M: Numbered>(
+    text: &mut String,
+    board: &Numbers<M>,
+    name: Name,
+) -> Result<(), AllocError> {
     match board.kind(name) {
         Some(kind) => text.push_str(kind_word(kind))?,
         None => text.push_str("no object")?,
@@ -28,7 +32,7 @@ pub fn tell_object(text: &mut String, board: &Numbers, name: Name) -> Result<(),
 }
 
 /// Tells how many entries a board's journal has, how many were cut away, and all that the readers have of each object.
-pub fn tell_board(text: &mut String, board: &Numbers) -> Result<(), AllocError> {
+pub fn tell_board<M: Numbered>(text: &mut String, board: &Numbers<M>) -> Result<(), AllocError> {
     let entries = board.journal().len();
     write!(text, "{entries} entries, cut at {}", board.cut_at())?;
     for number in 0..board.entries() {
@@ -42,7 +46,10 @@ pub fn tell_board(text: &mut String, board: &Numbers) -> Result<(), AllocError> 
 }
 
 /// Tells an entry of a journal.
-pub fn tell_entry(text: &mut String, entry: Option<&Entry<Fussy>>) -> Result<(), AllocError> {
+pub fn tell_entry<M: Numbered>(
+    text: &mut String,
+    entry: Option<&Entry<M>>,
+) -> Result<(), AllocError> {
     match entry {
         Some(entry) => write!(text, "{:?} {:?} {:?}", entry.who, entry.call, entry.reply),
         None => text.push_str("no entry"),
@@ -50,10 +57,10 @@ pub fn tell_entry(text: &mut String, entry: Option<&Entry<Fussy>>) -> Result<(),
 }
 
 /// Tells whether a short journal is lawful, or where it first isn't. A check that memory was refused is made once more.
-pub fn tell_check(
+pub fn tell_check<M: Numbered>(
     text: &mut String,
     alloc: Global,
-    entries: &[Entry<Fussy>],
+    entries: &[Entry<M>],
 ) -> Result<(), AllocError> {
     if entries.len() > 1000 {
         return text.push_str("too many entries");
@@ -74,7 +81,11 @@ fn write_verdict(text: &mut String, verdict: Result<(), usize>) -> Result<(), Al
     }
 }
 
-fn tell_port(text: &mut String, board: &Numbers, name: Name) -> Result<(), AllocError> {
+fn tell_port<M: Numbered>(
+    text: &mut String,
+    board: &Numbers<M>,
+    name: Name,
+) -> Result<(), AllocError> {
     tell_count(text, "of", board.channel_of(name).map(|channel| channel.0))?;
     tell_count(text, "start", board.start_of(name))?;
     match board.is_open(name) {
@@ -84,7 +95,11 @@ fn tell_port(text: &mut String, board: &Numbers, name: Name) -> Result<(), Alloc
     }
 }
 
-fn tell_counts(text: &mut String, board: &Numbers, name: Name) -> Result<(), AllocError> {
+fn tell_counts<M: Numbered>(
+    text: &mut String,
+    board: &Numbers<M>,
+    name: Name,
+) -> Result<(), AllocError> {
     tell_count(text, "sent", board.sent_count(name))?;
     tell_count(text, "got", board.got_count(name))?;
     tell_count(text, "owed", board.owed_count(name))?;
@@ -100,7 +115,7 @@ fn tell_count(text: &mut String, word: &str, count: Option<u64>) -> Result<(), A
 }
 
 /// Tells which object a call is made on, and each kind that takes it.
-pub fn tell_call(text: &mut String, call: &Call<Fussy>) -> Result<(), AllocError> {
+pub fn tell_call<M: Numbered>(text: &mut String, call: &Call<M>) -> Result<(), AllocError> {
     match call.object() {
         Some(name) => write!(text, "object {}", name.0)?,
         None => text.push_str("no object")?,

@@ -1,5 +1,5 @@
 //! A journal that is checked piece by piece.
-use crate::fussy::Fussy;
+use crate::numbered::Numbered;
 use crate::outcome::{REFUSED_ONCE, note};
 use cml_board::{Checker, Entry};
 use std::alloc::{AllocError, Global};
@@ -15,16 +15,16 @@ enum Verdict {
 
 /// A checker under way.
 #[derive(Drop)]
-pub struct Feeding {
-    checker: Checker<Fussy>,
+pub struct Feeding<M: Numbered> {
+    checker: Checker<M>,
     verdict: Verdict,
     // How many entries it was given.
     given: u64,
     was_refused: bool,
 }
 
-impl Feeding {
-    pub fn new(alloc: Global) -> Result<Feeding, AllocError> {
+impl<M: Numbered> Feeding<M> {
+    pub fn new(alloc: Global) -> Result<Feeding<M>, AllocError> {
         Ok(Feeding {
             checker: Checker::new(alloc)?,
             verdict: Verdict::Lawful,
@@ -34,7 +34,7 @@ impl Feeding {
     }
 
     /// Feeds the next piece. Where memory is refused it goes on, once, with the entries that weren't taken yet.
-    pub fn feed(&mut self, piece: &[Entry<Fussy>]) -> Result<(), AllocError> {
+    pub fn feed(&mut self, piece: &[Entry<M>]) -> Result<(), AllocError> {
         let before = self.checker.entries();
         self.given = self.given.saturating_add(piece.len() as u64);
         match feed_some(&mut self.checker, piece) {
@@ -70,8 +70,11 @@ impl Feeding {
     }
 }
 
-fn feed_some(checker: &mut Checker<Fussy>, piece: &[Entry<Fussy>]) -> Result<Verdict, AllocError> {
-    if checker.entries().checked_add(piece.len() as u64).is_none() {
+fn feed_some<M: Numbered>(
+    checker: &mut Checker<M>,
+    piece: &[Entry<M>],
+) -> Result<Verdict, AllocError> {
+    if u64::MAX - checker.entries() < piece.len() as u64 {
         return Ok(Verdict::TooMany);
     }
     Ok(match checker.feed(piece)? {

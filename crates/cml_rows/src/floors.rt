@@ -1,9 +1,9 @@
 //! A floor as what calls are made on.
 use crate::cutting::{Journaled, Way};
-use crate::fussy::Fussy;
 use crate::ground::Ground;
 use crate::ground_table::retell;
 use crate::moving::Moves;
+use crate::numbered::Numbered;
 use crate::outcome::Numbers;
 use crate::words::limit_in;
 use cml_board::{BoardLog, Call, Entry, Name, Outcome, Refusal};
@@ -13,18 +13,18 @@ use std::alloc::{AllocError, Global};
 use std::io;
 
 /// Performs the lines of a case on a floor.
-pub fn perform<R: Print>(
+pub fn perform<M: Numbered, R: Print>(
     rt: &R,
     alloc: Global,
     lines: &[String],
     way: Option<Way>,
 ) -> io::Result<()> {
-    let board = Numbers::new(alloc, limit_in(lines))?;
+    let board = Numbers::<M>::new(alloc, limit_in(lines))?;
     retell(rt, alloc, Floor::new(alloc, board), lines, way)
 }
 
-impl Journaled for Floor<Fussy, BoardLog<Fussy>> {
-    fn board(&self) -> &Numbers {
+impl<M: Numbered> Journaled<M> for Floor<M, BoardLog<M>> {
+    fn board(&self) -> &Numbers<M> {
         Floor::board(self)
     }
 
@@ -32,12 +32,12 @@ impl Journaled for Floor<Fussy, BoardLog<Fussy>> {
         Floor::cut(self)
     }
 
-    fn take_journal(&mut self) -> Result<Vec<Entry<Fussy>>, Refusal> {
+    fn take_journal(&mut self) -> Result<Vec<Entry<M>>, Refusal> {
         Floor::take_journal(self)
     }
 }
 
-impl Ground for Floor<Fussy, BoardLog<Fussy>> {
+impl<M: Numbered> Ground<M> for Floor<M, BoardLog<M>> {
     fn open_rings(&self) -> (u64, u64) {
         (self.open_lanes(), self.open_feeds())
     }
@@ -54,7 +54,7 @@ impl Ground for Floor<Fussy, BoardLog<Fussy>> {
         Err(Refusal::Gone)
     }
 
-    fn ask(&mut self, seat: usize, call: Call<Fussy>) -> Asked<Fussy> {
+    fn ask(&mut self, seat: usize, call: Call<M>) -> Asked<M> {
         match self.apply(seat as u64, call) {
             Outcome::Answered(answer) => Asked::Answered(answer),
             Outcome::WouldWait(back) => Asked::Parked(back),
@@ -62,15 +62,15 @@ impl Ground for Floor<Fussy, BoardLog<Fussy>> {
         }
     }
 
-    fn ask_again(&mut self, _seat: usize, call: Call<Fussy>) -> Asked<Fussy> {
+    fn ask_again(&mut self, _seat: usize, call: Call<M>) -> Asked<M> {
         Asked::Refused(Refusal::Gone, call)
     }
 
-    fn open_lane(&mut self, target: Name, capacity: usize) -> Result<(Lane<Fussy>, u64), Refusal> {
+    fn open_lane(&mut self, target: Name, capacity: usize) -> Result<(Lane<M>, u64), Refusal> {
         Floor::open_lane(self, target, capacity.max(1).min(MAX_CAPACITY))
     }
 
-    fn open_feed(&mut self, channel: Name, capacity: usize) -> Result<(Feed<Fussy>, u64), Refusal> {
+    fn open_feed(&mut self, channel: Name, capacity: usize) -> Result<(Feed<M>, u64), Refusal> {
         Floor::open_feed(self, channel, capacity.max(1).min(MAX_CAPACITY))
     }
 
@@ -82,7 +82,7 @@ impl Ground for Floor<Fussy, BoardLog<Fussy>> {
         }
     }
 
-    fn close_counted(&mut self, end: LaneEnd<Fussy>) -> Result<(), (LaneEnd<Fussy>, Refusal)> {
+    fn close_counted(&mut self, end: LaneEnd<M>) -> Result<(), (LaneEnd<M>, Refusal)> {
         Floor::close_counted(self, end)
     }
 

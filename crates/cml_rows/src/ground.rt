@@ -1,6 +1,6 @@
 use crate::cutting::Journaled;
-use crate::fussy::Fussy;
 use crate::moving::Moves;
+use crate::numbered::Numbered;
 use cml_board::{Call, Name, Refusal};
 use cml_lanes::{Feed, Lane, LaneEnd};
 use cml_threads::Asked;
@@ -8,7 +8,7 @@ use std::alloc::AllocError;
 
 /// What a table's calls are made on beside a board: a floor, or a hall with its seats. On a floor a call that would wait
 /// parks no seat.
-pub trait Ground: Journaled {
+pub trait Ground<M: Numbered>: Journaled<M> {
     /// How many lanes and how many feeds are open.
     fn open_rings(&self) -> (u64, u64);
 
@@ -19,19 +19,19 @@ pub trait Ground: Journaled {
 
     fn leave(&mut self, seat: usize) -> Result<(), Refusal>;
 
-    fn ask(&mut self, seat: usize, call: Call<Fussy>) -> Asked<Fussy>;
+    fn ask(&mut self, seat: usize, call: Call<M>) -> Asked<M>;
 
-    fn ask_again(&mut self, seat: usize, call: Call<Fussy>) -> Asked<Fussy>;
+    fn ask_again(&mut self, seat: usize, call: Call<M>) -> Asked<M>;
 
     /// A capacity that is none is taken as the nearest that is.
-    fn open_lane(&mut self, target: Name, capacity: usize) -> Result<(Lane<Fussy>, u64), Refusal>;
+    fn open_lane(&mut self, target: Name, capacity: usize) -> Result<(Lane<M>, u64), Refusal>;
 
-    fn open_feed(&mut self, channel: Name, capacity: usize) -> Result<(Feed<Fussy>, u64), Refusal>;
+    fn open_feed(&mut self, channel: Name, capacity: usize) -> Result<(Feed<M>, u64), Refusal>;
 
     /// Moves messages by a lane or a feed of this number: how many, and whether that was all for now.
     fn move_some(&mut self, moves: Moves, number: u64) -> Result<(usize, bool), Refusal>;
 
-    fn close_counted(&mut self, end: LaneEnd<Fussy>) -> Result<(), (LaneEnd<Fussy>, Refusal)>;
+    fn close_counted(&mut self, end: LaneEnd<M>) -> Result<(), (LaneEnd<M>, Refusal)>;
 
     fn abandon_lane(&mut self, lane: u64) -> Result<(), Refusal>;
 

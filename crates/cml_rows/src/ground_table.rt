@@ -1,8 +1,8 @@
 //! A table of calls on a floor or a hall under way.
 use crate::cutting::{Pieces, Way, is_of_journal, last_look};
 use crate::facts::{tell_board, tell_object};
-use crate::fussy::Fussy;
 use crate::ground::Ground;
+use crate::numbered::Numbered;
 use crate::outcome::{NO_MEMORY, REFUSED_ONCE, note, refusal_word, write_answer};
 use crate::rings::{Rings, tell_done};
 use crate::words::{call_of, is_note, number, object};
@@ -12,7 +12,7 @@ use std::alloc::{AllocError, Global};
 use std::io;
 
 /// Writes each line of a case again, with what it comes to on this ground, whose journal is cut behind each.
-pub fn retell<R: Print, G: Ground + Drop>(
+pub fn retell<M: Numbered, R: Print, G: Ground<M> + Drop>(
     rt: &R,
     alloc: Global,
     ground: G,
@@ -38,12 +38,12 @@ fn moves(words: &[&str]) -> bool {
 }
 
 #[derive(Drop)]
-struct GroundTable<G: Ground> {
+struct GroundTable<M: Numbered, G: Ground<M>> {
     alloc: Global,
     ground: G,
-    rings: Rings,
+    rings: Rings<M>,
     // What the board's journal handed over.
-    pieces: Pieces,
+    pieces: Pieces<M>,
 }
 
 /// How often a line's call is made.
@@ -54,8 +54,8 @@ enum Turn {
     Second,
 }
 
-impl<G: Ground> GroundTable<G> {
-    fn new(alloc: Global, ground: G) -> GroundTable<G> {
+impl<M: Numbered, G: Ground<M>> GroundTable<M, G> {
+    fn new(alloc: Global, ground: G) -> GroundTable<M, G> {
         GroundTable {
             alloc,
             ground,
@@ -144,8 +144,8 @@ impl<G: Ground> GroundTable<G> {
     fn tell_asked(
         &self,
         text: &mut String,
-        told: Asked<Fussy>,
-        asked: &Call<Fussy>,
+        told: Asked<M>,
+        asked: &Call<M>,
     ) -> Result<(), AllocError> {
         match told {
             Asked::Answered(answer) => write_answer(text, self.ground.board(), &answer, asked),

@@ -2,10 +2,10 @@
 ghost use Rattle.std.specs.Prelude.{◌≡◌, ◌^◌};
 
 use crate::cutting::{Journaled, Way};
-use crate::fussy::Fussy;
 use crate::ground::Ground;
 use crate::ground_table::retell;
 use crate::moving::Moves;
+use crate::numbered::Numbered;
 use crate::outcome::Numbers;
 use crate::words::limit_in;
 use cml_board::{BoardLog, Call, Entry, Name, Refusal};
@@ -17,16 +17,16 @@ use std::marker::Brand;
 use std::sync::ledger::{Blank, Ledger};
 
 /// Performs the lines of a case on a hall of its own, and so by a ledger of its own.
-pub fn perform<R: Print>(
+pub fn perform<M: Numbered, R: Print>(
     rt: &R,
     alloc: Global,
     lines: &[String],
     way: Option<Way>,
 ) -> io::Result<()> {
-    perform_by::<Brand, R>(rt, alloc, lines, way, Blank::new(PARTS))
+    perform_by::<M, Brand, R>(rt, alloc, lines, way, Blank::new(PARTS))
 }
 
-fn perform_by<Led: Ledger, R: Print>(
+fn perform_by<M: Numbered, Led: Ledger, R: Print>(
     rt: &R,
     alloc: Global,
     lines: &[String],
@@ -37,20 +37,20 @@ fn perform_by<Led: Ledger, R: Print>(
     requires parts { blank.parts ≡ Led.parts }
     requires enough { blank.parts ≡ 2 ^ 63 }
 {
-    let hall: Hall<Fussy, BoardLog<Fussy>, Led> = Hall::new(alloc, limit_in(lines), blank)?;
+    let hall: Hall<M, BoardLog<M>, Led> = Hall::new(alloc, limit_in(lines), blank)?;
     let seats = Vec::new(alloc);
     retell(rt, alloc, Seated { hall, seats }, lines, way)
 }
 
 /// A hall, and the seats that it gave, each at its number.
 #[derive(Drop)]
-struct Seated<Led: Ledger> {
-    hall: Hall<Fussy, BoardLog<Fussy>, Led>,
+struct Seated<M: Numbered, Led: Ledger> {
+    hall: Hall<M, BoardLog<M>, Led>,
     seats: Vec<Seat<Led>>,
 }
 
-impl<Led: Ledger> Journaled for Seated<Led> {
-    fn board(&self) -> &Numbers {
+impl<M: Numbered, Led: Ledger> Journaled<M> for Seated<M, Led> {
+    fn board(&self) -> &Numbers<M> {
         self.hall.board()
     }
 
@@ -58,12 +58,12 @@ impl<Led: Ledger> Journaled for Seated<Led> {
         self.hall.cut()
     }
 
-    fn take_journal(&mut self) -> Result<Vec<Entry<Fussy>>, Refusal> {
+    fn take_journal(&mut self) -> Result<Vec<Entry<M>>, Refusal> {
         self.hall.take_journal()
     }
 }
 
-impl<Led: Ledger> Ground for Seated<Led> {
+impl<M: Numbered, Led: Ledger> Ground<M> for Seated<M, Led> {
     fn open_rings(&self) -> (u64, u64) {
         (self.hall.open_lanes(), self.hall.open_feeds())
     }
@@ -91,26 +91,26 @@ impl<Led: Ledger> Ground for Seated<Led> {
         }
     }
 
-    fn ask(&mut self, seat: usize, call: Call<Fussy>) -> Asked<Fussy> {
+    fn ask(&mut self, seat: usize, call: Call<M>) -> Asked<M> {
         match self.seats.get_mut(seat) {
             Some(seat) => self.hall.ask(seat, call),
             None => Asked::Refused(Refusal::Gone, call),
         }
     }
 
-    fn ask_again(&mut self, seat: usize, call: Call<Fussy>) -> Asked<Fussy> {
+    fn ask_again(&mut self, seat: usize, call: Call<M>) -> Asked<M> {
         match self.seats.get_mut(seat) {
             Some(seat) => self.hall.ask_again(seat, call),
             None => Asked::Refused(Refusal::Gone, call),
         }
     }
 
-    fn open_lane(&mut self, target: Name, capacity: usize) -> Result<(Lane<Fussy>, u64), Refusal> {
+    fn open_lane(&mut self, target: Name, capacity: usize) -> Result<(Lane<M>, u64), Refusal> {
         self.hall
             .open_lane(target, capacity.max(1).min(MAX_CAPACITY))
     }
 
-    fn open_feed(&mut self, channel: Name, capacity: usize) -> Result<(Feed<Fussy>, u64), Refusal> {
+    fn open_feed(&mut self, channel: Name, capacity: usize) -> Result<(Feed<M>, u64), Refusal> {
         self.hall
             .open_feed(channel, capacity.max(1).min(MAX_CAPACITY))
     }
@@ -123,7 +123,7 @@ impl<Led: Ledger> Ground for Seated<Led> {
         }
     }
 
-    fn close_counted(&mut self, end: LaneEnd<Fussy>) -> Result<(), (LaneEnd<Fussy>, Refusal)> {
+    fn close_counted(&mut self, end: LaneEnd<M>) -> Result<(), (LaneEnd<M>, Refusal)> {
         self.hall.close_counted(end)
     }
 

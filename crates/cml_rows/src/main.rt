@@ -1,7 +1,7 @@
 //! Performs tables of calls on a board, a floor or a hall: each line of standard input is written again, with what it
-//! comes to behind `: `. A call that memory was refused is made once more, which the line then tells. With the word `cut`
-//! or `take` the journal is cut behind each line, where it can be: its entries are dropped, or handed over and in the end
-//! checked piece by piece.
+//! comes to behind `: `. A call that memory was refused is made once more, which the line then tells. With the word `texts`
+//! the messages are texts, the digits of the tables' numbers. With the word `cut` or `take` the journal is cut behind each
+//! line, where it can be: its entries are dropped, or handed over and in the end checked piece by piece.
 #![tactic(auto)]
 
 mod cutting;
@@ -13,12 +13,16 @@ mod ground;
 mod ground_table;
 mod halls;
 mod moving;
+mod numbered;
 mod outcome;
 mod rings;
 mod table;
 mod words;
 
+use cml_board::Text;
 use cutting::{Way, last_look};
+use fussy::Fussy;
+use numbered::Numbered;
 use std::alloc::Global;
 use std::process::ExitCode;
 use std::{env, io};
@@ -27,61 +31,75 @@ use table::Table;
 /// What the program's words ask for.
 #[derive(Clone, Copy)]
 enum Order {
-    /// The tables, with these cuts.
-    Perform(Option<Way>),
+    /// The tables, with such messages and cuts.
+    Perform(Messages, Option<Way>),
     Usage,
+}
+
+/// What the messages are.
+#[derive(Clone, Copy)]
+enum Messages {
+    Blocks,
+    Texts,
 }
 
 fn main(rt: HostRuntime) -> io::Result<ExitCode> {
     match asked(&rt)? {
-        Order::Perform(way) => {
-            perform(&rt, way)?;
-            Ok(ExitCode::SUCCESS)
-        }
+        Order::Perform(Messages::Blocks, way) => perform::<Fussy>(&rt, way)?,
+        Order::Perform(Messages::Texts, way) => perform::<Text>(&rt, way)?,
         Order::Usage => {
-            eprintln!(rt; "usage: cml_rows [cut | take]")?;
-            Ok(ExitCode::from(2))
+            eprintln!(rt; "usage: cml_rows [texts] [cut | take]")?;
+            return Ok(ExitCode::from(2));
         }
     }
+    Ok(ExitCode::SUCCESS)
 }
 
 fn asked(rt: &HostRuntime) -> io::Result<Order> {
     let words = env::args(rt)?.collect::<Vec<String>>(rt.alloc())?;
-    Ok(match words.as_slice() {
-        [] | [_] => Order::Perform(None),
-        [_, word] => match Way::of_word(word.as_str()) {
-            Some(way) => Order::Perform(Some(way)),
-            None => Order::Usage,
-        },
-        _ => Order::Usage,
+    let words = words.get(1..).unwrap_or(&[]);
+    Ok(match words.split_first() {
+        Some((word, rest)) if word.as_str() == "texts" => with_cuts(Messages::Texts, rest),
+        _ => with_cuts(Messages::Blocks, words),
     })
 }
 
+fn with_cuts(messages: Messages, words: &[String]) -> Order {
+    match words {
+        [] => Order::Perform(messages, None),
+        [word] => match Way::of_word(word.as_str()) {
+            Some(way) => Order::Perform(messages, Some(way)),
+            None => Order::Usage,
+        },
+        _ => Order::Usage,
+    }
+}
+
 /// Performs all cases of standard input.
-fn perform(rt: &HostRuntime, way: Option<Way>) -> io::Result<()> {
+fn perform<M: Numbered>(rt: &HostRuntime, way: Option<Way>) -> io::Result<()> {
     let mut case = Vec::new(rt.alloc());
     for line in rt.lines(rt.alloc()) {
         let line = line?;
         if line.starts_with("==") {
-            perform_case(rt, rt.alloc(), case.as_slice(), way)?;
+            perform_case::<M, HostRuntime>(rt, rt.alloc(), case.as_slice(), way)?;
             case.clear();
         }
         case.push(line)?;
     }
-    perform_case(rt, rt.alloc(), case.as_slice(), way)
+    perform_case::<M, HostRuntime>(rt, rt.alloc(), case.as_slice(), way)
 }
 
 /// Performs the lines of one case, on what its first call begins.
-fn perform_case<R: Print>(
+fn perform_case<M: Numbered, R: Print>(
     rt: &R,
     alloc: Global,
     lines: &[String],
     way: Option<Way>,
 ) -> io::Result<()> {
     match beginning(lines) {
-        Some("floor") => floors::perform(rt, alloc, lines, way),
-        Some("hall") => halls::perform(rt, alloc, lines, way),
-        _ => perform_on_board(rt, alloc, lines, way),
+        Some("floor") => floors::perform::<M, R>(rt, alloc, lines, way),
+        Some("hall") => halls::perform::<M, R>(rt, alloc, lines, way),
+        _ => perform_on_board::<M, R>(rt, alloc, lines, way),
     }
 }
 
@@ -93,13 +111,13 @@ fn beginning(lines: &[String]) -> Option<&str> {
     Some(word)
 }
 
-fn perform_on_board<R: Print>(
+fn perform_on_board<M: Numbered, R: Print>(
     rt: &R,
     alloc: Global,
     lines: &[String],
     way: Option<Way>,
 ) -> io::Result<()> {
-    let mut table = Table::new(alloc)?;
+    let mut table = Table::<M>::new(alloc)?;
     for line in lines.iter() {
         let told = table.perform(line.as_str())?;
         println!(rt; "{told}")?;

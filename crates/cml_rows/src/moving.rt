@@ -1,5 +1,6 @@
 //! What goes out of lanes and into feeds, until nothing more is seen.
 use crate::ground::Ground;
+use crate::numbered::Numbered;
 use crate::outcome::{REFUSED_ONCE, refusal_word};
 use cml_board::Refusal;
 use std::alloc::AllocError;
@@ -26,13 +27,13 @@ struct Moved {
 
 /// Moves messages until there is nothing to move or one is refused, and tells how many. Where memory is refused the call
 /// is made once more, and goes on.
-pub fn tell_moves<G: Ground>(
+pub fn tell_moves<M: Numbered, G: Ground<M>>(
     text: &mut String,
     ground: &mut G,
     moves: Moves,
     number: u64,
 ) -> Result<(), AllocError> {
-    let moved = move_all(ground, moves, number);
+    let moved = move_all::<M, G>(ground, moves, number);
     match moved.refusal {
         None => write!(text, "{}", moved.count)?,
         Some(refusal) if moved.count == 0 => text.push_str(refusal_word(refusal))?,
@@ -44,7 +45,7 @@ pub fn tell_moves<G: Ground>(
     Ok(())
 }
 
-fn move_all<G: Ground>(ground: &mut G, moves: Moves, number: u64) -> Moved {
+fn move_all<M: Numbered, G: Ground<M>>(ground: &mut G, moves: Moves, number: u64) -> Moved {
     let mut moved = Moved {
         count: 0,
         refusal: None,

@@ -1,11 +1,11 @@
 //! What becomes of a call, in words.
 use crate::facts::tell_board;
-use crate::fussy::Fussy;
+use crate::numbered::Numbered;
 use cml_board::{Answer, Board, BoardLog, Call, Message, Outcome, Refusal, Reply, Who};
 use std::alloc::{AllocError, Global};
 
-/// A board whose messages are numbers, in chunks of four.
-pub type Numbers = Board<Fussy, BoardLog<Fussy>>;
+/// A board whose messages stand for numbers, in chunks of four.
+pub type Numbers<M> = Board<M, BoardLog<M>>;
 
 /// What a line tells where memory was refused.
 pub const NO_MEMORY: &str = "no memory";
@@ -23,13 +23,13 @@ struct Foretold {
 /// Makes a call, of which `asked` is a copy, and again where memory was refused, and tells what became of it. What each call is to keep besides
 /// is told where it doesn't: that it is handed back and nothing is changed, that an answer is confirmed, and that
 /// `would_wait` and `is_full` foretold it.
-pub fn tell(
+pub fn tell<M: Numbered>(
     text: &mut String,
     alloc: Global,
-    board: &mut Numbers,
+    board: &mut Numbers<M>,
     who: Who,
-    call: Call<Fussy>,
-    asked: &Call<Fussy>,
+    call: Call<M>,
+    asked: &Call<M>,
 ) -> Result<(), AllocError> {
     let foretold = Foretold {
         waits: board.would_wait(&call),
@@ -49,17 +49,17 @@ pub fn tell(
 }
 
 /// All that a board's readers tell.
-pub fn reading(alloc: Global, board: &Numbers) -> Result<String, AllocError> {
+pub fn reading<M: Numbered>(alloc: Global, board: &Numbers<M>) -> Result<String, AllocError> {
     let mut text = String::new(alloc);
     tell_board(&mut text, board)?;
     Ok(text)
 }
 
-fn tell_once(
+fn tell_once<M: Numbered>(
     text: &mut String,
-    outcome: Outcome<Fussy>,
-    board: &Numbers,
-    asked: &Call<Fussy>,
+    outcome: Outcome<M>,
+    board: &Numbers<M>,
+    asked: &Call<M>,
     foretold: Foretold,
 ) -> Result<(), AllocError> {
     match outcome {
@@ -85,11 +85,11 @@ fn tell_once(
 }
 
 /// Tells the reply of an answer to this call.
-pub fn write_answer(
+pub fn write_answer<M: Numbered>(
     text: &mut String,
-    board: &Numbers,
-    answer: &Answer<Fussy>,
-    asked: &Call<Fussy>,
+    board: &Numbers<M>,
+    answer: &Answer<M>,
+    asked: &Call<M>,
 ) -> Result<(), AllocError> {
     write_reply(text, answer.reply())?;
     note(text, is_noted(board, answer, asked), "not confirmed")
@@ -104,7 +104,7 @@ pub fn note(text: &mut String, is_well: bool, wrong: &str) -> Result<(), AllocEr
 }
 
 /// Whether the answer is of this call, is confirmed, and stands last in the journal.
-fn is_noted(board: &Numbers, answer: &Answer<Fussy>, asked: &Call<Fussy>) -> bool {
+fn is_noted<M: Numbered>(board: &Numbers<M>, answer: &Answer<M>, asked: &Call<M>) -> bool {
     let entries = board.entries();
     answer.call().same(asked)
         && board.confirm(answer)
@@ -112,7 +112,7 @@ fn is_noted(board: &Numbers, answer: &Answer<Fussy>, asked: &Call<Fussy>) -> boo
         && entries - answer.at() == 1
 }
 
-fn write_reply(text: &mut String, reply: &Reply<Fussy>) -> Result<(), AllocError> {
+fn write_reply<M: Numbered>(text: &mut String, reply: &Reply<M>) -> Result<(), AllocError> {
     match reply {
         Reply::Done => text.push_str("done"),
         Reply::Made(name) => write!(text, "made {}", name.0),

@@ -1,8 +1,8 @@
 //! The threads' sides of lanes and feeds, by their numbers.
-use crate::fussy::Fussy;
 use crate::ground::Ground;
 use crate::moving::{Moves, tell_moves};
-use crate::outcome::refusal_word;
+use crate::numbered::Numbered;
+use crate::outcome::{note, refusal_word};
 use crate::words::{number, object};
 use cml_board::Refusal;
 use cml_lanes::{Feed, Lane, LaneEnd};
@@ -10,21 +10,21 @@ use std::alloc::{AllocError, Global};
 
 /// A lane's side: its sender, its end, or nothing any more.
 #[derive(Drop)]
-enum Side {
-    Sends(Lane<Fussy>),
-    Finished(LaneEnd<Fussy>),
+enum Side<M: Numbered> {
+    Sends(Lane<M>),
+    Finished(LaneEnd<M>),
     Gone,
 }
 
 #[derive(Drop)]
-pub struct Rings {
+pub struct Rings<M: Numbered> {
     alloc: Global,
-    lanes: Vec<Side>,
-    feeds: Vec<Option<Feed<Fussy>>>,
+    lanes: Vec<Side<M>>,
+    feeds: Vec<Option<Feed<M>>>,
 }
 
-impl Rings {
-    pub fn new(alloc: Global) -> Rings {
+impl<M: Numbered> Rings<M> {
+    pub fn new(alloc: Global) -> Rings<M> {
         Rings {
             alloc,
             lanes: Vec::new(alloc),
@@ -33,7 +33,7 @@ impl Rings {
     }
 
     /// Does what a line's words ask of a lane or a feed, and tells what it comes to.
-    pub fn obey<G: Ground>(
+    pub fn obey<G: Ground<M>>(
         &mut self,
         text: &mut String,
         ground: &mut G,
@@ -52,16 +52,16 @@ impl Rings {
             "lose" => self.lose(text, at),
             "let_go" => self.let_go(text, at),
             "close" => self.close(text, ground, at),
-            "drain" => tell_moves(text, ground, Moves::Drain, at),
-            "drop" => tell_moves(text, ground, Moves::Drop, at),
-            "pump" => tell_moves(text, ground, Moves::Pump, at),
+            "drain" => tell_moves::<M, G>(text, ground, Moves::Drain, at),
+            "drop" => tell_moves::<M, G>(text, ground, Moves::Drop, at),
+            "pump" => tell_moves::<M, G>(text, ground, Moves::Pump, at),
             "abandon" => tell_done(text, ground.abandon_lane(at)),
             "end" => tell_end(text, ground.end_feed(at)),
             _ => text.push_str("not understood"),
         }
     }
 
-    fn open_lane<G: Ground>(
+    fn open_lane<G: Ground<M>>(
         &mut self,
         text: &mut String,
         ground: &mut G,
@@ -80,7 +80,7 @@ impl Rings {
         }
     }
 
-    fn open_feed<G: Ground>(
+    fn open_feed<G: Ground<M>>(
         &mut self,
         text: &mut String,
         ground: &mut G,
@@ -101,14 +101,17 @@ impl Rings {
     }
 
     fn push(&mut self, text: &mut String, at: u64, value: u64) -> Result<(), AllocError> {
-        let message = Fussy::new(self.alloc, value)?;
+        let message = M::of_number(self.alloc, value)?;
         let Some(Side::Sends(lane)) = self.lanes.get_mut(at as usize) else {
             return text.push_str("no lane");
         };
         match lane.send(message) {
             Ok(()) => text.push_str("done"),
-            Err(full) if full.0.value() == value => text.push_str("full"),
-            Err(_) => text.push_str("full, another message back"),
+            Err(full) => {
+                let sent = M::of_number(self.alloc, value)?;
+                text.push_str("full")?;
+                note(text, full.0.same(&sent), "another message back")
+            }
         }
     }
 
@@ -159,7 +162,7 @@ impl Rings {
         }
     }
 
-    fn close<G: Ground>(
+    fn close<G: Ground<M>>(
         &mut self,
         text: &mut String,
         ground: &mut G,

@@ -1,7 +1,7 @@
 //! A table of calls under way: a board, and a journal that the table makes up.
 use crate::cutting::{Pieces, Way};
 use crate::facts::{tell_call, tell_check, tell_object};
-use crate::fussy::Fussy;
+use crate::numbered::Numbered;
 use crate::outcome::{NO_MEMORY, Numbers, REFUSED_ONCE, tell};
 use crate::words::{call_of, is_note, number, object, reply_of};
 use cml_board::{Answer, Call, Entry, Outcome, Refusal, Who};
@@ -11,27 +11,27 @@ use std::alloc::{AllocError, Global};
 const LIMIT: u64 = 100;
 
 #[derive(Drop)]
-pub struct Table {
+pub struct Table<M: Numbered> {
     alloc: Global,
-    board: Numbers,
+    board: Numbers<M>,
     // What the board's journal handed over.
-    pieces: Pieces,
+    pieces: Pieces<M>,
     who: Who,
     // The entries that the table made up.
-    entries: Vec<Entry<Fussy>>,
+    entries: Vec<Entry<M>>,
     // An answer that is held against another board.
-    kept: Option<Answer<Fussy>>,
+    kept: Option<Answer<M>>,
 }
 
-impl Table {
-    pub fn new(alloc: Global) -> Result<Table, AllocError> {
+impl<M: Numbered> Table<M> {
+    pub fn new(alloc: Global) -> Result<Table<M>, AllocError> {
         Table::with_limit(alloc, LIMIT)
     }
 
-    fn with_limit(alloc: Global, limit: u64) -> Result<Table, AllocError> {
+    fn with_limit(alloc: Global, limit: u64) -> Result<Table<M>, AllocError> {
         Ok(Table {
             alloc,
-            board: Numbers::new(alloc, limit.max(1).min(4_294_967_296))?,
+            board: Numbers::<M>::new(alloc, limit.max(1).min(4_294_967_296))?,
             pieces: Pieces::new(alloc),
             who: Who::Seat(0),
             entries: Vec::new(alloc),
@@ -82,12 +82,7 @@ impl Table {
     }
 
     /// Adds an entry with this call, and the reply that is told, to the journal that the table makes up.
-    fn make_up(
-        &mut self,
-        text: &mut String,
-        told: &str,
-        call: Call<Fussy>,
-    ) -> Result<(), AllocError> {
+    fn make_up(&mut self, text: &mut String, told: &str, call: Call<M>) -> Result<(), AllocError> {
         let Some(reply) = reply_of(self.alloc, told)? else {
             return text.push_str("no reply is told");
         };
@@ -97,7 +92,7 @@ impl Table {
     }
 
     /// Makes a call, and again where memory was refused, and keeps its answer.
-    fn keep(&mut self, text: &mut String, call: Call<Fussy>) -> Result<(), AllocError> {
+    fn keep(&mut self, text: &mut String, call: Call<M>) -> Result<(), AllocError> {
         match self.board.apply(self.who, call) {
             Outcome::Refused(Refusal::NoMemory, back) => {
                 let outcome = self.board.apply(self.who, back);
@@ -108,11 +103,7 @@ impl Table {
         }
     }
 
-    fn keep_answer(
-        &mut self,
-        text: &mut String,
-        outcome: Outcome<Fussy>,
-    ) -> Result<(), AllocError> {
+    fn keep_answer(&mut self, text: &mut String, outcome: Outcome<M>) -> Result<(), AllocError> {
         match outcome {
             Outcome::Answered(answer) => {
                 self.kept = Some(answer);

@@ -1,7 +1,7 @@
 //! What the words of a line say.
 ghost use Rattle.std.specs.Prelude.{◌^◌, ◌≤◌};
 
-use crate::fussy::Fussy;
+use crate::numbered::Numbered;
 use cml_board::{Call, Name, Reply};
 use std::alloc::{AllocError, Global};
 
@@ -32,17 +32,17 @@ pub fn limit_in(lines: &[String]) -> u64
 }
 
 /// The call that these words ask for. An object goes by its number.
-pub fn call_of(alloc: Global, words: &[&str]) -> Result<Option<Call<Fussy>>, AllocError> {
+pub fn call_of<M: Numbered>(alloc: Global, words: &[&str]) -> Result<Option<Call<M>>, AllocError> {
     let Some((word, rest)) = words.split_first() else {
         return Ok(None);
     };
     if let ("mvar", Some(value)) = (*word, number(rest, 0)) {
-        return Ok(Some(Call::MVarInit(Fussy::new(alloc, value)?)));
+        return Ok(Some(Call::MVarInit(M::of_number(alloc, value)?)));
     }
     let (Some(name), Some(value)) = (object(rest), number(rest, 1)) else {
         return Ok(bare_call_of(word, rest));
     };
-    let message = Fussy::new(alloc, value)?;
+    let message = M::of_number(alloc, value)?;
     match *word {
         "send" => Ok(Some(Call::Send(name, message))),
         "multicast" => Ok(Some(Call::Cast(name, message))),
@@ -53,7 +53,7 @@ pub fn call_of(alloc: Global, words: &[&str]) -> Result<Option<Call<Fussy>>, All
 }
 
 /// The same of a call without a message.
-fn bare_call_of(word: &str, rest: &[&str]) -> Option<Call<Fussy>> {
+fn bare_call_of<M: Numbered>(word: &str, rest: &[&str]) -> Option<Call<M>> {
     match word {
         "mailbox" => Some(Call::NewMailbox),
         "channel" => Some(Call::NewChannel),
@@ -73,7 +73,7 @@ fn bare_call_of(word: &str, rest: &[&str]) -> Option<Call<Fussy>> {
 }
 
 /// The reply that this text tells, as a table writes it.
-pub fn reply_of(alloc: Global, text: &str) -> Result<Option<Reply<Fussy>>, AllocError> {
+pub fn reply_of<M: Numbered>(alloc: Global, text: &str) -> Result<Option<Reply<M>>, AllocError> {
     match text {
         "done" => Ok(Some(Reply::Done)),
         "none" => Ok(Some(Reply::Nothing)),
@@ -81,7 +81,7 @@ pub fn reply_of(alloc: Global, text: &str) -> Result<Option<Reply<Fussy>>, Alloc
         "closed" => Ok(Some(Reply::Closed)),
         _ => match (text.strip_prefix("made "), text.parse()) {
             (Some(name), _) => Ok(name.parse().ok().map(|name| Reply::Made(Name(name)))),
-            (None, Ok(value)) => Ok(Some(Reply::Got(Fussy::new(alloc, value)?))),
+            (None, Ok(value)) => Ok(Some(Reply::Got(M::of_number(alloc, value)?))),
             (None, Err(_)) => Ok(None),
         },
     }
