@@ -13,10 +13,13 @@ mod keeper;
 mod lanes;
 mod locking;
 mod mailboxes;
+mod messages;
+mod notices;
 mod passing;
 mod pool;
 mod readers;
 mod refusals;
+mod requests;
 mod reserving;
 mod server;
 mod stream;
@@ -36,6 +39,7 @@ fn main(rt: HostRuntime) -> io::Result<()> {
     show_refusals(&rt)?;
     show_readers(&rt)?;
     show_journals(&rt)?;
+    show_messages(&rt)?;
     show_cutting(&rt)?;
     show_threads(&rt, rt.alloc())
 }
@@ -108,6 +112,18 @@ fn show_journals(rt: &HostRuntime) -> io::Result<()> {
     show(rt, "journals::confirmed", &journals::confirmed(alloc))
 }
 
+fn show_messages(rt: &HostRuntime) -> io::Result<()> {
+    let alloc = rt.alloc();
+    show(rt, "messages::greeted", &messages::greeted(alloc))?;
+    show(rt, "requests::kept", &requests::kept(alloc))?;
+    show(
+        rt,
+        "notices::noticed_by_three",
+        &notices::noticed_by_three(alloc),
+    )?;
+    show(rt, "notices::read_by_three", &notices::read_by_three(alloc))
+}
+
 fn show_cutting(rt: &HostRuntime) -> io::Result<()> {
     let alloc = rt.alloc();
     show(
@@ -129,6 +145,7 @@ fn show_cutting(rt: &HostRuntime) -> io::Result<()> {
 
 fn show_threads<R: Threads + Wait + Sync + Print>(rt: &R, alloc: Global) -> io::Result<()> {
     show(rt, "passing::passed_on", &passing::passed_on(rt, alloc))?;
+    show(rt, "requests::passed_on", &requests::passed_on(rt, alloc))?;
     show(rt, "pool::squares", &pool::squares(rt, alloc))?;
     show(
         rt,

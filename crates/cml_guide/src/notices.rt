@@ -1,0 +1,123 @@
+//! Messages that take no memory for a share: plain data, what is borrowed, and what has several owners.
+ghost use Rattle.std.specs.Prelude.{◌≡◌, true, false, IfOk};
+
+use crate::calls::Trouble;
+use crate::messages::{BoardOf, ask, fetch, make};
+use cml_board::{Call, Message, Name};
+use std::alloc::{AllocError, Global};
+use std::marker::Model;
+use std::sync::Arc;
+
+/// What the weather was: plain data, of which a share is a copy. It is never refused.
+#[derive(Clone, Copy, Debug, PartialEq, Eq)]
+pub struct Weather {
+    degrees: i64,
+    wind: u64,
+}
+
+impl Message for Weather {
+    ghost SURE = { true };
+
+    fn share(&self, _alloc: Global) -> Result<Weather, AllocError> {
+        Ok(*self)
+    }
+
+    fn same(&self, other: &Weather) -> bool {
+        *self == *other
+    }
+}
+
+/// A text that lies elsewhere, longer than the board is there. A share is never refused.
+#[derive(Drop)]
+pub struct Headline<'a> {
+    text: &'a str,
+}
+
+impl<'a> Model for Headline<'a> {
+    ghost use Rattle.std.specs.Prelude.{ℕ, List};
+
+    ghost Value = { List ℕ };
+
+    ghost view = { λ headline. headline.text.now };
+}
+
+impl<'a> Message for Headline<'a> {
+    ghost SURE = { true };
+
+    fn share(&self, _alloc: Global) -> Result<Headline<'a>, AllocError> {
+        Ok(Headline { text: self.text })
+    }
+
+    fn same(&self, other: &Headline<'a>) -> bool {
+        self.text == other.text
+    }
+}
+
+/// A report that all who receive it own together. A share is one owner more, and takes no memory; but that there are too
+/// many owners no contract rules out.
+#[derive(Drop)]
+pub struct Notice {
+    weather: Arc<Weather>,
+}
+
+impl Model for Notice {
+    ghost use Rattle.std.specs.Arc.{arc_value};
+    ghost use Rattle.cml_guide.specs.declared.notices.Weather.{Weather};
+
+    ghost Value = { Weather };
+
+    ghost view = { λ notice. arc_value notice.weather };
+}
+
+impl Message for Notice {
+    ghost SURE = { false };
+
+    fn share(&self, _alloc: Global) -> Result<Notice, AllocError> {
+        let weather = self.weather.clone()?;
+        Ok(Notice { weather })
+    }
+
+    fn same(&self, other: &Notice) -> bool {
+        *self.weather == *other.weather
+    }
+}
+
+/// A channel with three ports.
+fn open_channel<M: Message>(board: &mut BoardOf<M>) -> Result<[Name; 4], Trouble> {
+    let news = make(board, Call::NewChannel)?;
+    let first = make(board, Call::NewPort(news))?;
+    let second = make(board, Call::NewPort(news))?;
+    let third = make(board, Call::NewPort(news))?;
+    Ok([news, first, second, third])
+}
+
+/// A notice is multicast, and each of three ports receives it: what the weather was there, and how many owners it has then.
+pub fn noticed_by_three(alloc: Global) -> Result<([Weather; 3], usize), Trouble> {
+    let mut board = BoardOf::<Notice>::new(alloc, 100)?;
+    let [news, first, second, third] = open_channel(&mut board)?;
+    let weather = Weather {
+        degrees: -3,
+        wind: 12,
+    };
+    let notice = Notice {
+        weather: Arc::new(alloc, weather)?,
+    };
+    ask(&mut board, Call::Cast(news, notice))?;
+    let first = fetch(&mut board, Call::Recv(first))?;
+    let second = fetch(&mut board, Call::Recv(second))?;
+    let third = fetch(&mut board, Call::Recv(third))?;
+    let owners = Arc::strong_count(&first.weather);
+    Ok(([*first.weather, *second.weather, *third.weather], owners))
+}
+
+/// A headline is multicast, and each of three ports receives it: whether it is the same text.
+pub fn read_by_three(alloc: Global) -> Result<[bool; 3], Trouble> {
+    let mut board = BoardOf::<Headline>::new(alloc, 100)?;
+    let [news, first, second, third] = open_channel(&mut board)?;
+    let text = "frost by night";
+    ask(&mut board, Call::Cast(news, Headline { text }))?;
+    let first = fetch(&mut board, Call::Recv(first))?;
+    let second = fetch(&mut board, Call::Recv(second))?;
+    let third = fetch(&mut board, Call::Recv(third))?;
+    Ok([first.text == text, second.text == text, third.text == text])
+}

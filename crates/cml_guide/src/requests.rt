@@ -1,0 +1,151 @@
+//! Messages of one's own that own memory: a share of one takes memory too, and may be refused.
+ghost use Rattle.std.specs.Prelude.{◌≡◌, ◌^◌, false, IfOk, IfErr, OnErr};
+ghost use Rattle.cml_board.specs.Outcome.{IsAsBefore};
+ghost use Rattle.cml_threads.specs.Seating.{answers_in};
+
+use crate::calls::{SEAT, Trouble};
+use crate::messages::{BoardOf, make};
+use cml_board::{BoardLog, Call, Message, Name, Outcome, Refusal, Reply};
+use cml_threads::{Count, Left, PARTS, Switchboard};
+use std::alloc::{AllocError, Global};
+use std::marker::{Brand, Model};
+use std::sync::Wait;
+use std::sync::ledger::{Blank, Ledger};
+use std::thread;
+use std::thread::Threads;
+
+/// What a client asks for: a name in memory of its own, and a number. Contracts see both, and not where the name lies.
+#[derive(Debug, Drop)]
+pub struct Request {
+    name: String,
+    number: u64,
+}
+
+impl Model for Request {
+    ghost use Rattle.std.specs.Prelude.{ℕ, List, string_bytes};
+
+    ghost Value = { List ℕ × ℕ };
+
+    ghost view = { λ request. (string_bytes request.name, request.number) };
+}
+
+impl Request {
+    pub fn new(alloc: Global, name: &str, number: u64) -> Result<Request, AllocError>
+        ensures { IfOk result (λ request. request ≡ (name.now, number)) }
+    {
+        let name = String::from_str(alloc, name)?;
+        Ok(Request { name, number })
+    }
+}
+
+impl Message for Request {
+    ghost SURE = { false };
+
+    fn share(&self, _alloc: Global) -> Result<Request, AllocError> {
+        let name = self.name.clone()?;
+        Ok(Request {
+            name,
+            number: self.number,
+        })
+    }
+
+    fn same(&self, other: &Request) -> bool {
+        self.number == other.number && self.name == other.name
+    }
+}
+
+/// Sends a request. Where that is refused, as for want of memory for its share, it comes back with the reason, and the board
+/// is as it was.
+pub fn send_or_keep(
+    board: &mut BoardOf<Request>,
+    requests: Name,
+    request: Request,
+) -> Result<(), (Refusal, Request)>
+    ensures kept { IfErr result (λ back. back.1 ≡ request) }
+    ensures unchanged { OnErr result (IsAsBefore board.old board.new) }
+{
+    match board.apply(SEAT, Call::Send(requests, request)) {
+        Outcome::Refused(refusal, Call::Send(_, kept)) => Err((refusal, kept)),
+        _ => Ok(()),
+    }
+}
+
+/// A board whose journal has room for one request.
+pub fn kept(alloc: Global) -> Result<[Result<(), (Refusal, Request)>; 2], Trouble> {
+    let mut board = BoardOf::<Request>::new(alloc, 2)?;
+    let requests = make(&mut board, Call::NewMailbox)?;
+    let coffee = Request::new(alloc, "coffee", 7)?;
+    let tea = Request::new(alloc, "tea", 8)?;
+    let first = send_or_keep(&mut board, requests, coffee);
+    let second = send_or_keep(&mut board, requests, tea);
+    Ok([first, second])
+}
+
+/// A switchboard whose messages are requests.
+type Office<Led> = Switchboard<Request, BoardLog<Request>, Led>;
+
+impl From<(Refusal, Call<Request>)> for Trouble {
+    fn from(back: (Refusal, Call<Request>)) -> Trouble {
+        Trouble::Refused(back.0)
+    }
+}
+
+/// One thread sends a request and another receives it: the request, and how many entries there are at the end.
+pub fn passed_on<R: Threads + Wait + Sync>(
+    rt: &R,
+    alloc: Global,
+) -> Result<(Request, Count), Trouble>
+    ensures counted { IfOk result (λ found. found.1.seats ≡ 3) }
+{
+    pass_on::<Brand, R>(rt, alloc, Blank::new(PARTS))
+}
+
+fn pass_on<Led: Ledger + Send + Sync, R: Threads + Wait + Sync>(
+    rt: &R,
+    alloc: Global,
+    blank: Blank,
+) -> Result<(Request, Count), Trouble>
+    requires name { blank.name ≡ Led.name }
+    requires parts { blank.parts ≡ Led.parts }
+    requires enough { blank.parts ≡ 2 ^ 63 }
+    ensures counted { IfOk result (λ found. found.1.seats ≡ 3) }
+{
+    let office = Office::<Led>::new(alloc, 100, blank)?;
+    let (request, lefts) = send_and_receive(rt, alloc, &office)?;
+    match office.settle(lefts) {
+        Ok(settled) => Ok((request, settled.count())),
+        Err(_) => Err(Trouble::Unsettled),
+    }
+}
+
+/// What was received, and the seats of both threads.
+fn send_and_receive<Led: Ledger + Send + Sync, R: Threads + Wait + Sync>(
+    rt: &R,
+    alloc: Global,
+    office: &Office<Led>,
+) -> Result<(Request, Vec<Left<Led>>), Trouble>
+    ensures { IfOk result (λ found. answers_in found.1.items ≡ 3) }
+{
+    let coffee = Request::new(alloc, "coffee", 7)?;
+    let mut client = office.seat(rt)?;
+    let Reply::Made(requests) = office.mailbox(rt, &mut client)? else {
+        return Err(Trouble::OtherReply);
+    };
+    let mut clerk = office.seat(rt)?;
+    let ((received, clerk), (sent, client)) = thread::join(
+        rt,
+        move || {
+            let received = office.recv(rt, &mut clerk, requests);
+            (received, office.leave(rt, clerk))
+        },
+        move || {
+            let sent = office.send(rt, &mut client, requests, coffee);
+            (sent, office.leave(rt, client))
+        },
+    );
+    sent?;
+    match received? {
+        Reply::Got(request) => Ok((request, vec![in alloc; clerk, client]?)),
+        _ => Err(Trouble::OtherReply),
+    }
+}
