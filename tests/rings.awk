@@ -63,16 +63,18 @@ function is_behind(thread, i,    word, key, part) {
 }
 
 # The next message of a lane comes. Why it can't; nothing where it can.
-function from_lane(line, limit,    word, thread, number, to, i) {
+function from_lane(line, limit,    word, thread, number, to, text) {
     sub(/: .*/, "", line)
     split(line, word, " ")
     number = word[2]
     to = word[4]
+    text = word[5]
+    if (version == 2 && !sub(/^=/, "", text)) return "but no message is shown at line " lines_out + 1
     if (entries == limit) return "but the journal is full before line " lines_out + 1
-    thread = (number in lane_thread) ? lane_thread[number] : sender(word[3], to, word[5])
+    thread = (number in lane_thread) ? lane_thread[number] : sender(word[3], to, text)
     if (thread == "") return "but no thread sends this on a lane at line " lines_out + 1
     if ((number in lane_thread) && lane_object[number] != to) return "but lane " number " goes to another object"
-    if (!is_next_on_lane(thread, word[3], to, word[5])) return "but " thread " doesn't send this at line " lines_out + 1
+    if (!is_next_on_lane(thread, word[3], to, text)) return "but " thread " doesn't send this at line " lines_out + 1
     if (((thread, to) in newest) && newest[thread, to] > number + 0) return "but lane " number " was closed before"
     newest[thread, to] = number + 0
     lane_thread[number] = thread
@@ -80,8 +82,8 @@ function from_lane(line, limit,    word, thread, number, to, i) {
     moved[thread, to]++
     entries++
     sent[to]++
-    message[to, sent[to]] = word[5]
-    line_out[++lines_out] = "lane " number + 0 " " word[3] " " to " " word[5] ": done"
+    message[to, sent[to]] = text
+    line_out[++lines_out] = "lane " number + 0 " " word[3] " " to " " shown(text) ": done"
     return ""
 }
 
@@ -93,7 +95,8 @@ function sender(verb, to, text,    i) {
 
 # Whether this is the thread's next message on a lane to the object, and its own steps before it were taken.
 function is_next_on_lane(thread, verb, to, text,    i, own) {
-    if (moved[thread, to] + 1 > lane_steps[thread, to]) return 0
+    # By `in`: awk makes an item of what is only looked at, and a thread with no lane there would then have one.
+    if (!((thread, to) in lane_steps) || moved[thread, to] + 1 > lane_steps[thread, to]) return 0
     i = lane_step[thread, to, moved[thread, to] + 1]
     own = next_own(thread)
     return (own == 0 || i < own) && step_words[queue[thread, i]] == verb " " to " " text
@@ -115,7 +118,7 @@ function to_feed(line, limit,    word, name, why) {
     entries++
     got[name]++
     if (++to_feeds == short) pumping = ""
-    line_out[++lines_out] = "feed " word[2] + 0 " recv " name ": " message[stream(name), place(name)]
+    line_out[++lines_out] = "feed " word[2] + 0 " recv " name ": " shown(message[stream(name), place(name)])
     return ""
 }
 
