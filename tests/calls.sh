@@ -1,16 +1,22 @@
 #!/bin/sh
 # The tables of calls on a board, a floor and a hall, performed by the built program: `sh tests/calls.sh PROGRAM`. The
 # program writes each line again with what it comes to, so what it writes is to be the table. A case begins with a line
-# `== its name`.
+# `== its name`. Then they are performed with texts for messages, the digits of their numbers, but for the tables on a message
+# that is always refused: each comes to the same.
 # The last line is `N passed, M failed`.
 program=$(cd "$(dirname "$1")" && pwd)/$(basename "$1")
 cd "$(dirname "$0")" || exit 1
-for table in board/*.rows floors/*.rows halls/*.rows; do
-    "$program" < "$table" | awk -v table="$table" '
+
+# compare TABLE WORDS..: what the program writes with these words, held against the table case by case. An entry is told
+# with its text in quotes.
+compare() {
+    table=$1
+    shift
+    "$program" "$@" < "$table" | tr -d '"' | awk -v table="$table" -v words="$*" '
         function end() {
             if (name == "") return
             if (wrong == "") passed++
-            else { failed++; print "failed: " table ", " name wrong }
+            else { failed++; print "failed: " table ", " name (words == "" ? "" : ", " words) wrong }
             name = wrong = ""
         }
         {
@@ -24,6 +30,14 @@ for table in board/*.rows floors/*.rows halls/*.rows; do
             print passed + 0, failed + 0 > "/dev/stderr"
         }
     ' 2>&1
+}
+
+for table in board/*.rows floors/*.rows halls/*.rows; do
+    compare "$table"
+    case $table in
+        */fussy.rows) ;;
+        *) compare "$table" texts ;;
+    esac
 done | awk '
     /^[0-9]+ [0-9]+$/ { passed += $1; failed += $2; next }
     { print }

@@ -9,7 +9,7 @@ BEGIN {
     split("cml mailbox channel port ivar mvar thread lane feed", list, " ")
     for (i in list) reserved[list[i]] = 1
 
-    # What a line's words are: `+` gives a name of that kind, a kind (or some) uses one, `=` is a number, and `#` a
+    # What a line's words are: `+` gives a name of that kind, a kind (or some) uses one, `=` is a message, and `#` a
     # capacity.
     declares["mailbox"] = "+mailbox"; declares["channel"] = "+channel"; declares["port"] = "channel +port"
     declares["ivar"] = "+ivar"; declares["mvar"] = "+mvar"; declares["thread"] = "+thread"
@@ -39,7 +39,7 @@ BEGIN {
 function forget_script() {
     split("", kind); split("", owner); split("", given); split("", form); split("", first_held)
     split("", step_line); split("", step_thread); split("", step_words); split("", room)
-    names = threads = step_count = ring_line = 0
+    names = threads = step_count = ring_line = version = 0
 }
 
 function forget_board() {
@@ -68,7 +68,10 @@ function read_script(    i, line, number, bad) {
 }
 
 function fault_of(line, number,    count, word, form_of, what) {
-    if (number == 1) return line == "cml 1" ? "" : "bad header"
+    if (number == 1) {
+        version = line == "cml 1" ? 1 : line == "cml 2" ? 2 : 0
+        return version > 0 ? "" : "bad header"
+    }
     if (line == "" || substr(line, 1, 1) == "#") return ""
     if (line ~ /^ / || line ~ / $/ || line ~ /  /) return "bad words"
     count = split(line, word, " ")
@@ -109,7 +112,11 @@ function fault_in_form(word, from, count, form_of, thread,    places, place, i, 
     }
     for (i = 1; i <= places; i++) {
         w = word[from + i - 1]
-        if (place[i] == "=" && !is_number(w) || place[i] == "#" && !is_capacity(w)) return "bad number"
+        if (place[i] == "=" && version == 1 && !is_number(w) || place[i] == "#" && !is_capacity(w)) return "bad number"
+    }
+    # A word is never empty, and by now no byte of the line is bad: so of a text its length alone is left to look at.
+    for (i = 1; i <= places; i++) {
+        if (place[i] == "=" && version == 2 && length(word[from + i - 1]) > 64) return "bad text"
     }
     return ""
 }
@@ -242,7 +249,7 @@ function answer(k,    word, o, old) {
         if (o in closed) return "closed"
         if (owed(o) == 0) return "none"
         got[o]++
-        return message[stream(o), place(o)]
+        return shown(message[stream(o), place(o)])
     }
     if (word[1] == "port") { begin_port(word[3], o, sent[o] + 0); return "made" }
     if (word[1] == "copy") {
@@ -264,8 +271,11 @@ function answer(k,    word, o, old) {
     old = held[o]
     if (word[1] == "take" || word[1] == "takepoll") delete full[o]
     if (word[1] == "swap") held[o] = word[3]
-    return old
+    return shown(old)
 }
+
+# A message as a report has it. A text may be any word, also one that is a reply, so `=` tells that it is none.
+function shown(text) { return version == 2 ? "=" text : text }
 
 # Reporting.
 
@@ -285,7 +295,7 @@ function told(name,    first) {
     if (is_reader(name)) {
         return "start " start[name] " got " got[name] ((name in closed) ? " closed" : " owed " owed(name)) taken_from(name)
     }
-    return (name in full) ? "full " held[name] : "empty"
+    return (name in full) ? "full " shown(held[name]) : "empty"
 }
 
 # A thread takes all that its feed got, at the latest when it ends the feed.

@@ -87,6 +87,73 @@ odd_texts() {
     written 'bytes of 32 and 126' 'cml 1\n# ~\n' none
 }
 
+# The same of version 2.
+odd_messages() {
+    written 'version 2 without line end' 'cml 2' 'line 1: no line end'
+    written 'a space behind version 2' 'cml 2 \n' 'line 1: bad header'
+    written 'a space before version 2' ' cml 2\n' 'line 1: bad header'
+    written 'a carriage return behind version 2' 'cml 2\r\n' 'line 1: bad bytes'
+    steps='cml 2\nmailbox m\nthread A\nA recv m\n'
+    written 'a message that parts lines in a table' "${steps}A send m /\n" none
+    written 'a message that parts cells in a table' "${steps}A send m |\n" none
+    written 'a message that begins with a slash' "${steps}A send m /x\nA send m x/\n" none
+    written 'an m-variable with a slash in it, and one with a bar' 'cml 2\nmvar v /\nmvar w |\n' none
+    written 'a message of 31' "${steps}A send m \037\n" 'line 5: bad bytes'
+    written 'a message of 127' "${steps}A send m \177\n" 'line 5: bad bytes'
+    written 'a message of 128' "${steps}A send m \200\n" 'line 5: bad bytes'
+    written 'a message of two bytes that are one letter elsewhere' "${steps}A send m \303\244\n" 'line 5: bad bytes'
+    written 'a message with a byte of 0 in it' "${steps}A send m a\000b\n" 'line 5: bad bytes'
+    written 'a message with a tab in it' "${steps}A send m a\tb\n" 'line 5: bad bytes'
+    written 'a message with a space in it' "${steps}A send m a b\n" 'line 5: word count'
+    written 'a space behind a message' "${steps}A send m a \n" 'line 5: bad words'
+    written 'no message, but the space before it' "${steps}A send m \n" 'line 5: bad words'
+    written 'a message without line end' "${steps}A send m a" 'line 5: no line end'
+    long=$(awk 'BEGIN { while (n++ < 65) printf "x" }')
+    written 'a bad byte behind 65 bytes' "${steps}A send m $long\177\n" 'line 5: bad bytes'
+    written '65 bytes, and no line end' "${steps}A send m $long" 'line 5: no line end'
+    written '65 bytes, and a space behind them' "${steps}A send m $long \n" 'line 5: bad words'
+}
+
+# Each byte as a message, and messages of each length, in both versions.
+each_message() {
+    awk '
+        BEGIN {
+            for (byte = 1; byte <= 127; byte++) number[sprintf("%c", byte)] = byte
+            for (version = 1; version <= 2; version++) {
+                for (byte = 0; byte <= 255; byte++) print_script(" " byte)
+                message = ""
+                for (length_of = 0; length_of <= 130; length_of++) {
+                    print_script(message)
+                    message = message " " (49 + length_of % 9)
+                }
+            }
+        }
+        function put(text,    i) { for (i = 1; i <= length(text); i++) printf " %d", number[substr(text, i, 1)] }
+        function print_script(message) {
+            printf "100"
+            put("cml " version "\nmailbox m\nmvar v 5\nthread A\nA send m ")
+            printf "%s", message
+            put("\nA recv m\nA swap v ")
+            printf "%s", message
+            put("\n")
+            print ""
+        }
+    ' > "$work/texts"
+    agree 'each byte and each length of a message'
+}
+
+# Each example as a script of the other version.
+other_versions() {
+    for example in examples/*.cml; do
+        sed '1s/cml 2/cml 3/; 1s/cml 1/cml 2/; 1s/cml 3/cml 1/' "$example" | od -An -v -tu1 | awk '
+            BEGIN { printf "65536" }
+            { for (i = 1; i <= NF; i++) printf " %d", $i }
+            END { print "" }
+        '
+    done > "$work/texts"
+    agree 'each example as one of the other version'
+}
+
 # So many threads, A1 and so on.
 threads() { awk -v count="$1" 'BEGIN { print "cml 1"; for (i = 1; i <= count; i++) print "thread A" i }'; }
 
@@ -110,6 +177,12 @@ long_texts() {
     told 'the length before all other faults' 'too long'
     head -c 1048577 /dev/zero > "$work/in"
     told 'a byte too many, and all of them bad' 'too long'
+}
+
+# one_byte_changed NAME: each text that differs in one byte from standard input.
+one_byte_changed() {
+    od -An -v -tu1 | awk -f tests/one_byte_changes.awk > "$work/texts"
+    agree "one byte of $1 changed"
 }
 
 # Each beginning of a script in which a port is copied and closed.
@@ -208,6 +281,7 @@ agree() {
 examples
 fault_tables
 odd_texts
+odd_messages
 long_texts
 report_tables
 usages
@@ -216,11 +290,15 @@ for command in replay run; do
     troubles "$command"
 done
 for example in examples/late_reader.cml examples/swap.cml; do
-    od -An -v -tu1 "$example" | awk -f tests/one_byte_changes.awk > "$work/texts"
-    agree "one byte of $example changed"
+    one_byte_changed "$example" < "$example"
 done
+script 'cml 2 / mvar v =5 / mailbox m / thread A / A swap v ok / A send m #x / A recv m / A get v' > "$work/in"
+one_byte_changed 'a script of version 2' < "$work/in"
 beginnings
-awk -v scripts=2000 -f tests/some_scripts.awk > "$work/texts"
+each_message
+other_versions
+# Some 2,000 of each version.
+awk -v scripts=4000 -f tests/some_scripts.awk > "$work/texts"
 agree 'scripts of all lines'
 runs
 

@@ -5,6 +5,7 @@
 #
 #   table    calls on a board, a floor or a hall: each line comes to what it comes to with memory, and tells where a call was
 #            refused, made again and answered; a run whose own memory was refused ends there with status 1
+#   texts    the same where the messages are texts; an entry is told with its text in quotes
 #   replay   a script by `cml replay`: its report, or status 5, nothing written and `cml: no memory`
 #   run      a script by `cml run`: a report of some order of its threads, or the same
 #   threads  the same where threads are refused, and not memory: with no report
@@ -31,7 +32,7 @@ refuse() {
 
 # What a table's lines came to in each run.
 judge_table() {
-    awk -v how="$how" -v room="$room" '
+    awk -v kind="$kind" -v how="$how" -v room="$room" '
         FNR == NR { want[++lines] = $0; next }
         # Behind a note that begins with "spared" no call of the case may meet a refusal.
         function tells(line, wanted) {
@@ -50,6 +51,7 @@ judge_table() {
             file = room "/out." $1
             while ((getline line < file) > 0 && wrong == "") {
                 wanted = want[++seen]
+                if (kind == "texts") gsub(/"/, "", line)
                 # Where nothing more is to be had, what is refused is refused again.
                 if (!tells(line, wanted) && !(how == "rest" && told(line, wanted)))
                     wrong = line ", where the table has " wanted
@@ -57,9 +59,9 @@ judge_table() {
             close(file)
             if (wrong == "" && $2 != (seen == lines ? 0 : 1)) wrong = "status " $2 " behind line " seen
             if (wrong == "") passed++
-            else { failed++; print "failed: " ARGV[1] ", " how " " $1 ": " wrong }
+            else { failed++; print "failed: " ARGV[1] ", " kind ", " how " " $1 ": " wrong }
         }
-        END { print "table " how " " ARGV[1] ": " passed + 0 " passed, " failed + 0 " failed, " met + 0 " met" }
+        END { print kind " " how " " ARGV[1] ": " passed + 0 " passed, " failed + 0 " failed, " met + 0 " met" }
     ' "$input" "$room/statuses"
 }
 
@@ -110,7 +112,7 @@ while refuse "$number" "$@" && [ "$number" -lt 100000 ]; do
 done
 last=$number
 case $kind in
-    table) judge_table ;;
+    table | texts) judge_table ;;
     *)
         work=$room
         . tests/tables.sh

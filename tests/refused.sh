@@ -3,8 +3,8 @@
 # refused, and but for the guide once more with all later ones refused too. Whatever is refused each run comes to its end.
 #
 # The guide prints of each example what it prints with memory, or that memory was refused, or what that came to for another
-# thread: a stall, or the same result without that thread's last entries. The tables of calls of tests/board, tests/floors and tests/halls, and what `cml` does with scripts, are
-# looked at by tests/refuse_each.sh.
+# thread: a stall, or the same result without that thread's last entries. The tables of calls of tests/board, tests/floors
+# and tests/halls, and what `cml` does with scripts, are looked at by tests/refuse_each.sh.
 #
 # It needs a C compiler for what refuses (`cc`, or CC); where there is none it tells that it was left out.
 # The last line is `N passed, M failed`.
@@ -59,8 +59,12 @@ guide_refused() {
     [ "$met" -gt 0 ] || failed=$((failed + 1))
 }
 
-# Each sweep's words, a line each.
+# Each sweep's words, a line each. With texts for messages a few tables are performed too, with which all that shares a
+# message is met: a send, a receive, a multicast, each call on a variable, a drain and a pump.
 sweeps() {
+    for table in board/mailboxes board/variables floors/feeds floors/lanes; do
+        echo "texts once tests/$table.rows $rows texts"
+    done
     for how in once rest; do
         for table in tests/board/*.rows tests/floors/*.rows tests/halls/*.rows; do
             echo "table $how $table $rows"

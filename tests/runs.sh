@@ -87,12 +87,13 @@ many_runs() {
     rm -r "$work/many"
 }
 
-# crowd ROUNDS VERB VERB: 64 threads on one mailbox, each in turn with the one word and the other.
+# crowd ROUNDS VERB VERB [VERSION]: 64 threads on one mailbox, each in turn with the one word and the other.
 crowd() {
-    awk -v rounds="$1" -v first="$2" -v second="$3" '
-        function step(thread, verb, number) { print thread " " verb " m" (verb == "send" ? " " number : "") }
+    awk -v rounds="$1" -v first="$2" -v second="$3" -v version="${4:-1}" '
+        function step(thread, verb, number) { print thread " " verb " m" (verb == "send" ? " " message(number) : "") }
+        function message(number) { return version == 2 ? "=" number ":" : number }
         BEGIN {
-            print "cml 1\nmailbox m"
+            print "cml " version "\nmailbox m"
             for (i = 1; i <= 64; i++) print "thread A" i
             for (k = 0; k < rounds; k++) for (i = 1; i <= 64; i++) {
                 step("A" i, first, 64 * k + i)
@@ -116,6 +117,10 @@ crowds() {
     crowd 500 send recv
     ran "$name" 64001 "$work/in" 0
     ends_as "$name" "$(printf 'mailbox m: sent 32000 got 32000 waits 0\nend: done 64000')"
+    name='64 threads of 200 steps, which send words'
+    crowd 100 send recv 2
+    ran "$name" 65536 "$work/in" 0
+    ends_as "$name" "$(printf 'mailbox m: sent 6400 got 6400 waits 0\nend: done 12800')"
     name='64 threads that meet the limit at once'
     crowd 500 send send
     ran "$name" 1000 "$work/in" 6

@@ -1,16 +1,20 @@
 # Scripts of all lines, chosen by a sequence of numbers that is the same each time. Most have no fault; in some a word is
 # another's, so that names are unknown, of the wrong kind or another thread's. One in eight has lanes and feeds (or one
-# in another number, `-v one_in=N`; none for 0). Each is a line of bytes, as numbers, behind the limit that it is to be
-# replayed under.
+# in another number, `-v one_in=N`; none for 0). One in two is of version 2, with texts that could be taken for
+# something else. Each is a line of bytes, as numbers, behind the limit that it is to be replayed under.
 
 BEGIN {
-    for (byte = 32; byte <= 126; byte++) number[sprintf("%c", byte)] = byte
+    for (byte = 32; byte <= 126; byte++) { character[byte] = sprintf("%c", byte); number[character[byte]] = byte }
     verbs = split("send recv poll multicast recv poll port copy close recv poll put get getpoll take takepoll swap", verb, " ")
     wanted["send"] = "mailbox"; wanted["multicast"] = "channel"; wanted["port"] = "channel"
     wanted["copy"] = "port"; wanted["close"] = "port"
     wanted["put"] = wanted["get"] = wanted["getpoll"] = "variable"
     wanted["take"] = wanted["takepoll"] = wanted["swap"] = "mvar"
-    number_word["send"] = number_word["multicast"] = number_word["put"] = number_word["swap"] = 1
+    sends["send"] = sends["multicast"] = sends["put"] = sends["swap"] = 1
+    # What stands elsewhere in a script or a report, what a shell or a format would read, and what looks like a number.
+    odds = split("= == =x =5 : :: a: :a a:b # #x / // /x | || ~ \" ' ` \\ \\n \\\\ % %s %d $x * - -- ! & ; ( [x] {} < > , . _ " \
+        "none done put made closed empty full end: end sent got lane feed cml port mvar thread mailbox m0 T1 p0 v0 " \
+        "05 00 +5 -5 -0 1.5 1e3 0x10 nan inf 18446744073709551615 18446744073709551616", odd, " ")
     state = 20240229
     if (one_in == "") one_in = 8
     for (script = 1; script <= scripts; script++) print_script()
@@ -26,13 +30,14 @@ function line(text,    i) {
     printf " 10"
 }
 
-function give(name, its_kind) { kind[++names] = its_kind; named[names] = name }
+function give(name, its_kind, thread) { kind[++names] = its_kind; named[names] = name; owner[names] = thread }
 
-# A name of this kind; now and then of any.
-function pick(its_kind,    tries, i) {
+# A name of this kind; now and then another thread's, or of any kind.
+function pick(its_kind, thread,    tries, i) {
     for (tries = 0; tries < 40; tries++) {
         i = 1 + below(names)
-        if (suits(kind[i], its_kind) || below(150) == 0) return named[i]
+        if (suits(kind[i], its_kind) && (owner[i] == "" || owner[i] == thread || below(40) == 0)) return named[i]
+        if (below(1000) == 0) return named[i]
     }
     return named[1 + below(names)]
 }
@@ -45,12 +50,14 @@ function suits(one, other) {
 }
 
 function print_script(    i, count, its_kind, name, threads) {
-    names = 0
+    names = rings = 0
+    split("", owner)
+    version = 1 + below(2)
     printf "%d", below(4) == 0 ? 1 + below(30) : 65536
-    line("cml 1")
+    line("cml " version)
     give("m0", "mailbox"); line("mailbox m0")
     give("c0", "channel"); line("channel c0")
-    give("v0", "mvar"); line(below(2) ? "mvar v0" : "mvar v0 " below(100))
+    give("v0", "mvar"); line(below(2) ? "mvar v0" : "mvar v0 " message(0))
     give("p0", "port"); line("port c0 p0")
     count = below(5)
     for (i = 1; i <= count; i++) {
@@ -90,15 +97,35 @@ function print_rings(threads,    i, count, text) {
 
 function capacity() { return below(60) == 0 ? 1025 * below(2) : 1 + below(3) }
 
+# A message, which in the i-th step of a script with lanes is no other's. Of a hundred one is none in the script's version.
+function message(i) {
+    if (below(100) == 0) return version == 1 ? odd[1 + below(odds)] : bytes(65)
+    if (version == 1) return rings ? i : below(1000)
+    return some_text(rings ? "~" i : "")
+}
+
+# A text that ends so.
+function some_text(end,    chance) {
+    chance = below(10)
+    if (chance < 2) return below(1000) end
+    if (chance < 7) return odd[1 + below(odds)] end
+    return bytes(chance < 9 ? 1 + below(12) : 64 - length(end)) end
+}
+
+function bytes(count,    i, text) {
+    for (i = 1; i <= count; i++) text = text character[33 + below(94)]
+    return text
+}
+
 function print_step(thread, i,    v, text, own) {
     v = verb[1 + below(verbs)]
-    text = thread " " v " " pick((v in wanted) ? wanted[v] : "receiver")
+    text = thread " " v " " pick((v in wanted) ? wanted[v] : "receiver", thread)
     if (rings && v == "poll" && (thread in feed_of) && below(2)) text = thread " poll " feed_of[thread]
     if (v == "port" || v == "copy") {
         own = thread "q" i
         text = text " " own
     }
-    if (v in number_word) text = text " " (rings ? i : below(1000))
+    if (v in sends) text = text " " message(i)
     line(text)
-    if (own != "") give(own, "port")
+    if (own != "") give(own, "port", thread)
 }
