@@ -101,28 +101,6 @@ is_name_rest word b bs e letter short free =
 abbrev pub number_in : List ℕ → Option ℕ
 number_in word = if is_number word then Some (digits_value 10 word) else None
 
-pub number_none : (word : List ℕ) → length word ≡ 0 → None ≡ number_in word
-number_none [] h = refl
-number_none (b ∷ bs) h = absurd (omega arith)
-
--- a number that begins with 0 is 0
-pub number_zero : (word : List ℕ) → get_or word 0 0 ≡ 48 → (if length word == 1 then Some 0 else None) ≡ number_in word
-number_zero [] h = absurd (omega arith)
-number_zero (b ∷ []) h = sym (ap (λ d. number_in (d ∷ [])) h)
-number_zero (b ∷ d ∷ ds) h =
-    ap (λ t. if t then Some 0 else None) (ne_eqb (length (b ∷ d ∷ ds)) 1 (λ e. omega arith))
-    ∙ sym (ap (λ x. number_in (x ∷ d ∷ ds)) h
-    ∙ ap (λ t. if all_ascii_digits (d ∷ ds) && t && nat_lt (digits_value 10 (48 ∷ d ∷ ds)) (2 ^ 64) then Some (digits_value 10 (48 ∷ d ∷ ds)) else None) (ne_eqb (length (d ∷ ds)) 0 (λ e. omega arith))
-    ∙ by (all_ascii_digits (d ∷ ds)))
-  where
-    by : (t : Bool) → (if t && false && nat_lt (digits_value 10 (48 ∷ d ∷ ds)) (2 ^ 64) then Some (digits_value 10 (48 ∷ d ∷ ds)) else None) ≡ None
-    by true = refl
-    by false = refl
-
-pub number_plus : (word : List ℕ) → get_or word 0 0 ≡ 43 → None ≡ number_in word
-number_plus [] h = refl
-number_plus (b ∷ bs) h = sym (ap (λ d. number_in (d ∷ bs)) h)
-
 -- what `parse` says of a word that begins with neither
 pub number_from_parse : {E : Type 0} (word : List ℕ) (r : Result ℕ E) → ParsesUnsigned 64 10 word r → 0 < length word → get_or word 0 0 ≢ 48 → get_or word 0 0 ≢ 43 → result_ok r ≡ number_in word
 number_from_parse [] r parses some zeroth plus = absurd (omega arith)

@@ -126,10 +126,6 @@ pub record ReadsOn (text : List ℕ) (script : Lines) (k : ℕ) (rest : List ℕ
   pub short : length script.steps < k
   pub place : k + length rest ≤ length text + 1
 
-pub reads_on-start : (text : List ℕ) (script : Lines) → script ≡ record { version = version_of text; declarations = []; lanes = []; steps = [] } → ReadsOn text script 1 text
-reads_on-start text script e = subst (λ (s : Lines). ReadsOn text s 1 text) (sym e)
-    (record { fault = refl; declared = refl; laid = refl; asked = refl; version = refl; few = omega arith; narrow = omega arith; short = omega arith; place = omega arith })
-
 pub reads_on-line : (text : List ℕ) (script next : Lines) (k : ℕ) (rest line later : List ℕ) → ReadsOn text script k rest
     → parts_of rest ≡ line ∷ parts_of later → length later < length rest
     → fault_in (scope_of script) k line ≡ None → next ≡ with_next script k line → scope_of next ≡ after (scope_of script) k line

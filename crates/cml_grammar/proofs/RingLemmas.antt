@@ -1,5 +1,5 @@
 -- The words of a lane line and of a feed's, and what is looked up of lanes and feeds.
-use Rattle.std.proofs.Common.{◌≡◌, ℕ, Bool, true, false, ◌||◌, cond, List, [], ◌∷◌, length, map, slice_get, slice_index_or, Option, Some, None, is_some, string_bytes, All, Bor, refl, sym, ap, ◌∙◌, subst}
+use Rattle.std.proofs.Common.{◌≡◌, ℕ, Bool, true, false, ◌||◌, cond, List, [], ◌∷◌, length, map, slice_index_or, Option, Some, None, is_some, string_bytes, All, Bor, refl, sym, ap}
 use Rattle.std.specs.Map.{keys_of, lookup}
 use Rattle.std.specs.List.{list_any, find}
 use Rattle.std.specs.Option.{option_map, option_map_or, option_and_then, IfSome}
@@ -134,8 +134,3 @@ feed_number names (d ∷ ds) h =
     by true false e later = absurd (let f : true ≡ false = e in cc)
     by false true e later = absurd (let f : false ≡ true = e in cc)
     by false false e later = later
-
--- and that of the first lane
-pub lane_number : (ls : List Lane) → option_map (λ (l : Lane). l.line.number) (slice_get ls 0) ≡ option_map (λ (line : SourceLine). line.number) (slice_get (map (λ (l : Lane). source_of l.line) ls) 0)
-lane_number [] = refl
-lane_number (l ∷ ls) = refl

@@ -103,9 +103,5 @@ reads_all text script k rest short so_far last none =
           (subst (λ ss. Says (start (version_of text)) 1 (parts_of text) (declared_from (start (version_of text)) 1 (parts_of text)) (laid_from (start (version_of text)) 1 (parts_of text)) ss) asked (says_from (start (version_of text)) 1 (parts_of text) (omega arith) (parts-some text) whole)));
     }
 
-pub fault_at_last : (text : List ℕ) (script : Lines) (k : ℕ) (rest : List ℕ) (fault : Fault) → length text ≤ 1048576 → ReadsOn text script k rest → parts_of rest ≡ rest ∷ [] → fault_at_end k rest ≡ Some fault → IsFaultOf text fault
-fault_at_last text script k rest fault short so_far last found =
-    inr (fault_of-short text short ∙ sym so_far.fault ∙ ap (fault_from (scope_of script) k) last ∙ found)
-
 pub fault_of_text : (text : List ℕ) (fault : Fault) → length text ≤ 1048576 → (fault ≡ at_line 0 Memory) ⊎ (fault_from (start (version_of text)) 1 (parts_of text) ≡ Some fault) → IsFaultOf text fault
 fault_of_text text fault short h = ⊎_elim (λ e. inl e) (λ e. inr (fault_of-short text short ∙ e)) h

@@ -1,8 +1,7 @@
 -- Lemmas on what a log holds of the items that were ever pushed, for this crate and its callers.
-use Rattle.std.proofs.Common.{◌≡◌, ℕ, zero, suc, ◌+◌, ◌-◌, ◌*◌, ◌/◌, ◌<◌, ◌≤◌, List, [], ◌∷◌, ◌++◌, length, drop, Some, None, Result, Ok, Err, IfOk, OnErr, refl, sym, ap, subst, ◌∙◌, arith}
+use Rattle.std.proofs.Common.{◌≡◌, ℕ, zero, ◌+◌, ◌-◌, ◌*◌, ◌/◌, ◌<◌, ◌≤◌, List, [], ◌∷◌, ◌++◌, length, drop, Some, None, refl, sym, ap, subst, ◌∙◌, arith}
 use Rattle.std.proofs.Math.Nat.{mul-div-le, zero-div}
 use Rattle.std.proofs.lemmas.List.{length-append, length-drop, drop-drop, drop-append-le}
-use Rattle.std.specs.List.{slice_get}
 use Rattle.cml_log.specs.Log.{Log, empty_log, least, next_of, IsOpen, place_of, owed_items, trimmed, with_item, with_place, Opens}
 use Rattle.cml_log.specs.Holds.{IsTidy, Holds}
 use Rattle.cml_log.proofs.LeastLemmas.{least-le_end}
@@ -42,11 +41,6 @@ module _ {T : Type 0} where
       let low = first-le_place chunk l key (place_of l key) (Holds-tidy chunk l stream holds) (place_at-open l key opened) in
       let both : l.first + (place_of l key - l.first) ≡ place_of l key = omega arith in
       ap (drop (place_of l key - l.first)) holds.kept ∙ drop-drop (place_of l key - l.first) l.first stream ∙ ap (λ n. drop n stream) both
-
-  -- how much that is
-  pub Holds-owed_count : (chunk : ℕ) (l : Log T) (stream : List T) (key : ℕ) → Holds chunk l stream → IsOpen l key → length (owed_items l key) ≡ length stream - place_of l key
-  Holds-owed_count chunk l stream key holds opened =
-      ap length (Holds-owed chunk l stream key holds opened) ∙ length-drop (place_of l key) stream
 
   -- no open cursor's item was given back, nor any after it
   pub Holds-first_le_place : (chunk : ℕ) (l : Log T) (stream : List T) (key : ℕ) → Holds chunk l stream → IsOpen l key → l.first ≤ place_of l key
@@ -100,23 +94,3 @@ module _ {T : Type 0} where
   pub Holds-copy_cursor : (chunk : ℕ) (old new : Log T) (stream : List T) (source key : ℕ) → Holds chunk old stream → IsOpen old source → Opens old new key (place_of old source) → Holds chunk new stream
   Holds-copy_cursor chunk old new stream source key holds opened opens =
       Holds-opened chunk old new stream key (place_of old source) holds opens (IsTidy-copy_cursor chunk old new source key (Holds-tidy chunk old stream holds) opened opens)
-
-  -- the same where a call may have been refused, and then changed nothing
-  pub Holds-opening : {E : Type 0} (chunk : ℕ) (old new : Log T) (stream : List T) (outcome : Result ℕ E) → Holds chunk old stream → IfOk outcome (λ key. Opens old new key (next_of old)) → OnErr outcome (new ≡ old) → Holds chunk new stream
-  Holds-opening chunk old new stream (Ok key) holds opens same = Holds-open_cursor chunk old new stream key holds opens
-  Holds-opening chunk old new stream (Err error) holds opens same = subst (λ l. Holds chunk l stream) (sym same) holds
-
-  pub Holds-copying : {E : Type 0} (chunk : ℕ) (old new : Log T) (stream : List T) (source : ℕ) (outcome : Result ℕ E) → Holds chunk old stream → IsOpen old source → IfOk outcome (λ key. Opens old new key (place_of old source)) → OnErr outcome (new ≡ old) → Holds chunk new stream
-  Holds-copying chunk old new stream source (Ok key) holds opened opens same = Holds-copy_cursor chunk old new stream source key holds opened opens
-  Holds-copying chunk old new stream source (Err error) holds opened opens same = subst (λ l. Holds chunk l stream) (sym same) holds
-
-  slice_get-head : (xs : List T) (k : ℕ) → slice_get (drop k xs) 0 ≡ slice_get xs k
-  slice_get-head [] zero = refl
-  slice_get-head [] (suc k) = refl
-  slice_get-head (x ∷ xs) zero = refl
-  slice_get-head (x ∷ xs) (suc k) = slice_get-head xs k
-
-  -- what `peek` shows is the stream's item at the cursor's place
-  pub Holds-peek : (chunk : ℕ) (l : Log T) (stream : List T) (key : ℕ) → Holds chunk l stream → IsOpen l key → slice_get (owed_items l key) 0 ≡ slice_get stream (place_of l key)
-  Holds-peek chunk l stream key holds opened =
-      ap (λ xs. slice_get xs 0) (Holds-owed chunk l stream key holds opened) ∙ slice_get-head stream (place_of l key)

@@ -48,27 +48,11 @@ least-stands end (Some place ∷ rest) =
       | inr found ↦ inr (suc found.0, found.1)
     ]
 
--- those three facts tell the least place
-pub least-is : (end low : ℕ) (places : List (Option ℕ)) → low ≤ end → ((key place : ℕ) → get_or places key None ≡ Some place → low ≤ place) → (low ≡ end) ⊎ ((key : ℕ) × (get_or places key None ≡ Some low)) → least end places ≡ low
-least-is end low places high below stands =
-    let up = least-ge low end places high below in
-    elim stands [
-      | inl last ↦ omega (arith, least-le_end end places)
-      | inr found ↦ omega (arith, least-le_place end places found.0 low found.1)
-    ]
-
 -- without an open cursor the least place is the end
 pub least-vacant : (end : ℕ) (places : List (Option ℕ)) → ((key : ℕ) → get_or places key None ≡ None) → least end places ≡ end
 least-vacant end places vacant =
     let high = least-ge end end places (omega arith) (λ key place found. absurd (let none = vacant key in cc)) in
     omega (arith, least-le_end end places)
-
--- lists with the same cursors have the same least place
-pub least-same : (end : ℕ) (some other : List (Option ℕ)) → ((key : ℕ) → get_or some key None ≡ get_or other key None) → least end some ≡ least end other
-least-same end some other same =
-    let up = least-ge (least end some) end other (least-le_end end some) (λ key place found. least-le_place end some key place (same key ∙ found)) in
-    let down = least-ge (least end other) end some (least-le_end end other) (λ key place found. least-le_place end other key place (sym (same key) ∙ found)) in
-    omega arith
 
 -- a later end makes the least place no lower
 pub least-later_end : (end later : ℕ) (places : List (Option ℕ)) → end ≤ later → least end places ≤ least later places

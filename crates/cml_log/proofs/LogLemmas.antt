@@ -1,9 +1,9 @@
 -- Lemmas on logs and the changes that calls make to them, for this crate and its callers.
 use Rattle.std.proofs.Common.{◌≡◌, ◌≢◌, ℕ, ◌+◌, ◌-◌, ◌*◌, ◌/◌, ◌<◌, ◌≤◌, List, [], ◌∷◌, length, get_or, set, drop, Option, Some, None, refl, sym, ap, ◌∙◌, inl, inr, unwrap_or, arith, IsSome}
-use Rattle.std.proofs.Math.Nat.{mul-div-le, zero-div}
+use Rattle.std.proofs.Math.Nat.{mul-div-le}
 use Rattle.std.proofs.lemmas.Bool.{cases_eq, cases_lt}
 use Rattle.std.proofs.lemmas.List.{get_or-set_same, get_or-set_other, get_or_past, length-drop, length-append, drop-drop}
-use Rattle.cml_log.specs.Log.{Log, empty_log, least, next_of, place_at, IsOpen, place_of, owed_items, chunk_start, trimmed, with_item, with_place, Opens}
+use Rattle.cml_log.specs.Log.{Log, least, next_of, place_at, IsOpen, place_of, owed_items, chunk_start, trimmed, with_item, with_place, Opens}
 use Rattle.cml_log.specs.Holds.{IsTidy}
 use Rattle.cml_log.proofs.LeastLemmas.{least-le_end, least-le_place, least-later_end, least-opened, least-set, chunk_start-le}
 
@@ -43,21 +43,11 @@ module _ {T : Type 0} where
   pub first-le_place : (chunk : ℕ) (l : Log T) (key place : ℕ) → IsTidy chunk l → place_at l key ≡ Some place → l.first ≤ place
   first-le_place chunk l key place tidy found = omega (arith, tidy.first, chunk_start-le_place chunk l key place found)
 
-  pub first-le_next : (chunk : ℕ) (l : Log T) → IsTidy chunk l → l.first ≤ next_of l
-  first-le_next chunk l tidy = omega arith
-
   -- trimming leaves the next place
   pub next_of-trimmed : (chunk : ℕ) (l : Log T) → l.first ≤ chunk_start chunk l → next_of (trimmed chunk l) ≡ next_of l
   next_of-trimmed chunk l kept =
       let start = chunk_start-le_next chunk l in
       omega (arith, length-drop (chunk_start chunk l - l.first) l.kept)
-
-  -- trimming takes nothing that a cursor has still to read
-  pub owed_items-trimmed : (chunk : ℕ) (l : Log T) (key : ℕ) → l.first ≤ chunk_start chunk l → IsOpen l key → owed_items (trimmed chunk l) key ≡ owed_items l key
-  owed_items-trimmed chunk l key kept opened =
-      let low = chunk_start-le_place chunk l key (place_of l key) (place_at-open l key opened) in
-      let both : chunk_start chunk l - l.first + (place_of l key - chunk_start chunk l) ≡ place_of l key - l.first = omega arith in
-      drop-drop (place_of l key - chunk_start chunk l) (chunk_start chunk l - l.first) l.kept ∙ ap (λ n. drop n l.kept) both
 
   -- what a trimmed log keeps of a stream is the stream from its first place on
   pub kept-trimmed : (chunk : ℕ) (l : Log T) (stream : List T) → l.first ≤ chunk_start chunk l → l.kept ≡ drop l.first stream → (trimmed chunk l).kept ≡ drop (trimmed chunk l).first stream
@@ -78,13 +68,6 @@ module _ {T : Type 0} where
       record {
         first = ap (λ end. chunk * (least end l.places / chunk)) (sym same);
         within = λ key place found. omega (arith, same, ready.within key place found);
-      }
-
-  pub IsTidy-empty : (chunk : ℕ) → IsTidy {T = T} chunk empty_log
-  IsTidy-empty chunk =
-      record {
-        first = rw (zero-div chunk) (omega arith);
-        within = λ key place found. absurd (cc);
       }
 
   -- each change that trims makes a log that may be trimmed
