@@ -1,5 +1,5 @@
-//! `cml_bench [N [NAME]]`: with a number it tells how long a board's calls take, each workload done N times, or the one that
-//! is named alone; without, what each came to when it was done a few times.
+//! `cml_bench [N [NAME]]`: with a number it tells how long calls take, each workload done N times, or the one that is named
+//! alone; without, what each came to when it was done a few times.
 #![tactic(auto)]
 
 mod check_run;
@@ -52,13 +52,13 @@ enum Order {
     Usage,
 }
 
-/// A workload that can be done alone: texts, and those that take the same memory however often they are done.
+/// A workload that can be done alone: one of a log, of a journal that is cut, of texts, or of a switchboard.
 #[derive(Clone, Copy)]
 enum Alone {
     Logs,
     Soak,
-    SharedSoak,
     Texts(text_run::Workload),
+    Shared(switchboard_run::Workload),
 }
 
 #[derive(Clone, Copy)]
@@ -95,13 +95,13 @@ fn main(rt: HostRuntime) -> io::Result<ExitCode> {
         }
         Order::TimesOf(Alone::Logs, count) => time_logs(&rt, count)?,
         Order::TimesOf(Alone::Soak, count) => time_soak(&rt, count)?,
-        Order::TimesOf(Alone::SharedSoak, count) => {
-            time_switchboard(&rt, rt.alloc(), switchboard_run::Workload::Soak, count)?;
-        }
         Order::TimesOf(Alone::Texts(workload), count) => time_texts(&rt, workload, count)?,
+        Order::TimesOf(Alone::Shared(workload), count) => {
+            time_switchboard(&rt, rt.alloc(), workload, count)?;
+        }
         Order::Usage => {
             eprintln!(rt;
-                "usage: cml_bench [N [log8|soak1|soak2|pairs1_text|cast8_text]], N from 1 to {MOST}"
+                "usage: cml_bench [N [log8|soak1|a text's or a switchboard's workload]], N from 1 to {MOST}"
             )?;
             return Ok(ExitCode::from(2));
         }
@@ -124,10 +124,10 @@ fn one_alone(word: &str, name: &str) -> Option<Order> {
         Alone::Logs
     } else if name == soak_run::NAME {
         Alone::Soak
-    } else if name == switchboard_run::Workload::Soak.name() {
-        Alone::SharedSoak
+    } else if let Some(workload) = text_run::Workload::of_name(name) {
+        Alone::Texts(workload)
     } else {
-        Alone::Texts(text_run::Workload::of_name(name)?)
+        Alone::Shared(switchboard_run::Workload::of_name(name)?)
     };
     Some(Order::TimesOf(alone, count_of(word)?))
 }

@@ -5,6 +5,7 @@ mod feeds;
 mod lanes;
 mod parts;
 mod soak;
+mod watched;
 
 use crate::LIMIT;
 use cml_board::Call;
@@ -33,9 +34,11 @@ pub enum Workload {
     Feeds,
     Variables,
     Soak,
+    WatchedVariables,
+    WatchedFanIn,
 }
 
-pub const WORKLOADS: [Workload; 8] = [
+pub const WORKLOADS: [Workload; 10] = [
     Workload::Pairs,
     Workload::Pipe,
     Workload::FanIn,
@@ -44,6 +47,8 @@ pub const WORKLOADS: [Workload; 8] = [
     Workload::Feeds,
     Workload::Variables,
     Workload::Soak,
+    Workload::WatchedVariables,
+    Workload::WatchedFanIn,
 ];
 
 /// What a workload came to.
@@ -101,20 +106,29 @@ impl Workload {
             Workload::Feeds => "feed8",
             Workload::Variables => "var2",
             Workload::Soak => "soak2",
+            Workload::WatchedVariables => "var2_watched",
+            Workload::WatchedFanIn => "fanin4_watched",
         }
+    }
+
+    pub fn of_name(name: &str) -> Option<Workload> {
+        WORKLOADS
+            .iter()
+            .copied()
+            .find(|workload| workload.name() == name)
     }
 
     /// How many calls it makes, those included that make its objects.
     fn entries(self, count: u64) -> u64 {
         match self {
             Workload::Pairs | Workload::Pipe => count.saturating_mul(2).saturating_add(1),
-            Workload::FanIn | Workload::Lanes => (count / SENDERS)
+            Workload::FanIn | Workload::WatchedFanIn | Workload::Lanes => (count / SENDERS)
                 .saturating_mul(2 * SENDERS)
                 .saturating_add(1),
             Workload::Ports | Workload::Feeds => count
                 .saturating_add(1)
                 .saturating_mul(feeds::READERS + 1),
-            Workload::Variables => count.saturating_mul(4).saturating_add(2),
+            Workload::Variables | Workload::WatchedVariables => count.saturating_mul(4).saturating_add(2),
             Workload::Soak => soak::entries(count),
         }
     }
@@ -136,6 +150,8 @@ impl Workload {
             Workload::Feeds => feeds::feeds(rt, alloc, shared, lefts, count),
             Workload::Variables => variables(rt, shared, lefts, count),
             Workload::Soak => soak::soak(rt, shared, lefts, count),
+            Workload::WatchedVariables => watched::variables(rt, shared, lefts, count),
+            Workload::WatchedFanIn => watched::fan_in(rt, shared, lefts, count / SENDERS),
         }
     }
 }

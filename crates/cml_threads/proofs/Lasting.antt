@@ -13,11 +13,13 @@ use Rattle.cml_lanes.specs.Feeds.{Starves}
 use Rattle.cml_lanes.specs.Reserving.{added_since, TakesEntryAlone, LaneTakesEntryAlone, FeedTakesEntryAlone}
 use Rattle.cml_lanes.specs.Steps.{FloorCall, Apply, AppliesSeat, IsCalled, AreCalled, takes_journal, keeps_journal}
 use Rattle.cml_lanes.proofs.Reserving.{reserved_lasts, seats_served, lanes_served, feeds_served}
-use Rattle.cml_threads.specs.declared.asked.Asked.{Asked}
-use Rattle.cml_threads.specs.declared.asked.Asked.TheVariants as asked
+use Rattle.cml_room.specs.declared.asked.Asked.{Asked}
+use Rattle.cml_room.specs.declared.asked.Asked.TheVariants as asked
 use Rattle.cml_threads.specs.Seating.{Sitting}
 use Rattle.cml_threads.specs.Hosting.{Hosted, floor_of}
-use Rattle.cml_threads.specs.Asking.{Reaches, IsBarred, Asks}
+use Rattle.cml_room.specs.Room as room
+use Rattle.cml_room.specs.Asking.{Reaches, IsBarred}
+use Rattle.cml_threads.specs.Asking.{Asks}
 use Rattle.cml_threads.specs.Running.{HallCall, Ask, AskAgain, NewSeat, Leave, OnFloor, IsMade, AreMade, hands_over, keeps_entries}
 
 module _ {M : Type 0} where
@@ -84,20 +86,20 @@ module _ {M : Type 0} where
       → Asks chunk sure may old new before after call told → Under chunk sure true old new
   asked_under chunk sure may old new before after call (asked.Answered answer) asks =
       one_under chunk sure old new (Apply before.number call (board.Answered answer))
-      (reached_applies chunk sure old new before.number call (board.Answered answer) asks.1 asks.3 asks.4)
+      (reached_applies chunk sure old new before.number call (board.Answered answer) asks.0.1 asks.0.3 asks.0.4)
   asked_under chunk sure may old new before after call (asked.Parked back) asks =
       one_under chunk sure old new (Apply before.number call (board.WouldWait back))
-      (reached_applies chunk sure old new before.number call (board.WouldWait back) asks.1 asks.2.3.lanes asks.2.3.feeds)
+      (reached_applies chunk sure old new before.number call (board.WouldWait back) asks.0.1 asks.0.5.lanes asks.0.5.feeds)
   asked_under chunk sure may old new before after call (asked.Refused Stalled back) asks =
       one_under chunk sure old new (Apply before.number call (board.WouldWait back))
-      (reached_applies chunk sure old new before.number call (board.WouldWait back) asks.1 asks.2.3.lanes asks.2.3.feeds)
-  asked_under chunk sure may old new before after call (asked.Refused Gone back) asks = ([], ap floor_of asks.2, λ keeps. keeps)
-  asked_under chunk sure may old new before after call (asked.Refused Busy back) asks = refused_under chunk sure old new before.number call back Busy asks.1 asks.2.lanes asks.2.feeds
-  asked_under chunk sure may old new before after call (asked.Refused NoSuch back) asks = refused_under chunk sure old new before.number call back NoSuch asks.1 asks.2.lanes asks.2.feeds
-  asked_under chunk sure may old new before after call (asked.Refused WrongKind back) asks = refused_under chunk sure old new before.number call back WrongKind asks.1 asks.2.lanes asks.2.feeds
-  asked_under chunk sure may old new before after call (asked.Refused JournalFull back) asks = refused_under chunk sure old new before.number call back JournalFull asks.1 asks.2.lanes asks.2.feeds
-  asked_under chunk sure may old new before after call (asked.Refused NoMemory back) asks = refused_under chunk sure old new before.number call back NoMemory asks.1 asks.2.lanes asks.2.feeds
-  asked_under chunk sure may old new before after call (asked.Refused Unseen back) asks = refused_under chunk sure old new before.number call back Unseen asks.1 asks.2.lanes asks.2.feeds
+      (reached_applies chunk sure old new before.number call (board.WouldWait back) asks.0.1 asks.0.5.lanes asks.0.5.feeds)
+  asked_under chunk sure may old new before after call (asked.Refused Gone back) asks = ([], ap room.floor_of asks.0.2, λ keeps. keeps)
+  asked_under chunk sure may old new before after call (asked.Refused Busy back) asks = refused_under chunk sure old new before.number call back Busy asks.0.1 asks.0.2.lanes asks.0.2.feeds
+  asked_under chunk sure may old new before after call (asked.Refused NoSuch back) asks = refused_under chunk sure old new before.number call back NoSuch asks.0.1 asks.0.2.lanes asks.0.2.feeds
+  asked_under chunk sure may old new before after call (asked.Refused WrongKind back) asks = refused_under chunk sure old new before.number call back WrongKind asks.0.1 asks.0.2.lanes asks.0.2.feeds
+  asked_under chunk sure may old new before after call (asked.Refused JournalFull back) asks = refused_under chunk sure old new before.number call back JournalFull asks.0.1 asks.0.2.lanes asks.0.2.feeds
+  asked_under chunk sure may old new before after call (asked.Refused NoMemory back) asks = refused_under chunk sure old new before.number call back NoMemory asks.0.1 asks.0.2.lanes asks.0.2.feeds
+  asked_under chunk sure may old new before after call (asked.Refused Unseen back) asks = refused_under chunk sure old new before.number call back Unseen asks.0.1 asks.0.2.lanes asks.0.2.feeds
 
   -- by one call
   made_under : (chunk : ℕ) (sure : Bool) (call : HallCall M) (old new : Hosted M) → IsMade chunk sure call old new → Under chunk sure (not (hands_over call)) old new
@@ -136,7 +138,7 @@ module _ {M : Type 0} where
   asks_served chunk sure calls old new after may seat seat' call back run keeps fewer takes = λ asks.
       let under = calls_under chunk sure calls old new run in
       seats_served chunk sure under.0 (floor_of old) (floor_of new) (floor_of after) seat.number call back under.1 (under.2 keeps) fewer takes
-      (refused_applies chunk sure new after seat.number call back NoMemory asks.1 asks.2.lanes asks.2.feeds)
+      (refused_applies chunk sure new after seat.number call back NoMemory asks.0.1 asks.0.2.lanes asks.0.2.feeds)
 
   pub hall_lanes_served : (chunk : ℕ) (sure : Bool) (calls : List (HallCall M)) (old new : Hosted M) (after : FloorShown M) (lane count : ℕ) → AreMade chunk sure calls old new
       → keeps_entries calls ≡ true → added_since old.board after.board < old.board.reserved → LaneTakesEntryAlone chunk sure after lane → ¬ (HoldsUp chunk sure lane count (floor_of new) after NoMemory)

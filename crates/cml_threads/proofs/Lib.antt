@@ -1,4 +1,3 @@
 pub mod Counting
-pub mod Idling
-pub mod Turning
+pub mod Tallying
 pub mod Lasting

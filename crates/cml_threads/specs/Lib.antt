@@ -1,5 +1,4 @@
 pub mod Seating
-pub mod Stalling
 pub mod Hosting
 pub mod Asking
 pub mod Running

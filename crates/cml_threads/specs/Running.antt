@@ -2,7 +2,7 @@
 use Rattle.std.specs.Prelude.{◌≡◌, ℕ, Bool, true, false, not, ◌&&◌, List, [], ◌∷◌}
 use Rattle.cml_board.specs.declared.call.Call.{Call}
 use Rattle.cml_lanes.specs.Steps.{FloorCall, IsCalled, takes_journal}
-use Rattle.cml_threads.specs.declared.asked.Asked.{Asked}
+use Rattle.cml_room.specs.declared.asked.Asked.{Asked}
 use Rattle.cml_threads.specs.Seating.{Sitting}
 use Rattle.cml_threads.specs.Hosting.{Hosted, floor_of, MayAsk, MayAskAgain}
 use Rattle.cml_threads.specs.Asking.{Asks}

@@ -1,7 +1,5 @@
 -- Seats, and the answers that are counted for them.
 use Rattle.std.specs.Prelude.{ℕ, ◌+◌, List, sum_by}
-use Rattle.cml_threads.specs.declared.state.State.{State}
-use Rattle.cml_threads.specs.declared.state.State.TheVariants.{Free}
 
 -- what a seat shows, and a seat that was left: its number, and how many answers were counted for it
 pub record Sitting : Type 0 where
@@ -15,11 +13,3 @@ raised seat = record { number = seat.number; share = seat.share + 1 }
 -- how many answers were counted for all of them
 abbrev pub answers_in : List Sitting → ℕ
 answers_in lefts = sum_by (λ (left : Sitting). left.share) lefts
-
-abbrev pub free_by : State → ℕ
-free_by Free = 1
-free_by state = 0
-
--- how many seats are free
-abbrev pub free_in : List State → ℕ
-free_in seats = sum_by free_by seats

@@ -8,8 +8,8 @@ use Rattle.cml_board.specs.declared.entry.Reply.{Reply}
 use Rattle.cml_board.specs.declared.entry.Reply.TheVariants as reply
 use Rattle.cml_board.specs.declared.outcome.Refusal.{Refusal}
 use Rattle.cml_board.specs.declared.outcome.Refusal.TheVariants.{NoSuch, WrongKind, JournalFull, NoMemory, Busy, Stalled, Unseen}
-use Rattle.cml_threads.specs.declared.asked.Asked.{Asked}
-use Rattle.cml_threads.specs.declared.asked.Asked.TheVariants as asked
+use Rattle.cml_room.specs.declared.asked.Asked.{Asked}
+use Rattle.cml_room.specs.declared.asked.Asked.TheVariants as asked
 use Rattle.cml_threads.specs.Seating.{Sitting, raised}
 
 -- the refusals that a seat's call may be given, by what it waits for: that all are stalled is told only where it may wait

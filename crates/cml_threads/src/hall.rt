@@ -16,11 +16,9 @@ mod lanes;
 mod settling;
 
 use crate::seat::Seat;
-use crate::seats::Seats;
-use crate::state::State;
 use cml_board::{Board, Entry, Message, Refusal};
-use cml_lanes::Floor;
 use cml_log::MessageLog;
+use cml_room::{Room, State};
 use std::alloc::{AllocError, Global};
 use std::marker::Model;
 use std::sync::ledger::{Blank, Book, Ledger, Share};
@@ -28,12 +26,11 @@ use std::sync::ledger::{Blank, Book, Ledger, Share};
 /// How many parts a hall's ledger is cut into: more than there can be seats. A `Blank` is made with as many.
 pub const PARTS: u64 = 1 << 63;
 
-/// What the lock of a switchboard holds: the board with the lanes onto it and the feeds from its ports, what each seat
-/// does, and the book of a ledger in which each answer is counted. None of its calls waits.
+/// What the lock of a switchboard holds: a room, which is the board with its lanes, its feeds and its seats, and the book
+/// of a ledger in which each answer is counted. None of its calls waits.
 #[derive(Drop)]
 pub struct Hall<M, L: MessageLog<M>, Led: Ledger> {
-    floor: Floor<M, L>,
-    seats: Seats,
+    room: Room<M, L>,
     book: Book<Led>,
     rest: Share<Led>,
 }
@@ -44,9 +41,9 @@ impl<M, L: MessageLog<M>, Led: Ledger> Model for Hall<M, L, Led> {
 
     ghost Value = { Hosted M };
 
-    ghost view = { λ h. record { board = h.floor.board; lanes = h.floor.lanes; feeds = h.floor.feeds; seats = h.seats; book = h.book.total } };
+    ghost view = { λ h. record { board = h.room.board; lanes = h.room.lanes; feeds = h.room.feeds; seats = h.room.seats; book = h.book.total } };
 
-    ghost invariant = { λ h. IsCounted h.floor.board (length h.seats) h.book.total h.rest.amount h.rest.parts Led.parts };
+    ghost invariant = { λ h. IsCounted h.room.board (length h.room.seats) h.book.total h.rest.amount h.rest.parts Led.parts };
 }
 
 impl<M: Message, L: MessageLog<M>, Led: Ledger> Hall<M, L, Led> {
@@ -64,14 +61,9 @@ impl<M: Message, L: MessageLog<M>, Led: Ledger> Hall<M, L, Led> {
         ensures feeds { IfOk result (λ hall. hall.feeds ≡ []) }
         ensures seats { IfOk result (λ hall. hall.seats ≡ []) }
     {
-        let board = Board::new(alloc, limit)?;
+        let room = Room::new(alloc, limit)?;
         let (book, rest) = blank.open::<Led>();
-        Ok(Hall {
-            floor: Floor::new(alloc, board),
-            seats: Seats::new(alloc),
-            book,
-            rest,
-        })
+        Ok(Hall { room, book, rest })
     }
 
     /// The board, as it is while nobody makes a call. What the journal is and what the objects hold are facts of a
@@ -109,10 +101,7 @@ impl<M: Message, L: MessageLog<M>, Led: Ledger> Hall<M, L, Led> {
         // cut, followed by what was sent since.
         ensures since { KeepsSince L.CHUNK self.now.board }
     {
-        // The facts are those that the journal's reader tells.
-        let board = self.floor.board();
-        let _journal = board.journal();
-        board
+        self.room.board()
     }
 
     /// Takes memory for `n` more entries, as `Floor::reserve` does, whoever's they are. The only refusal is `NoMemory`.
@@ -122,7 +111,7 @@ impl<M: Message, L: MessageLog<M>, Led: Ledger> Hall<M, L, Led> {
         ensures seats { self.new.seats ≡ self.old.seats }
         ensures book { self.new.book ≡ self.old.book }
     {
-        self.floor.reserve(n)
+        self.room.floor_mut().reserve(n)
     }
 
     /// Cuts the journal, as `Floor::cut` does: a seat that waits goes on waiting, and what each was answered stays counted.
@@ -134,7 +123,7 @@ impl<M: Message, L: MessageLog<M>, Led: Ledger> Hall<M, L, Led> {
         ensures seats { self.new.seats ≡ self.old.seats }
         ensures book { self.new.book ≡ self.old.book }
     {
-        self.floor.cut()
+        self.room.floor_mut().cut()
     }
 
     /// Cuts the journal and hands over the entries that it had, as `Floor::take_journal` does; refused as `cut` is.
@@ -145,7 +134,7 @@ impl<M: Message, L: MessageLog<M>, Led: Ledger> Hall<M, L, Led> {
         ensures seats { self.new.seats ≡ self.old.seats }
         ensures book { self.new.book ≡ self.old.book }
     {
-        self.floor.take_journal()
+        self.room.floor_mut().take_journal()
     }
 
     /// A new seat, which is free and has the next number. Only want of memory refuses it.
@@ -158,10 +147,7 @@ impl<M: Message, L: MessageLog<M>, Led: Ledger> Hall<M, L, Led> {
         ensures book { self.new.book ≡ self.old.book }
         ensures refused { IfErr result (λ refusal. (refusal ≡ NoMemory) × (self.new ≡ self.old)) }
     {
-        let number = self.seats.count() as u64;
-        if self.seats.add().is_err() {
-            return Err(Refusal::NoMemory);
-        }
+        let number = self.room.new_seat()?;
         Ok(Seat::new(number, self.rest.split_off(1, 0)))
     }
 
@@ -177,10 +163,6 @@ impl<M: Message, L: MessageLog<M>, Led: Ledger> Hall<M, L, Led> {
         ensures refused { IfErr result (λ refusal. (refusal ≡ Gone) × ¬ (MayAsk self.old seat.now.number)
             × (self.new ≡ self.old)) }
     {
-        if self.seats.state(seat.number()) != Some(State::Free) {
-            return Err(Refusal::Gone);
-        }
-        self.seats.set(seat.number(), State::Left);
-        Ok(())
+        self.room.leave(seat.number())
     }
 }

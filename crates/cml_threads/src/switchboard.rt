@@ -11,16 +11,18 @@ mod lanes;
 mod mailboxes;
 mod variables;
 
-use crate::asked::Asked;
 use crate::hall::Hall;
 use crate::seat::{Left, Seat};
 use crate::settled::Settled;
+use crate::turns::Turns;
 use cml_board::{Answer, Call, Entry, Message, Refusal, Reply};
 use cml_log::MessageLog;
+use cml_room::Asked;
 use crossbeam_utils::CachePadded;
 use std::alloc::{AllocError, Global};
+use std::mem;
 use std::sync::ledger::{Blank, Ledger};
-use std::sync::{Condvar, Mutex, Wait};
+use std::sync::{Condvar, Mutex, MutexGuard, Wait};
 
 /// What threads share: a hall under one lock. Each thread makes its calls by a seat of its own. A call that would wait
 /// waits, and is made again each time that something has changed. While the lock is held none of a caller's code runs
@@ -33,6 +35,7 @@ use std::sync::{Condvar, Mutex, Wait};
 pub struct Switchboard<M, L: MessageLog<M>, Led: Ledger> {
     // Apart from the lock's own word, which those who wait for the lock look at while its holder writes.
     locked: Mutex<CachePadded<Locked<M, L, Led>>>,
+    turns: Turns,
     changed: Condvar,
 }
 
@@ -40,8 +43,17 @@ pub struct Switchboard<M, L: MessageLog<M>, Led: Ledger> {
 #[derive(Drop)]
 struct Locked<M, L: MessageLog<M>, Led: Ledger> {
     hall: Hall<M, L, Led>,
-    /// Whether some thread has begun to wait since all were last woken. Else there is nobody to wake.
-    is_waited: bool,
+    waiters: Waiters,
+}
+
+/// Who has begun to wait since those who waited were last told that something has changed.
+#[derive(Clone, Copy)]
+enum Waiters {
+    Nobody,
+    /// Some thread looks at the turns, and none sleeps.
+    Looking,
+    /// Some thread sleeps.
+    Sleeping,
 }
 
 impl<M: Message, L: MessageLog<M>, Led: Ledger> Switchboard<M, L, Led> {
@@ -61,8 +73,9 @@ impl<M: Message, L: MessageLog<M>, Led: Ledger> Switchboard<M, L, Led> {
         Ok(Switchboard {
             locked: Mutex::new(CachePadded::new(Locked {
                 hall: Hall::new(alloc, limit, blank)?,
-                is_waited: false,
+                waiters: Waiters::Nobody,
             })),
+            turns: Turns::new(),
             changed: Condvar::new(),
         })
     }
@@ -123,23 +136,25 @@ impl<M: Message, L: MessageLog<M>, Led: Ledger> Switchboard<M, L, Led> {
     {
         let mut locked = self.locked.lock(rt);
         let mut asked = ask(&mut locked.hall, seat, call);
+        let mut may_look = true;
         for _ in rt.forever() {
             match asked {
                 Asked::Answered(answer) => {
-                    let is_waited = locked.is_waited;
-                    if is_waited {
-                        locked.is_waited = false;
-                    }
+                    let waiters = mem::replace(&mut locked.waiters, Waiters::Nobody);
                     drop(locked);
-                    if is_waited {
-                        self.changed.notify_all();
-                    }
+                    self.tell(waiters);
                     return Ok(answer);
                 }
                 Asked::Refused(refusal, call) => return Err((refusal, call)),
                 Asked::Parked(call) => {
-                    locked.is_waited = true;
-                    locked = self.changed.wait(rt, locked);
+                    // It sleeps only where it was parked by an ask under this very lock. That the turns had not changed a
+                    // moment ago would not do: what it waits for may have come, and all been woken, since that look.
+                    locked = if may_look {
+                        self.look(rt, locked)
+                    } else {
+                        self.sleep(rt, locked)
+                    };
+                    may_look = !may_look;
                     asked = ask_again(&mut locked.hall, seat, call);
                 }
             }
@@ -153,7 +168,7 @@ impl<M: Message, L: MessageLog<M>, Led: Ledger> Switchboard<M, L, Led> {
         ensures { result ≡ seat }
     {
         let _ = self.locked.lock(rt).hall.leave(&seat);
-        self.changed.notify_all();
+        self.wake();
         seat.into_left()
     }
 
@@ -169,13 +184,22 @@ impl<M: Message, L: MessageLog<M>, Led: Ledger> Switchboard<M, L, Led> {
         ensures total { IfOk result (λ settled. settled.seats + settled.rings ≡ entries_in settled.board.history) }
         ensures back { IfErr result (λ back. back.1 ≡ lefts) }
     {
-        let Switchboard { locked, changed } = self;
-        let Locked { hall, is_waited } = locked.into_inner().into_inner();
+        let Switchboard {
+            locked,
+            turns,
+            changed,
+        } = self;
+        let Locked { hall, waiters } = locked.into_inner().into_inner();
         match hall.settle(lefts) {
             Ok(settled) => Ok(settled),
             Err((hall, lefts)) => {
-                let locked = Mutex::new(CachePadded::new(Locked { hall, is_waited }));
-                Err((Switchboard { locked, changed }, lefts))
+                let locked = Mutex::new(CachePadded::new(Locked { hall, waiters }));
+                let board = Switchboard {
+                    locked,
+                    turns,
+                    changed,
+                };
+                Err((board, lefts))
             }
         }
     }
@@ -183,9 +207,55 @@ impl<M: Message, L: MessageLog<M>, Led: Ledger> Switchboard<M, L, Led> {
     /// What the lock held. Where a seat was lost, so that it can't be settled, the board is still to be read: its clauses
     /// are those of `Hall::board`.
     pub fn into_hall(self) -> Hall<M, L, Led> {
-        let Switchboard { locked, changed: _ } = self;
-        let Locked { hall, is_waited: _ } = locked.into_inner().into_inner();
+        let Switchboard {
+            locked,
+            turns: _,
+            changed: _,
+        } = self;
+        let Locked { hall, waiters: _ } = locked.into_inner().into_inner();
         hall
+    }
+
+    /// Lets the lock go, looks for a while whether something changes, and takes the lock again. The seat stays parked.
+    fn look<'a, R: Wait>(
+        &'a self,
+        rt: &R,
+        locked: MutexGuard<'a, CachePadded<Locked<M, L, Led>>>,
+    ) -> MutexGuard<'a, CachePadded<Locked<M, L, Led>>> {
+        let mut locked = locked;
+        if let Waiters::Nobody = locked.waiters {
+            locked.waiters = Waiters::Looking;
+        }
+        let seen = self.turns.count();
+        drop(locked);
+        self.turns.look(seen);
+        self.locked.lock(rt)
+    }
+
+    /// Sleeps until something has changed. The lock is let go meanwhile.
+    fn sleep<'a, R: Wait>(
+        &'a self,
+        rt: &R,
+        locked: MutexGuard<'a, CachePadded<Locked<M, L, Led>>>,
+    ) -> MutexGuard<'a, CachePadded<Locked<M, L, Led>>> {
+        let mut locked = locked;
+        locked.waiters = Waiters::Sleeping;
+        self.changed.wait(rt, locked)
+    }
+
+    /// Tells those who wait that something has changed. It is done without the lock, which they take next.
+    fn tell(&self, waiters: Waiters) {
+        match waiters {
+            Waiters::Nobody => {}
+            Waiters::Looking => self.turns.raise(),
+            Waiters::Sleeping => self.wake(),
+        }
+    }
+
+    /// Tells all who wait, whether they look or sleep.
+    fn wake(&self) {
+        self.turns.raise();
+        self.changed.notify_all();
     }
 
     /// Makes a call, and gives what its answer replies.

@@ -153,7 +153,7 @@ pub fn answer_all<Led: Ledger, R: Wait>(
     shared.leave(rt, seat)
 }
 
-fn got(reply: Result<Reply<u64>, (Refusal, Call<u64>)>) -> Option<u64> {
+pub fn got(reply: Result<Reply<u64>, (Refusal, Call<u64>)>) -> Option<u64> {
     match reply {
         Ok(Reply::Got(message)) => Some(message),
         _ => None,

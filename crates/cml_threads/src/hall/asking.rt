@@ -1,16 +1,16 @@
 //! A seat's calls.
-ghost use Rattle.std.specs.Prelude.{◌<◌, length, ⊤};
+ghost use Rattle.std.specs.Prelude.{◌≡◌, ◌+◌, ◌<◌, ◌^◌};
+ghost use Rattle.cml_board.specs.declared.answer.Answer.{Answer};
+ghost use Rattle.cml_room.specs.declared.asked.Asked.TheVariants.{Answered};
 ghost use Rattle.cml_threads.specs.Hosting.{MayAsk, MayAskAgain};
-ghost use Rattle.cml_threads.specs.Asking.{Asks};
+ghost use Rattle.cml_threads.specs.Asking.{Asks, Tallies};
 
 use super::Hall;
-use crate::asked::Asked;
 use crate::seat::Seat;
-use crate::state::State;
-use crate::waiting::park;
-use cml_board::{Call, Message, Outcome, Refusal};
+use cml_board::{Call, Message};
 use cml_log::MessageLog;
-use std::sync::ledger::Ledger;
+use cml_room::Asked;
+use std::sync::ledger::{Book, Ledger};
 
 impl<M: Message, L: MessageLog<M>, Led: Ledger> Hall<M, L, Led> {
     /// Makes a free seat's call. Where the call would wait the seat is parked, and nothing else happens; but where then
@@ -19,10 +19,8 @@ impl<M: Message, L: MessageLog<M>, Led: Ledger> Hall<M, L, Led> {
     pub fn ask(&mut self, seat: &mut Seat<Led>, call: Call<M>) -> Asked<M>
         ensures { Asks L.CHUNK M.SURE (MayAsk self.old seat.old.number) self.old self.new seat.old seat.new call result }
     {
-        if self.seats.state(seat.number()) != Some(State::Free) {
-            return Asked::Refused(Refusal::Gone, call);
-        }
-        self.take_turn(seat, call)
+        let asked = self.room.ask(seat.number(), call);
+        counted(asked, seat, &mut self.book)
     }
 
     /// Makes a parked seat's call again. What isn't answered parks the seat as before, or is refused and sets it free. A
@@ -32,40 +30,27 @@ impl<M: Message, L: MessageLog<M>, Led: Ledger> Hall<M, L, Led> {
     pub fn ask_again(&mut self, seat: &mut Seat<Led>, call: Call<M>) -> Asked<M>
         ensures { Asks L.CHUNK M.SURE (MayAskAgain self.old seat.old.number call) self.old self.new seat.old seat.new call result }
     {
-        let Some(want) = call.want() else {
-            return Asked::Refused(Refusal::Gone, call);
-        };
-        if self.seats.state(seat.number()) != Some(State::Parked(want)) {
-            return Asked::Refused(Refusal::Gone, call);
-        }
-        self.take_turn(seat, call)
+        let asked = self.room.ask_again(seat.number(), call);
+        counted(asked, seat, &mut self.book)
     }
+}
 
-    /// Makes the call of a seat that may make it.
-    fn take_turn(&mut self, seat: &mut Seat<Led>, call: Call<M>) -> Asked<M>
-        requires { seat.old.number < length self.old.seats }
-        ensures { Asks L.CHUNK M.SURE ⊤ self.old self.new seat.old seat.new call result }
-    {
-        let number = seat.number();
-        match self.floor.apply(number, call) {
-            Outcome::Answered(answer) => {
-                self.seats.set(seat.number(), State::Free);
-                seat.count(&mut self.book);
-                Asked::Answered(answer)
-            }
-            Outcome::Refused(refusal, call) => {
-                self.seats.set(number, State::Free);
-                Asked::Refused(refusal, call)
-            }
-            Outcome::WouldWait(call) => {
-                let Some(want) = call.want() else {
-                    unreachable!()
-                };
-                if park(&self.floor, &mut self.seats, number, want) {
-                    return Asked::Parked(call);
-                }
-                Asked::Refused(Refusal::Stalled, call)
-            }
+/// Counts an answer for its seat, and in the book. What isn't answered is counted nowhere.
+fn counted<M: Message, Led: Ledger>(
+    asked: Asked<M>,
+    seat: &mut Seat<Led>,
+    book: &mut Book<Led>,
+) -> Asked<M>
+    requires { (answer : Answer M) → asked ≡ Answered answer → book.old.total + 1 < 2 ^ 64 }
+    ensures told { result ≡ asked }
+    ensures tallied { Tallies book.old.total book.new.total seat.old seat.new asked }
+{
+    match asked {
+        Asked::Answered(answer) => {
+            seat.count(book);
+            Asked::Answered(answer)
         }
+        Asked::Parked(call) => Asked::Parked(call),
+        Asked::Refused(refusal, call) => Asked::Refused(refusal, call),
     }
 }

@@ -16,7 +16,7 @@ impl<M: Message, L: MessageLog<M>, Led: Ledger> Hall<M, L, Led> {
     pub fn open_feeds(&self) -> u64
         ensures { result ≡ count_by is_some self.now.feeds }
     {
-        self.floor.open_feeds()
+        self.room.floor().open_feeds()
     }
 
     /// Opens a feed of what is multicast on a channel from now on, as `Floor::open_feed` does. The entry that makes its
@@ -28,9 +28,9 @@ impl<M: Message, L: MessageLog<M>, Led: Ledger> Hall<M, L, Led> {
         ensures rings { (number : ℕ) → number < length self.old.feeds → SameFeedRing number (floor_of self.old) (floor_of self.new) }
         ensures seats { self.new.seats ≡ self.old.seats }
     {
-        let before = self.floor.board().entries();
-        let told = self.floor.open_feed(channel, capacity);
-        count_since(before, self.floor.board(), &mut self.book, &mut self.rest);
+        let before = self.room.board().entries();
+        let told = self.room.floor_mut().open_feed(channel, capacity);
+        count_since(before, self.room.board(), &mut self.book, &mut self.rest);
         told
     }
 
@@ -41,9 +41,9 @@ impl<M: Message, L: MessageLog<M>, Led: Ledger> Hall<M, L, Led> {
         ensures rings { KeepsRings (floor_of self.old) (floor_of self.new) }
         ensures seats { self.new.seats ≡ self.old.seats }
     {
-        let before = self.floor.board().entries();
-        let told = self.floor.pump(feed);
-        count_since(before, self.floor.board(), &mut self.book, &mut self.rest);
+        let before = self.room.board().entries();
+        let told = self.room.floor_mut().pump(feed);
+        count_since(before, self.room.board(), &mut self.book, &mut self.rest);
         told
     }
 
@@ -53,6 +53,6 @@ impl<M: Message, L: MessageLog<M>, Led: Ledger> Hall<M, L, Led> {
         ensures rings { KeepsRings (floor_of self.old) (floor_of self.new) }
         ensures seats { self.new.seats ≡ self.old.seats }
     {
-        self.floor.end_feed(feed)
+        self.room.floor_mut().end_feed(feed)
     }
 }

@@ -16,7 +16,7 @@ impl<M: Message, L: MessageLog<M>, Led: Ledger> Hall<M, L, Led> {
     pub fn open_lanes(&self) -> u64
         ensures { result ≡ count_by is_some self.now.lanes }
     {
-        self.floor.open_lanes()
+        self.room.floor().open_lanes()
     }
 
     /// Opens a lane to a mailbox or a channel, as `Floor::open_lane` does.
@@ -27,7 +27,7 @@ impl<M: Message, L: MessageLog<M>, Led: Ledger> Hall<M, L, Led> {
         ensures rings { (number : ℕ) → number < length self.old.lanes → SameRing number (floor_of self.old) (floor_of self.new) }
         ensures seats { self.new.seats ≡ self.old.seats }
     {
-        self.floor.open_lane(target, capacity)
+        self.room.floor_mut().open_lane(target, capacity)
     }
 
     /// Moves the messages that are seen in the lane's ring into the journal, as `Floor::drain` does. Each entry is
@@ -37,9 +37,9 @@ impl<M: Message, L: MessageLog<M>, Led: Ledger> Hall<M, L, Led> {
         ensures rings { KeepsRings (floor_of self.old) (floor_of self.new) }
         ensures seats { self.new.seats ≡ self.old.seats }
     {
-        let before = self.floor.board().entries();
-        let told = self.floor.drain(lane);
-        count_since(before, self.floor.board(), &mut self.book, &mut self.rest);
+        let before = self.room.board().entries();
+        let told = self.room.floor_mut().drain(lane);
+        count_since(before, self.room.board(), &mut self.book, &mut self.rest);
         told
     }
 
@@ -51,9 +51,9 @@ impl<M: Message, L: MessageLog<M>, Led: Ledger> Hall<M, L, Led> {
         ensures rings { KeepsRings (floor_of self.old) (floor_of self.new) }
         ensures seats { self.new.seats ≡ self.old.seats }
     {
-        let before = self.floor.board().entries();
-        let told = self.floor.close_lane(end);
-        count_since(before, self.floor.board(), &mut self.book, &mut self.rest);
+        let before = self.room.board().entries();
+        let told = self.room.floor_mut().close_lane(end);
+        count_since(before, self.room.board(), &mut self.book, &mut self.rest);
         told
     }
 
@@ -64,9 +64,9 @@ impl<M: Message, L: MessageLog<M>, Led: Ledger> Hall<M, L, Led> {
         ensures rings { KeepsRings (floor_of self.old) (floor_of self.new) }
         ensures seats { self.new.seats ≡ self.old.seats }
     {
-        let before = self.floor.board().entries();
-        let told = self.floor.close_counted(end);
-        count_since(before, self.floor.board(), &mut self.book, &mut self.rest);
+        let before = self.room.board().entries();
+        let told = self.room.floor_mut().close_counted(end);
+        count_since(before, self.room.board(), &mut self.book, &mut self.rest);
         told
     }
 
@@ -77,9 +77,9 @@ impl<M: Message, L: MessageLog<M>, Led: Ledger> Hall<M, L, Led> {
         ensures rings { KeepsRings (floor_of self.old) (floor_of self.new) }
         ensures seats { self.new.seats ≡ self.old.seats }
     {
-        let before = self.floor.board().entries();
-        let told = self.floor.drop_lane(lane);
-        count_since(before, self.floor.board(), &mut self.book, &mut self.rest);
+        let before = self.room.board().entries();
+        let told = self.room.floor_mut().drop_lane(lane);
+        count_since(before, self.room.board(), &mut self.book, &mut self.rest);
         told
     }
 
@@ -89,6 +89,6 @@ impl<M: Message, L: MessageLog<M>, Led: Ledger> Hall<M, L, Led> {
         ensures rings { KeepsRings (floor_of self.old) (floor_of self.new) }
         ensures seats { self.new.seats ≡ self.old.seats }
     {
-        self.floor.abandon_lane(lane)
+        self.room.floor_mut().abandon_lane(lane)
     }
 }

@@ -25,19 +25,18 @@ impl<M: Message, L: MessageLog<M>, Led: Ledger> Hall<M, L, Led> {
         ensures total { IfOk result (λ settled. settled.seats + settled.rings ≡ entries_in self.board.history) }
         ensures back { IfErr result (λ back. (vec_len lefts ≢ length self.seats) × (back.0 ≡ self) × (back.1 ≡ lefts)) }
     {
-        if lefts.len() != self.seats.count() {
+        if lefts.len() != self.room.seats() {
             return Err((self, lefts));
         }
         let Hall {
-            floor,
-            seats: _,
+            room,
             mut book,
             mut rest,
         } = self;
-        let total = floor.board().entries();
+        let total = room.board().entries();
         let seats = gather(lefts, &mut book, &mut rest);
         book.audit(&mut rest);
-        Ok(Settled::new(floor.into_board(), seats, total - seats))
+        Ok(Settled::new(room.into_board(), seats, total - seats))
     }
 }
 

@@ -27,7 +27,7 @@ impl<M: Message, L: MessageLog<M>, Led: Ledger> Switchboard<M, L, Led> {
     {
         let told = self.locked.lock(rt).hall.open_feed(channel, capacity);
         if told.is_ok() {
-            self.changed.notify_all();
+            self.wake();
         }
         told
     }
@@ -41,7 +41,7 @@ impl<M: Message, L: MessageLog<M>, Led: Ledger> Switchboard<M, L, Led> {
     {
         let told = self.locked.lock(rt).hall.pump(feed);
         if !matches!(&told, Ok(0) | Err(_)) {
-            self.changed.notify_all();
+            self.wake();
         }
         told
     }

@@ -35,7 +35,7 @@ impl<M: Message, L: MessageLog<M>, Led: Ledger> Switchboard<M, L, Led> {
     {
         let told = self.locked.lock(rt).hall.drain(lane);
         if !matches!(&told, Ok(0) | Err(_)) {
-            self.changed.notify_all();
+            self.wake();
         }
         told
     }
@@ -47,7 +47,7 @@ impl<M: Message, L: MessageLog<M>, Led: Ledger> Switchboard<M, L, Led> {
         ensures { IfErr result (λ failed. (failed.0 ≡ end) × MayRefuseClose failed.1) }
     {
         let told = self.locked.lock(rt).hall.close_counted(end);
-        self.changed.notify_all();
+        self.wake();
         told
     }
 
@@ -59,7 +59,7 @@ impl<M: Message, L: MessageLog<M>, Led: Ledger> Switchboard<M, L, Led> {
     {
         let told = self.locked.lock(rt).hall.drop_lane(lane);
         if told.is_ok() {
-            self.changed.notify_all();
+            self.wake();
         }
         told
     }
@@ -71,7 +71,7 @@ impl<M: Message, L: MessageLog<M>, Led: Ledger> Switchboard<M, L, Led> {
     {
         let told = self.locked.lock(rt).hall.abandon_lane(lane);
         if told.is_ok() {
-            self.changed.notify_all();
+            self.wake();
         }
         told
     }

@@ -1,0 +1,169 @@
+-- What becomes of the call of a seat that may make it.
+use Rattle.std.proofs.Common.{◌≡◌, ℕ, ◌+◌, ◌⊎◌, inl, inr, Bool, true, false, List, length, slice_set, Some, refl, sym, ap, subst, ◌∙◌, arith, length-set}
+use Rattle.std.specs.Prelude.{⊤}
+use Rattle.cml_board.specs.declared.call.Call.{Call}
+use Rattle.cml_board.specs.declared.answer.Answer.{Answer}
+use Rattle.cml_board.specs.declared.entry.Who.TheVariants.{Seat}
+use Rattle.cml_board.specs.declared.outcome.Outcome.{Outcome}
+use Rattle.cml_board.specs.declared.outcome.Outcome.TheVariants.{Answered, WouldWait, Refused}
+use Rattle.cml_board.specs.declared.outcome.Refusal.{Refusal}
+use Rattle.cml_board.specs.declared.outcome.Refusal.TheVariants.{Gone, Busy, NoSuch, WrongKind, JournalFull, Stalled, NoMemory, Unseen}
+use Rattle.cml_board.specs.declared.want.Want.{Want}
+use Rattle.cml_board.specs.Waiting.{want_in}
+use Rattle.cml_board.specs.Shown.{Shown}
+use Rattle.cml_board.specs.Outcome.{Applies, IsAsBefore}
+use Rattle.cml_lanes.specs.Floor.{FloorShown}
+use Rattle.cml_lanes.specs.Barring.{is_barred}
+use Rattle.cml_room.specs.declared.asked.Asked.{Asked}
+use Rattle.cml_room.specs.declared.asked.Asked.TheVariants as asked
+use Rattle.cml_room.specs.declared.state.State.{State}
+use Rattle.cml_room.specs.declared.state.State.TheVariants.{Free, Parked}
+use Rattle.cml_room.specs.Stalling.{NoneOpen, AreIdle, IsStalled}
+use Rattle.cml_room.specs.Room.{RoomShown, floor_of, Moves}
+use Rattle.cml_room.specs.Asking.{Reaches, IsBarred, Asks}
+
+module _ {M : Type 0} where
+  pub may_ask : (chunk : ℕ) (sure : Bool) (may : Type 0) (old new : RoomShown M) (number : ℕ) (call : Call M) (told : Asked M)
+      → may → Asks chunk sure ⊤ old new number call told → Asks chunk sure may old new number call told
+  may_ask chunk sure may old new number call (asked.Answered answer) can turn = (can, turn.1, turn.2, turn.3, turn.4)
+  may_ask chunk sure may old new number call (asked.Parked back) can turn = (can, turn.1, turn.2, turn.3, turn.4, turn.5)
+  may_ask chunk sure may old new number call (asked.Refused Gone back) can turn = elim (turn.0 tt) [ ]
+  may_ask chunk sure may old new number call (asked.Refused Stalled back) can turn = (can, turn.1, turn.2, turn.3, turn.4, turn.5)
+  may_ask chunk sure may old new number call (asked.Refused Busy back) can turn = (can, turn.1, turn.2)
+  may_ask chunk sure may old new number call (asked.Refused NoSuch back) can turn = (can, turn.1, turn.2)
+  may_ask chunk sure may old new number call (asked.Refused WrongKind back) can turn = (can, turn.1, turn.2)
+  may_ask chunk sure may old new number call (asked.Refused JournalFull back) can turn = (can, turn.1, turn.2)
+  may_ask chunk sure may old new number call (asked.Refused NoMemory back) can turn = (can, turn.1, turn.2)
+  may_ask chunk sure may old new number call (asked.Refused Unseen back) can turn = (can, turn.1, turn.2)
+
+  -- a call that isn't refused is not barred
+  reached : (chunk : ℕ) (sure : Bool) (old new : FloorShown M) (number : ℕ) (call : Call M) (outcome : Outcome M) (barred : Bool) → is_barred old.feeds call ≡ barred
+      → ((refusal : Refusal) (back : Call M) → outcome ≡ Refused refusal back → ⊥)
+      → (is_barred old.feeds call ≡ true → (outcome ≡ Refused WrongKind call) × (new ≡ old))
+      → (is_barred old.feeds call ≡ false → Applies chunk sure old.board new.board (Seat number) call outcome)
+      → Reaches chunk sure old new number call outcome
+  reached chunk sure old new number call outcome true is never bars applies = absurd (never WrongKind call (bars is).0)
+  reached chunk sure old new number call outcome false is never bars applies = record { free = is; applies = applies is }
+
+  pub answered_reaches : (chunk : ℕ) (sure : Bool) (old new : FloorShown M) (number : ℕ) (call : Call M) (answer : Answer M)
+      → (is_barred old.feeds call ≡ true → (Answered answer ≡ Refused WrongKind call) × (new ≡ old))
+      → (is_barred old.feeds call ≡ false → Applies chunk sure old.board new.board (Seat number) call (Answered answer))
+      → Reaches chunk sure old new number call (Answered answer)
+  answered_reaches chunk sure old new number call answer =
+      reached chunk sure old new number call (Answered answer) (is_barred old.feeds call) refl (λ refusal back same. cc)
+
+  pub waiting_reaches : (chunk : ℕ) (sure : Bool) (old new : FloorShown M) (number : ℕ) (call back : Call M)
+      → (is_barred old.feeds call ≡ true → (WouldWait back ≡ Refused WrongKind call) × (new ≡ old))
+      → (is_barred old.feeds call ≡ false → Applies chunk sure old.board new.board (Seat number) call (WouldWait back))
+      → Reaches chunk sure old new number call (WouldWait back)
+  waiting_reaches chunk sure old new number call back =
+      reached chunk sure old new number call (WouldWait back) (is_barred old.feeds call) refl (λ refusal same_back same. cc)
+
+  -- a call that is refused was refused by the board, or is barred
+  refused_cases : (chunk : ℕ) (sure : Bool) (old new : FloorShown M) (number : ℕ) (call back : Call M) (refusal : Refusal) (barred : Bool) → is_barred old.feeds call ≡ barred
+      → (is_barred old.feeds call ≡ true → (Refused refusal back ≡ Refused WrongKind call) × (new ≡ old))
+      → (is_barred old.feeds call ≡ false → Applies chunk sure old.board new.board (Seat number) call (Refused refusal back))
+      → Reaches chunk sure old new number call (Refused refusal back) ⊎ IsBarred old new call refusal back
+  refused_cases chunk sure old new number call back refusal true is bars applies =
+      let told : Refused refusal back ≡ Refused WrongKind call = (bars is).0 in
+      inr (record { barred = is; wrong = cc; same = cc; board = ap (λ (f : FloorShown M). f.board) (bars is).1 })
+  refused_cases chunk sure old new number call back refusal false is bars applies = inl (record { free = is; applies = applies is })
+
+  pub refused_reaches : (chunk : ℕ) (sure : Bool) (old new : FloorShown M) (number : ℕ) (call back : Call M) (refusal : Refusal)
+      → (is_barred old.feeds call ≡ true → (Refused refusal back ≡ Refused WrongKind call) × (new ≡ old))
+      → (is_barred old.feeds call ≡ false → Applies chunk sure old.board new.board (Seat number) call (Refused refusal back))
+      → Reaches chunk sure old new number call (Refused refusal back) ⊎ IsBarred old new call refusal back
+  refused_reaches chunk sure old new number call back refusal =
+      refused_cases chunk sure old new number call back refusal (is_barred old.feeds call) refl
+
+  -- whether all are stalled stays, where no lane and no entry is another
+  still_stalled : (old new : FloorShown M) (seats : List State) → new.lanes ≡ old.lanes → new.board.history ≡ old.board.history → IsStalled new seats → IsStalled old seats
+  still_stalled old new seats lanes history stalled = (
+    subst NoneOpen lanes stalled.0,
+    subst (λ h. AreIdle h seats) history stalled.1,
+  )
+
+  -- a room of these parts
+  abbrev room_of : FloorShown M → List State → RoomShown M
+  room_of floor seats = record { board = floor.board; lanes = floor.lanes; feeds = floor.feeds; seats = seats }
+
+  -- what becomes of the call by what became of it on the floor
+  pub answered_asks : (chunk : ℕ) (sure : Bool) (room : RoomShown M) (floor new : FloorShown M) (seats seats' : List State) (number : ℕ)
+      (call : Call M) (answer : Answer M) → room_of floor seats ≡ room
+      → (is_barred floor.feeds call ≡ true → (Answered answer ≡ Refused WrongKind call) × (new ≡ floor))
+      → (is_barred floor.feeds call ≡ false → Applies chunk sure floor.board new.board (Seat number) call (Answered answer))
+      → new.lanes ≡ floor.lanes → new.feeds ≡ floor.feeds → seats' ≡ slice_set seats number Free
+      → Asks chunk sure ⊤ room (room_of new seats') number call (asked.Answered answer)
+  answered_asks chunk sure room floor new seats seats' number call answer view bars applies lanes feeds set =
+      let reaches = answered_reaches chunk sure floor new number call answer bars applies in
+      let told : Asks chunk sure ⊤ (room_of floor seats) (room_of new seats') number call (asked.Answered answer) = (tt, reaches, set, lanes, feeds) in
+      subst (λ (r : RoomShown M). Asks chunk sure ⊤ r (room_of new seats') number call (asked.Answered answer)) view told
+
+  pub parked_asks : (chunk : ℕ) (sure : Bool) (room : RoomShown M) (floor new : FloorShown M) (seats seats' : List State) (number : ℕ)
+      (call back : Call M) (on : Want) → room_of floor seats ≡ room
+      → (is_barred floor.feeds call ≡ true → (WouldWait back ≡ Refused WrongKind call) × (new ≡ floor))
+      → (is_barred floor.feeds call ≡ false → Applies chunk sure floor.board new.board (Seat number) call (WouldWait back))
+      → new.lanes ≡ floor.lanes → new.feeds ≡ floor.feeds → want_in back ≡ Some on
+      → ¬ (IsStalled new (slice_set seats number (Parked on))) × (seats' ≡ slice_set seats number (Parked on))
+      → Asks chunk sure ⊤ room (room_of new seats') number call (asked.Parked back)
+  parked_asks chunk sure room floor new seats seats' number call back on view bars applies lanes feeds wants goes_on =
+      let reaches = waiting_reaches chunk sure floor new number call back bars applies in
+      let moving : ¬ (IsStalled floor (slice_set seats number (Parked on))) = λ stalled.
+      goes_on.0 (still_stalled new floor (slice_set seats number (Parked on)) (sym lanes) (sym reaches.applies.4.history) stalled) in
+      let told : Asks chunk sure ⊤ (room_of floor seats) (room_of new seats') number call (asked.Parked back) = (
+        tt,
+        reaches,
+        on,
+        ap want_in (sym reaches.applies.3) ∙ wants,
+        moving,
+        record { seats = goes_on.1; lanes = lanes; feeds = feeds },
+      ) in
+      subst (λ (r : RoomShown M). Asks chunk sure ⊤ r (room_of new seats') number call (asked.Parked back)) view told
+
+  pub stalled_asks : (chunk : ℕ) (sure : Bool) (room : RoomShown M) (floor new : FloorShown M) (seats seats' : List State) (number : ℕ)
+      (call back : Call M) (on : Want) → room_of floor seats ≡ room
+      → (is_barred floor.feeds call ≡ true → (WouldWait back ≡ Refused WrongKind call) × (new ≡ floor))
+      → (is_barred floor.feeds call ≡ false → Applies chunk sure floor.board new.board (Seat number) call (WouldWait back))
+      → new.lanes ≡ floor.lanes → new.feeds ≡ floor.feeds → want_in back ≡ Some on
+      → IsStalled new (slice_set seats number (Parked on)) × (seats' ≡ slice_set seats number Free)
+      → Asks chunk sure ⊤ room (room_of new seats') number call (asked.Refused Stalled back)
+  stalled_asks chunk sure room floor new seats seats' number call back on view bars applies lanes feeds wants stuck =
+      let reaches = waiting_reaches chunk sure floor new number call back bars applies in
+      let stalled : IsStalled floor (slice_set seats number (Parked on)) =
+      still_stalled floor new (slice_set seats number (Parked on)) lanes reaches.applies.4.history stuck.0 in
+      let told : Asks chunk sure ⊤ (room_of floor seats) (room_of new seats') number call (asked.Refused Stalled back) = (
+        tt,
+        reaches,
+        on,
+        ap want_in (sym reaches.applies.3) ∙ wants,
+        stalled,
+        record { seats = stuck.1; lanes = lanes; feeds = feeds },
+      ) in
+      subst (λ (r : RoomShown M). Asks chunk sure ⊤ r (room_of new seats') number call (asked.Refused Stalled back)) view told
+
+  -- neither the board nor a feed gives the refusals of a room
+  by_refusal : (chunk : ℕ) (sure : Bool) (old new : RoomShown M) (number : ℕ) (call back : Call M) (refusal : Refusal)
+      → Reaches chunk sure (floor_of old) (floor_of new) number call (Refused refusal back) ⊎ IsBarred (floor_of old) (floor_of new) call refusal back
+      → Moves old new number Free → Asks chunk sure ⊤ old new number call (asked.Refused refusal back)
+  by_refusal chunk sure old new number call back Gone (inl reaches) moves = absurd reaches.applies.0
+  by_refusal chunk sure old new number call back Gone (inr barred) moves = absurd (let clash : Gone ≡ WrongKind = barred.wrong in cc)
+  by_refusal chunk sure old new number call back Stalled (inl reaches) moves = absurd reaches.applies.0
+  by_refusal chunk sure old new number call back Stalled (inr barred) moves = absurd (let clash : Stalled ≡ WrongKind = barred.wrong in cc)
+  by_refusal chunk sure old new number call back Busy why moves = (tt, why, moves)
+  by_refusal chunk sure old new number call back NoSuch why moves = (tt, why, moves)
+  by_refusal chunk sure old new number call back WrongKind why moves = (tt, why, moves)
+  by_refusal chunk sure old new number call back JournalFull why moves = (tt, why, moves)
+  by_refusal chunk sure old new number call back NoMemory why moves = (tt, why, moves)
+  by_refusal chunk sure old new number call back Unseen why moves = (tt, why, moves)
+
+  pub refused_asks : (chunk : ℕ) (sure : Bool) (room : RoomShown M) (floor new : FloorShown M) (seats seats' : List State) (number : ℕ)
+      (call back : Call M) (refusal : Refusal) → room_of floor seats ≡ room
+      → (is_barred floor.feeds call ≡ true → (Refused refusal back ≡ Refused WrongKind call) × (new ≡ floor))
+      → (is_barred floor.feeds call ≡ false → Applies chunk sure floor.board new.board (Seat number) call (Refused refusal back))
+      → new.lanes ≡ floor.lanes → new.feeds ≡ floor.feeds → seats' ≡ slice_set seats number Free
+      → Asks chunk sure ⊤ room (room_of new seats') number call (asked.Refused refusal back)
+  refused_asks chunk sure room floor new seats seats' number call back refusal view bars applies lanes feeds set =
+      let why = refused_reaches chunk sure floor new number call back refusal bars applies in
+      let moves : Moves (room_of floor seats) (room_of new seats') number Free = record { seats = set; lanes = lanes; feeds = feeds } in
+      subst (λ (r : RoomShown M). Asks chunk sure ⊤ r (room_of new seats') number call (asked.Refused refusal back)) view
+      (by_refusal chunk sure (room_of floor seats) (room_of new seats') number call back refusal why moves)

@@ -1,0 +1,4 @@
+pub mod Seats
+pub mod Stalling
+pub mod Room
+pub mod Asking

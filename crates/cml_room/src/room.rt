@@ -1,0 +1,167 @@
+ghost use Rattle.std.specs.Prelude.{◌≡◌, ◌^◌, ◌<◌, ◌≤◌, [], ◌∷◌, ◌++◌, length, IfOk, IfErr, OnOk};
+ghost use Rattle.std.specs.Borrow.{Lends, sem};
+ghost use Rattle.cml_board.specs.declared.outcome.Refusal.TheVariants.{Gone, NoMemory};
+ghost use Rattle.cml_board.specs.History.{no_entries, Lawful};
+ghost use Rattle.cml_board.specs.Since.{KeepsSince};
+ghost use Rattle.cml_board.specs.Shown.{KeepsMailboxes, KeepsPorts, KeepsClosed, KeepsVariables, KeepsLogs};
+ghost use Rattle.cml_lanes.specs.Floor.{KeepsLanes, KeepsFeeds};
+ghost use Rattle.cml_room.specs.Room.{floor_of, with_floor, state_of, MayAsk, with_state};
+
+mod asking;
+
+use crate::seats::Seats;
+use crate::state::State;
+use cml_board::{Board, Message, Refusal};
+use cml_lanes::Floor;
+use cml_log::MessageLog;
+use std::alloc::{AllocError, Global};
+use std::marker::Model;
+
+/// A board with the lanes onto it and the feeds from its ports, and what each seat does. None of its calls waits, and none
+/// is ordered by a lock: whoever has the room by `&mut` orders them.
+#[derive(Drop)]
+pub struct Room<M, L: MessageLog<M>> {
+    floor: Floor<M, L>,
+    seats: Seats,
+}
+
+impl<M, L: MessageLog<M>> Model for Room<M, L> {
+    ghost use Rattle.cml_room.specs.Room.{RoomShown};
+
+    ghost Value = { RoomShown M };
+
+    ghost view = { λ r. record { board = r.floor.board; lanes = r.floor.lanes; feeds = r.floor.feeds; seats = r.seats } };
+}
+
+impl<M: Message, L: MessageLog<M>> Room<M, L> {
+    ghost use Rattle.cml_lanes.specs.contracts.floor.Floor.{the_row as floor_row};
+    ghost use Rattle.cml_room.specs.contracts.room.Room.{the_row};
+
+    /// A room with no seats, no lanes and no feeds, on a board with no objects whose journal takes `limit` entries between
+    /// two cuts.
+    pub fn new(alloc: Global, limit: u64) -> Result<Room<M, L>, AllocError>
+        requires least { 1 ≤ limit }
+        requires most { limit ≤ 2 ^ 32 }
+        ensures history { IfOk result (λ room. room.board.history ≡ no_entries) }
+        ensures past { IfOk result (λ room. room.board.past ≡ no_entries) }
+        ensures limit { IfOk result (λ room. room.board.limit ≡ limit) }
+        ensures lanes { IfOk result (λ room. room.lanes ≡ []) }
+        ensures feeds { IfOk result (λ room. room.feeds ≡ []) }
+        ensures seats { IfOk result (λ room. room.seats ≡ []) }
+    {
+        let board = Board::new(alloc, limit)?;
+        Ok(Room {
+            floor: Floor::new(alloc, board),
+            seats: Seats::new(alloc),
+        })
+    }
+
+    /// The board, as it is between two calls. What the journal is and what the objects hold are facts of a room's type:
+    /// they hold of each room.
+    pub fn board(&self) -> &Board<M, L>
+        ensures board { result.now ≡ self.now.board }
+
+        // The journal has of each open lane exactly what was taken out of its ring, and nothing of a number never given.
+        ensures lanes { KeepsLanes self.now.board.history self.now.lanes }
+
+        // The journal has of each open feed exactly what was put into its ring, which is all that its own port received.
+        ensures feeds { KeepsFeeds self.now.board.history self.now.feeds }
+
+        // All accepted calls are a lawful history of one thread: those that were cut away, followed by the journal.
+        ensures lawful { Lawful self.now.board.history }
+
+        // What was received from a mailbox, followed by what really waits in it, is what was sent to it.
+        ensures mailboxes { KeepsMailboxes self.now.board }
+
+        // What was received from a port, followed by what is really kept for it, is what was multicast since its start;
+        // no chunk is given back that an open port's place is in, nor any behind it.
+        ensures ports { KeepsPorts self.now.board }
+        ensures closed { KeepsClosed self.now.board }
+
+        // What a variable really holds is what it was made with, or was last put or swapped into it, unless it was taken.
+        ensures variables { KeepsVariables self.now.board }
+
+        // What each log really holds, from which place on, and which cursors are open in it.
+        ensures logs { KeepsLogs L.CHUNK self.now.board }
+
+        // The same of the entries since the last cut: what was received since, followed by what waits, is what waited at the
+        // cut, followed by what was sent since.
+        ensures since { KeepsSince L.CHUNK self.now.board }
+    {
+        // The facts are those that the journal's reader tells.
+        let board = self.floor.board();
+        let _journal = board.journal();
+        board
+    }
+
+    /// The board with its lanes and feeds, to be read.
+    pub fn floor(&self) -> &Floor<M, L>
+        ensures { result.now ≡ floor_of self.now }
+    {
+        &self.floor
+    }
+
+    /// Lends the board with its lanes and feeds, for the calls that are no seat's: those of lanes and feeds, `reserve` and
+    /// the cuts. What a seat does isn't changed by them.
+    pub fn floor_mut(&mut self) -> &mut Floor<M, L>
+        ensures* writes_back { sem 𝓛 (Lends (the_row M.row L.row L.MessageLog) (floor_row M.row L.row L.MessageLog) self.entry result (with_floor self.old)) }
+        ensures value { result.now ≡ floor_of self.old }
+    {
+        &mut self.floor
+    }
+
+    /// The board, for good. Lanes and feeds that are still open are dropped, with what is in their rings.
+    pub fn into_board(self) -> Board<M, L>
+        ensures { result ≡ self.board }
+    {
+        let Room { floor, seats: _ } = self;
+        floor.into_board()
+    }
+
+    /// How many seats were made.
+    pub fn seats(&self) -> usize
+        ensures { result ≡ length self.now.seats }
+    {
+        self.seats.count()
+    }
+
+    /// What the seat does, if it was made.
+    pub fn state(&self, seat: u64) -> Option<State>
+        ensures { result ≡ state_of self.now seat }
+    {
+        self.seats.state(seat)
+    }
+
+    /// A new seat, which is free: its number, which is how many were made before. Only want of memory refuses it.
+    pub fn new_seat(&mut self) -> Result<u64, Refusal>
+        ensures number { IfOk result (λ number. number ≡ length self.old.seats) }
+        ensures seats { OnOk result (self.new.seats ≡ self.old.seats ++ State.Free ∷ []) }
+        ensures small { OnOk result (length self.new.seats < 2 ^ 63) }
+        ensures board { self.new.board ≡ self.old.board }
+        ensures lanes { self.new.lanes ≡ self.old.lanes }
+        ensures feeds { self.new.feeds ≡ self.old.feeds }
+        ensures refused { IfErr result (λ refusal. (refusal ≡ NoMemory) × (self.new ≡ self.old)) }
+    {
+        let number = self.seats.count() as u64;
+        if self.seats.add().is_err() {
+            return Err(Refusal::NoMemory);
+        }
+        Ok(number)
+    }
+
+    /// The seat leaves: it makes no more calls, and nobody needs to wait for it. It is refused, `Gone`, where no seat has
+    /// the number, and where it waits or has left before.
+    pub fn leave(&mut self, seat: u64) -> Result<(), Refusal>
+        ensures left { OnOk result (MayAsk self.old seat × (self.new.seats ≡ with_state self.old seat State.Left)) }
+        ensures board { self.new.board ≡ self.old.board }
+        ensures lanes { self.new.lanes ≡ self.old.lanes }
+        ensures feeds { self.new.feeds ≡ self.old.feeds }
+        ensures refused { IfErr result (λ refusal. (refusal ≡ Gone) × ¬ (MayAsk self.old seat) × (self.new ≡ self.old)) }
+    {
+        if self.seats.state(seat) != Some(State::Free) {
+            return Err(Refusal::Gone);
+        }
+        self.seats.set(seat, State::Left);
+        Ok(())
+    }
+}
