@@ -20,7 +20,6 @@ use cml_log::MessageLog;
 use cml_room::Asked;
 use crossbeam_utils::CachePadded;
 use std::alloc::{AllocError, Global};
-use std::mem;
 use std::sync::ledger::{Blank, Ledger};
 use std::sync::{Condvar, Mutex, MutexGuard, Wait};
 
@@ -54,6 +53,17 @@ enum Waiters {
     Looking,
     /// Some thread sleeps.
     Sleeping,
+}
+
+impl<M, L: MessageLog<M>, Led: Ledger> Locked<M, L, Led> {
+    /// Who is to be told that something has changed, after which nobody is.
+    fn take_waiters(&mut self) -> Waiters {
+        let waiters = self.waiters;
+        if !matches!(waiters, Waiters::Nobody) {
+            self.waiters = Waiters::Nobody;
+        }
+        waiters
+    }
 }
 
 impl<M: Message, L: MessageLog<M>, Led: Ledger> Switchboard<M, L, Led> {
@@ -140,7 +150,7 @@ impl<M: Message, L: MessageLog<M>, Led: Ledger> Switchboard<M, L, Led> {
         for _ in rt.forever() {
             match asked {
                 Asked::Answered(answer) => {
-                    let waiters = mem::replace(&mut locked.waiters, Waiters::Nobody);
+                    let waiters = locked.take_waiters();
                     drop(locked);
                     self.tell(waiters);
                     return Ok(answer);

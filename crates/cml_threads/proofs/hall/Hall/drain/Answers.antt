@@ -1,27 +1,18 @@
-use Rattle.std.proofs.Common.{length, subst}
-use Rattle.cml_lanes.specs.Floor.{KeepsRings}
-use Rattle.cml_lanes.specs.Lanes.{Drains}
 use Rattle.cml_lanes.proofs.Deeds.{drains}
-use Rattle.cml_threads.specs.Hosting.{Hosted, floor_of}
-use Rattle.cml_threads.proofs.Counting.{grown_at, counted_at}
+use Rattle.cml_threads.proofs.Counting.{grown_in, counted_in}
 use Rattle.cml_threads.proofs.hall.Hall.drain.Goals as goal
 
 pub count_since-requires-clause-grown : goal.count_since-requires-clause-grown
 count_since-requires-clause-grown g c =
-    grown_at c.self.inside.floor c.drain-told.new.self c.board.result.now c.board-2.result.now c.entries-before.result
-    c.entries-before.ensures c.board.ensures.board c.board-2.ensures.board (drains g.L.MessageLog.CHUNK g.M.Message.SURE c.args.lane c.self.inside.floor c.drain-told.new.self c.drain-told.result c.drain-told.ensures.drains)
+    grown_in c.self.inside.room c.floor_mut.result.now c.drain-told.new.self c.board.result.now c.board-2.result.now c.entries-before.result
+    c.entries-before.ensures c.board.ensures.board c.board-2.ensures.board c.floor_mut.ensures.value
+    (drains g.L.MessageLog.CHUNK g.M.Message.SURE c.args.lane c.floor_mut.result.now c.drain-told.new.self c.drain-told.result c.drain-told.ensures.drains)
 
 pub invariant_of-self : goal.invariant_of-self
 invariant_of-self g c =
-    counted_at c.self.inside.floor c.drain-told.new.self c.board.result.now c.board-2.result.now c.entries-before.result
-    (length c.self.inside.seats) c.self.inside.book.total c.self.inside.rest.amount c.self.inside.rest.parts g.Led.Ledger.parts
+    counted_in c.self.inside.room c.floor_mut.result.now c.drain-told.new.self c.board.result.now c.board-2.result.now c.entries-before.result
+    c.self.inside.book.total c.self.inside.rest.amount c.self.inside.rest.parts g.Led.Ledger.parts
     c.count_since.new.book.total c.count_since.new.rest.amount c.count_since.new.rest.parts
-    c.self.invariant c.entries-before.ensures c.board.ensures.board c.board-2.ensures.board (drains g.L.MessageLog.CHUNK g.M.Message.SURE c.args.lane c.self.inside.floor c.drain-told.new.self c.drain-told.result c.drain-told.ensures.drains)
+    c.self.invariant c.entries-before.ensures c.board.ensures.board c.board-2.ensures.board c.floor_mut.ensures.value
+    (drains g.L.MessageLog.CHUNK g.M.Message.SURE c.args.lane c.floor_mut.result.now c.drain-told.new.self c.drain-told.result c.drain-told.ensures.drains)
     c.count_since.ensures.total c.count_since.ensures.amount c.count_since.ensures.parts
-
-pub returns-clause-drains : goal.returns-clause-drains
-returns-clause-drains g c =
-    subst (λ (h : Hosted g.row.M.Denot). Drains g.L.MessageLog.CHUNK g.M.Message.SURE c.args.lane (floor_of h) c.drain-told.new.self c.drain-told.result) c.self.view_is c.drain-told.ensures.drains
-
-pub returns-clause-rings : goal.returns-clause-rings
-returns-clause-rings g c = subst (λ (h : Hosted g.row.M.Denot). KeepsRings (floor_of h) c.drain-told.new.self) c.self.view_is c.drain-told.ensures.rings

@@ -7,7 +7,7 @@ use Rattle.cml_threads.proofs.hall.Hall.settle.Goals as goal
 pub new-requires-clause-own : goal.new-requires-clause-own
 new-requires-clause-own g c =
     let all : c.gather-seats.new.rest.parts ≡ g.Led.Ledger.parts =
-    omega (arith, c.gather-seats.ensures.parts, c.self.invariant.shared, c.len.ensures, c.count.ensures, c.if-len-count.false) in
+    omega (arith, c.gather-seats.ensures.parts, c.self.invariant.shared, c.len.ensures, c.seats.ensures, c.if-len-seats.false) in
     omega (
       arith,
       c.audit.ensures.whole all,
@@ -25,7 +25,7 @@ new-requires-clause-own g c =
 pub new-requires-clause-total : goal.new-requires-clause-total
 new-requires-clause-total g c =
     let all : c.gather-seats.new.rest.parts ≡ g.Led.Ledger.parts =
-    omega (arith, c.gather-seats.ensures.parts, c.self.invariant.shared, c.len.ensures, c.count.ensures, c.if-len-count.false) in
+    omega (arith, c.gather-seats.ensures.parts, c.self.invariant.shared, c.len.ensures, c.seats.ensures, c.if-len-seats.false) in
     omega (
       arith,
       c.audit.ensures.whole all,
