@@ -128,7 +128,9 @@ impl Workload {
             Workload::Ports | Workload::Feeds => count
                 .saturating_add(1)
                 .saturating_mul(feeds::READERS + 1),
-            Workload::Variables | Workload::WatchedVariables => count.saturating_mul(4).saturating_add(2),
+            Workload::Variables | Workload::WatchedVariables => count
+                .saturating_mul(4)
+                .saturating_add(2),
             Workload::Soak => soak::entries(count),
         }
     }

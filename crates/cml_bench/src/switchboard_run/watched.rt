@@ -146,7 +146,11 @@ fn watch<Led: Ledger, R: Wait>(
             break;
         }
         let count = rounds.count();
-        looks = if count == seen { looks.saturating_add(1) } else { 0 };
+        looks = if count == seen {
+            looks.saturating_add(1)
+        } else {
+            0
+        };
         seen = count;
         if looks == LOOKS {
             looks = 0;
