@@ -21,6 +21,7 @@ mod readers;
 mod refusals;
 mod requests;
 mod reserving;
+mod rooms;
 mod server;
 mod stream;
 mod threads;
@@ -41,6 +42,7 @@ fn main(rt: HostRuntime) -> io::Result<()> {
     show_journals(&rt)?;
     show_messages(&rt)?;
     show_cutting(&rt)?;
+    show_rooms(&rt)?;
     show_threads(&rt, rt.alloc())
 }
 
@@ -140,6 +142,14 @@ fn show_cutting(rt: &HostRuntime) -> io::Result<()> {
         rt,
         "cutting::checked_in_pieces",
         &cutting::checked_in_pieces(alloc),
+    )
+}
+
+fn show_rooms(rt: &HostRuntime) -> io::Result<()> {
+    show(
+        rt,
+        "rooms::received_in_turn",
+        &rooms::received_in_turn(rt.alloc()),
     )
 }
 

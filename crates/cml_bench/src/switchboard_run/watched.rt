@@ -1,18 +1,23 @@
 //! Threads that wait for each other, and one that watches that they go on. A thread that sleeps though what it waits for is
 //! there would sleep for ever, since nobody makes a call that could wake it. That is told by how often the watching thread
-//! looked in vain, and not by time: it makes a call then, so that there is an entry too many.
+//! looked in vain: it makes a call then, which wakes all, and so there is an entry too many.
 use super::parts::{Adding, FIRST, Part, SECOND, Shared, answer_all, got};
 use super::{SENDERS, make, new_seat, seat_with_mailbox, send_by_two};
 use cml_board::Call;
 use cml_threads::{Left, Seat};
+use std::rt::Clock;
 use std::sync::Wait;
 use std::sync::atomic::{AtomicBool, AtomicU64, Ordering};
 use std::sync::ledger::Ledger;
 use std::thread::Threads;
+use std::time::Duration;
 use std::{io, thread};
 
-/// So often the watching thread lets others run and sees that nothing has gone on, before it says that they sleep.
-const LOOKS: u64 = 100_000_000;
+/// So often the watching thread sees that nothing has gone on, before it says that they sleep.
+const LOOKS: u64 = 20_000;
+
+/// So many milliseconds it sleeps itself between two looks, and leaves the processors to those who are watched.
+const PAUSE_MILLIS: u64 = 1;
 
 /// How far those who are watched have got.
 #[derive(Drop)]
@@ -47,7 +52,7 @@ impl Rounds {
 }
 
 /// Two threads to and fro over two m-variables.
-pub fn variables<Led: Ledger + Send + Sync, R: Threads + Wait + Sync>(
+pub fn variables<Led: Ledger + Send + Sync, R: Clock + Threads + Wait + Sync>(
     rt: &R,
     shared: &Shared<Led>,
     lefts: &mut Vec<Left<Led>>,
@@ -94,7 +99,7 @@ fn play<Led: Ledger + Send + Sync, R: Threads + Wait + Sync>(
 }
 
 /// A thread that receives and waits, and four that send.
-pub fn fan_in<Led: Ledger + Send + Sync, R: Threads + Wait + Sync>(
+pub fn fan_in<Led: Ledger + Send + Sync, R: Clock + Threads + Wait + Sync>(
     rt: &R,
     shared: &Shared<Led>,
     lefts: &mut Vec<Left<Led>>,
@@ -133,7 +138,7 @@ pub fn fan_in<Led: Ledger + Send + Sync, R: Threads + Wait + Sync>(
 }
 
 /// Looks until those who are watched have ended. Where nothing has gone on for long, it makes a call, which wakes them.
-fn watch<Led: Ledger, R: Wait>(
+fn watch<Led: Ledger, R: Clock + Wait>(
     rt: &R,
     shared: &Shared<Led>,
     seat: Seat<Led>,
@@ -156,7 +161,7 @@ fn watch<Led: Ledger, R: Wait>(
             looks = 0;
             drop(shared.call(rt, &mut seat, Call::NewIVar));
         }
-        thread::yield_now();
+        thread::sleep(rt, Duration::from_millis(PAUSE_MILLIS));
     }
     shared.leave(rt, seat)
 }

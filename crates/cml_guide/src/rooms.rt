@@ -1,0 +1,50 @@
+//! Seats that one thread plays in turn, or threads that bring a lock of their own: a room waits for nobody.
+
+use crate::calls::Trouble;
+use cml_board::{BoardLog, Call, Reply};
+use cml_room::{Asked, Room, State};
+use std::alloc::Global;
+
+/// A room whose messages are numbers.
+type Numbers = Room<u64, BoardLog<u64>>;
+
+/// What a seat got that had to wait for it, and what it did meanwhile.
+pub fn received_in_turn(alloc: Global) -> Result<(u64, Option<State>), Trouble> {
+    let mut room = Numbers::new(alloc, 100)?;
+    let one = room.new_seat()?;
+    let two = room.new_seat()?;
+    pass_on(&mut room, one, two)
+}
+
+/// The first seat waits for a message, the second sends it, and the first asks again.
+fn pass_on(room: &mut Numbers, one: u64, two: u64) -> Result<(u64, Option<State>), Trouble> {
+    let Reply::Made(letters) = reply(room.ask(one, Call::NewMailbox))? else {
+        return Err(Trouble::OtherReply);
+    };
+    match room.ask(one, Call::Recv(letters)) {
+        Asked::Parked(receive) => {
+            let meanwhile = room.state(one);
+            reply(room.ask(two, Call::Send(letters, 5)))?;
+            let message = got(reply(room.ask_again(one, receive))?)?;
+            Ok((message, meanwhile))
+        }
+        Asked::Answered(_) => Err(Trouble::OtherReply),
+        Asked::Refused(refusal, _) => Err(Trouble::Refused(refusal)),
+    }
+}
+
+/// What a call replies that is to be answered at once.
+fn reply(asked: Asked<u64>) -> Result<Reply<u64>, Trouble> {
+    match asked {
+        Asked::Answered(answer) => Ok(answer.into_reply()),
+        Asked::Parked(_) => Err(Trouble::WouldWait),
+        Asked::Refused(refusal, _) => Err(Trouble::Refused(refusal)),
+    }
+}
+
+fn got(reply: Reply<u64>) -> Result<u64, Trouble> {
+    match reply {
+        Reply::Got(message) => Ok(message),
+        _ => Err(Trouble::OtherReply),
+    }
+}
