@@ -1,0 +1,10 @@
+use Rattle.std.proofs.Common.{◌≡◌, ◌<◌, length}
+use Rattle.std.specs.Io.KnownBytes.{Consumes}
+use Rattle.cml_picture.proofs.read.read_all.Given as goal
+
+abbrev pub invariant-loop : goal.invariant-loop
+invariant-loop g l = record {
+  read : Consumes (g.R.Read.remaining l.fn.reader) (g.R.Read.remaining l.reader) l.bytes.items;
+  few : length l.bytes.items < 33554433;
+  room : length l.room ≡ 65536;
+}

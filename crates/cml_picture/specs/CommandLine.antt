@@ -1,0 +1,39 @@
+-- What the words of the command line ask for.
+use Rattle.std.specs.Prelude.{ℕ, List, Some, codes}
+use Rattle.clap.specs.Words.{App, Kinds, Rule, Text, fault_of, new_app, new_rule, with_rule}
+use Rattle.clap.specs.declared.builder.action.ArgAction.TheVariants.{SetTrue}
+use Rattle.clap.specs.declared.builder.value_parser.ValueParser.TheVariants as parser
+use Rattle.clap.specs.declared.error.kind.ErrorKind.{ErrorKind}
+use Rattle.clap.specs.declared.error.kind.ErrorKind.TheVariants as kind
+
+-- `--text`, which takes no value
+abbrev pub text_rule : Rule
+text_rule = record (new_rule (codes "text")) { long = Some (codes "text"); action = Some SetTrue }
+
+-- an option of this name, whose value is a number from 1 to 2^32
+abbrev pub numbered_rule : Text → Rule
+numbered_rule name = record (new_rule name) {
+  long = Some name;
+  value_names = 1;
+  parser = Some (parser.Unsigned 1 4294967296);
+}
+
+abbrev pub from_rule : Rule
+from_rule = numbered_rule (codes "from")
+
+abbrev pub to_rule : Rule
+to_rule = numbered_rule (codes "to")
+
+-- the program, with its three options
+abbrev pub usage : App
+usage = with_rule (with_rule (with_rule (new_app (codes "cml_chart")) text_rule) from_rule) to_rule
+
+-- the kinds of error that the words may give; none where they are understood
+abbrev pub faults_of : List Text → Kinds
+faults_of words = fault_of usage words
+
+-- the exit status for an error of this kind
+abbrev pub error_status : ErrorKind → ℕ
+error_status kind.OutOfMemory = 5
+error_status kind.DisplayHelp = 0
+error_status _ = 3

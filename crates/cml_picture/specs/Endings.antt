@@ -1,0 +1,28 @@
+-- How the drawing of a report ends, and the exit status of each ending.
+use Rattle.std.specs.Prelude.{ℕ}
+use Rattle.cml_picture.specs.declared.faults.What.{What}
+use Rattle.cml_picture.specs.declared.faults.What.TheVariants as what
+use Rattle.cml_picture.specs.declared.faults.Fault.{Fault}
+use Rattle.cml_picture.specs.declared.read.Unread.{Unread}
+use Rattle.cml_picture.specs.declared.read.Unread.TheVariants as unread
+use Rattle.cml_picture.specs.declared.ending.Ending.{Ending}
+use Rattle.cml_picture.specs.declared.ending.Ending.TheVariants as ending
+
+abbrev pub ending_of_unread : Unread → Ending
+ending_of_unread unread.Failed = ending.ReadFault
+ending_of_unread unread.Memory = ending.NoMemory
+
+-- want of memory is no fault of the report
+abbrev pub ending_of_what : What → Fault → Ending
+ending_of_what what.Memory fault = ending.NoMemory
+ending_of_what _ fault = ending.Fault fault
+
+abbrev pub ending_of_fault : Fault → Ending
+ending_of_fault fault = ending_of_what fault.what fault
+
+abbrev pub status : Ending → ℕ
+status ending.Done = 0
+status (ending.Fault fault) = 2
+status ending.ReadFault = 4
+status ending.WriteFault = 4
+status ending.NoMemory = 5

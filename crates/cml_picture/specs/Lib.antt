@@ -1,0 +1,15 @@
+pub mod Lines
+pub mod Reading
+pub mod Shown
+pub mod Columns
+pub mod Chart
+pub mod Labels
+pub mod Closings
+pub mod Notes
+pub mod Heads
+pub mod Plain
+pub mod Escape
+pub mod Svg
+pub mod Drawing
+pub mod Endings
+pub mod CommandLine

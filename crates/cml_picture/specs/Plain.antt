@@ -1,0 +1,55 @@
+-- A chart as lines of text.
+use Rattle.std.specs.Prelude.{ℕ, suc, ◌-◌, ◌==◌, ◌&&◌, nat_lt, nat_le, List, [], ◌∷◌, ◌++◌, length, map, replicate, if◌then◌else◌, codes}
+use Rattle.std.specs.List.{flat_map}
+use Rattle.cml_picture.specs.declared.chart.Row.{Row}
+use Rattle.cml_picture.specs.declared.chart.Chart.{Chart}
+use Rattle.cml_picture.specs.Shown.{shown_act, shown_object, shown_end}
+use Rattle.cml_picture.specs.Heads.{Heading, headings_of, width_of}
+use Rattle.cml_picture.specs.Labels.{label_of, is_missed, points_out, points_back}
+use Rattle.cml_picture.specs.Notes.{note_line, note_text}
+use Rattle.cml_picture.specs.Closings.{thing_text, end_text}
+use Rattle.cml_picture.specs.Shown.{shown_reply}
+
+-- an arrow is drawn with `-`, and with `.` where a call found nothing
+abbrev pub dash_of : Row → ℕ
+dash_of row = if is_missed (shown_reply row.act.reply) then 46 else 45
+
+-- What stands on a column's line: at the object's column the head `>` of what goes there, at the actor's the head `<` of what
+-- comes back, between them the arrow, and elsewhere the line `|`.
+abbrev pub lead_at : Row → ℕ → ℕ
+lead_at row at =
+    if at == row.object then (if points_out row.act.verb then 62 else 124)
+    else if at == row.actor then (if points_back row.act.verb then 60 else 124)
+    else if nat_lt row.actor at && nat_lt at row.object then dash_of row
+    else 124
+
+-- what stands between a column's line and the next: the arrow from the actor's column to the object's
+abbrev pub fill_at : Row → ℕ → ℕ
+fill_at row at = if nat_le row.actor at && nat_lt at row.object then dash_of row else 32
+
+abbrev pub padded : List ℕ → ℕ → List ℕ
+padded text width = text ++ replicate (width - length text) 32
+
+abbrev pub cell_at : Row → ℕ → Heading → List ℕ
+cell_at row at h = lead_at row at ∷ replicate (width_of h - 1) (fill_at row at)
+
+abbrev pub cells_from : Row → ℕ → List Heading → List ℕ
+cells_from row at [] = []
+cells_from row at (h ∷ hs) = cell_at row at h ++ cells_from row (suc at) hs
+
+abbrev pub names_line : List Heading → List ℕ
+names_line hs = flat_map (λ h. padded h.name (width_of h)) hs ++ (10 ∷ [])
+
+abbrev pub kinds_line : List Heading → List ℕ
+kinds_line hs = flat_map (λ h. padded h.kind (width_of h)) hs ++ (10 ∷ [])
+
+-- a row is the arrow over all columns, and what is said of it
+abbrev pub row_line : List Heading → Row → List ℕ
+row_line hs row = cells_from row 0 hs ++ codes " " ++ label_of (shown_act row.act) ++ (10 ∷ [])
+
+-- the columns' heads, the rows in their order, the objects in theirs, and the end
+abbrev pub plain_text : Chart → ℕ → List Row → List ℕ
+plain_text chart before rows =
+    names_line (headings_of chart) ++ kinds_line (headings_of chart) ++ flat_map (row_line (headings_of chart)) rows
+    ++ note_line (note_text before (length rows) (length chart.rows.items))
+    ++ flat_map thing_text (map shown_object chart.objects.items) ++ end_text (shown_end chart.end) ++ (10 ∷ [])

@@ -1,0 +1,112 @@
+//! The words of the command line, by `clap`, which also writes the help.
+ghost use Rattle.std.specs.Prelude.{◌≡◌, map, IfOk, false};
+ghost use Rattle.clap.specs.Words.{app_of, FailsBy, kind_of, rule_of};
+ghost use Rattle.cml_picture.specs.CommandLine.{usage, faults_of, error_status, text_rule, from_rule, to_rule};
+
+use crate::asked::Asked;
+use clap::error::ErrorKind;
+use clap::{Arg, ArgAction, ArgMatches, Command, Error, value_parser};
+use std::alloc::{AllocError, Global};
+use std::convert::AsStr;
+
+const ABOUT: &str = "Draws the report on standard input as a sequence chart, on standard output";
+
+const LONG_ABOUT: &str =
+    "Draws the report on standard input as a sequence chart, on standard output.
+
+The chart has a column for each thread, lane, feed and object, and a row for each line of the
+report's first part: an arrow between the column of who did it and that of the object. An arrow is
+dashed where a call found nothing. Under each object stands how it was left, and at the foot how the
+run ended. A report of cml run or cml replay is such a report.
+
+It is drawn as SVG, or with --text as lines of text.";
+
+const TEXT_HELP: &str = "Draws lines of text in place of SVG";
+
+const FROM_HELP: &str = "The first row that is drawn, from 1";
+
+const TO_HELP: &str = "The last row that is drawn; without it 500 rows at the most";
+
+const AFTER_HELP: &str = "Example:
+  cml run < chat_room.cml | cml_chart > chat_room.svg
+
+Exit status:
+  0  the chart was written (also for help)
+  2  the input is no report: standard error names the first line that isn't one of it
+  3  the words of the command line are not understood
+  4  standard input can't be read, or standard output can't be written
+  5  no memory";
+
+/// What the program's words ask for. The first word is the program's own name.
+pub fn order<S: AsStr>(alloc: Global, words: &[S]) -> Result<Asked, Error>
+    ensures { FailsBy (faults_of (map S.text words.now)) result }
+{
+    let matches = matches(alloc, words)?;
+    Ok(asked_in(&matches))
+}
+
+fn matches<'a, S: AsStr>(alloc: Global, words: &'a [S]) -> Result<ArgMatches<'a>, Error>
+    ensures { FailsBy (faults_of (map S.text words.now)) result }
+{
+    command(alloc)?.try_get_matches_from(words)
+}
+
+fn asked_in(matches: &ArgMatches<'_>) -> Asked {
+    Asked {
+        text: matches.get_flag("text"),
+        from: matches.get_one::<u64>("from").unwrap_or(1).max(1),
+        to: matches.get_one::<u64>("to"),
+    }
+}
+
+fn command<'a>(alloc: Global) -> Result<Command<'a>, AllocError>
+    ensures { IfOk result (λ command. app_of command ≡ usage) }
+{
+    Command::new(alloc, "cml_chart")
+        .about(ABOUT)
+        .long_about(LONG_ABOUT)
+        .after_help(AFTER_HELP)
+        .arg(text(alloc))?
+        .arg(from(alloc))?
+        .arg(to(alloc))
+}
+
+fn text<'a>(alloc: Global) -> Arg<'a>
+    ensures { (rule_of result ≡ text_rule) × (result.global ≡ false) }
+{
+    Arg::new(alloc, "text")
+        .long("text")
+        .action(ArgAction::SetTrue)
+        .help(TEXT_HELP)
+}
+
+fn from<'a>(alloc: Global) -> Arg<'a>
+    ensures { (rule_of result ≡ from_rule) × (result.global ≡ false) }
+{
+    Arg::new(alloc, "from")
+        .long("from")
+        .value_name("K")
+        .value_parser(value_parser!(u64).range(1..=4_294_967_296))
+        .help(FROM_HELP)
+}
+
+fn to<'a>(alloc: Global) -> Arg<'a>
+    ensures { (rule_of result ≡ to_rule) × (result.global ≡ false) }
+{
+    Arg::new(alloc, "to")
+        .long("to")
+        .value_name("L")
+        .value_parser(value_parser!(u64).range(1..=4_294_967_296))
+        .help(TO_HELP)
+}
+
+/// The exit status for words that were not understood, or that ask for help.
+pub fn status_of_error(error: &Error) -> u8
+    ensures { result ≡ error_status (kind_of error.now) }
+{
+    match error.kind() {
+        ErrorKind::OutOfMemory => 5,
+        ErrorKind::DisplayHelp => 0,
+        _ => 3,
+    }
+}

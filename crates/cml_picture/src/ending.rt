@@ -1,0 +1,71 @@
+//! How the drawing of a report ends.
+ghost use Rattle.std.specs.Prelude.{◌≡◌};
+ghost use Rattle.cml_picture.specs.declared.ending.Ending.TheVariants as ending;
+ghost use Rattle.cml_picture.specs.Endings.{ending_of_fault, ending_of_unread, status};
+
+use crate::faults::{Fault, What};
+use crate::read::Unread;
+use std::alloc::AllocError;
+use thiserror::Error;
+
+/// How the drawing of a report ends. It shows as the line for standard error.
+#[derive(Clone, Copy, Debug, PartialEq, Eq, Error)]
+pub enum Ending {
+    /// The chart was written.
+    #[error("cml_chart: done")]
+    Done,
+    /// What was read is no report.
+    #[error("{0}")]
+    Fault(Fault),
+    /// The report could not be read, or its reader was asked too often.
+    #[error("cml_chart: read failed")]
+    ReadFault,
+    /// The chart could not be written.
+    #[error("cml_chart: write failed")]
+    WriteFault,
+    /// There was no memory, and nothing was written.
+    #[error("cml_chart: no memory")]
+    NoMemory,
+}
+
+impl From<AllocError> for Ending {
+    ghost from_gives = { λ _ ended. ended ≡ ending.NoMemory };
+
+    fn from(_error: AllocError) -> Ending {
+        Ending::NoMemory
+    }
+}
+
+impl From<Unread> for Ending {
+    ghost from_gives = { λ unread ended. ended ≡ ending_of_unread unread };
+
+    fn from(unread: Unread) -> Ending {
+        match unread {
+            Unread::Failed => Ending::ReadFault,
+            Unread::Memory => Ending::NoMemory,
+        }
+    }
+}
+
+impl From<Fault> for Ending {
+    ghost from_gives = { λ fault ended. ended ≡ ending_of_fault fault };
+
+    fn from(fault: Fault) -> Ending {
+        match fault.what {
+            What::Memory => Ending::NoMemory,
+            _ => Ending::Fault(fault),
+        }
+    }
+}
+
+/// The exit status of a program that ends so.
+pub fn status_of(ending: &Ending) -> u8
+    ensures { result ≡ status ending.now }
+{
+    match ending {
+        Ending::Done => 0,
+        Ending::Fault(_) => 2,
+        Ending::ReadFault | Ending::WriteFault => 4,
+        Ending::NoMemory => 5,
+    }
+}

@@ -1,0 +1,163 @@
+//! A chart as lines of text: a column for each thread and object, and a line for each row.
+ghost use Rattle.std.specs.Prelude.{◌≡◌, ◌++◌, ◌-◌, ◌∷◌, [], length, map, replicate, IfOk, OnOk};
+ghost use Rattle.std.specs.List.{flat_map};
+ghost use Rattle.cml_picture.specs.Shown.{shown_object};
+ghost use Rattle.cml_picture.specs.Heads.{headings_of, shown_head};
+ghost use Rattle.cml_picture.specs.Closings.{thing_text, end_text};
+ghost use Rattle.cml_picture.specs.Notes.{note_line};
+ghost use Rattle.cml_picture.specs.Plain.{dash_of, lead_at, fill_at, padded, cell_at, cells_from, names_line, kinds_line, row_line, plain_text};
+
+use crate::chart::{Chart, Row};
+use crate::closings::{push_end, push_object};
+use crate::heads::{Head, heads_of};
+use crate::labels::{is_missed, points_back, points_out, push, push_label};
+use crate::notes::note_of;
+use crate::report::Object;
+use std::alloc::{AllocError, Global};
+
+/// These rows of a chart as text, where so many stand before them: the columns' heads, a line for each row, a line for each object, and the end.
+pub fn draw_plain(
+    alloc: Global,
+    chart: &Chart<'_>,
+    before: usize,
+    rows: &[Row<'_>],
+) -> Result<Vec<u8>, AllocError>
+    ensures { IfOk result (λ out. out.items ≡ plain_text chart.now before rows.now) }
+{
+    let heads = heads_of(alloc, chart)?;
+    let mut out = Vec::new(alloc);
+    push_names(&mut out, &heads)?;
+    push_kinds(&mut out, &heads)?;
+    push_rows(&mut out, &heads, rows)?;
+    let note = note_of(alloc, before, rows.len(), chart.rows.len())?;
+    push_note(&mut out, &note)?;
+    push_objects(&mut out, &chart.objects)?;
+    push_end(&mut out, &chart.end)?;
+    push(&mut out, "\n")?;
+    Ok(out)
+}
+
+fn push_names(out: &mut Vec<u8>, heads: &[Head<'_>]) -> Result<(), AllocError>
+    ensures { OnOk result (out.new.items ≡ out.old.items ++ names_line (map shown_head heads.now)) }
+{
+    for head in heads {
+        push_padded(out, head.name, head.width())?;
+    }
+    push(out, "\n")
+}
+
+fn push_kinds(out: &mut Vec<u8>, heads: &[Head<'_>]) -> Result<(), AllocError>
+    ensures { OnOk result (out.new.items ≡ out.old.items ++ kinds_line (map shown_head heads.now)) }
+{
+    for head in heads {
+        push_padded(out, head.kind, head.width())?;
+    }
+    push(out, "\n")
+}
+
+fn push_rows(out: &mut Vec<u8>, heads: &[Head<'_>], rows: &[Row<'_>]) -> Result<(), AllocError>
+    ensures { OnOk result (out.new.items ≡ out.old.items ++ flat_map (row_line (map shown_head heads.now)) rows.now) }
+{
+    for row in rows {
+        push_row(out, heads, row)?;
+    }
+    Ok(())
+}
+
+fn push_row(out: &mut Vec<u8>, heads: &[Head<'_>], row: &Row<'_>) -> Result<(), AllocError>
+    ensures { OnOk result (out.new.items ≡ out.old.items ++ row_line (map shown_head heads.now) row.now) }
+{
+    push_cells(out, heads, row)?;
+    push(out, " ")?;
+    push_label(out, &row.act)?;
+    push(out, "\n")
+}
+
+fn push_cells(out: &mut Vec<u8>, heads: &[Head<'_>], row: &Row<'_>) -> Result<(), AllocError>
+    ensures { OnOk result (out.new.items ≡ out.old.items ++ cells_from row.now 0 (map shown_head heads.now)) }
+{
+    for (at, head) in heads.iter().enumerate() {
+        push_cell(out, row, at, head)?;
+    }
+    Ok(())
+}
+
+fn push_cell(out: &mut Vec<u8>, row: &Row<'_>, at: usize, head: &Head<'_>) -> Result<(), AllocError>
+    ensures { OnOk result (out.new.items ≡ out.old.items ++ cell_at row.now at (shown_head head.now)) }
+{
+    out.push(lead_at(row, at))?;
+    push_many(out, fill_at(row, at), head.width() - 1)
+}
+
+/// What stands where a row crosses a column's line: an arrow's head, a part of the arrow, or the column's line.
+fn lead_at(row: &Row<'_>, at: usize) -> u8
+    ensures { result ≡ lead_at row.now at }
+{
+    if at == row.object {
+        return if points_out(row.act.verb) { b'>' } else { b'|' };
+    }
+    if at == row.actor {
+        return if points_back(row.act.verb) {
+            b'<'
+        } else {
+            b'|'
+        };
+    }
+    if row.actor < at && at < row.object {
+        return dash_of(row);
+    }
+    b'|'
+}
+
+/// What stands between a column's line and the next.
+fn fill_at(row: &Row<'_>, at: usize) -> u8
+    ensures { result ≡ fill_at row.now at }
+{
+    if row.actor <= at && at < row.object {
+        dash_of(row)
+    } else {
+        b' '
+    }
+}
+
+fn dash_of(row: &Row<'_>) -> u8
+    ensures { result ≡ dash_of row.now }
+{
+    if is_missed(row.act.reply) { b'.' } else { b'-' }
+}
+
+fn push_padded(out: &mut Vec<u8>, text: &str, width: usize) -> Result<(), AllocError>
+    ensures { OnOk result (out.new.items ≡ out.old.items ++ padded text.now width) }
+{
+    push(out, text)?;
+    push_many(out, b' ', width.saturating_sub(text.len()))
+}
+
+fn push_many(out: &mut Vec<u8>, byte: u8, count: usize) -> Result<(), AllocError>
+    ensures { OnOk result (out.new.items ≡ out.old.items ++ replicate count byte) }
+{
+    for _written in 0..count {
+        out.push(byte)?;
+    }
+    Ok(())
+}
+
+/// Adds a note as a line of its own, where there is one.
+fn push_note(out: &mut Vec<u8>, note: &[u8]) -> Result<(), AllocError>
+    ensures { OnOk result (out.new.items ≡ out.old.items ++ note_line note.now) }
+{
+    if note.is_empty() {
+        return Ok(());
+    }
+    out.extend_from_slice(note)?;
+    push(out, "\n")
+}
+
+fn push_objects(out: &mut Vec<u8>, objects: &[Object<'_>]) -> Result<(), AllocError>
+    ensures { OnOk result (out.new.items ≡ out.old.items ++ flat_map thing_text (map shown_object objects.now)) }
+{
+    for object in objects {
+        push_object(out, object)?;
+    }
+    Ok(())
+}

@@ -1,0 +1,397 @@
+//! A chart as SVG.
+ghost use Rattle.std.specs.Prelude.{◌≡◌, ◌++◌, ◌-◌, map, codes, IfOk, OnOk};
+ghost use Rattle.cml_picture.specs.Shown.{shown_object, shown_end};
+ghost use Rattle.cml_picture.specs.Heads.{headings_of, shown_head};
+ghost use Rattle.cml_picture.specs.Svg.{attribute, start_text, aslant_text, point_text, content_text, line_tag, text_tag, place_at, arrow_class, row_tags, rows_from, head_tags, heads_from, closing_tag, closing_at, opening_of, end_class, end_tag, svg_text};
+
+use crate::chart::{Chart, Row};
+use crate::closings::{push_closing, push_end};
+use crate::escape::push_escaped;
+use crate::heads::{Head, heads_of};
+use crate::labels::{is_missed, points_back, points_out, push, push_label, push_number};
+use crate::notes::note_of;
+use crate::report::{Object, Reply, Stop};
+use std::alloc::{AllocError, Global};
+
+/// What stands before and behind the picture's size.
+const OPENING: &str = "<svg xmlns='http://www.w3.org/2000/svg' viewBox='0 0 ";
+
+const ROLE: &str = "' role='img' aria-labelledby='title about'>\n";
+
+/// What stands before and behind the place of a text that is drawn aslant.
+const ASLANT: &str = "<text class='closing' transform='translate(";
+
+const TURN: &str = ") rotate(30)'";
+
+/// What readers of screens are told of the picture.
+const ABOUT: &str =
+    "<title id='title'>Sequence chart of a run</title>\n<desc id='about'>A column for each thread, lane, feed and object, and below each other a row for each thing that was done: an arrow between the column of who did it and that of the object.</desc>\n";
+
+/// The style: it needs no font and no script, and follows light and dark.
+const STYLE: &str =
+    "<style>svg{font-family:ui-monospace,Menlo,Consolas,monospace;font-size:12px;background:#fff}text{fill:#1c1e21}.kind,.name{text-anchor:middle}.kind{font-size:10px;fill:#5f6670}.name{font-weight:bold}.life{stroke:#c3c8cf}.out,.back,.both{stroke:#1f5fa8;stroke-width:1.5}.out,.both{marker-end:url(#head)}.back,.both{marker-start:url(#head)}.missed{stroke-dasharray:4 3}#head path{fill:#1f5fa8}.closing{font-size:11px}.end{font-weight:bold;font-size:14px}.done{fill:#1b7a3d}.stalled{fill:#b3261e}.full{fill:#9a5b00}.held{fill:#6b4fa0}@media(prefers-color-scheme:dark){svg{background:#16181c}text{fill:#e6e8eb}.kind{fill:#9aa2ad}.life{stroke:#434a54}.out,.back,.both{stroke:#7fb2f0}#head path{fill:#7fb2f0}.done{fill:#6fcf97}.stalled{fill:#ff8a80}.full{fill:#f2b35c}.held{fill:#b9a3e8}}</style>\n";
+
+/// An arrow's head, which is drawn at either end.
+const HEAD: &str =
+    "<defs><marker id='head' viewBox='0 0 8 8' refX='8' refY='4' markerWidth='7' markerHeight='7' orient='auto-start-reverse'><path d='M0 0 8 4 0 8z'/></marker></defs>\n";
+
+/// How far the columns and the rows stand apart, how large the whole is, and where the lines of the columns end.
+#[derive(Clone, Copy, Debug)]
+pub(crate) struct Geometry {
+    pub(crate) gap: u64,
+    pub(crate) width: u64,
+    pub(crate) height: u64,
+    pub(crate) bottom: u64,
+}
+
+/// These rows of a chart as SVG, where so many stand before them.
+pub fn draw_svg(
+    alloc: Global,
+    chart: &Chart<'_>,
+    before: usize,
+    rows: &[Row<'_>],
+) -> Result<Vec<u8>, AllocError>
+    ensures { IfOk result (λ out. (g : Geometry) × (out.items ≡ svg_text g chart.now before rows.now)) }
+{
+    let heads = heads_of(alloc, chart)?;
+    let geometry = geometry_of(chart, &heads, rows);
+    let mut out = Vec::new(alloc);
+    push_opening(alloc, &mut out, &geometry)?;
+    push(&mut out, ABOUT)?;
+    push(&mut out, STYLE)?;
+    push(&mut out, HEAD)?;
+    push_heads(alloc, &mut out, &geometry, chart, &heads)?;
+    push_rows(alloc, &mut out, &geometry, rows)?;
+    push_note(
+        alloc,
+        &mut out,
+        &geometry,
+        &note_of(alloc, before, rows.len(), chart.rows.len())?,
+    )?;
+    push_ending(alloc, &mut out, &geometry, chart)?;
+    push(&mut out, "</svg>\n")?;
+    Ok(out)
+}
+
+fn geometry_of(chart: &Chart<'_>, heads: &[Head<'_>], rows: &[Row<'_>]) -> Geometry {
+    let gap = widest_head(heads).saturating_mul(8).saturating_add(12);
+    let bottom = place_at(84, 26, rows.len());
+    let foot = longest_closing(&chart.objects).saturating_mul(5);
+    let across = place_at(60, gap, heads.len());
+    Geometry {
+        gap,
+        width: across.saturating_add(longest_label(rows).saturating_mul(8)),
+        height: bottom.saturating_add(foot).saturating_add(60),
+        bottom,
+    }
+}
+
+fn widest_head(heads: &[Head<'_>]) -> u64 {
+    let mut most = 0;
+    for head in heads {
+        most = most.max(head.width() as u64);
+    }
+    most
+}
+
+fn longest_closing(objects: &[Object<'_>]) -> u64 {
+    let mut most = 0;
+    for object in objects {
+        most = most.max(length_of(&object.closing));
+    }
+    most
+}
+
+fn length_of(closing: &[&str]) -> u64 {
+    let mut length: u64 = 0;
+    for word in closing {
+        length = length.saturating_add(word.len() as u64).saturating_add(1);
+    }
+    length
+}
+
+/// Room for the longest label, whose step's word has at most nine letters.
+fn longest_label(rows: &[Row<'_>]) -> u64 {
+    let mut most: u64 = 0;
+    for row in rows {
+        let beside = row.act.with.map_or(0, |word| word.len() as u64);
+        let reply = match row.act.reply {
+            Reply::Message(word) => word.len() as u64,
+            _ => 6,
+        };
+        most = most.max(beside.saturating_add(reply));
+    }
+    most.saturating_add(16)
+}
+
+/// Where what has this position stands, from this origin in steps of this size.
+fn place_at(origin: u64, step: u64, at: usize) -> u64
+    ensures { result ≡ place_at origin step at }
+{
+    step.saturating_mul(at as u64).saturating_add(origin)
+}
+
+#[tactic(auto, unfolding(crate::specs::Svg::opening_of))]
+fn push_opening(alloc: Global, out: &mut Vec<u8>, geometry: &Geometry) -> Result<(), AllocError>
+    ensures { OnOk result (out.new.items ≡ out.old.items ++ opening_of geometry.now) }
+{
+    push(out, OPENING)?;
+    push_number(alloc, out, geometry.width)?;
+    push(out, " ")?;
+    push_number(alloc, out, geometry.height)?;
+    push(out, ROLE)
+}
+
+fn push_heads(
+    alloc: Global,
+    out: &mut Vec<u8>,
+    geometry: &Geometry,
+    chart: &Chart<'_>,
+    heads: &[Head<'_>],
+) -> Result<(), AllocError>
+    ensures { OnOk result (out.new.items ≡ out.old.items ++ heads_from geometry.now chart.now 0 (map shown_head heads.now)) }
+{
+    for (at, head) in heads.iter().enumerate() {
+        push_head(alloc, out, geometry, chart, at, head)?;
+    }
+    Ok(())
+}
+
+#[tactic(auto, unfolding(crate::specs::Svg::head_tags))]
+fn push_head(
+    alloc: Global,
+    out: &mut Vec<u8>,
+    geometry: &Geometry,
+    chart: &Chart<'_>,
+    at: usize,
+    head: &Head<'_>,
+) -> Result<(), AllocError>
+    ensures { OnOk result (out.new.items ≡ out.old.items ++ head_tags geometry.now chart.now at (shown_head head.now)) }
+{
+    let x = place_at(60, geometry.gap, at);
+    push_line(alloc, out, "life", (x, 52), (x, geometry.bottom))?;
+    push_text(alloc, out, "kind", (x, 26), head.kind.as_bytes())?;
+    push_text(alloc, out, "name", (x, 43), head.name.as_bytes())?;
+    push_closing_at(alloc, out, geometry, chart, at)
+}
+
+fn push_rows(
+    alloc: Global,
+    out: &mut Vec<u8>,
+    geometry: &Geometry,
+    rows: &[Row<'_>],
+) -> Result<(), AllocError>
+    ensures { OnOk result (out.new.items ≡ out.old.items ++ rows_from geometry.now 0 rows.now) }
+{
+    for (at, row) in rows.iter().enumerate() {
+        push_row(alloc, out, geometry, at, row)?;
+    }
+    Ok(())
+}
+
+/// The arrow of a row, from the line of the actor's column to that of the object's, and what is said of it.
+#[tactic(auto, unfolding(crate::specs::Svg::row_tags))]
+fn push_row(
+    alloc: Global,
+    out: &mut Vec<u8>,
+    geometry: &Geometry,
+    at: usize,
+    row: &Row<'_>,
+) -> Result<(), AllocError>
+    ensures { OnOk result (out.new.items ≡ out.old.items ++ row_tags geometry.now at row.now) }
+{
+    let y = place_at(80, 26, at);
+    let x = place_at(60, geometry.gap, row.actor);
+    let end = place_at(60, geometry.gap, row.object);
+    push_line(alloc, out, arrow_class(row), (x, y), (end, y))?;
+    let mut label = Vec::new(alloc);
+    push_label(&mut label, &row.act)?;
+    let at = (x.saturating_add(8), y.saturating_sub(5));
+    push_text(alloc, out, "label", at, &label)
+}
+
+fn arrow_class(row: &Row<'_>) -> &'static str
+    ensures { result.now ≡ arrow_class row.now }
+{
+    let out = points_out(row.act.verb);
+    let back = points_back(row.act.verb);
+    match (out, back, is_missed(row.act.reply)) {
+        (true, true, _) => "both",
+        (true, false, false) => "out",
+        (true, false, true) => "out missed",
+        (false, _, false) => "back",
+        (false, _, true) => "back missed",
+    }
+}
+
+/// What stands under a column, where it is an object's.
+fn push_closing_at(
+    alloc: Global,
+    out: &mut Vec<u8>,
+    geometry: &Geometry,
+    chart: &Chart<'_>,
+    at: usize,
+) -> Result<(), AllocError>
+    ensures { OnOk result (out.new.items ≡ out.old.items ++ closing_at geometry.now chart.now at) }
+{
+    if at < chart.actors {
+        return Ok(());
+    }
+    match chart.objects.get(at - chart.actors) {
+        Some(object) => push_object(alloc, out, geometry, at, object),
+        None => Ok(()),
+    }
+}
+
+/// Adds how the tag of a text starts that is drawn aslant from this place.
+#[tactic(auto, unfolding(crate::specs::Svg::aslant_text))]
+fn push_aslant(alloc: Global, out: &mut Vec<u8>, x: u64, y: u64) -> Result<(), AllocError>
+    ensures { OnOk result (out.new.items ≡ out.old.items ++ aslant_text (x, y)) }
+{
+    push(out, ASLANT)?;
+    push_number(alloc, out, x)?;
+    push(out, " ")?;
+    push_number(alloc, out, y)?;
+    push(out, TURN)
+}
+
+/// What the second part says of an object, aslant under its column.
+#[tactic(auto, unfolding(crate::specs::Svg::closing_tag))]
+fn push_object(
+    alloc: Global,
+    out: &mut Vec<u8>,
+    geometry: &Geometry,
+    column: usize,
+    object: &Object<'_>,
+) -> Result<(), AllocError>
+    ensures { OnOk result (out.new.items ≡ out.old.items ++ closing_tag geometry.now column (shown_object object.now)) }
+{
+    let x = place_at(60, geometry.gap, column);
+    let y = geometry.bottom.saturating_add(12);
+    push_aslant(alloc, out, x, y)?;
+    let mut says = Vec::new(alloc);
+    push_closing(&mut says, &object.closing)?;
+    push_content(out, &says)
+}
+
+/// How many rows there are, where not all are drawn.
+fn push_note(
+    alloc: Global,
+    out: &mut Vec<u8>,
+    geometry: &Geometry,
+    note: &[u8],
+) -> Result<(), AllocError>
+    ensures { OnOk result (out.new.items ≡ out.old.items ++ text_tag (codes "note") (16, geometry.now.height - 38) note.now) }
+{
+    let at = (16, geometry.height.saturating_sub(38));
+    push_text(alloc, out, "note", at, note)
+}
+
+#[tactic(auto, unfolding(crate::specs::Svg::end_tag))]
+fn push_ending(
+    alloc: Global,
+    out: &mut Vec<u8>,
+    geometry: &Geometry,
+    chart: &Chart<'_>,
+) -> Result<(), AllocError>
+    ensures { OnOk result (out.new.items ≡ out.old.items ++ end_tag geometry.now (shown_end chart.now.end)) }
+{
+    let mut says = Vec::new(alloc);
+    push_end(&mut says, &chart.end)?;
+    let at = (16, geometry.height.saturating_sub(16));
+    push_text(alloc, out, end_class(chart.end.stop), at, &says)
+}
+
+fn end_class(stop: Stop) -> &'static str
+    ensures { result.now ≡ end_class stop }
+{
+    match stop {
+        Stop::Done => "end done",
+        Stop::Stalled => "end stalled",
+        Stop::Full => "end full",
+        Stop::Held => "end held",
+    }
+}
+
+#[tactic(auto, unfolding(crate::specs::Svg::line_tag))]
+fn push_line(
+    alloc: Global,
+    out: &mut Vec<u8>,
+    class: &str,
+    from: (u64, u64),
+    to: (u64, u64),
+) -> Result<(), AllocError>
+    ensures { OnOk result (out.new.items ≡ out.old.items ++ line_tag class.now from to) }
+{
+    push_start(out, "<line", class)?;
+    push_point(alloc, out, ("x1", "y1"), from)?;
+    push_point(alloc, out, ("x2", "y2"), to)?;
+    push(out, "/>\n")
+}
+
+/// Adds a text with its content escaped.
+#[tactic(auto, unfolding(crate::specs::Svg::text_tag))]
+fn push_text(
+    alloc: Global,
+    out: &mut Vec<u8>,
+    class: &str,
+    at: (u64, u64),
+    content: &[u8],
+) -> Result<(), AllocError>
+    ensures { OnOk result (out.new.items ≡ out.old.items ++ text_tag class.now at content.now) }
+{
+    push_start(out, "<text", class)?;
+    push_point(alloc, out, ("x", "y"), at)?;
+    push_content(out, content)
+}
+
+/// Adds what stands in a text's tag, escaped.
+#[tactic(auto, unfolding(crate::specs::Svg::content_text))]
+fn push_content(out: &mut Vec<u8>, content: &[u8]) -> Result<(), AllocError>
+    ensures { OnOk result (out.new.items ≡ out.old.items ++ content_text content.now) }
+{
+    push(out, ">")?;
+    push_escaped(out, content)?;
+    push(out, "</text>\n")
+}
+
+/// Adds how a tag of this class starts.
+#[tactic(auto, unfolding(crate::specs::Svg::start_text))]
+fn push_start(out: &mut Vec<u8>, tag: &str, class: &str) -> Result<(), AllocError>
+    ensures { OnOk result (out.new.items ≡ out.old.items ++ start_text tag.now class.now) }
+{
+    push(out, tag)?;
+    push(out, " class='")?;
+    push(out, class)?;
+    push(out, "'")
+}
+
+/// Adds a place by two attributes of these names.
+#[tactic(auto, unfolding(crate::specs::Svg::point_text))]
+fn push_point(
+    alloc: Global,
+    out: &mut Vec<u8>,
+    names: (&str, &str),
+    at: (u64, u64),
+) -> Result<(), AllocError>
+    ensures { OnOk result (out.new.items ≡ out.old.items ++ point_text names.entry.0.now names.entry.1.now at) }
+{
+    push_attribute(alloc, out, names.0, at.0)?;
+    push_attribute(alloc, out, names.1, at.1)
+}
+
+#[tactic(auto, unfolding(crate::specs::Svg::attribute))]
+fn push_attribute(
+    alloc: Global,
+    out: &mut Vec<u8>,
+    name: &str,
+    number: u64,
+) -> Result<(), AllocError>
+    ensures { OnOk result (out.new.items ≡ out.old.items ++ attribute name.now number) }
+{
+    push(out, " ")?;
+    push(out, name)?;
+    push(out, "='")?;
+    push_number(alloc, out, number)?;
+    push(out, "'")
+}
