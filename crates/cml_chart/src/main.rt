@@ -1,0 +1,63 @@
+//! `cml_chart`: draws the report on standard input as a sequence chart, on standard output.
+#![tactic(auto)]
+
+use clap::Error;
+use cml_picture::{Ending, draw, order, status_of, status_of_error};
+use std::env;
+use std::io::ErrorKind;
+use std::process::ExitCode;
+
+fn main(rt: HostRuntime) -> ExitCode {
+    let status = match words(&rt) {
+        Ok(words) => obey(&rt, words.as_slice()),
+        Err(status) => status,
+    };
+    ExitCode::from(status)
+}
+
+/// The program's words, its own name first; or the exit status where they can't be had.
+fn words(rt: &HostRuntime) -> Result<Vec<String>, u8> {
+    match env::args(rt) {
+        Ok(args) => args
+            .collect(rt.alloc())
+            .map_err(|_| tell(rt, Ending::NoMemory)),
+        Err(error) if error.kind() == ErrorKind::OutOfMemory => Err(tell(rt, Ending::NoMemory)),
+        Err(_) => {
+            let _unheard = eprintln!(rt; "cml_chart: the command line is not UTF-8");
+            Err(3)
+        }
+    }
+}
+
+/// Does what the words ask for, and gives the exit status.
+fn obey(rt: &HostRuntime, words: &[String]) -> u8 {
+    match order(rt.alloc(), words) {
+        Ok(asked) => {
+            let ending = draw(rt.alloc(), &mut rt.stdin(), &mut rt.stdout(), &asked);
+            tell(rt, ending)
+        }
+        Err(error) => show(rt, &error),
+    }
+}
+
+/// Shows the help, or what is wrong with the words.
+fn show(rt: &HostRuntime, error: &Error) -> u8 {
+    if error.kind() == clap::error::ErrorKind::OutOfMemory {
+        return tell(rt, Ending::NoMemory);
+    }
+    if error.print(rt).is_err() && !error.use_stderr() {
+        return tell(rt, Ending::WriteFault);
+    }
+    status_of_error(error)
+}
+
+/// Tells standard error how it ended, where the chart doesn't.
+fn tell(rt: &HostRuntime, ending: Ending) -> u8 {
+    match ending {
+        Ending::Done => {}
+        _ => {
+            let _unheard = eprintln!(rt; "{ending}");
+        }
+    }
+    status_of(&ending)
+}
