@@ -4,6 +4,7 @@
 # compared with the sources, the guide, the tables and scripts are run with each request for memory refused in turn, logs
 # and journals that are cut are seen not to grow, threads that wait for each other are seen to go on, and the built program
 # and the library for C are tried from outside. The last line is `N passed, M failed`.
+# and journals that are cut are seen not to grow, and the built programs are tried from outside. The last line is `N passed, M failed`.
 cd "$(dirname "$0")/.." || exit 1
 work=$(mktemp -d) || exit 1
 trap 'rm -rf "$work"' EXIT
@@ -36,6 +37,10 @@ step bindings sh tests/bindings.sh
 passed=0
 failed=0
 for name in crates calls cuts guide refused memory waiting program bindings; do
+step chart sh tests/chart.sh crates/cml_chart/out/cml_chart
+passed=0
+failed=0
+for name in crates calls cuts guide refused memory program chart; do
     passed=$((passed + $(counted $name passed)))
     failed=$((failed + $(counted $name failed)))
 done
