@@ -2,9 +2,8 @@
 # Everything: every crate is proved and its wrong edits are refused, but for what was so on this machine before, and its
 # tests run; then the tables of calls are performed, also with the journal cut behind each line, the guide's code is
 # compared with the sources, the guide, the tables and scripts are run with each request for memory refused in turn, logs
-# and journals that are cut are seen not to grow, threads that wait for each other are seen to go on, and the built program
-# and the library for C are tried from outside. The last line is `N passed, M failed`.
-# and journals that are cut are seen not to grow, and the built programs are tried from outside. The last line is `N passed, M failed`.
+# and journals that are cut are seen not to grow, threads that wait for each other are seen to go on, and the built programs
+# are tried from outside. The last line is `N passed, M failed`.
 cd "$(dirname "$0")/.." || exit 1
 work=$(mktemp -d) || exit 1
 trap 'rm -rf "$work"' EXIT
@@ -33,14 +32,10 @@ step refused sh tests/refused.sh crates/cml_guide/out/cml_guide crates/cml_rows/
 step memory sh tests/memory.sh crates/cml_bench/out/cml_bench
 step waiting sh tests/waiting.sh crates/cml_bench/out/cml_bench
 step program sh tests/program.sh crates/cml/out/cml
-step bindings sh tests/bindings.sh
-passed=0
-failed=0
-for name in crates calls cuts guide refused memory waiting program bindings; do
 step chart sh tests/chart.sh crates/cml_chart/out/cml_chart
 passed=0
 failed=0
-for name in crates calls cuts guide refused memory program chart; do
+for name in crates calls cuts guide refused memory waiting program chart; do
     passed=$((passed + $(counted $name passed)))
     failed=$((failed + $(counted $name failed)))
 done
