@@ -1,5 +1,6 @@
 //! Scripts replayed for C and whatever calls C. `include/seryugo_script.h` says in plain words what the clauses say here.
 #![tactic(auto)]
+
 ghost use Rattle.std.specs.Prelude.{◌≡◌, ◌≤◌, ◌<◌, ◌++◌, length, drop};
 ghost use Rattle.cml_script_c.specs.Replaying.{Fills, HasNoRoom, line_of};
 
