@@ -1,0 +1,7 @@
+//! Rooms, lanes and feeds of 64-bit messages for C and whatever calls C. `include/seryugo.h` says in plain words what the
+//! clauses say here.
+#![tactic(auto)]
+
+mod handle;
+mod kept;
+mod raw;
