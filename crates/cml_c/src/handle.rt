@@ -1,5 +1,5 @@
 //! What C holds: where a room, a lane or a feed lies.
-ghost use Rattle.std.specs.Prelude.{◌≡◌};
+ghost use Rattle.std.specs.Prelude.{◌≡◌, IfOk};
 ghost use Rattle.cml_c.specs.declared.kept.Kept.{Kept};
 ghost use Rattle.cml_c.specs.Owning.{kept_coded};
 
@@ -24,10 +24,12 @@ impl Model for Handle {
 
 /// Where a handle is written: what it was before is forgotten.
 #[repr(C)]
-#[derive(Drop)]
+#[derive(Clone, Copy)]
 pub struct Slot {
-    pub(crate) at: *mut u8,
+    at: *mut u8,
 }
+
+unsafe impl Send for Handle {}
 
 impl Drop for Handle {
     fn drop(self) {
@@ -36,6 +38,37 @@ impl Drop for Handle {
 }
 
 impl Handle {
+    ghost use Rattle.std.specs.Borrow.{sem};
+    ghost use Rattle.cml_c.specs.Lending.{handle_follows};
+
+    /// A handle to this. Only want of memory refuses it, and then it is dropped.
+    pub(crate) fn new(alloc: Global, kept: Kept) -> Result<Handle, AllocError>
+        ensures { IfOk result (λ handle. handle.kept ≡ kept) }
+    {
+        Ok(Handle::of(Loose::of(Box::new(alloc, kept)?)))
+    }
+
+    /// What it leads to; the handle's own memory is given back.
+    pub(crate) fn into_kept(self) -> Kept
+        ensures { result ≡ self.kept }
+    {
+        Box::into_inner(self.loosen().into_box())
+    }
+
+    /// Gives the handle into C's care: whoever writes this into C's memory writes a handle there.
+    pub(crate) fn into_slot(self) -> Slot {
+        let Handle { at, alloc: _ } = self;
+        Slot { at }
+    }
+
+    /// Lends what it leads to.
+    pub(crate) fn as_mut(&mut self) -> &mut Kept
+        ensures* writes_back { sem 𝓛 (handle_follows self.entry result) }
+        ensures value { result.now ≡ self.old.kept }
+    {
+        unsafe { &mut *(self.at as *mut Kept) }
+    }
+
     fn of(loose: Loose<Kept, Global>) -> Handle
         ensures { result.kept ≡ loose.content }
     {
