@@ -2,10 +2,13 @@ use cml_board::BoardLog;
 use cml_lanes::{Feed, Lane};
 use cml_room::Room;
 
+/// A room whose messages are numbers.
+pub type NumberRoom = Room<u64, BoardLog<u64>>;
+
 /// What a handle leads to.
 #[derive(Drop)]
 pub enum Kept {
-    Room(Room<u64, BoardLog<u64>>),
+    Room(NumberRoom),
     Lane(Lane<u64>),
     Feed(Feed<u64>),
 }

@@ -2,6 +2,10 @@
 //! clauses say here.
 #![tactic(auto)]
 
+mod asking;
+mod code;
 mod handle;
 mod kept;
+mod mailboxes;
 mod raw;
+mod rooms;

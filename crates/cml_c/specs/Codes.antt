@@ -1,0 +1,40 @@
+-- What C is told of a call, and by which number.
+use Rattle.std.specs.Prelude.{ℕ, Result, Ok, Err, ⊤}
+use Rattle.cml_board.specs.declared.outcome.Refusal.{Refusal}
+use Rattle.cml_board.specs.declared.outcome.Refusal.TheVariants as refusal
+use Rattle.cml_c.specs.declared.code.Code.{Code}
+use Rattle.cml_c.specs.declared.code.Code.TheVariants as code
+
+abbrev pub number : Code → ℕ
+number code.Done = 0
+number code.Nothing = 1
+number code.Put = 2
+number code.Closed = 3
+number code.Parked = 4
+number code.Gone = 5
+number code.Busy = 6
+number code.NoSuch = 7
+number code.WrongKind = 8
+number code.JournalFull = 9
+number code.Stalled = 10
+number code.NoMemory = 11
+number code.Unseen = 12
+number code.Full = 13
+number code.WrongHandle = 14
+number code.OutOfBounds = 15
+
+-- a refusal is told by its own name
+abbrev pub of_refusal : Refusal → Code
+of_refusal refusal.Gone = code.Gone
+of_refusal refusal.Busy = code.Busy
+of_refusal refusal.NoSuch = code.NoSuch
+of_refusal refusal.WrongKind = code.WrongKind
+of_refusal refusal.JournalFull = code.JournalFull
+of_refusal refusal.Stalled = code.Stalled
+of_refusal refusal.NoMemory = code.NoMemory
+of_refusal refusal.Unseen = code.Unseen
+
+-- what is told of a call that gives nothing
+abbrev pub told_outcome : Result ⊤ Refusal → Code
+told_outcome (Ok done) = code.Done
+told_outcome (Err refusal) = of_refusal refusal

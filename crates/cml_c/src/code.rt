@@ -1,0 +1,73 @@
+ghost use Rattle.std.specs.Prelude.{◌≡◌};
+ghost use Rattle.cml_c.specs.Codes.{number, of_refusal};
+
+use cml_board::Refusal;
+
+/// What C is told of a call. The header has each by name, with its number.
+#[derive(Clone, Copy, Debug, PartialEq, Eq)]
+pub enum Code {
+    /// It was done; what it gives, if it gives anything, is written.
+    Done,
+    /// A poll found nothing.
+    Nothing,
+    /// The variable was full before, and stays as it was.
+    Put,
+    /// The port was closed before.
+    Closed,
+    /// The seat waits now.
+    Parked,
+    Gone,
+    Busy,
+    NoSuch,
+    WrongKind,
+    JournalFull,
+    Stalled,
+    NoMemory,
+    Unseen,
+    /// The lane has no free slot.
+    Full,
+    /// What the handle leads to takes no such call.
+    WrongHandle,
+    /// A limit or a capacity is out of its bounds.
+    OutOfBounds,
+}
+
+impl Code {
+    pub fn number(self) -> u32
+        ensures { result ≡ number self }
+    {
+        match self {
+            Code::Done => 0,
+            Code::Nothing => 1,
+            Code::Put => 2,
+            Code::Closed => 3,
+            Code::Parked => 4,
+            Code::Gone => 5,
+            Code::Busy => 6,
+            Code::NoSuch => 7,
+            Code::WrongKind => 8,
+            Code::JournalFull => 9,
+            Code::Stalled => 10,
+            Code::NoMemory => 11,
+            Code::Unseen => 12,
+            Code::Full => 13,
+            Code::WrongHandle => 14,
+            Code::OutOfBounds => 15,
+        }
+    }
+
+    pub fn of_refusal(refusal: Refusal) -> Code
+        ensures { result ≡ of_refusal refusal }
+    {
+        match refusal {
+            Refusal::Gone => Code::Gone,
+            Refusal::Busy => Code::Busy,
+            Refusal::NoSuch => Code::NoSuch,
+            Refusal::WrongKind => Code::WrongKind,
+            Refusal::JournalFull => Code::JournalFull,
+            Refusal::Stalled => Code::Stalled,
+            Refusal::NoMemory => Code::NoMemory,
+            Refusal::Unseen => Code::Unseen,
+        }
+    }
+}
