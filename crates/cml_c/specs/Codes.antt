@@ -20,8 +20,9 @@ number code.Stalled = 10
 number code.NoMemory = 11
 number code.Unseen = 12
 number code.Full = 13
-number code.WrongHandle = 14
-number code.OutOfBounds = 15
+number code.StillOpen = 14
+number code.WrongHandle = 15
+number code.OutOfBounds = 16
 
 -- a refusal is told by its own name
 abbrev pub of_refusal : Refusal → Code
@@ -38,3 +39,12 @@ of_refusal refusal.Unseen = code.Unseen
 abbrev pub told_outcome : Result ⊤ Refusal → Code
 told_outcome (Ok done) = code.Done
 told_outcome (Err refusal) = of_refusal refusal
+
+-- what is told of a call that gives a count, and what stands then where that is written
+abbrev pub told_count : Result ℕ Refusal → Code
+told_count (Ok count) = code.Done
+told_count (Err refusal) = of_refusal refusal
+
+abbrev pub written_count : ℕ → Result ℕ Refusal → ℕ
+written_count before (Ok count) = count
+written_count before (Err refusal) = before

@@ -5,3 +5,6 @@ pub mod Rooms
 pub mod Asking
 pub mod Opening
 pub mod Seats
+pub mod Floors
+pub mod Reserved
+pub mod Lanes

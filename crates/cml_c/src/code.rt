@@ -26,6 +26,8 @@ pub enum Code {
     Unseen,
     /// The lane has no free slot.
     Full,
+    /// The lane is still open, since one of its messages was refused.
+    StillOpen,
     /// What the handle leads to takes no such call.
     WrongHandle,
     /// A limit or a capacity is out of its bounds.
@@ -51,8 +53,9 @@ impl Code {
             Code::NoMemory => 11,
             Code::Unseen => 12,
             Code::Full => 13,
-            Code::WrongHandle => 14,
-            Code::OutOfBounds => 15,
+            Code::StillOpen => 14,
+            Code::WrongHandle => 15,
+            Code::OutOfBounds => 16,
         }
     }
 

@@ -1,5 +1,5 @@
 use cml_board::BoardLog;
-use cml_lanes::{Feed, Lane};
+use cml_lanes::{Feed, Lane, LaneEnd};
 use cml_room::Room;
 
 /// A room whose messages are numbers.
@@ -10,5 +10,9 @@ pub type NumberRoom = Room<u64, BoardLog<u64>>;
 pub enum Kept {
     Room(NumberRoom),
     Lane(Lane<u64>),
+    /// A lane that has finished, and isn't closed yet.
+    LaneEnd(LaneEnd<u64>),
     Feed(Feed<u64>),
+    /// A lane that was closed.
+    Spent,
 }

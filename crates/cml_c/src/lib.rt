@@ -3,9 +3,13 @@
 #![tactic(auto)]
 
 mod asking;
+mod channels;
 mod code;
 mod handle;
+mod journals;
 mod kept;
+mod lanes;
 mod mailboxes;
 mod raw;
 mod rooms;
+mod variables;

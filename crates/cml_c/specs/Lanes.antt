@@ -1,0 +1,115 @@
+-- What C is told of the calls on lanes.
+use Rattle.std.specs.Prelude.{ℕ, ◌≡◌, ◌<◌, ◌≤◌, ◌⊎◌, Bool, true, false, [], ◌∷◌, ◌++◌, length, Result, Ok, Err, ⊤}
+use Rattle.cml_board.specs.declared.call.Name.{Name}
+use Rattle.cml_board.specs.declared.outcome.Refusal.{Refusal}
+use Rattle.cml_lanes.specs.Ends.{LaneShown, Ended}
+use Rattle.cml_lanes.specs.Lanes.{OpensALane, ClosesCounted, Drops}
+use Rattle.cml_room.specs.Room.{RoomShown, floor_of}
+use Rattle.cml_c.specs.declared.code.Code.{Code}
+use Rattle.cml_c.specs.declared.code.Code.TheVariants.{Done, Gone, NoMemory, Full, StillOpen, OutOfBounds}
+use Rattle.cml_c.specs.declared.kept.Kept.{Kept}
+use Rattle.cml_c.specs.declared.kept.Kept.TheVariants.{Room, Lane, LaneEnd, Spent}
+use Rattle.cml_c.specs.Codes.{number, of_refusal}
+use Rattle.cml_c.specs.Rooms.{IsWrong, OnRoom}
+use Rattle.cml_c.specs.Asking.{chunk}
+
+-- a ring may have room for so many messages
+abbrev pub IsCapacity : ℕ → Type 0
+IsCapacity capacity = (1 ≤ capacity) × (capacity ≤ 1024)
+
+-- what is told of what was opened, with its number
+abbrev pub told_opened : {X : Type 0} → Result (X × ℕ) Refusal → Code
+told_opened (Ok opened) = Done
+told_opened (Err refusal) = of_refusal refusal
+
+abbrev pub written_opened : {X : Type 0} → ℕ → Result (X × ℕ) Refusal → ℕ
+written_opened before (Ok opened) = opened.1
+written_opened before (Err refusal) = before
+
+-- this became of the opening, in a room whose seats stay
+pub record Opens (X : Type 0) (becomes : RoomShown ℕ → RoomShown ℕ → Result (X × ℕ) Refusal → Type 0) (code before after : ℕ) (old new : RoomShown ℕ) : Type 0 where
+  pub outcome : Result (X × ℕ) Refusal
+  pub floor : becomes old new outcome
+  pub seats : new.seats ≡ old.seats
+  pub told : code ≡ number (told_opened outcome)
+  pub written : after ≡ written_opened before outcome
+
+-- nothing was opened, for this reason, and the room is as it was
+pub record NotOpened (reason : Code) (code before after : ℕ) (old new : RoomShown ℕ) : Type 0 where
+  pub told : code ≡ number reason
+  pub written : after ≡ before
+  pub room : new ≡ old
+
+-- the capacity is in its bounds, and the lane is opened or refused, or there is no memory for its handle; or it is out of them
+abbrev pub OpensIn : Name → ℕ → ℕ → ℕ → ℕ → RoomShown ℕ → RoomShown ℕ → Type 0
+OpensIn target capacity code before after old new =
+    (IsCapacity capacity × (Opens (LaneShown ℕ) (λ from to outcome. OpensALane (floor_of from) (floor_of to) target capacity outcome) code before after old new ⊎ NotOpened NoMemory code before after old new))
+    ⊎ (¬ (IsCapacity capacity) × NotOpened OutOfBounds code before after old new)
+
+abbrev pub OpensALaneIn : ℕ → ℕ → Kept → Kept → ℕ → ℕ → ℕ → Type 0
+OpensALaneIn target capacity old new code before after =
+    OnRoom (OpensIn (record { 0 = target }) capacity code before after) (after ≡ before) code old new
+
+-- the lane accepted the message, or has no free slot, which isn't so while it accepted fewer than it has room for
+pub record Accepts (message told : ℕ) (lane : LaneShown ℕ) (new : Kept) : Type 0 where
+  pub done : told ≡ number Done
+  pub accepted : new ≡ Lane (record lane { accepted = lane.accepted ++ message ∷ [] })
+
+pub record IsFull (told : ℕ) (lane : LaneShown ℕ) (new : Kept) : Type 0 where
+  pub full : told ≡ number Full
+  pub many : lane.capacity ≤ length lane.accepted
+  pub same : new ≡ Lane lane
+
+abbrev pub SendsOn : ℕ → Kept → Kept → ℕ → Type 0
+SendsOn message (Lane lane) new told = Accepts message told lane new ⊎ IsFull told lane new
+SendsOn message other new told = IsWrong ⊤ told other new
+
+-- the lane has finished: all that was sent on it is known; or its room has let go of it
+abbrev pub Finishes : Kept → Kept → ℕ → Type 0
+Finishes (Lane lane) new told =
+    ((told ≡ number Done) × (new ≡ LaneEnd (record { ring = lane.ring; number = lane.number; sent = lane.accepted })))
+    ⊎ ((told ≡ number Gone) × (new ≡ Spent))
+Finishes other new told = IsWrong ⊤ told other new
+
+-- what is told of a lane that is closed by count, and where its handle leads then
+abbrev pub told_closed : Result ⊤ (Ended ℕ × Refusal) → Code
+told_closed (Ok done) = Done
+told_closed (Err back) = of_refusal back.1
+
+abbrev pub left_closed : Result ⊤ (Ended ℕ × Refusal) → Kept
+left_closed (Ok done) = Spent
+left_closed (Err back) = LaneEnd back.0
+
+pub record Closes (end : Ended ℕ) (told : ℕ) (lane : Kept) (old new : RoomShown ℕ) : Type 0 where
+  pub outcome : Result ⊤ (Ended ℕ × Refusal)
+  pub floor : ClosesCounted chunk true (floor_of old) (floor_of new) end outcome
+  pub seats : new.seats ≡ old.seats
+  pub code : told ≡ number (told_closed outcome)
+  pub left : lane ≡ left_closed outcome
+
+abbrev pub ClosesIn : RoomShown ℕ → RoomShown ℕ → Kept → Kept → ℕ → Type 0
+ClosesIn old new (LaneEnd end) lane told = Closes end told lane old new
+ClosesIn old new other lane told = IsWrong (new ≡ old) told other lane
+
+abbrev pub ClosesALane : Kept → Kept → Kept → Kept → ℕ → Type 0
+ClosesALane (Room old) new from to told = (room : RoomShown ℕ) × (new ≡ Room room) × ClosesIn old room from to told
+ClosesALane other new from to told = IsWrong (to ≡ from) told other new
+
+-- what is told of the drop of a lane, and what stands then where the count is written
+abbrev pub told_dropped : Result (ℕ × Bool) Refusal → Code
+told_dropped (Ok dropped) = elim dropped.1 [ true ↦ Done | false ↦ StillOpen ]
+told_dropped (Err refusal) = of_refusal refusal
+
+abbrev pub written_dropped : ℕ → Result (ℕ × Bool) Refusal → ℕ
+written_dropped before (Ok dropped) = dropped.0
+written_dropped before (Err refusal) = before
+
+pub record DropsIn (number_of code before after : ℕ) (old new : RoomShown ℕ) : Type 0 where
+  pub outcome : Result (ℕ × Bool) Refusal
+  pub floor : Drops chunk true number_of (floor_of old) (floor_of new) outcome
+  pub seats : new.seats ≡ old.seats
+  pub told : code ≡ number (told_dropped outcome)
+  pub written : after ≡ written_dropped before outcome
+
+abbrev pub DropsALane : ℕ → Kept → Kept → ℕ → ℕ → ℕ → Type 0
+DropsALane lane old new code before after = OnRoom (DropsIn lane code before after) (after ≡ before) code old new

@@ -1,0 +1,63 @@
+//! Channels and their ports.
+ghost use Rattle.std.specs.Prelude.{false};
+ghost use Rattle.cml_board.specs.declared.call.Call.TheVariants.{NewChannel, NewPort, CopyPort, ClosePort, Cast};
+ghost use Rattle.cml_c.specs.Asking.{Calls, CallsPlain};
+
+use crate::asking::{make_call, make_plain_call};
+use crate::handle::Handle;
+use cml_board::{Call, Name};
+
+/// Makes a channel, and writes its name.
+#[unsafe(no_mangle)]
+pub extern "C" fn seryugo_new_channel(room: &mut Handle, seat: u64, channel: &mut u64) -> u32
+    ensures { Calls false seat NewChannel room.old.kept room.new.kept result channel.old channel.new }
+{
+    make_call(room, seat, false, Call::NewChannel, channel)
+}
+
+/// Makes a port of a channel, which receives what is multicast from now on, and writes its name.
+#[unsafe(no_mangle)]
+pub extern "C" fn seryugo_new_port(
+    room: &mut Handle,
+    seat: u64,
+    channel: u64,
+    port: &mut u64,
+) -> u32
+    ensures { Calls false seat (NewPort (record { 0 = channel })) room.old.kept room.new.kept result port.old port.new }
+{
+    make_call(room, seat, false, Call::NewPort(Name(channel)), port)
+}
+
+/// Makes a port that stands where this one does, and writes its name.
+#[unsafe(no_mangle)]
+pub extern "C" fn seryugo_copy_port(
+    room: &mut Handle,
+    seat: u64,
+    port: u64,
+    copy: &mut u64,
+) -> u32
+    ensures { Calls false seat (CopyPort (record { 0 = port })) room.old.kept room.new.kept result copy.old copy.new }
+{
+    make_call(room, seat, false, Call::CopyPort(Name(port)), copy)
+}
+
+/// Closes a port.
+#[unsafe(no_mangle)]
+pub extern "C" fn seryugo_close_port(room: &mut Handle, seat: u64, port: u64) -> u32
+    ensures { CallsPlain false seat (ClosePort (record { 0 = port })) room.old.kept room.new.kept result }
+{
+    make_plain_call(room, seat, false, Call::ClosePort(Name(port)))
+}
+
+/// Sends a message to every port of a channel.
+#[unsafe(no_mangle)]
+pub extern "C" fn seryugo_multicast(
+    room: &mut Handle,
+    seat: u64,
+    channel: u64,
+    message: u64,
+) -> u32
+    ensures { CallsPlain false seat (Cast (record { 0 = channel }) message) room.old.kept room.new.kept result }
+{
+    make_plain_call(room, seat, false, Call::Cast(Name(channel), message))
+}
