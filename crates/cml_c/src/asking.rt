@@ -26,7 +26,12 @@ pub(crate) fn make_call(
 }
 
 /// Makes a call that gives none.
-pub(crate) fn make_plain_call(handle: &mut Handle, seat: u64, is_again: bool, call: Call<u64>) -> u32
+pub(crate) fn make_plain_call(
+    handle: &mut Handle,
+    seat: u64,
+    is_again: bool,
+    call: Call<u64>,
+) -> u32
     ensures { CallsPlain is_again seat call handle.old.kept handle.new.kept result }
 {
     let mut given = 0;

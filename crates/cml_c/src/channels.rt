@@ -30,12 +30,7 @@ pub extern "C" fn seryugo_new_port(
 
 /// Makes a port that stands where this one does, and writes its name.
 #[unsafe(no_mangle)]
-pub extern "C" fn seryugo_copy_port(
-    room: &mut Handle,
-    seat: u64,
-    port: u64,
-    copy: &mut u64,
-) -> u32
+pub extern "C" fn seryugo_copy_port(room: &mut Handle, seat: u64, port: u64, copy: &mut u64) -> u32
     ensures { Calls false seat (CopyPort (record { 0 = port })) room.old.kept room.new.kept result copy.old copy.new }
 {
     make_call(room, seat, false, Call::CopyPort(Name(port)), copy)
@@ -51,12 +46,7 @@ pub extern "C" fn seryugo_close_port(room: &mut Handle, seat: u64, port: u64) ->
 
 /// Sends a message to every port of a channel.
 #[unsafe(no_mangle)]
-pub extern "C" fn seryugo_multicast(
-    room: &mut Handle,
-    seat: u64,
-    channel: u64,
-    message: u64,
-) -> u32
+pub extern "C" fn seryugo_multicast(room: &mut Handle, seat: u64, channel: u64, message: u64) -> u32
     ensures { CallsPlain false seat (Cast (record { 0 = channel }) message) room.old.kept room.new.kept result }
 {
     make_plain_call(room, seat, false, Call::Cast(Name(channel), message))

@@ -110,5 +110,11 @@ pub extern "C" fn seryugo_swap(
 ) -> u32
     ensures { Calls is_again seat (Swap (record { 0 = variable }) message) room.old.kept room.new.kept result held.old held.new }
 {
-    make_call(room, seat, is_again, Call::Swap(Name(variable), message), held)
+    make_call(
+        room,
+        seat,
+        is_again,
+        Call::Swap(Name(variable), message),
+        held,
+    )
 }
