@@ -8,3 +8,5 @@ pub mod Seats
 pub mod Floors
 pub mod Reserved
 pub mod Lanes
+pub mod Feeds
+pub mod Reading

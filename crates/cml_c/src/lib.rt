@@ -5,11 +5,14 @@
 mod asking;
 mod channels;
 mod code;
+mod feeds;
 mod handle;
 mod journals;
 mod kept;
 mod lanes;
 mod mailboxes;
 mod raw;
+mod readers;
 mod rooms;
+mod telling;
 mod variables;

@@ -1,0 +1,57 @@
+-- What C is told of the calls on feeds.
+use Rattle.std.specs.Prelude.{ℕ, ◌≡◌, ◌⊎◌, [], ◌∷◌, ◌++◌, Option, Result, Ok, Err, ⊤, true}
+use Rattle.cml_board.specs.declared.call.Name.{Name}
+use Rattle.cml_board.specs.declared.outcome.Refusal.{Refusal}
+use Rattle.cml_lanes.specs.Ends.{FeedShown, Ended}
+use Rattle.cml_lanes.specs.Feeds.{OpensAFeed, Ends}
+use Rattle.cml_room.specs.Room.{RoomShown, floor_of}
+use Rattle.cml_c.specs.declared.code.Code.{Code}
+use Rattle.cml_c.specs.declared.code.Code.TheVariants.{Done, Nothing, NoMemory, OutOfBounds}
+use Rattle.cml_c.specs.declared.kept.Kept.{Kept}
+use Rattle.cml_c.specs.declared.kept.Kept.TheVariants.{Feed}
+use Rattle.cml_c.specs.Codes.{number, of_refusal}
+use Rattle.cml_c.specs.Rooms.{IsWrong, OnRoom}
+use Rattle.cml_c.specs.Asking.{chunk}
+use Rattle.cml_c.specs.Lanes.{IsCapacity, Opens, NotOpened}
+
+-- the capacity is in its bounds, and the feed is opened or refused, or there is no memory for its handle; or it is out of them
+abbrev pub OpensFeedIn : Name → ℕ → ℕ → ℕ → ℕ → RoomShown ℕ → RoomShown ℕ → Type 0
+OpensFeedIn channel capacity code before after old new =
+    (IsCapacity capacity × (Opens (FeedShown ℕ) (λ from to outcome. OpensAFeed chunk true (floor_of from) (floor_of to) channel capacity outcome) code before after old new ⊎ NotOpened NoMemory code before after old new))
+    ⊎ (¬ (IsCapacity capacity) × NotOpened OutOfBounds code before after old new)
+
+abbrev pub OpensAFeedIn : ℕ → ℕ → Kept → Kept → ℕ → ℕ → ℕ → Type 0
+OpensAFeedIn channel capacity old new code before after =
+    OnRoom (OpensFeedIn (record { 0 = channel }) capacity code before after) (after ≡ before) code old new
+
+-- the next message is taken, or none is seen
+pub record IsTaken (told before after : ℕ) (feed : FeedShown ℕ) (new : Kept) : Type 0 where
+  pub done : told ≡ number Done
+  pub taken : new ≡ Feed (record feed { taken = feed.taken ++ after ∷ [] })
+
+pub record NoneIsSeen (told before after : ℕ) (feed : FeedShown ℕ) (new : Kept) : Type 0 where
+  pub nothing : told ≡ number Nothing
+  pub written : after ≡ before
+  pub same : new ≡ Feed feed
+
+abbrev pub TakesFrom : Kept → Kept → ℕ → ℕ → ℕ → Type 0
+TakesFrom (Feed feed) new told before after = IsTaken told before after feed new ⊎ NoneIsSeen told before after feed new
+TakesFrom other new told before after = IsWrong (after ≡ before) told other new
+
+abbrev pub TellsPort : Kept → Kept → ℕ → ℕ → ℕ → Type 0
+TellsPort (Feed feed) new told before after = (told ≡ number Done) × (after ≡ feed.port.0) × (new ≡ Feed feed)
+TellsPort other new told before after = IsWrong (after ≡ before) told other new
+
+-- what is told of the end of a feed
+abbrev pub told_ended : Result (Option (Ended ℕ)) Refusal → Code
+told_ended (Ok end) = Done
+told_ended (Err refusal) = of_refusal refusal
+
+pub record EndsIn (feed code : ℕ) (old new : RoomShown ℕ) : Type 0 where
+  pub outcome : Result (Option (Ended ℕ)) Refusal
+  pub floor : Ends feed (floor_of old) (floor_of new) outcome
+  pub seats : new.seats ≡ old.seats
+  pub told : code ≡ number (told_ended outcome)
+
+abbrev pub EndsAFeed : ℕ → Kept → Kept → ℕ → Type 0
+EndsAFeed feed old new code = OnRoom (EndsIn feed code) ⊤ code old new

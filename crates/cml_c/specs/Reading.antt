@@ -1,0 +1,88 @@
+-- What C is told of what a room has.
+use Rattle.std.specs.Prelude.{ℕ, ◌≡◌, ◌⊎◌, Bool, true, false, Option, Some, None, ⊤}
+use Rattle.cml_board.specs.History.{entries_in}
+use Rattle.cml_board.specs.Shown.{full_at}
+use Rattle.cml_board.specs.Outcome.{HasRoom}
+use Rattle.cml_board.specs.Counts.{sent_count, got_count, owed_count, first_of, kept_count, port_is_open, held_by}
+use Rattle.cml_room.specs.Room.{RoomShown}
+use Rattle.cml_c.specs.declared.code.Code.{Code}
+use Rattle.cml_c.specs.declared.code.Code.TheVariants.{Done, Nothing, Closed, NoSuch, JournalFull}
+use Rattle.cml_c.specs.declared.kept.Kept.{Kept}
+use Rattle.cml_c.specs.Codes.{number}
+use Rattle.cml_c.specs.Rooms.{OnRoom}
+use Rattle.cml_c.specs.Asking.{chunk}
+
+-- a number that was found, or that there is none, with what stood and then stands where it is written
+abbrev pub told_found : Option ℕ → Code
+told_found (Some found) = Done
+told_found None = NoSuch
+
+abbrev pub written_found : ℕ → Option ℕ → ℕ
+written_found before (Some found) = found
+written_found before None = before
+
+-- this of the room is told, and the room is as it was
+pub record Reads (what : RoomShown ℕ → Option ℕ) (code before after : ℕ) (old new : RoomShown ℕ) : Type 0 where
+  pub room : new ≡ old
+  pub told : code ≡ number (told_found (what old))
+  pub written : after ≡ written_found before (what old)
+
+abbrev pub ReadsOn : (RoomShown ℕ → Option ℕ) → Kept → Kept → ℕ → ℕ → ℕ → Type 0
+ReadsOn what old new code before after = OnRoom (Reads what code before after) (after ≡ before) code old new
+
+abbrev pub sent_in : ℕ → RoomShown ℕ → Option ℕ
+sent_in object room = sent_count room.board.history object
+
+abbrev pub got_in : ℕ → RoomShown ℕ → Option ℕ
+got_in object room = got_count room.board.history object
+
+abbrev pub owed_in : ℕ → RoomShown ℕ → Option ℕ
+owed_in object room = owed_count room.board.history object
+
+abbrev pub kept_in : ℕ → RoomShown ℕ → Option ℕ
+kept_in object room = kept_count chunk room.board.history object
+
+abbrev pub first_in : ℕ → RoomShown ℕ → Option ℕ
+first_in object room = first_of chunk room.board.history object
+
+abbrev pub entries_of : RoomShown ℕ → Option ℕ
+entries_of room = Some (entries_in room.board.history)
+
+abbrev pub cut_at_of : RoomShown ℕ → Option ℕ
+cut_at_of room = Some (entries_in room.board.past)
+
+abbrev pub limit_of : RoomShown ℕ → Option ℕ
+limit_of room = Some room.board.limit
+
+-- what a variable holds
+abbrev pub told_held : Option (Option ℕ) → Code
+told_held (Some (Some message)) = Done
+told_held (Some None) = Nothing
+told_held None = NoSuch
+
+abbrev pub written_held : ℕ → Option (Option ℕ) → ℕ
+written_held before (Some (Some message)) = message
+written_held before (Some None) = before
+written_held before None = before
+
+pub record Holds (variable code before after : ℕ) (old new : RoomShown ℕ) : Type 0 where
+  pub room : new ≡ old
+  pub told : code ≡ number (told_held (held_by old.board.history variable))
+  pub written : after ≡ written_held before (held_by old.board.history variable)
+
+abbrev pub HeldOn : ℕ → Kept → Kept → ℕ → ℕ → ℕ → Type 0
+HeldOn variable old new code before after = OnRoom (Holds variable code before after) (after ≡ before) code old new
+
+-- whether a port is open
+abbrev pub told_open : Option Bool → Code
+told_open (Some true) = Done
+told_open (Some false) = Closed
+told_open None = NoSuch
+
+abbrev pub OpenOn : ℕ → Kept → Kept → ℕ → Type 0
+OpenOn port old new code = OnRoom (λ from to. (to ≡ from) × (code ≡ number (told_open (port_is_open from.board.history port)))) ⊤ code old new
+
+-- whether the journal takes more entries
+abbrev pub FullOn : Kept → Kept → ℕ → Type 0
+FullOn old new code = OnRoom (λ from to. (to ≡ from)
+    × ((code ≡ number Done × HasRoom from.board) ⊎ (code ≡ number JournalFull × (entries_in from.board.history ≡ full_at from.board)))) ⊤ code old new

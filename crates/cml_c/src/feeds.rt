@@ -1,0 +1,133 @@
+//! Feeds, on which a thread receives without the room's lock.
+ghost use Rattle.std.specs.Prelude.{◌≡◌, true};
+ghost use Rattle.cml_lanes.specs.Feeds.{Pumps};
+ghost use Rattle.cml_c.specs.declared.code.Code.TheVariants.{Done};
+ghost use Rattle.cml_c.specs.Codes.{number};
+ghost use Rattle.cml_c.specs.Asking.{chunk};
+ghost use Rattle.cml_c.specs.Floors.{Counts, CountsOn};
+ghost use Rattle.cml_c.specs.Feeds.{OpensFeedIn, OpensAFeedIn, TakesFrom, TellsPort, EndsIn, EndsAFeed};
+
+use crate::code::Code;
+use crate::handle::{Handle, Slot};
+use crate::kept::{Kept, NumberRoom};
+use crate::lanes::tell_count;
+use cml_board::Name;
+use cml_lanes::MAX_CAPACITY;
+use std::alloc::Global;
+
+/// Opens a feed of what is multicast on a channel from now on, with room for `capacity` messages, and writes a handle to it
+/// and its number.
+#[unsafe(no_mangle)]
+pub extern "C" fn seryugo_feed_open(
+    alloc: Global,
+    room: &mut Handle,
+    channel: u64,
+    capacity: usize,
+    feed: &mut Slot,
+    feed_number: &mut u64,
+) -> u32
+    ensures opens { OpensAFeedIn channel capacity room.old.kept room.new.kept result feed_number.old feed_number.new }
+    ensures same { ¬ (result ≡ number Done) → feed.new ≡ feed.old }
+{
+    match room.as_mut() {
+        Kept::Room(room) => open_in(alloc, room, Name(channel), capacity, feed, feed_number),
+        _ => Code::WrongHandle.number(),
+    }
+}
+
+fn open_in(
+    alloc: Global,
+    room: &mut NumberRoom,
+    channel: Name,
+    capacity: usize,
+    feed: &mut Slot,
+    feed_number: &mut u64,
+) -> u32
+    ensures opens { OpensFeedIn channel capacity result feed_number.old feed_number.new room.old room.new }
+    ensures same { ¬ (result ≡ number Done) → feed.new ≡ feed.old }
+{
+    if capacity < 1 || capacity > MAX_CAPACITY {
+        return Code::OutOfBounds.number();
+    }
+    // The handle's memory is taken first, so that no feed is open without one.
+    let Ok(mut handle) = Handle::new(alloc, Kept::Spent) else {
+        return Code::NoMemory.number();
+    };
+    match room.floor_mut().open_feed(channel, capacity) {
+        Ok((opened, number)) => {
+            *handle.as_mut() = Kept::Feed(opened);
+            *feed = handle.into_slot();
+            *feed_number = number;
+            Code::Done.number()
+        }
+        Err(refusal) => Code::of_refusal(refusal).number(),
+    }
+}
+
+/// Receives what an open feed is owed into its ring, while that has a free slot, and writes how many messages.
+#[unsafe(no_mangle)]
+pub extern "C" fn seryugo_feed_pump(room: &mut Handle, feed_number: u64, count: &mut u64) -> u32
+    ensures { CountsOn (Pumps chunk true feed_number) room.old.kept room.new.kept result count.old count.new }
+{
+    match room.as_mut() {
+        Kept::Room(room) => pump_in(room, feed_number, count),
+        _ => Code::WrongHandle.number(),
+    }
+}
+
+fn pump_in(room: &mut NumberRoom, feed: u64, count: &mut u64) -> u32
+    ensures { Counts (Pumps chunk true feed) result count.old count.new room.old room.new }
+{
+    tell_count(room.floor_mut().pump(feed), count)
+}
+
+/// Takes the next message that was pumped, without a lock. It is told `Nothing` where none is seen.
+#[unsafe(no_mangle)]
+pub extern "C" fn seryugo_feed_recv(feed: &mut Handle, message: &mut u64) -> u32
+    ensures { TakesFrom feed.old.kept feed.new.kept result message.old message.new }
+{
+    match feed.as_mut() {
+        Kept::Feed(feed) => match feed.recv() {
+            Some(taken) => {
+                *message = taken;
+                Code::Done.number()
+            }
+            None => Code::Nothing.number(),
+        },
+        _ => Code::WrongHandle.number(),
+    }
+}
+
+/// Writes the name of a feed's port.
+#[unsafe(no_mangle)]
+pub extern "C" fn seryugo_feed_port(feed: &mut Handle, port: &mut u64) -> u32
+    ensures { TellsPort feed.old.kept feed.new.kept result port.old port.new }
+{
+    match feed.as_mut() {
+        Kept::Feed(feed) => {
+            *port = feed.port().0;
+            Code::Done.number()
+        }
+        _ => Code::WrongHandle.number(),
+    }
+}
+
+/// Ends an open feed for good: nothing more is pumped into it. What is left in it can still be taken.
+#[unsafe(no_mangle)]
+pub extern "C" fn seryugo_feed_end(room: &mut Handle, feed_number: u64) -> u32
+    ensures { EndsAFeed feed_number room.old.kept room.new.kept result }
+{
+    match room.as_mut() {
+        Kept::Room(room) => end_in(room, feed_number),
+        _ => Code::WrongHandle.number(),
+    }
+}
+
+fn end_in(room: &mut NumberRoom, feed: u64) -> u32
+    ensures { EndsIn feed result room.old room.new }
+{
+    match room.floor_mut().end_feed(feed) {
+        Ok(_) => Code::Done.number(),
+        Err(refusal) => Code::of_refusal(refusal).number(),
+    }
+}

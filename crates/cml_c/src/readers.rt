@@ -1,0 +1,134 @@
+//! What a room has, told without changing it.
+ghost use Rattle.cml_c.specs.Reading.{ReadsOn, HeldOn, OpenOn, FullOn, sent_in, got_in, owed_in, kept_in, first_in, entries_of, cut_at_of, limit_of};
+
+use crate::code::Code;
+use crate::handle::Handle;
+use crate::kept::Kept;
+use crate::telling::{tell_found, tell_held, tell_open};
+use cml_board::Name;
+
+/// How many messages were sent to a mailbox, or multicast on a channel. It is told `NoSuch` where no object of the name has such a count.
+#[unsafe(no_mangle)]
+pub extern "C" fn seryugo_sent(room: &mut Handle, object: u64, count: &mut u64) -> u32
+    ensures { ReadsOn (sent_in object) room.old.kept room.new.kept result count.old count.new }
+{
+    match room.as_mut() {
+        Kept::Room(room) => tell_found(room.board().sent_count(Name(object)), count),
+        _ => Code::WrongHandle.number(),
+    }
+}
+
+/// How many messages were received from a mailbox or a port. It is told `NoSuch` where no object of the name has such a count.
+#[unsafe(no_mangle)]
+pub extern "C" fn seryugo_got(room: &mut Handle, object: u64, count: &mut u64) -> u32
+    ensures { ReadsOn (got_in object) room.old.kept room.new.kept result count.old count.new }
+{
+    match room.as_mut() {
+        Kept::Room(room) => tell_found(room.board().got_count(Name(object)), count),
+        _ => Code::WrongHandle.number(),
+    }
+}
+
+/// How many messages wait in a mailbox, or are owed to an open port. It is told `NoSuch` where no object of the name has such a count.
+#[unsafe(no_mangle)]
+pub extern "C" fn seryugo_owed(room: &mut Handle, object: u64, count: &mut u64) -> u32
+    ensures { ReadsOn (owed_in object) room.old.kept room.new.kept result count.old count.new }
+{
+    match room.as_mut() {
+        Kept::Room(room) => tell_found(room.board().owed_count(Name(object)), count),
+        _ => Code::WrongHandle.number(),
+    }
+}
+
+/// How many messages of a mailbox or a channel are kept. It is told `NoSuch` where no object of the name has such a count.
+#[unsafe(no_mangle)]
+pub extern "C" fn seryugo_kept(room: &mut Handle, object: u64, count: &mut u64) -> u32
+    ensures { ReadsOn (kept_in object) room.old.kept room.new.kept result count.old count.new }
+{
+    match room.as_mut() {
+        Kept::Room(room) => tell_found(room.board().kept_count(Name(object)), count),
+        _ => Code::WrongHandle.number(),
+    }
+}
+
+/// The place of the first message of a mailbox or a channel that is kept. It is told `NoSuch` where no object of the name has such a count.
+#[unsafe(no_mangle)]
+pub extern "C" fn seryugo_first(room: &mut Handle, object: u64, count: &mut u64) -> u32
+    ensures { ReadsOn (first_in object) room.old.kept room.new.kept result count.old count.new }
+{
+    match room.as_mut() {
+        Kept::Room(room) => tell_found(room.board().first_of(Name(object)), count),
+        _ => Code::WrongHandle.number(),
+    }
+}
+
+/// How many calls were accepted since the room was opened.
+#[unsafe(no_mangle)]
+pub extern "C" fn seryugo_entries(room: &mut Handle, count: &mut u64) -> u32
+    ensures { ReadsOn entries_of room.old.kept room.new.kept result count.old count.new }
+{
+    match room.as_mut() {
+        Kept::Room(room) => tell_found(Some(room.board().entries()), count),
+        _ => Code::WrongHandle.number(),
+    }
+}
+
+/// How many of them were cut away: the position of the journal's first entry.
+#[unsafe(no_mangle)]
+pub extern "C" fn seryugo_cut_at(room: &mut Handle, count: &mut u64) -> u32
+    ensures { ReadsOn cut_at_of room.old.kept room.new.kept result count.old count.new }
+{
+    match room.as_mut() {
+        Kept::Room(room) => tell_found(Some(room.board().cut_at()), count),
+        _ => Code::WrongHandle.number(),
+    }
+}
+
+/// How many entries the journal takes between two cuts.
+#[unsafe(no_mangle)]
+pub extern "C" fn seryugo_limit(room: &mut Handle, count: &mut u64) -> u32
+    ensures { ReadsOn limit_of room.old.kept room.new.kept result count.old count.new }
+{
+    match room.as_mut() {
+        Kept::Room(room) => tell_found(Some(room.board().limit()), count),
+        _ => Code::WrongHandle.number(),
+    }
+}
+
+/// What a variable holds. It is told `Nothing` where it is empty, and `NoSuch` where no variable has the name.
+#[unsafe(no_mangle)]
+pub extern "C" fn seryugo_held(room: &mut Handle, variable: u64, message: &mut u64) -> u32
+    ensures { HeldOn variable room.old.kept room.new.kept result message.old message.new }
+{
+    match room.as_mut() {
+        Kept::Room(room) => tell_held(room.board().held(Name(variable)), message),
+        _ => Code::WrongHandle.number(),
+    }
+}
+
+/// Whether a port is open: `Done` where it is, `Closed` where it was closed, `NoSuch` where no port has the name.
+#[unsafe(no_mangle)]
+pub extern "C" fn seryugo_is_open(room: &mut Handle, port: u64) -> u32
+    ensures { OpenOn port room.old.kept room.new.kept result }
+{
+    match room.as_mut() {
+        Kept::Room(room) => tell_open(room.board().is_open(Name(port))),
+        _ => Code::WrongHandle.number(),
+    }
+}
+
+/// Whether the journal takes more entries: `Done` where it does, and else `JournalFull`.
+#[unsafe(no_mangle)]
+pub extern "C" fn seryugo_is_full(room: &mut Handle) -> u32
+    ensures { FullOn room.old.kept room.new.kept result }
+{
+    match room.as_mut() {
+        Kept::Room(room) => {
+            if room.board().is_full() {
+                return Code::JournalFull.number();
+            }
+            Code::Done.number()
+        }
+        _ => Code::WrongHandle.number(),
+    }
+}

@@ -1,0 +1,45 @@
+//! What was found, told by its code.
+ghost use Rattle.std.specs.Prelude.{◌≡◌, option_map, option_copied};
+ghost use Rattle.cml_c.specs.Codes.{number};
+ghost use Rattle.cml_c.specs.Reading.{told_found, written_found, told_held, written_held, told_open};
+
+use crate::code::Code;
+
+/// A number that was found is written.
+pub fn tell_found(found: Option<u64>, given: &mut u64) -> u32
+    ensures code { result ≡ number (told_found found) }
+    ensures written { given.new ≡ written_found given.old found }
+{
+    match found {
+        Some(number) => {
+            *given = number;
+            Code::Done.number()
+        }
+        None => Code::NoSuch.number(),
+    }
+}
+
+/// So is what a variable holds.
+pub fn tell_held(found: Option<Option<&u64>>, given: &mut u64) -> u32
+    ensures code { result ≡ number (told_held (option_map option_copied found.entry)) }
+    ensures written { given.new ≡ written_held given.old (option_map option_copied found.entry) }
+{
+    match found {
+        Some(Some(message)) => {
+            *given = *message;
+            Code::Done.number()
+        }
+        Some(None) => Code::Nothing.number(),
+        None => Code::NoSuch.number(),
+    }
+}
+
+pub fn tell_open(found: Option<bool>) -> u32
+    ensures { result ≡ number (told_open found) }
+{
+    match found {
+        Some(true) => Code::Done.number(),
+        Some(false) => Code::Closed.number(),
+        None => Code::NoSuch.number(),
+    }
+}
