@@ -10,3 +10,4 @@ pub mod Reserved
 pub mod Lanes
 pub mod Feeds
 pub mod Reading
+pub mod Entries
