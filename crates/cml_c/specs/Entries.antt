@@ -68,7 +68,7 @@ IsJournal room journal = reverse journal ++ room.board.past ≡ room.board.histo
 abbrev pub FindsIn : ℕ → ℕ → SeryugoEntry → SeryugoEntry → RoomShown ℕ → RoomShown ℕ → Type 0
 FindsIn at code before after old new = (new ≡ old)
     × (((at < entries_in old.board.past) × (code ≡ number NoSuch) × (after ≡ before))
-       ⊎ ((entries_in old.board.past ≤ at) × (journal : List (Entry ℕ)) × IsJournal old journal × Finds journal (at - entries_in old.board.past) code before after))
+    ⊎ ((entries_in old.board.past ≤ at) × (journal : List (Entry ℕ)) × IsJournal old journal × Finds journal (at - entries_in old.board.past) code before after))
 
 abbrev pub FindsOn : ℕ → Kept → Kept → ℕ → SeryugoEntry → SeryugoEntry → Type 0
 FindsOn at old new code before after = OnRoom (FindsIn at code before after) (after ≡ before) code old new
