@@ -1,5 +1,5 @@
 -- An entry of the journal, as C is shown it.
-use Rattle.std.specs.Prelude.{ℕ, ◌≡◌, ◌+◌, ◌-◌, ◌<◌, ◌≤◌, ◌⊎◌, List, ◌++◌, length, reverse, slice_get, Some, None}
+use Rattle.std.specs.Prelude.{ℕ, ◌≡◌, ◌-◌, ◌<◌, ◌≤◌, ◌⊎◌, List, ◌++◌, reverse, slice_get, Some, None}
 use Rattle.cml_board.specs.declared.call.Call.{Call}
 use Rattle.cml_board.specs.declared.call.Call.TheVariants as call
 use Rattle.cml_board.specs.declared.entry.Entry.{Entry}

@@ -1,6 +1,5 @@
 -- What C is told of a new seat, and of one that leaves.
-use Rattle.std.specs.Prelude.{ℕ, ◌≡◌, ◌⊎◌, [], ◌∷◌, ◌++◌, length, Result, Ok, Err, ⊤}
-use Rattle.cml_board.specs.declared.outcome.Refusal.{Refusal}
+use Rattle.std.specs.Prelude.{ℕ, ◌≡◌, ◌⊎◌, [], ◌∷◌, ◌++◌, length, ⊤}
 use Rattle.cml_room.specs.Room.{RoomShown, MayAsk, with_state, floor_of}
 use Rattle.cml_room.specs.declared.state.State.TheVariants.{Free, Left}
 use Rattle.cml_c.specs.declared.code.Code.TheVariants.{Done, Gone, NoMemory}

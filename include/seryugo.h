@@ -1,0 +1,309 @@
+/*
+ * Mailboxes, channels and variables for threads: the static library libcml_c.a, whose messages are 64-bit numbers.
+ *
+ * A room is a board of objects with a journal of every call that was accepted, and seats from which the calls are made. A
+ * lane is a ring on which a thread sends without the room's lock, a feed one on which it receives. docs/BINDINGS.md says how
+ * a program is linked with the library, and what of it is proved.
+ *
+ * Who calls has to keep these rules; all else is tested inside.
+ *
+ * - One call at a time on a handle, each ordered after the one before by a lock, or by the start or the join of a thread.
+ *   So a room that several threads use stands under a lock of theirs, and no call here waits.
+ * - A lane or a feed is a handle of its own: one thread may use it, without the room's lock, while others use the room.
+ * - A handle is used from its opening until it is closed, and not after, nor is a copy of it.
+ * - Pointers are good, and none overlaps another.
+ * - No call from a signal handler, nor from the child of a fork of a process with threads.
+ */
+#ifndef SERYUGO_H
+#define SERYUGO_H
+
+#include <stdbool.h>
+#include <stddef.h>
+#include <stdint.h>
+
+#ifdef __cplusplus
+extern "C" {
+#endif
+
+/* What a call is told. With a refusal (SERYUGO_GONE to SERYUGO_UNSEEN) and with SERYUGO_WRONG_HANDLE and
+ * SERYUGO_OUT_OF_BOUNDS nothing is written; what a refusal leaves as it was, each function says. */
+enum seryugo_code {
+    /* It was done, and what it gives, if it gives anything, is written. */
+    SERYUGO_DONE = 0,
+    /* A poll found nothing, or a variable is empty. Nothing is written. */
+    SERYUGO_NOTHING = 1,
+    /* The variable was full before, and stays as it was. */
+    SERYUGO_PUT = 2,
+    /* The port is closed. Nothing is written. */
+    SERYUGO_CLOSED = 3,
+    /* The call would wait: its seat is parked, and does nothing but to make the same call again with is_again, once
+     * something has changed. Nothing is written. */
+    SERYUGO_PARKED = 4,
+    /* The seat can't make this call: it waits, or has left, or was never made. */
+    SERYUGO_GONE = 5,
+    /* A lane or a feed is open, so that the journal can't be cut. */
+    SERYUGO_BUSY = 6,
+    /* There is no object, no lane, no feed or no entry of this name, number or position. */
+    SERYUGO_NO_SUCH = 7,
+    /* The object can't take this call, or an open feed alone may make it. */
+    SERYUGO_WRONG_KIND = 8,
+    /* The journal has as many entries since the last cut as its limit says. */
+    SERYUGO_JOURNAL_FULL = 9,
+    /* The call would wait, and so does everybody else, and no lane is open: nobody is left who could answer it. */
+    SERYUGO_STALLED = 10,
+    SERYUGO_NO_MEMORY = 11,
+    /* Not as many messages were seen of a lane as were sent on it. */
+    SERYUGO_UNSEEN = 12,
+    /* The lane has no free slot: the message isn't sent. */
+    SERYUGO_FULL = 13,
+    /* The lane is still open, since one of its messages was refused. The count of those before it is written. */
+    SERYUGO_STILL_OPEN = 14,
+    /* The handle leads to what takes no such call, as a lane's where a room's is wanted. Nothing was changed. */
+    SERYUGO_WRONG_HANDLE = 15,
+    /* A limit isn't from 1 to 2^32, or a capacity not from 1 to 1024. Nothing was changed. */
+    SERYUGO_OUT_OF_BOUNDS = 16
+};
+
+/* A handle to a room, a lane or a feed. It is opened by a call that writes it, and closed by seryugo_close. */
+struct seryugo {
+    void *at;
+};
+
+/* ---- rooms and seats ---- */
+
+/* Opens a room with no objects and no seats, whose journal takes `limit` entries between two cuts. SERYUGO_OUT_OF_BOUNDS or
+ * SERYUGO_NO_MEMORY: *room is as it was. */
+uint32_t seryugo_room_open(uint64_t limit, struct seryugo *room);
+
+/* Closes a room, a lane or a feed: its memory is given back, with all that it holds. A room doesn't close its lanes and feeds:
+ * each of these handles is closed by itself, before or after. */
+void seryugo_close(struct seryugo handle);
+
+/* Makes a seat, which is free, and writes its number: how many were made before. The only refusal is SERYUGO_NO_MEMORY. While
+ * a seat is free nobody is told of a stall: make all seats before the first one waits, and leave with each. */
+uint32_t seryugo_new_seat(struct seryugo *room, uint64_t *seat);
+
+/* A free seat leaves: it makes no more calls. SERYUGO_GONE where it may make none. Then wake all who wait: they may be
+ * stalled. */
+uint32_t seryugo_leave(struct seryugo *room, uint64_t seat);
+
+/*
+ * ---- a seat's calls ----
+ *
+ * Each is refused, in this order, SERYUGO_GONE, SERYUGO_NO_SUCH, SERYUGO_WRONG_KIND, SERYUGO_JOURNAL_FULL, SERYUGO_STALLED
+ * and SERYUGO_NO_MEMORY, and then nothing is changed, but that a seat which was parked is free. What is answered adds one
+ * entry to the journal. A name is told by the call that makes the object; it is never given again.
+ *
+ * Those with `is_again` may wait. Make such a call with false; where it is told SERYUGO_PARKED, let the lock go until
+ * something has changed, and make it again with true, until it is told something else. Whoever's call is answered wakes those
+ * who wait.
+ */
+
+/* Makes a mailbox, and writes its name. */
+uint32_t seryugo_new_mailbox(struct seryugo *room, uint64_t seat, uint64_t *mailbox);
+
+/* Sends a message to a mailbox. */
+uint32_t seryugo_send(struct seryugo *room, uint64_t seat, uint64_t mailbox, uint64_t message);
+
+/* Receives the next message of a mailbox or a port, and writes it. A port that was closed is told SERYUGO_CLOSED. */
+uint32_t seryugo_recv(struct seryugo *room, uint64_t seat, uint64_t source, bool is_again, uint64_t *message);
+
+/* The same, but told SERYUGO_NOTHING where there is none. */
+uint32_t seryugo_recv_poll(struct seryugo *room, uint64_t seat, uint64_t source, uint64_t *message);
+
+/* Makes a channel, and writes its name. */
+uint32_t seryugo_new_channel(struct seryugo *room, uint64_t seat, uint64_t *channel);
+
+/* Makes a port of a channel, which receives what is multicast from now on, and writes its name. */
+uint32_t seryugo_new_port(struct seryugo *room, uint64_t seat, uint64_t channel, uint64_t *port);
+
+/* Makes a port that stands where this one does, and writes its name. A port that was closed is told SERYUGO_CLOSED. */
+uint32_t seryugo_copy_port(struct seryugo *room, uint64_t seat, uint64_t port, uint64_t *copy);
+
+/* Closes a port; told SERYUGO_CLOSED where it was closed before. */
+uint32_t seryugo_close_port(struct seryugo *room, uint64_t seat, uint64_t port);
+
+/* Sends a message to every port of a channel. */
+uint32_t seryugo_multicast(struct seryugo *room, uint64_t seat, uint64_t channel, uint64_t message);
+
+/* Makes an empty i-variable, which is filled once for good, and writes its name. */
+uint32_t seryugo_new_ivar(struct seryugo *room, uint64_t seat, uint64_t *variable);
+
+/* Makes an empty m-variable, which can be emptied again, and writes its name. */
+uint32_t seryugo_new_mvar(struct seryugo *room, uint64_t seat, uint64_t *variable);
+
+/* Makes an m-variable that holds this, and writes its name. */
+uint32_t seryugo_mvar_init(struct seryugo *room, uint64_t seat, uint64_t message, uint64_t *variable);
+
+/* Fills an empty variable; a full one stays, and is told SERYUGO_PUT. */
+uint32_t seryugo_put(struct seryugo *room, uint64_t seat, uint64_t variable, uint64_t message);
+
+/* Reads a variable, which keeps what it holds; and the same, told SERYUGO_NOTHING where it is empty. */
+uint32_t seryugo_get(struct seryugo *room, uint64_t seat, uint64_t variable, bool is_again, uint64_t *message);
+uint32_t seryugo_get_poll(struct seryugo *room, uint64_t seat, uint64_t variable, uint64_t *message);
+
+/* Reads and empties an m-variable; and the same, told SERYUGO_NOTHING where it is empty. */
+uint32_t seryugo_take(struct seryugo *room, uint64_t seat, uint64_t variable, bool is_again, uint64_t *message);
+uint32_t seryugo_take_poll(struct seryugo *room, uint64_t seat, uint64_t variable, uint64_t *message);
+
+/* Stores a message in a full m-variable, and writes what that held. */
+uint32_t seryugo_swap(struct seryugo *room, uint64_t seat, uint64_t variable, uint64_t message, bool is_again, uint64_t *held);
+
+/*
+ * ---- lanes ----
+ *
+ * While a lane is open nobody is told of a stall, and the journal isn't cut.
+ */
+
+/* Opens a lane to a mailbox or a channel, whose ring has room for `capacity` messages (1 to 1024), and writes a handle to it
+ * and its number. Refused SERYUGO_NO_SUCH, SERYUGO_WRONG_KIND or SERYUGO_NO_MEMORY; then the room and *lane are as they
+ * were. */
+uint32_t seryugo_lane_open(struct seryugo *room, uint64_t target, size_t capacity, struct seryugo *lane, uint64_t *lane_number);
+
+/* Sends a message on a lane, without the room's lock: the room's next drain may move it into the journal. It is told
+ * SERYUGO_FULL where no free slot is seen, never while the lane has accepted fewer messages than its capacity. */
+uint32_t seryugo_lane_send(struct seryugo *lane, uint64_t message);
+
+/* Ends a lane, without the room's lock: nothing more is sent on it, and seryugo_lane_close takes its handle. It is told
+ * SERYUGO_GONE where its room has let go of it before. */
+uint32_t seryugo_lane_finish(struct seryugo *lane);
+
+/* Moves what is seen of a lane that has finished, and closes it where then as many of its messages stand in the journal as
+ * were sent on it; its handle leads to nothing then, and is closed as ever. Else it may be tried again: SERYUGO_UNSEEN where
+ * they aren't as many, SERYUGO_JOURNAL_FULL or SERYUGO_NO_MEMORY where one was refused, SERYUGO_NO_SUCH where the room has no
+ * open lane of its number. Both handles are used by this call. It asks for no handle of this very room, but counts alone. */
+uint32_t seryugo_lane_close(struct seryugo *room, struct seryugo *lane);
+
+/* Moves what is seen of an open lane into the journal, in order, and writes how many messages. It stops where one is refused,
+ * and is refused itself only where that was the first. */
+uint32_t seryugo_lane_drain(struct seryugo *room, uint64_t lane_number, uint64_t *count);
+
+/* The same, and closes the lane where none was refused, whether or not all that was sent was seen; told SERYUGO_STILL_OPEN
+ * where one was, but not the first. */
+uint32_t seryugo_lane_drop(struct seryugo *room, uint64_t lane_number, uint64_t *count);
+
+/* Closes an open lane at once, and drops what is left in its ring. */
+uint32_t seryugo_lane_abandon(struct seryugo *room, uint64_t lane_number);
+
+/* ---- feeds ---- */
+
+/* Opens a feed of what is multicast on a channel from now on, whose ring has room for `capacity` messages (1 to 1024), and
+ * writes a handle to it and its number. It makes a port of the feed's own, by an entry of the journal, and is refused as that
+ * would be; then *feed is as it was, and nothing is opened. */
+uint32_t seryugo_feed_open(struct seryugo *room, uint64_t channel, size_t capacity, struct seryugo *feed, uint64_t *feed_number);
+
+/* Receives what an open feed is owed into its ring, while that has a free slot, and writes how many messages. */
+uint32_t seryugo_feed_pump(struct seryugo *room, uint64_t feed_number, uint64_t *count);
+
+/* Takes the next message that was pumped, without the room's lock; told SERYUGO_NOTHING where none is seen. */
+uint32_t seryugo_feed_recv(struct seryugo *feed, uint64_t *message);
+
+/* Writes the name of a feed's port. */
+uint32_t seryugo_feed_port(struct seryugo *feed, uint64_t *port);
+
+/* Ends an open feed for good: nothing more is pumped into it. What is left in it can still be taken, and its port is a port
+ * like any other from now on. */
+uint32_t seryugo_feed_end(struct seryugo *room, uint64_t feed_number);
+
+/* ---- the journal ---- */
+
+/* Takes memory for `entries` more entries. The only refusal is SERYUGO_NO_MEMORY. */
+uint32_t seryugo_reserve(struct seryugo *room, size_t entries);
+
+/* Cuts the journal: what it has is dropped, and it has room for as many entries again. Objects stay, and names and positions
+ * go on counting. The only refusal is SERYUGO_BUSY, where a lane or a feed is open. */
+uint32_t seryugo_cut(struct seryugo *room);
+
+enum seryugo_maker_kind { SERYUGO_SEAT = 0, SERYUGO_LANE = 1, SERYUGO_FEED = 2 };
+
+enum seryugo_call_kind {
+    SERYUGO_CALL_NEW_MAILBOX = 0,
+    SERYUGO_CALL_NEW_CHANNEL = 1,
+    SERYUGO_CALL_NEW_PORT = 2,
+    SERYUGO_CALL_COPY_PORT = 3,
+    SERYUGO_CALL_CLOSE_PORT = 4,
+    SERYUGO_CALL_NEW_IVAR = 5,
+    SERYUGO_CALL_NEW_MVAR = 6,
+    SERYUGO_CALL_MVAR_INIT = 7,
+    SERYUGO_CALL_SEND = 8,
+    SERYUGO_CALL_MULTICAST = 9,
+    SERYUGO_CALL_RECV = 10,
+    SERYUGO_CALL_RECV_POLL = 11,
+    SERYUGO_CALL_PUT = 12,
+    SERYUGO_CALL_GET = 13,
+    SERYUGO_CALL_GET_POLL = 14,
+    SERYUGO_CALL_TAKE = 15,
+    SERYUGO_CALL_TAKE_POLL = 16,
+    SERYUGO_CALL_SWAP = 17
+};
+
+enum seryugo_reply_kind {
+    SERYUGO_REPLY_DONE = 0,
+    SERYUGO_REPLY_MADE = 1,
+    SERYUGO_REPLY_GOT = 2,
+    SERYUGO_REPLY_NOTHING = 3,
+    SERYUGO_REPLY_PUT = 4,
+    SERYUGO_REPLY_CLOSED = 5
+};
+
+/* One accepted call: who made it, by its number; the call, with its object and its message, each 0 where it has none; and the
+ * reply, with the name or the message that it gives, else 0. */
+struct seryugo_entry {
+    struct {
+        uint32_t kind;
+        uint64_t number;
+    } maker;
+    struct {
+        uint32_t kind;
+        uint64_t object;
+        uint64_t message;
+    } call;
+    struct {
+        uint32_t kind;
+        uint64_t given;
+    } reply;
+};
+
+/* Writes the journal's entry at this position, counted from 0 since the room was opened. SERYUGO_NO_SUCH where there is none
+ * yet, and where it was cut away. */
+uint32_t seryugo_entry(struct seryugo *room, uint64_t at, struct seryugo_entry *entry);
+
+/*
+ * ---- readers ----
+ *
+ * None changes anything. Each writes a number, and is told SERYUGO_NO_SUCH where no object of the name has such a one.
+ */
+
+/* How many messages were sent to a mailbox, or multicast on a channel. */
+uint32_t seryugo_sent(struct seryugo *room, uint64_t object, uint64_t *count);
+
+/* How many were received from a mailbox or a port. */
+uint32_t seryugo_got(struct seryugo *room, uint64_t object, uint64_t *count);
+
+/* How many wait in a mailbox, or are owed to an open port. */
+uint32_t seryugo_owed(struct seryugo *room, uint64_t object, uint64_t *count);
+
+/* How many of a mailbox or a channel are kept, and the place of the first of these. */
+uint32_t seryugo_kept(struct seryugo *room, uint64_t object, uint64_t *count);
+uint32_t seryugo_first(struct seryugo *room, uint64_t object, uint64_t *count);
+
+/* What a variable holds; SERYUGO_NOTHING where it is empty. */
+uint32_t seryugo_held(struct seryugo *room, uint64_t variable, uint64_t *message);
+
+/* Whether a port is open: SERYUGO_DONE, or SERYUGO_CLOSED. */
+uint32_t seryugo_is_open(struct seryugo *room, uint64_t port);
+
+/* How many calls were accepted since the room was opened; how many of them were cut away; and how many entries the journal
+ * takes between two cuts. */
+uint32_t seryugo_entries(struct seryugo *room, uint64_t *count);
+uint32_t seryugo_cut_at(struct seryugo *room, uint64_t *count);
+uint32_t seryugo_limit(struct seryugo *room, uint64_t *count);
+
+/* Whether the journal takes more entries: SERYUGO_DONE, or else SERYUGO_JOURNAL_FULL. */
+uint32_t seryugo_is_full(struct seryugo *room);
+
+#ifdef __cplusplus
+}
+#endif
+
+#endif
