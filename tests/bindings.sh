@@ -1,12 +1,12 @@
 #!/bin/sh
-# The library for C, from C and from Rust: `sh tests/bindings.sh`. It builds the archive by `rt lib`, and with it the program
-# of bindings/c, which is to write the report beside each example, and the crate of bindings/rust, whose own tests and
-# documented example run. Where there is no C compiler, or no cargo, that is said and counts for nothing. The last line is
-# `N passed, M failed`.
+# The libraries for C, from C and from Rust: `sh tests/bindings.sh`. It builds the archives by `rt lib`, and with them the
+# programs of bindings/c: one that replays a script is to write the report beside each example, and two try rooms, one of them
+# with threads. Then the tests of the crate of bindings/rust run, and its documented example. Where there is no C compiler, or
+# no cargo, that is said and counts for nothing. The last line is `N passed, M failed`.
 cd "$(dirname "$0")/.." || exit 1
 work=$(mktemp -d) || exit 1
 trap 'rm -rf "$work"' EXIT
-archives=$PWD/crates/cml_script_c/out
+archives=$PWD/crates
 kit=$(dirname "$(rt doc)")/c
 passed=0
 failed=0
@@ -24,9 +24,12 @@ check() {
     fi
 }
 
-build_archive() { cd crates/cml_script_c && rt lib; }
+build() { (cd "crates/$1" && rt lib); }
 
-compile() { cc -O2 -Wall -Wextra -Werror -I include -o "$work/replay" bindings/c/replay.c "$archives/libcml_script_c.a" "$kit/liblibc_c.a"; }
+# compile PROGRAM LIBRARY
+compile() {
+    cc -O2 -Wall -Wextra -Werror -pthread -I include -o "$work/$1" "bindings/c/$1.c" "$archives/$2/out/lib$2.a" "$kit/liblibc_c.a"
+}
 
 # What the program in C does with a script is what cml does with it.
 replays() {
@@ -39,26 +42,45 @@ replays() {
     fi
 }
 
-from_c() {
-    check 'a program in C is built' compile
+# Without a fault of memory, where valgrind can say so.
+is_clean() { valgrind -q --error-exitcode=99 --leak-check=full "$@"; }
+
+replay_from_c() {
+    check 'a program in C that replays is built' compile replay cml_script_c
     [ -x "$work/replay" ] || return
     for example in examples/*.cml; do
         check "$example, from C" replays "$example"
     done
     if command -v valgrind > /dev/null; then
-        check 'without a fault of memory' valgrind -q --error-exitcode=99 --leak-check=full "$work/replay" < examples/hello_mailbox.cml
+        check 'a replay without a fault of memory' is_clean "$work/replay" < examples/hello_mailbox.cml
+    fi
+}
+
+rooms_from_c() {
+    for program in calls threads; do
+        check "a program in C of rooms is built: $program" compile $program cml_c
+        [ -x "$work/$program" ] && check "rooms from C: $program" timeout 60 "$work/$program"
+    done
+    if command -v valgrind > /dev/null && [ -x "$work/calls" ]; then
+        check 'rooms without a fault of memory' is_clean "$work/calls"
     fi
 }
 
 from_rust() {
     cp -r bindings "$work/bindings"
     ln -s "$PWD/examples" "$work/examples"
-    check 'the crate in Rust' env SERYUGO_ARCHIVES="$archives" SERYUGO_KIT="$kit" \
+    check 'the crate in Rust' env SERYUGO_ARCHIVES="$archives/cml_script_c/out" SERYUGO_KIT="$kit" \
         cargo test --quiet --offline --manifest-path "$work/bindings/rust/seryugo/Cargo.toml"
 }
 
-check 'the archive is built' build_archive
-if command -v cc > /dev/null; then from_c; else echo 'skipped: there is no C compiler'; fi
+check 'the archive of rooms is built' build cml_c
+check 'the archive of replay is built' build cml_script_c
+if command -v cc > /dev/null; then
+    rooms_from_c
+    replay_from_c
+else
+    echo 'skipped: there is no C compiler'
+fi
 if command -v cargo > /dev/null; then from_rust; else echo 'skipped: there is no cargo'; fi
 
 echo "$passed passed, $failed failed"
