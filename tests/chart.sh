@@ -7,43 +7,7 @@ LC_ALL=C
 export LC_ALL
 program=$(cd "$(dirname "$1")" && pwd)/$(basename "$1")
 cd "$(dirname "$0")/.." || exit 1
-work=$(mktemp -d) || exit 1
-trap 'rm -rf "$work"' EXIT
-passed=0
-failed=0
-
-pass() { passed=$((passed + 1)); }
-
-fail() {
-    failed=$((failed + 1))
-    echo "failed: $*"
-}
-
-# What the program does with standard input: its output, its errors, and its status.
-run() {
-    timeout 60 "$program" "$@" > "$work/out" 2> "$work/err"
-    status=$?
-}
-
-# expect CASE STATUS OUT ERR: what the last run did; OUT and ERR are `none`, `some`, or all of a text.
-expect() {
-    if [ "$status" = "$2" ] && holds "$work/out" "$3" && holds "$work/err" "$4"; then
-        pass
-    else
-        fail "$1: status $status, output $(head -c 300 "$work/out"), errors $(head -c 300 "$work/err")"
-    fi
-}
-
-holds() {
-    case $2 in
-        none) [ ! -s "$1" ] ;;
-        some) [ -s "$1" ] ;;
-        *) [ "$(cat "$1")" = "$2" ] ;;
-    esac
-}
-
-# A text whose lines are parted by ` / `, to standard output.
-lines() { printf '%s\n' "$1" | sed 's| / |\n|g'; }
+. tests/cases.sh
 
 # well_formed CASE: the last run's output is XML, and its texts, one a line, are in $work/texts; without python3 nothing is tried.
 well_formed() {
@@ -79,7 +43,7 @@ examples() {
 
 # fault CASE LINES FAULT: these lines are no report.
 fault() {
-    lines "$2" > "$work/in"
+    script "$2" > "$work/in"
     run < "$work/in"
     expect "$1" 2 none "report: $3"
 }
@@ -162,7 +126,7 @@ sizes() {
 
 # What XML has a meaning for, in messages of version 2.
 texts() {
-    lines "A send m <b>&amp;\"': done / A recv m: =<b>&amp;\"' / mailbox m: sent 1 got 1 waits 0 / mvar v: full =]]> / end: done 2" > "$work/in"
+    script "A send m <b>&amp;\"': done / A recv m: =<b>&amp;\"' / mailbox m: sent 1 got 1 waits 0 / mvar v: full =]]> / end: done 2" > "$work/in"
     run < "$work/in"
     expect "bytes that XML has a meaning for" 0 some none
     well_formed "bytes that XML has a meaning for"

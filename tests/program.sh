@@ -7,45 +7,7 @@ LC_ALL=C
 export LC_ALL
 program=$(cd "$(dirname "$1")" && pwd)/$(basename "$1")
 cd "$(dirname "$0")/.." || exit 1
-work=$(mktemp -d) || exit 1
-trap 'rm -rf "$work"' EXIT
-passed=0
-failed=0
-
-pass() { passed=$((passed + 1)); }
-
-fail() {
-    failed=$((failed + 1))
-    echo "failed: $*"
-}
-
-# What the program does with standard input: its output, its errors, and its status. One that doesn't end is given up
-# after a minute, with status 124.
-run() {
-    timeout 60 "$program" "$@" > "$work/out" 2> "$work/err"
-    status=$?
-}
-
-# expect CASE STATUS OUT ERR: what the last run did; OUT and ERR are `none`, `some`, or all of a text.
-expect() {
-    if [ "$status" = "$2" ] && holds "$work/out" "$3" && holds "$work/err" "$4"; then
-        pass
-    else
-        fail "$1: status $status, output $(head -c 300 "$work/out"), errors $(head -c 300 "$work/err")"
-    fi
-}
-
-holds() {
-    case $2 in
-        none) [ ! -s "$1" ] ;;
-        some) [ -s "$1" ] ;;
-        *) [ "$(cat "$1")" = "$2" ] ;;
-    esac
-}
-
-# A script, whose lines are parted by ` / `, to standard output.
-script() { printf '%s\n' "$1" | sed 's| / |\n|g'; }
-
+. tests/cases.sh
 . tests/tables.sh
 . tests/runs.sh
 
