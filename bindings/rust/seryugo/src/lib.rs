@@ -1,7 +1,24 @@
 //! Buffered Concurrent ML for Rust, by a library that is proved.
 //!
-//! So far this crate replays scripts of threads: what objects there are, and which calls each thread makes.
+//! A [`Switchboard`] has mailboxes, channels and variables of 64-bit messages, and a journal of every call that was accepted.
+//! Threads call from [`Seat`]s, and wait by a lock and a condition variable of this crate; [`Lane`]s and [`Feed`]s keep senders
+//! and subscribers off the lock. [`replay`] plays scripts of threads.
 
+mod entry;
+mod error;
+mod feed;
+mod lane;
+mod names;
+mod raw;
 mod script;
+mod seat;
+mod switchboard;
 
+pub use entry::{Call, Entry, Reply, Who};
+pub use error::Error;
+pub use feed::Feed;
+pub use lane::{Lane, LaneFull};
+pub use names::{Channel, IVar, MVar, Mailbox, Object, Port, Source, Target, Variable};
 pub use script::{replay, BadLimit, End, Replayed, MOST_ENTRIES};
+pub use seat::Seat;
+pub use switchboard::Switchboard;

@@ -1,0 +1,172 @@
+//! A room under a lock, on which threads call and wait.
+
+use crate::entry::Entry;
+use crate::error::Error;
+use crate::feed::Feed;
+use crate::lane::Lane;
+use crate::names::{Channel, Object, Port, Target, Variable};
+use crate::raw::{self, done, polled, told, written, Handle, RawEntry, Told};
+use crate::seat::Seat;
+use std::sync::{Condvar, Mutex, MutexGuard, PoisonError};
+
+/// Objects, the journal of every call that was accepted, and the seats from which threads call.
+///
+/// ```
+/// use seryugo::{Error, Switchboard};
+///
+/// # fn main() -> Result<(), Error> {
+/// let board = Switchboard::new(1_000)?;
+/// let mut seat = board.seat()?;
+/// let mut other = board.seat()?;
+/// let mailbox = seat.mailbox()?;
+/// let received = std::thread::scope(|scope| {
+///     let receiver = scope.spawn(move || other.recv(mailbox));
+///     seat.send(mailbox, 5)?;
+///     receiver.join().unwrap()
+/// })?;
+/// assert_eq!(received, Some(5));
+/// assert_eq!(board.owed(mailbox)?, 0);
+/// # Ok(())
+/// # }
+/// ```
+pub struct Switchboard {
+    room: Mutex<Handle>,
+    changed: Condvar,
+}
+
+impl Switchboard {
+    /// A switchboard with no objects, whose journal takes `limit` entries between two cuts, from 1 to 2^32.
+    pub fn new(limit: u64) -> Result<Switchboard, Error> {
+        let room = Handle::opened(|room| unsafe { raw::seryugo_room_open(limit, room) })?;
+        Ok(Switchboard {
+            room: Mutex::new(room),
+            changed: Condvar::new(),
+        })
+    }
+
+    /// A new seat. Make all seats before the first thread waits: while one is free nobody is told of a stall.
+    pub fn seat(&self) -> Result<Seat<'_>, Error> {
+        let mut room = self.lock();
+        let number = written(|seat| unsafe { raw::seryugo_new_seat(&mut *room, seat) })?;
+        Ok(Seat::new(self, number))
+    }
+
+    /// Opens a lane to a mailbox or a channel, whose ring has room for `capacity` messages, from 1 to 1024.
+    pub fn lane(&self, target: impl Target, capacity: usize) -> Result<Lane<'_>, Error> {
+        let mut room = self.lock();
+        let mut number = 0;
+        let handle = Handle::opened(|lane| unsafe {
+            raw::seryugo_lane_open(&mut *room, target.number(), capacity, lane, &mut number)
+        })?;
+        Ok(Lane::new(self, handle, number))
+    }
+
+    /// Opens a feed of what is multicast on a channel from now on, whose ring has room for `capacity` messages.
+    pub fn feed(&self, channel: Channel, capacity: usize) -> Result<Feed<'_>, Error> {
+        let mut room = self.lock();
+        let mut number = 0;
+        let handle = Handle::opened(|feed| unsafe {
+            raw::seryugo_feed_open(&mut *room, channel.0, capacity, feed, &mut number)
+        })?;
+        drop(room);
+        self.changed.notify_all();
+        Ok(Feed::new(self, handle, number))
+    }
+
+    /// Takes memory for so many more entries.
+    pub fn reserve(&self, entries: usize) -> Result<(), Error> {
+        done(unsafe { raw::seryugo_reserve(&mut *self.lock(), entries) })
+    }
+
+    /// Cuts the journal: what it has is dropped, and it has room for as many entries again.
+    pub fn cut(&self) -> Result<(), Error> {
+        done(unsafe { raw::seryugo_cut(&mut *self.lock()) })
+    }
+
+    /// The journal's entry at this position, counted from 0 since the switchboard was made.
+    pub fn entry(&self, at: u64) -> Option<Entry> {
+        let mut entry = RawEntry::default();
+        let code = unsafe { raw::seryugo_entry(&mut *self.lock(), at, &mut entry) };
+        done(code).ok()?;
+        Some(Entry::of(&entry))
+    }
+
+    /// How many calls were accepted since the switchboard was made.
+    pub fn entries(&self) -> u64 {
+        self.count(|room, count| unsafe { raw::seryugo_entries(room, count) })
+    }
+
+    /// How many of them were cut away.
+    pub fn cut_at(&self) -> u64 {
+        self.count(|room, count| unsafe { raw::seryugo_cut_at(room, count) })
+    }
+
+    /// How many messages were sent to a mailbox, or multicast on a channel.
+    pub fn sent(&self, object: impl Target) -> Result<u64, Error> {
+        self.read(|room, count| unsafe { raw::seryugo_sent(room, object.number(), count) })
+    }
+
+    /// How many were received from a mailbox or a port.
+    pub fn got(&self, object: impl Object) -> Result<u64, Error> {
+        self.read(|room, count| unsafe { raw::seryugo_got(room, object.number(), count) })
+    }
+
+    /// How many wait in a mailbox, or are owed to an open port.
+    pub fn owed(&self, object: impl Object) -> Result<u64, Error> {
+        self.read(|room, count| unsafe { raw::seryugo_owed(room, object.number(), count) })
+    }
+
+    /// How many of a mailbox or a channel are kept.
+    pub fn kept(&self, object: impl Target) -> Result<u64, Error> {
+        self.read(|room, count| unsafe { raw::seryugo_kept(room, object.number(), count) })
+    }
+
+    /// What a variable holds; `None` where it is empty.
+    pub fn held(&self, variable: impl Variable) -> Result<Option<u64>, Error> {
+        let mut room = self.lock();
+        polled(|message| unsafe { raw::seryugo_held(&mut *room, variable.number(), message) })
+    }
+
+    /// Whether a port is open.
+    pub fn is_open(&self, port: Port) -> Result<bool, Error> {
+        let code = unsafe { raw::seryugo_is_open(&mut *self.lock(), port.0) };
+        Ok(told(code)? == Told::Done)
+    }
+
+    fn read(&self, call: impl FnOnce(&mut Handle, *mut u64) -> u32) -> Result<u64, Error> {
+        let mut room = self.lock();
+        written(|count| call(&mut room, count))
+    }
+
+    fn count(&self, call: impl FnOnce(&mut Handle, *mut u64) -> u32) -> u64 {
+        self.read(call).unwrap_or_else(|error| unreachable!("{error}"))
+    }
+
+    /// The room. A thread that panicked left it between two calls, where it is whole.
+    pub(crate) fn lock(&self) -> MutexGuard<'_, Handle> {
+        self.room.lock().unwrap_or_else(PoisonError::into_inner)
+    }
+
+    /// Makes a call that changes something, and wakes those who wait.
+    pub(crate) fn change<T>(&self, call: impl FnOnce(&mut Handle) -> T) -> T {
+        let answer = call(&mut self.lock());
+        self.changed.notify_all();
+        answer
+    }
+
+    /// Makes a call that may wait. While it is parked this waits for a change, and makes it again; once it is answered, those
+    /// who wait are woken.
+    pub(crate) fn wait(&self, mut call: impl FnMut(&mut Handle, bool) -> u32) -> Result<Told, Error> {
+        let mut room = self.lock();
+        let mut answer = told(call(&mut room, false));
+        while answer == Ok(Told::Parked) {
+            room = self.changed.wait(room).unwrap_or_else(PoisonError::into_inner);
+            answer = told(call(&mut room, true));
+        }
+        drop(room);
+        if answer.is_ok() {
+            self.changed.notify_all();
+        }
+        answer
+    }
+}

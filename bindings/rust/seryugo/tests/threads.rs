@@ -1,0 +1,108 @@
+//! Threads on one switchboard.
+
+use seryugo::{Call, Error, Lane, LaneFull, Reply, Switchboard, Who};
+use std::thread;
+
+const SENDERS: u64 = 4;
+const EACH: u64 = 5_000;
+
+/// Each sender's messages come in its order, each once.
+fn all_in_order(mut next: impl FnMut() -> u64) {
+    let mut expected = [0; SENDERS as usize];
+    for _ in 0..SENDERS * EACH {
+        let message = next();
+        let sender = (message / EACH) as usize;
+        assert_eq!(message % EACH, expected[sender]);
+        expected[sender] += 1;
+    }
+}
+
+#[test]
+fn four_senders_from_seats() {
+    let board = Switchboard::new(1 << 32).unwrap();
+    let mut receiver = board.seat().unwrap();
+    let mailbox = receiver.mailbox().unwrap();
+    let seats: Vec<_> = (0..SENDERS).map(|_| board.seat().unwrap()).collect();
+    thread::scope(|scope| {
+        for (sender, mut seat) in (0..).zip(seats) {
+            scope.spawn(move || {
+                for n in 0..EACH {
+                    seat.send(mailbox, sender * EACH + n).unwrap();
+                }
+            });
+        }
+        all_in_order(|| receiver.recv(mailbox).unwrap().unwrap());
+    });
+    assert_eq!(board.got(mailbox), Ok(SENDERS * EACH));
+}
+
+fn send_all(mut lane: Lane<'_>, sender: u64) {
+    for n in 0..EACH {
+        while let Err(LaneFull(_)) = lane.send(sender * EACH + n) {
+            lane.drain().unwrap();
+        }
+    }
+    lane.close().map_err(|(_, error)| error).unwrap();
+}
+
+#[test]
+fn four_senders_on_lanes() {
+    let board = Switchboard::new(1 << 32).unwrap();
+    let mut receiver = board.seat().unwrap();
+    let mailbox = receiver.mailbox().unwrap();
+    let lanes: Vec<_> = (0..SENDERS).map(|_| board.lane(mailbox, 32).unwrap()).collect();
+    thread::scope(|scope| {
+        for (sender, lane) in (0..).zip(lanes) {
+            scope.spawn(move || send_all(lane, sender));
+        }
+        all_in_order(|| receiver.recv(mailbox).unwrap().unwrap());
+    });
+    assert_eq!(board.entry(1).map(|entry| matches!(entry.who, Who::Lane(_) | Who::Seat(_))), Some(true));
+}
+
+#[test]
+fn two_that_both_wait_are_stalled() {
+    let board = Switchboard::new(100).unwrap();
+    let mut one = board.seat().unwrap();
+    let mut two = board.seat().unwrap();
+    let mailbox = one.mailbox().unwrap();
+    thread::scope(|scope| {
+        let first = scope.spawn(move || one.recv(mailbox));
+        let second = scope.spawn(move || two.recv(mailbox));
+        assert_eq!(first.join().unwrap(), Err(Error::Stalled));
+        assert_eq!(second.join().unwrap(), Err(Error::Stalled));
+    });
+}
+
+#[test]
+fn refusals_are_told() {
+    assert_eq!(Switchboard::new(0).err(), Some(Error::OutOfBounds));
+    let board = Switchboard::new(2).unwrap();
+    let mut seat = board.seat().unwrap();
+    let mailbox = seat.mailbox().unwrap();
+    let lane = board.lane(mailbox, 1).unwrap();
+    assert_eq!(board.cut(), Err(Error::Busy));
+    assert_eq!(board.lane(mailbox, 0).err(), Some(Error::OutOfBounds));
+    drop(lane);
+    assert_eq!(seat.recv_poll(mailbox), Ok(None));
+    assert_eq!(seat.send(mailbox, 5), Err(Error::JournalFull));
+    assert_eq!(board.cut(), Ok(()));
+    assert_eq!(seat.send(mailbox, 5), Ok(()));
+    assert_eq!((board.entries(), board.cut_at()), (3, 2));
+}
+
+#[test]
+fn the_journal_is_read_by_position() {
+    let board = Switchboard::new(100).unwrap();
+    let mut seat = board.seat().unwrap();
+    let channel = seat.channel().unwrap();
+    let port = seat.port(channel).unwrap();
+    seat.multicast(channel, 5).unwrap();
+    assert_eq!(seat.recv(port), Ok(Some(5)));
+    assert_eq!(seat.close(port), Ok(true));
+    assert_eq!(seat.recv(port), Ok(None));
+    let entry = board.entry(2).unwrap();
+    assert_eq!((entry.who, entry.call, entry.reply), (Who::Seat(0), Call::Multicast(0, 5), Reply::Done));
+    assert_eq!(board.entry(5).map(|entry| entry.reply), Some(Reply::Closed));
+    assert_eq!(board.entry(6), None);
+}
