@@ -56,11 +56,30 @@ replay_from_c() {
     fi
 }
 
+# refused N: with its N-th request for memory refused, the program that makes each call ends with status 5: the call that asked
+# tells of it, and all that was opened before is closed.
+refused() {
+    rm -f "$work/met"
+    REFUSE=$1 TOLD="$work/met" LD_PRELOAD="$work/refuse.so" "$work/calls"
+    [ $? -eq 5 ]
+}
+
+# Each request of the library's in turn, until a run makes no more. The last one is the C library's own, for what is printed.
+refuse_each() {
+    cc -O2 -shared -fPIC -o "$work/refuse.so" tests/refuse.c -ldl || return
+    request=1
+    while refused $request > "$work/printed" 2>&1; do
+        request=$((request + 1))
+    done
+    grep -q 'each call is told' "$work/printed" && [ $request -gt 20 ]
+}
+
 rooms_from_c() {
     for program in calls threads; do
         check "a program in C of rooms is built: $program" compile $program cml_c
         [ -x "$work/$program" ] && check "rooms from C: $program" timeout 60 "$work/$program"
     done
+    [ -x "$work/calls" ] && check 'each request for memory refused' refuse_each
     if command -v valgrind > /dev/null && [ -x "$work/calls" ]; then
         check 'rooms without a fault of memory' is_clean "$work/calls"
     fi
@@ -69,7 +88,7 @@ rooms_from_c() {
 from_rust() {
     cp -r bindings "$work/bindings"
     ln -s "$PWD/examples" "$work/examples"
-    check 'the crate in Rust' env SERYUGO_ARCHIVES="$archives/cml_script_c/out" SERYUGO_KIT="$kit" \
+    check 'the crate in Rust' env SERYUGO_ARCHIVES="$archives/cml_c/out:$archives/cml_script_c/out" SERYUGO_KIT="$kit" \
         cargo test --quiet --offline --manifest-path "$work/bindings/rust/seryugo/Cargo.toml"
 }
 
