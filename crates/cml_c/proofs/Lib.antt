@@ -1,3 +1,2 @@
 mod Steps
 mod LooseValues
-mod SlotValues

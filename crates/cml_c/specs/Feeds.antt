@@ -7,6 +7,7 @@ use Rattle.cml_lanes.specs.Feeds.{OpensAFeed, Ends}
 use Rattle.cml_room.specs.Room.{RoomShown, floor_of}
 use Rattle.cml_c.specs.declared.code.Code.{Code}
 use Rattle.cml_c.specs.declared.code.Code.TheVariants.{Done, Nothing, NoMemory, OutOfBounds}
+use Rattle.cml_c.specs.declared.handle.Slot.{Slot}
 use Rattle.cml_c.specs.declared.kept.Kept.{Kept}
 use Rattle.cml_c.specs.declared.kept.Kept.TheVariants.{Feed}
 use Rattle.cml_c.specs.Codes.{number, of_refusal}
@@ -15,14 +16,14 @@ use Rattle.cml_c.specs.Asking.{chunk}
 use Rattle.cml_c.specs.Lanes.{IsCapacity, Opens, NotOpened}
 
 -- the capacity is in its bounds, and the feed is opened or refused, or there is no memory for its handle; or it is out of them
-abbrev pub OpensFeedIn : Name → ℕ → ℕ → ℕ → ℕ → RoomShown ℕ → RoomShown ℕ → Type 0
-OpensFeedIn channel capacity code before after old new =
-    (IsCapacity capacity × (Opens (FeedShown ℕ) (λ from to outcome. OpensAFeed chunk true (floor_of from) (floor_of to) channel capacity outcome) code before after old new ⊎ NotOpened NoMemory code before after old new))
-    ⊎ (¬ (IsCapacity capacity) × NotOpened OutOfBounds code before after old new)
+abbrev pub OpensFeedIn : Name → ℕ → Slot → Slot → ℕ → ℕ → ℕ → RoomShown ℕ → RoomShown ℕ → Type 0
+OpensFeedIn channel capacity from to code before after old new =
+    (IsCapacity capacity × (Opens (FeedShown ℕ) Feed (λ one two outcome. OpensAFeed chunk true (floor_of one) (floor_of two) channel capacity outcome) from to code before after old new ⊎ NotOpened NoMemory from to code before after old new))
+    ⊎ (¬ (IsCapacity capacity) × NotOpened OutOfBounds from to code before after old new)
 
-abbrev pub OpensAFeedIn : ℕ → ℕ → Kept → Kept → ℕ → ℕ → ℕ → Type 0
-OpensAFeedIn channel capacity old new code before after =
-    OnRoom (OpensFeedIn (record { 0 = channel }) capacity code before after) (after ≡ before) code old new
+abbrev pub OpensAFeedIn : ℕ → ℕ → Kept → Kept → Slot → Slot → ℕ → ℕ → ℕ → Type 0
+OpensAFeedIn channel capacity old new from to code before after =
+    OnRoom (OpensFeedIn (record { 0 = channel }) capacity from to code before after) ((after ≡ before) × (to ≡ from)) code old new
 
 -- the next message is taken, or none is seen
 pub record IsTaken (told before after : ℕ) (feed : FeedShown ℕ) (new : Kept) : Type 0 where

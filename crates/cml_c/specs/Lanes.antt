@@ -1,5 +1,5 @@
 -- What C is told of the calls on lanes.
-use Rattle.std.specs.Prelude.{ℕ, ◌≡◌, ◌≤◌, ◌⊎◌, Bool, true, false, [], ◌∷◌, ◌++◌, length, Result, Ok, Err, ⊤}
+use Rattle.std.specs.Prelude.{ℕ, ◌≡◌, ◌≤◌, ◌⊎◌, Bool, true, false, Option, Some, [], ◌∷◌, ◌++◌, length, Result, Ok, Err, ⊤}
 use Rattle.cml_board.specs.declared.call.Name.{Name}
 use Rattle.cml_board.specs.declared.outcome.Refusal.{Refusal}
 use Rattle.cml_lanes.specs.Ends.{LaneShown, Ended}
@@ -7,6 +7,7 @@ use Rattle.cml_lanes.specs.Lanes.{OpensALane, ClosesCounted, Drops}
 use Rattle.cml_room.specs.Room.{RoomShown, floor_of}
 use Rattle.cml_c.specs.declared.code.Code.{Code}
 use Rattle.cml_c.specs.declared.code.Code.TheVariants.{Done, Gone, NoMemory, Full, StillOpen, OutOfBounds}
+use Rattle.cml_c.specs.declared.handle.Slot.{Slot}
 use Rattle.cml_c.specs.declared.kept.Kept.{Kept}
 use Rattle.cml_c.specs.declared.kept.Kept.TheVariants.{Room, Lane, LaneEnd, Spent}
 use Rattle.cml_c.specs.Codes.{number, of_refusal}
@@ -26,29 +27,36 @@ abbrev pub written_opened : {X : Type 0} → ℕ → Result (X × ℕ) Refusal �
 written_opened before (Ok opened) = opened.1
 written_opened before (Err refusal) = before
 
+-- what the slot holds then: a handle to what was opened, or what it held before
+abbrev pub LeavesOpened : {X : Type 0} → (X → Kept) → Slot → Slot → Result (X × ℕ) Refusal → Type 0
+LeavesOpened wrap from to (Ok opened) = to.kept ≡ Some (wrap opened.0)
+LeavesOpened wrap from to (Err refusal) = to ≡ from
+
 -- this became of the opening, in a room whose seats stay
-pub record Opens (X : Type 0) (becomes : RoomShown ℕ → RoomShown ℕ → Result (X × ℕ) Refusal → Type 0) (code before after : ℕ) (old new : RoomShown ℕ) : Type 0 where
+pub record Opens (X : Type 0) (wrap : X → Kept) (becomes : RoomShown ℕ → RoomShown ℕ → Result (X × ℕ) Refusal → Type 0) (from to : Slot) (code before after : ℕ) (old new : RoomShown ℕ) : Type 0 where
   pub outcome : Result (X × ℕ) Refusal
   pub floor : becomes old new outcome
   pub seats : new.seats ≡ old.seats
   pub told : code ≡ number (told_opened outcome)
   pub written : after ≡ written_opened before outcome
+  pub slot : LeavesOpened wrap from to outcome
 
--- nothing was opened, for this reason, and the room is as it was
-pub record NotOpened (reason : Code) (code before after : ℕ) (old new : RoomShown ℕ) : Type 0 where
+-- nothing was opened, for this reason, and the room and the slot are as they were
+pub record NotOpened (reason : Code) (from to : Slot) (code before after : ℕ) (old new : RoomShown ℕ) : Type 0 where
   pub told : code ≡ number reason
   pub written : after ≡ before
   pub room : new ≡ old
+  pub slot : to ≡ from
 
 -- the capacity is in its bounds, and the lane is opened or refused, or there is no memory for its handle; or it is out of them
-abbrev pub OpensIn : Name → ℕ → ℕ → ℕ → ℕ → RoomShown ℕ → RoomShown ℕ → Type 0
-OpensIn target capacity code before after old new =
-    (IsCapacity capacity × (Opens (LaneShown ℕ) (λ from to outcome. OpensALane (floor_of from) (floor_of to) target capacity outcome) code before after old new ⊎ NotOpened NoMemory code before after old new))
-    ⊎ (¬ (IsCapacity capacity) × NotOpened OutOfBounds code before after old new)
+abbrev pub OpensIn : Name → ℕ → Slot → Slot → ℕ → ℕ → ℕ → RoomShown ℕ → RoomShown ℕ → Type 0
+OpensIn target capacity from to code before after old new =
+    (IsCapacity capacity × (Opens (LaneShown ℕ) Lane (λ one two outcome. OpensALane (floor_of one) (floor_of two) target capacity outcome) from to code before after old new ⊎ NotOpened NoMemory from to code before after old new))
+    ⊎ (¬ (IsCapacity capacity) × NotOpened OutOfBounds from to code before after old new)
 
-abbrev pub OpensALaneIn : ℕ → ℕ → Kept → Kept → ℕ → ℕ → ℕ → Type 0
-OpensALaneIn target capacity old new code before after =
-    OnRoom (OpensIn (record { 0 = target }) capacity code before after) (after ≡ before) code old new
+abbrev pub OpensALaneIn : ℕ → ℕ → Kept → Kept → Slot → Slot → ℕ → ℕ → ℕ → Type 0
+OpensALaneIn target capacity old new from to code before after =
+    OnRoom (OpensIn (record { 0 = target }) capacity from to code before after) ((after ≡ before) × (to ≡ from)) code old new
 
 -- the lane accepted the message, or has no free slot, which isn't so while it accepted fewer than it has room for
 pub record Accepts (message told : ℕ) (lane : LaneShown ℕ) (new : Kept) : Type 0 where

@@ -26,8 +26,7 @@ pub extern "C" fn seryugo_feed_open(
     feed: &mut Slot,
     feed_number: &mut u64,
 ) -> u32
-    ensures opens { OpensAFeedIn channel capacity room.old.kept room.new.kept result feed_number.old feed_number.new }
-    ensures same { ¬ (result ≡ number Done) → feed.new ≡ feed.old }
+    ensures { OpensAFeedIn channel capacity room.old.kept room.new.kept feed.old feed.new result feed_number.old feed_number.new }
 {
     match room.as_mut() {
         Kept::Room(room) => open_in(alloc, room, Name(channel), capacity, feed, feed_number),
@@ -43,8 +42,7 @@ fn open_in(
     feed: &mut Slot,
     feed_number: &mut u64,
 ) -> u32
-    ensures opens { OpensFeedIn channel capacity result feed_number.old feed_number.new room.old room.new }
-    ensures same { ¬ (result ≡ number Done) → feed.new ≡ feed.old }
+    ensures { OpensFeedIn channel capacity feed.old feed.new result feed_number.old feed_number.new room.old room.new }
 {
     if capacity < 1 || capacity > MAX_CAPACITY {
         return Code::OutOfBounds.number();

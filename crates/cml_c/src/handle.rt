@@ -1,7 +1,7 @@
 //! What C holds: where a room, a lane or a feed lies.
-ghost use Rattle.std.specs.Prelude.{◌≡◌, IfOk};
+ghost use Rattle.std.specs.Prelude.{◌≡◌, Option, Some, IfOk};
 ghost use Rattle.cml_c.specs.declared.kept.Kept.{Kept};
-ghost use Rattle.cml_c.specs.Owning.{kept_coded};
+ghost use Rattle.cml_c.specs.Owning.{kept_coded, slot_coded};
 
 use crate::kept::Kept;
 use crate::raw::Loose;
@@ -22,11 +22,20 @@ impl Model for Handle {
     ghost also_owns = { λ handle. handle_owns handle.alloc handle.at handle.kept };
 }
 
-/// Where a handle is written: what it was before is forgotten.
+/// Where a handle is written. What C had there before is forgotten; once a handle was written, C has one there, and `kept` is
+/// what it leads to.
 #[repr(C)]
-#[derive(Clone, Copy)]
+#[derive(Drop)]
 pub struct Slot {
     at: *mut u8,
+    alloc: Global,
+    pub ghost kept: { Option Kept } by { slot_coded },
+}
+
+impl Model for Slot {
+    ghost use Rattle.cml_c.specs.Owning.{slot_owns};
+
+    ghost also_owns = { λ slot. slot_owns slot.alloc slot.at slot.kept };
 }
 
 unsafe impl Send for Handle {}
@@ -56,9 +65,11 @@ impl Handle {
     }
 
     /// Gives the handle into C's care: whoever writes this into C's memory writes a handle there.
-    pub(crate) fn into_slot(self) -> Slot {
-        let Handle { at, alloc: _ } = self;
-        Slot { at }
+    pub(crate) fn into_slot(self) -> Slot
+        ensures { result.kept ≡ Some self.kept }
+    {
+        let Handle { at, alloc } = self;
+        Slot { at, alloc }
     }
 
     /// Lends what it leads to.

@@ -26,8 +26,7 @@ pub extern "C" fn seryugo_lane_open(
     lane: &mut Slot,
     lane_number: &mut u64,
 ) -> u32
-    ensures opens { OpensALaneIn target capacity room.old.kept room.new.kept result lane_number.old lane_number.new }
-    ensures same { ¬ (result ≡ number Done) → lane.new ≡ lane.old }
+    ensures { OpensALaneIn target capacity room.old.kept room.new.kept lane.old lane.new result lane_number.old lane_number.new }
 {
     match room.as_mut() {
         Kept::Room(room) => open_in(alloc, room, Name(target), capacity, lane, lane_number),
@@ -43,8 +42,7 @@ fn open_in(
     lane: &mut Slot,
     lane_number: &mut u64,
 ) -> u32
-    ensures opens { OpensIn target capacity result lane_number.old lane_number.new room.old room.new }
-    ensures same { ¬ (result ≡ number Done) → lane.new ≡ lane.old }
+    ensures { OpensIn target capacity lane.old lane.new result lane_number.old lane_number.new room.old room.new }
 {
     if capacity < 1 || capacity > MAX_CAPACITY {
         return Code::OutOfBounds.number();

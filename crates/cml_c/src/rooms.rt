@@ -4,7 +4,7 @@ ghost use Rattle.cml_board.specs.History.{no_entries};
 ghost use Rattle.cml_c.specs.declared.code.Code.TheVariants.{Done, NoMemory, OutOfBounds};
 ghost use Rattle.cml_c.specs.Codes.{number, told_outcome};
 ghost use Rattle.cml_c.specs.Seats.{MakesSeat, MakesASeat, Leaves};
-ghost use Rattle.cml_c.specs.Opening.{IsLimit, OpensRoom};
+ghost use Rattle.cml_c.specs.Opening.{IsLimit, OpensRoom, OpensARoom};
 
 use crate::code::Code;
 use crate::handle::{Handle, Slot};
@@ -19,9 +19,7 @@ const MOST: u64 = 4_294_967_296;
 /// Opens a room whose journal takes `limit` entries between two cuts, and writes a handle to it.
 #[unsafe(no_mangle)]
 pub extern "C" fn seryugo_room_open(alloc: Global, limit: u64, room: &mut Slot) -> u32
-    ensures code { (result ≡ number OutOfBounds) ⊎ ((result ≡ number Done) ⊎ (result ≡ number NoMemory)) }
-    ensures bounds { (result ≡ number OutOfBounds → ¬ (IsLimit limit)) × (¬ (IsLimit limit) → result ≡ number OutOfBounds) }
-    ensures same { ¬ (result ≡ number Done) → room.new ≡ room.old }
+    ensures { OpensARoom limit result room.old room.new }
 {
     match new_room(alloc, limit) {
         Ok(handle) => {
