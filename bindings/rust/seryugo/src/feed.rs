@@ -23,6 +23,13 @@ use crate::switchboard::Switchboard;
 /// # Ok(())
 /// # }
 /// ```
+///
+/// Two threads can't share it:
+///
+/// ```compile_fail,E0277
+/// fn shared<T: Sync>() {}
+/// shared::<seryugo::Feed>();
+/// ```
 pub struct Feed<'a> {
     board: &'a Switchboard,
     handle: Handle,

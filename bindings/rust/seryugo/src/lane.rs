@@ -26,6 +26,13 @@ use std::fmt;
 /// # Ok(())
 /// # }
 /// ```
+///
+/// Two threads can't share it:
+///
+/// ```compile_fail,E0277
+/// fn shared<T: Sync>() {}
+/// shared::<seryugo::Lane>();
+/// ```
 pub struct Lane<'a> {
     board: &'a Switchboard,
     handle: Handle,
