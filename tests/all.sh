@@ -2,8 +2,8 @@
 # Everything: every crate is proved and its wrong edits are refused, but for what was so on this machine before, and its
 # tests run; then the tables of calls are performed, also with the journal cut behind each line, the guide's code is
 # compared with the sources, the guide, the tables and scripts are run with each request for memory refused in turn, logs
-# and journals that are cut are seen not to grow, threads that wait for each other are seen to go on, and the built programs
-# are tried from outside. The last line is `N passed, M failed`.
+# and journals that are cut are seen not to grow, threads that wait for each other are seen to go on, the built programs are
+# tried from outside, and the libraries for C are built and used from C and from Rust. The last line is `N passed, M failed`.
 cd "$(dirname "$0")/.." || exit 1
 work=$(mktemp -d) || exit 1
 trap 'rm -rf "$work"' EXIT
@@ -33,9 +33,11 @@ step memory sh tests/memory.sh crates/cml_bench/out/cml_bench
 step waiting sh tests/waiting.sh crates/cml_bench/out/cml_bench
 step program sh tests/program.sh crates/cml/out/cml
 step chart sh tests/chart.sh crates/cml_chart/out/cml_chart
+step archives sh tests/archives.sh
+step bindings sh tests/bindings.sh crates/cml_c/out/libcml_c.a crates/cml_script_c/out/libcml_script_c.a
 passed=0
 failed=0
-for name in crates calls cuts guide refused memory waiting program chart; do
+for name in crates calls cuts guide refused memory waiting program chart archives bindings; do
     passed=$((passed + $(counted $name passed)))
     failed=$((failed + $(counted $name failed)))
 done

@@ -1,12 +1,13 @@
 #!/bin/sh
-# The libraries for C, from C and from Rust: `sh tests/bindings.sh`. It builds the archives by `rt lib`, and with them the
-# programs of bindings/c: one that replays a script is to write the report beside each example, and two try rooms, one of them
-# with threads. Then the tests of the crate of bindings/rust run, and its documented example. Where there is no C compiler, or
-# no cargo, that is said and counts for nothing. The last line is `N passed, M failed`.
+# The libraries for C, from C and from Rust: `sh tests/bindings.sh ROOMS REPLAY`, with the archives of cml_c and cml_script_c.
+# The programs of bindings/c are built with them: one that replays a script is to write the report beside each example, and two
+# try rooms, one of them with threads. Then the tests of the crate of bindings/rust run, and its documented examples. Where
+# there is no C compiler, or no cargo, that is said and counts for nothing. The last line is `N passed, M failed`.
+rooms=$(cd "$(dirname "$1")" && pwd)/$(basename "$1")
+replay=$(cd "$(dirname "$2")" && pwd)/$(basename "$2")
 cd "$(dirname "$0")/.." || exit 1
 work=$(mktemp -d) || exit 1
 trap 'rm -rf "$work"' EXIT
-archives=$PWD/crates
 kit=$(dirname "$(rt doc)")/c
 passed=0
 failed=0
@@ -24,11 +25,9 @@ check() {
     fi
 }
 
-build() { (cd "crates/$1" && rt lib); }
-
-# compile PROGRAM LIBRARY
+# compile PROGRAM ARCHIVE
 compile() {
-    cc -O2 -Wall -Wextra -Werror -pthread -I include -o "$work/$1" "bindings/c/$1.c" "$archives/$2/out/lib$2.a" "$kit/liblibc_c.a"
+    cc -O2 -Wall -Wextra -Werror -pthread -I include -o "$work/$1" "bindings/c/$1.c" "$2" "$kit/liblibc_c.a"
 }
 
 # What the program in C does with a script is what cml does with it.
@@ -46,7 +45,7 @@ replays() {
 is_clean() { valgrind -q --error-exitcode=99 --leak-check=full "$@"; }
 
 replay_from_c() {
-    check 'a program in C that replays is built' compile replay cml_script_c
+    check 'a program in C that replays is built' compile replay "$replay"
     [ -x "$work/replay" ] || return
     for example in examples/*.cml; do
         check "$example, from C" replays "$example"
@@ -76,7 +75,7 @@ refuse_each() {
 
 rooms_from_c() {
     for program in calls threads; do
-        check "a program in C of rooms is built: $program" compile $program cml_c
+        check "a program in C of rooms is built: $program" compile $program "$rooms"
         [ -x "$work/$program" ] && check "rooms from C: $program" timeout 60 "$work/$program"
     done
     [ -x "$work/calls" ] && check 'each request for memory refused' refuse_each
@@ -88,12 +87,12 @@ rooms_from_c() {
 from_rust() {
     cp -r bindings "$work/bindings"
     ln -s "$PWD/examples" "$work/examples"
-    check 'the crate in Rust' env SERYUGO_ARCHIVES="$archives/cml_c/out:$archives/cml_script_c/out" SERYUGO_KIT="$kit" \
+    check 'the crate in Rust' env SERYUGO_ARCHIVES="$(dirname "$rooms"):$(dirname "$replay")" SERYUGO_KIT="$kit" \
         cargo test --quiet --offline --manifest-path "$work/bindings/rust/seryugo/Cargo.toml"
 }
 
-check 'the archive of rooms is built' build cml_c
-check 'the archive of replay is built' build cml_script_c
+check 'the archive of rooms is there' [ -s "$rooms" ]
+check 'the archive of replay is there' [ -s "$replay" ]
 if command -v cc > /dev/null; then
     rooms_from_c
     replay_from_c

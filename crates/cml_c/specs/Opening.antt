@@ -1,5 +1,5 @@
 -- What a room is when it is opened.
-use Rattle.std.specs.Prelude.{ℕ, ◌≡◌, ◌≤◌, ◌^◌, ◌⊎◌, [], Option, Some}
+use Rattle.std.specs.Prelude.{ℕ, ◌≡◌, ◌≤◌, ◌^◌, ◌⊎◌, [], Some}
 use Rattle.cml_board.specs.History.{no_entries}
 use Rattle.cml_room.specs.Room.{RoomShown}
 use Rattle.cml_c.specs.declared.code.Code.TheVariants.{Done, NoMemory, OutOfBounds}

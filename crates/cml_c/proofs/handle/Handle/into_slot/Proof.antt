@@ -1,5 +1,5 @@
 -- `into_slot` moves two fields, and what the handle owns goes with them.
-use Rattle.cml_c.proofs.Steps.{List, [], ◌∷◌, ◌++◌, ◌≡◌, refl, sym, subst, Some, raw, ‵, ◌⊛◌, ◌$◌, ◌∵◌, !, qed, by, keep, move, split, fsplit, fjoin, use0, use1, suffices, ent, id⊢, emp, ftrue, flft, fact, fact_i, SProp, WpFn, Val, vptr, owns, types_at, enter, alloc_all, pass_all, free_all, look_at, get, get_in, sets, of_opd, fld, stop, sub, whole, agg, no_more, and_then, returns, nothing, tables, proved_at, leaves, yes, Stays, stay_dropped, plain, Goes-dropped, walk_of, block_ptr}
+use Rattle.cml_c.proofs.Steps.{List, [], ◌∷◌, ◌++◌, ◌≡◌, refl, sym, subst, Some, raw, ‵, ◌⊛◌, ◌$◌, ◌∵◌, !, qed, by, keep, move, split, fsplit, fjoin, use0, use1, suffices, ent, id⊢, emp, ftrue, fact, fact_i, SProp, WpFn, Val, vptr, owns, types_at, enter, alloc_all, pass_all, free_all, look_at, get, get_in, sets, of_opd, fld, stop, sub, whole, agg, no_more, and_then, returns, nothing, tables, proved_at, leaves, yes, Stays, stay_dropped, plain, Goes-dropped, walk_of, block_ptr}
 use Rattle.std.specs.contracts.alloc.Global.{the_row as Heap}
 use Rattle.std.proofs.alloc.Global.TheLaws as heap_laws
 use Rattle.std.specs.contracts.impls.GlobalAllocator.TheImpl.{ghosts}

@@ -1,0 +1,45 @@
+#!/bin/sh
+# The static libraries, over what `rt ci` has proved here: `sh tests/archives.sh` behind it writes crates/NAME/out/libNAME.a for
+# each crate that crates.txt calls a static library. `rt lib` in the crate's folder writes the same, but proves for it all that
+# lies below once more, while `rt ci` proves a static library and builds none. The last line is `N passed, M failed`.
+cd "$(dirname "$0")/.." || exit 1
+top=$PWD
+kit=$(dirname "$(rt doc)")
+passed=0
+failed=0
+
+# libraries NAME: the words that name those of its line in crates.txt, and where all that they stand on lie.
+libraries() {
+    for library in std $(sed -n "s/^$1 staticlib: *//p" crates.txt); do
+        if [ -d "crates/$library" ]; then
+            echo "--extern $library=$top/crates/$library/out/rlib/$library.rlib"
+        else
+            echo "--extern $library=$kit/rlibs/$library.rlib"
+        fi
+    done
+    for folder in "$kit/rlibs" "$top"/crates/*/out/rlib; do
+        echo "-L dependency=$folder"
+    done
+}
+
+# build NAME: proves the crate, and writes its archive.
+build() {
+    words=$(libraries "$1")
+    (
+        cd "crates/$1" && mkdir -p out &&
+            "$kit/bin/rattle" build --crate-name "$1" src/lib.rt --crate-type staticlib $words \
+                --antt-project "$kit/rattle/logic/antt-project.json" --logic-built "$kit/logic_built" --links "$1=" \
+                --toolchain "$kit/toolchain" --backend llvm -o "out/lib$1.a"
+    )
+}
+
+for name in $(sed -n 's/^\([a-z_]*\) staticlib:.*/\1/p' crates.txt); do
+    if build "$name"; then
+        passed=$((passed + 1))
+    else
+        failed=$((failed + 1))
+        echo "failed: the archive of $name"
+    fi
+done
+echo "$passed passed, $failed failed"
+[ $failed -eq 0 ] && [ $passed -gt 0 ]
