@@ -64,7 +64,8 @@ enum seryugo_code {
     SERYUGO_OUT_OF_BOUNDS = 16
 };
 
-/* A handle to a room, a lane or a feed. It is opened by a call that writes it, and closed by seryugo_close. */
+/* A handle to a room, a lane, a feed or a journal that was taken. It is opened by a call that writes it, and closed by
+ * seryugo_close. */
 struct seryugo {
     void *at;
 };
@@ -75,8 +76,8 @@ struct seryugo {
  * SERYUGO_NO_MEMORY: *room is as it was. */
 uint32_t seryugo_room_open(uint64_t limit, struct seryugo *room);
 
-/* Closes a room, a lane or a feed: its memory is given back, with all that it holds. A room doesn't close its lanes and feeds:
- * each of these handles is closed by itself, before or after. */
+/* Closes a room, a lane, a feed or a taken journal: its memory is given back, with all that it holds. A room doesn't close its
+ * lanes, its feeds and what was taken of it: each of these handles is closed by itself, before or after. */
 void seryugo_close(struct seryugo handle);
 
 /* Makes a seat, which is free, and writes its number: how many were made before. The only refusal is SERYUGO_NO_MEMORY. While
@@ -268,11 +269,34 @@ struct seryugo_entry {
  * yet, and where it was cut away. */
 uint32_t seryugo_entry(struct seryugo *room, uint64_t at, struct seryugo_entry *entry);
 
+/* Cuts the journal as seryugo_cut does, and writes a handle to the entries that it had, oldest first, and how many they are.
+ * What was reserved goes with them. SERYUGO_NO_MEMORY or SERYUGO_BUSY: nothing is cut, and *journal is as it was. The handle is
+ * the caller's own: it is used without the room's lock, and is closed like any other. */
+uint32_t seryugo_take_journal(struct seryugo *room, struct seryugo *journal, uint64_t *count);
+
+/* Writes the entry of this place, from 0, of a journal that was taken; SERYUGO_NO_SUCH behind the last one. */
+uint32_t seryugo_taken_entry(struct seryugo *journal, uint64_t place, struct seryugo_entry *entry);
+
 /*
  * ---- readers ----
  *
  * None changes anything. Each writes a number, and is told SERYUGO_NO_SUCH where no object of the name has such a one.
  */
+
+enum seryugo_object_kind {
+    SERYUGO_MAILBOX = 0,
+    SERYUGO_CHANNEL = 1,
+    SERYUGO_PORT = 2,
+    SERYUGO_IVAR = 3,
+    SERYUGO_MVAR = 4
+};
+
+/* An object's kind. */
+uint32_t seryugo_kind(struct seryugo *room, uint64_t object, uint64_t *kind);
+
+/* A port's channel; and how many messages had been multicast on that before the first that the port is to receive. */
+uint32_t seryugo_channel_of(struct seryugo *room, uint64_t port, uint64_t *channel);
+uint32_t seryugo_start_of(struct seryugo *room, uint64_t port, uint64_t *start);
 
 /* How many messages were sent to a mailbox, or multicast on a channel. */
 uint32_t seryugo_sent(struct seryugo *room, uint64_t object, uint64_t *count);

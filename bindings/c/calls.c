@@ -8,9 +8,11 @@
 static struct seryugo room;
 static struct seryugo lane;
 static struct seryugo feed;
+static struct seryugo journal;
 static int room_is_open;
 static int lane_is_open;
 static int feed_is_open;
+static int journal_is_open;
 
 static void close_all(void)
 {
@@ -19,6 +21,9 @@ static void close_all(void)
     }
     if (feed_is_open) {
         seryugo_close(feed);
+    }
+    if (journal_is_open) {
+        seryugo_close(journal);
     }
     if (room_is_open) {
         seryugo_close(room);
@@ -86,11 +91,19 @@ static void try_mailboxes(uint64_t one, uint64_t two)
 
 static void try_channels(uint64_t seat)
 {
-    uint64_t channel, port, copy, message = 77;
+    uint64_t channel, port, late, copy, message = 77;
 
     TOLD(DONE, seryugo_new_channel(&room, seat, &channel));
     TOLD(DONE, seryugo_new_port(&room, seat, channel, &port));
     TOLD(DONE, seryugo_multicast(&room, seat, channel, 6));
+    TOLD(DONE, seryugo_new_port(&room, seat, channel, &late));
+    TOLD(DONE, seryugo_start_of(&room, late, &message));
+    IS(1, message);
+    TOLD(DONE, seryugo_channel_of(&room, late, &message));
+    IS(channel, message);
+    TOLD(NO_SUCH, seryugo_channel_of(&room, channel, &message));
+    TOLD(NO_SUCH, seryugo_start_of(&room, 99, &message));
+    TOLD(DONE, seryugo_close_port(&room, seat, late));
     TOLD(WRONG_KIND, seryugo_send(&room, seat, channel, 6));
     TOLD(DONE, seryugo_copy_port(&room, seat, port, &copy));
     TOLD(DONE, seryugo_recv(&room, seat, copy, false, &message));
@@ -127,6 +140,19 @@ static void try_variables(uint64_t seat)
     IS(11, message);
     TOLD(WRONG_KIND, seryugo_take(&room, seat, once, false, &message));
     TOLD(NO_SUCH, seryugo_held(&room, 0, &message));
+}
+
+static void try_kinds(void)
+{
+    static const enum seryugo_object_kind kinds[] = { SERYUGO_MAILBOX, SERYUGO_CHANNEL, SERYUGO_PORT, SERYUGO_PORT,
+                                                      SERYUGO_PORT, SERYUGO_IVAR, SERYUGO_MVAR, SERYUGO_MVAR };
+    uint64_t kind;
+
+    for (uint64_t object = 0; object < sizeof kinds / sizeof *kinds; object++) {
+        TOLD(DONE, seryugo_kind(&room, object, &kind));
+        IS(kinds[object], kind);
+    }
+    TOLD(NO_SUCH, seryugo_kind(&room, 99, &kind));
 }
 
 static void try_lanes(void)
@@ -228,6 +254,36 @@ static void try_the_journal(uint64_t seat)
     IS(100, count);
 }
 
+static void try_a_taken_journal(uint64_t seat)
+{
+    struct seryugo_entry entry;
+    uint64_t count = 77, number, message;
+
+    TOLD(DONE, seryugo_lane_open(&room, 0, 2, &lane, &number));
+    lane_is_open = 1;
+    TOLD(BUSY, seryugo_take_journal(&room, &journal, &count));
+    IS(77, count);
+    TOLD(DONE, seryugo_lane_abandon(&room, number));
+    seryugo_close(lane);
+    lane_is_open = 0;
+    TOLD(DONE, seryugo_send(&room, seat, 0, 40));
+    TOLD(DONE, seryugo_recv_poll(&room, seat, 0, &message));
+    TOLD(DONE, seryugo_take_journal(&room, &journal, &count));
+    journal_is_open = 1;
+    IS(2, count);
+    TOLD(DONE, seryugo_taken_entry(&journal, 0, &entry));
+    IS(SERYUGO_CALL_SEND, entry.call.kind);
+    IS(40, entry.call.message);
+    TOLD(DONE, seryugo_taken_entry(&journal, 1, &entry));
+    IS(SERYUGO_REPLY_GOT, entry.reply.kind);
+    IS(message, entry.reply.given);
+    TOLD(NO_SUCH, seryugo_taken_entry(&journal, 2, &entry));
+    TOLD(WRONG_HANDLE, seryugo_taken_entry(&room, 0, &entry));
+    TOLD(WRONG_HANDLE, seryugo_entries(&journal, &count));
+    TOLD(DONE, seryugo_cut_at(&room, &count));
+    TOLD(NO_SUCH, seryugo_entry(&room, count, &entry));
+}
+
 int main(void)
 {
     uint64_t one, two;
@@ -236,9 +292,11 @@ int main(void)
     try_mailboxes(one, two);
     try_channels(one);
     try_variables(one);
+    try_kinds();
     try_lanes();
     try_feeds(one);
     try_the_journal(one);
+    try_a_taken_journal(one);
     TOLD(DONE, seryugo_leave(&room, two));
     TOLD(GONE, seryugo_leave(&room, two));
     close_all();

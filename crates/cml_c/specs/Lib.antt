@@ -11,3 +11,4 @@ pub mod Lanes
 pub mod Feeds
 pub mod Reading
 pub mod Entries
+pub mod Journals

@@ -1,9 +1,12 @@
 -- What C is told of what a room has.
-use Rattle.std.specs.Prelude.{ℕ, ◌≡◌, ◌⊎◌, Bool, true, false, Option, Some, None, ⊤}
-use Rattle.cml_board.specs.History.{entries_in}
+use Rattle.std.specs.Prelude.{ℕ, ◌≡◌, ◌⊎◌, Bool, true, false, Option, Some, None, option_map, ⊤}
+use Rattle.cml_board.specs.declared.call.Kind.{Kind}
+use Rattle.cml_board.specs.declared.call.Kind.TheVariants as kind
+use Rattle.cml_board.specs.declared.call.Name.{Name}
+use Rattle.cml_board.specs.History.{entries_in, kind_of}
 use Rattle.cml_board.specs.Shown.{full_at}
 use Rattle.cml_board.specs.Outcome.{HasRoom}
-use Rattle.cml_board.specs.Counts.{sent_count, got_count, owed_count, first_of, kept_count, port_is_open, held_by}
+use Rattle.cml_board.specs.Counts.{sent_count, got_count, owed_count, first_of, kept_count, channel_of, start_of, port_is_open, held_by}
 use Rattle.cml_room.specs.Room.{RoomShown}
 use Rattle.cml_c.specs.declared.code.Code.{Code}
 use Rattle.cml_c.specs.declared.code.Code.TheVariants.{Done, Nothing, Closed, NoSuch, JournalFull}
@@ -44,6 +47,27 @@ kept_in object room = kept_count chunk room.board.history object
 
 abbrev pub first_in : ℕ → RoomShown ℕ → Option ℕ
 first_in object room = first_of chunk room.board.history object
+
+-- what tells an object's kind
+abbrev pub number_of_kind : Kind → ℕ
+number_of_kind kind.Mailbox = 0
+number_of_kind kind.Channel = 1
+number_of_kind kind.Port = 2
+number_of_kind kind.IVar = 3
+number_of_kind kind.MVar = 4
+
+abbrev pub kind_in : ℕ → RoomShown ℕ → Option ℕ
+kind_in object room = option_map number_of_kind (kind_of room.board.history object)
+
+-- the number of a name
+abbrev pub bare : Name → ℕ
+bare name = name.0
+
+abbrev pub channel_in : ℕ → RoomShown ℕ → Option ℕ
+channel_in port room = option_map bare (channel_of room.board.history port)
+
+abbrev pub start_in : ℕ → RoomShown ℕ → Option ℕ
+start_in port room = start_of room.board.history port
 
 abbrev pub entries_of : RoomShown ℕ → Option ℕ
 entries_of room = Some (entries_in room.board.history)

@@ -65,7 +65,7 @@ fn find_in(room: &mut NumberRoom, at: u64, entry: &mut SeryugoEntry) -> u32
 }
 
 /// Writes the entry of this place, if there is one.
-fn write_at(journal: &[Entry<u64>], place: u64, entry: &mut SeryugoEntry) -> u32
+pub fn write_at(journal: &[Entry<u64>], place: u64, entry: &mut SeryugoEntry) -> u32
     ensures { Finds journal.now place result entry.old entry.new }
 {
     let Some(found) = journal.get(place as usize) else {

@@ -1,13 +1,17 @@
 //! The journal: memory that is taken for it in advance, and its cuts.
+ghost use Rattle.std.specs.Prelude.{◌≡◌};
 ghost use Rattle.cml_lanes.specs.Reserving.{Reserves};
 ghost use Rattle.cml_lanes.specs.Cutting.{CutsAFloor};
 ghost use Rattle.cml_c.specs.Floors.{Does, DoesOn};
 ghost use Rattle.cml_c.specs.Reserved.{ReservesSome};
+ghost use Rattle.cml_c.specs.Journals.{TakesIn, TakesAJournal, FindsTaken};
 
 use crate::code::Code;
-use crate::handle::Handle;
+use crate::entries::{SeryugoEntry, write_at};
+use crate::handle::{Handle, Slot};
 use crate::kept::{Kept, NumberRoom};
 use crate::rooms::code_of;
+use std::alloc::Global;
 
 /// Takes memory for `entries` more entries.
 #[unsafe(no_mangle)]
@@ -41,4 +45,53 @@ fn cut_in(room: &mut NumberRoom) -> u32
     ensures { Does CutsAFloor result room.old room.new }
 {
     code_of(room.floor_mut().cut())
+}
+
+/// Cuts the journal as `seryugo_cut` does, and writes a handle to the entries that it had and how many they are.
+#[unsafe(no_mangle)]
+pub extern "C" fn seryugo_take_journal(
+    alloc: Global,
+    room: &mut Handle,
+    journal: &mut Slot,
+    count: &mut u64,
+) -> u32
+    ensures { TakesAJournal room.old.kept room.new.kept journal.old journal.new result count.old count.new }
+{
+    match room.as_mut() {
+        Kept::Room(room) => take_in(alloc, room, journal, count),
+        _ => Code::WrongHandle.number(),
+    }
+}
+
+fn take_in(alloc: Global, room: &mut NumberRoom, journal: &mut Slot, count: &mut u64) -> u32
+    ensures { TakesIn journal.old journal.new result count.old count.new room.old room.new }
+{
+    // The handle's memory is taken first, so that no entries are taken without one.
+    let Ok(mut handle) = Handle::new(alloc, Kept::Spent) else {
+        return Code::NoMemory.number();
+    };
+    match room.floor_mut().take_journal() {
+        Ok(entries) => {
+            *count = entries.len() as u64;
+            *handle.as_mut() = Kept::Journal(entries);
+            *journal = handle.into_slot();
+            Code::Done.number()
+        }
+        Err(refusal) => Code::of_refusal(refusal).number(),
+    }
+}
+
+/// Writes the entry of this place, from 0, of a journal that was taken. It is told `NoSuch` behind the last one.
+#[unsafe(no_mangle)]
+pub extern "C" fn seryugo_taken_entry(
+    journal: &mut Handle,
+    place: u64,
+    entry: &mut SeryugoEntry,
+) -> u32
+    ensures { FindsTaken place journal.old.kept journal.new.kept result entry.old entry.new }
+{
+    match journal.as_mut() {
+        Kept::Journal(journal) => write_at(journal, place, entry),
+        _ => Code::WrongHandle.number(),
+    }
 }

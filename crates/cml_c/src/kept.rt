@@ -1,4 +1,4 @@
-use cml_board::BoardLog;
+use cml_board::{BoardLog, Entry};
 use cml_lanes::{Feed, Lane, LaneEnd};
 use cml_room::Room;
 
@@ -13,6 +13,8 @@ pub enum Kept {
     /// A lane that has finished, and isn't closed yet.
     LaneEnd(LaneEnd<u64>),
     Feed(Feed<u64>),
+    /// Entries that were taken out of a room's journal, oldest first.
+    Journal(Vec<Entry<u64>>),
     /// A lane that was closed.
     Spent,
 }

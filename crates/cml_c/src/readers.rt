@@ -1,11 +1,12 @@
 //! What a room has, told without changing it.
-ghost use Rattle.cml_c.specs.Reading.{ReadsOn, HeldOn, OpenOn, FullOn, sent_in, got_in, owed_in, kept_in, first_in, entries_of, cut_at_of, limit_of};
+ghost use Rattle.std.specs.Prelude.{◌≡◌, option_map};
+ghost use Rattle.cml_c.specs.Reading.{number_of_kind, bare, ReadsOn, HeldOn, OpenOn, FullOn, sent_in, got_in, owed_in, kept_in, first_in, kind_in, channel_in, start_in, entries_of, cut_at_of, limit_of};
 
 use crate::code::Code;
 use crate::handle::Handle;
 use crate::kept::Kept;
 use crate::telling::{tell_found, tell_held, tell_open};
-use cml_board::Name;
+use cml_board::{Kind, Name};
 
 /// How many messages were sent to a mailbox, or multicast on a channel. It is told `NoSuch` where no object of the name has such a count.
 #[unsafe(no_mangle)]
@@ -58,6 +59,59 @@ pub extern "C" fn seryugo_first(room: &mut Handle, object: u64, count: &mut u64)
 {
     match room.as_mut() {
         Kept::Room(room) => tell_found(room.board().first_of(Name(object)), count),
+        _ => Code::WrongHandle.number(),
+    }
+}
+
+/// An object's kind: a mailbox (0), a channel (1), a port (2), an i-variable (3) or an m-variable (4). It is told `NoSuch`
+/// where no object has the name.
+#[unsafe(no_mangle)]
+pub extern "C" fn seryugo_kind(room: &mut Handle, object: u64, kind: &mut u64) -> u32
+    ensures { ReadsOn (kind_in object) room.old.kept room.new.kept result kind.old kind.new }
+{
+    match room.as_mut() {
+        Kept::Room(room) => tell_found(number_of(room.board().kind(Name(object))), kind),
+        _ => Code::WrongHandle.number(),
+    }
+}
+
+fn number_of(kind: Option<Kind>) -> Option<u64>
+    ensures { result ≡ option_map number_of_kind kind }
+{
+    Some(match kind? {
+        Kind::Mailbox => 0,
+        Kind::Channel => 1,
+        Kind::Port => 2,
+        Kind::IVar => 3,
+        Kind::MVar => 4,
+    })
+}
+
+/// A port's channel, by its name. It is told `NoSuch` where no port has the name.
+#[unsafe(no_mangle)]
+pub extern "C" fn seryugo_channel_of(room: &mut Handle, port: u64, channel: &mut u64) -> u32
+    ensures { ReadsOn (channel_in port) room.old.kept room.new.kept result channel.old channel.new }
+{
+    match room.as_mut() {
+        Kept::Room(room) => tell_found(bare(room.board().channel_of(Name(port))), channel),
+        _ => Code::WrongHandle.number(),
+    }
+}
+
+fn bare(name: Option<Name>) -> Option<u64>
+    ensures { result ≡ option_map bare name }
+{
+    Some(name?.0)
+}
+
+/// How many messages had been multicast on a port's channel before the first that the port is to receive. It is told `NoSuch`
+/// where no port has the name.
+#[unsafe(no_mangle)]
+pub extern "C" fn seryugo_start_of(room: &mut Handle, port: u64, start: &mut u64) -> u32
+    ensures { ReadsOn (start_in port) room.old.kept room.new.kept result start.old start.new }
+{
+    match room.as_mut() {
+        Kept::Room(room) => tell_found(room.board().start_of(Name(port)), start),
         _ => Code::WrongHandle.number(),
     }
 }
