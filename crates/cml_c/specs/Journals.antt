@@ -1,10 +1,9 @@
 -- What C is told of a journal that is taken.
-use Rattle.std.specs.Prelude.{ℕ, ◌≡◌, ◌⊎◌, Some, Vec, length, ⊤}
+use Rattle.std.specs.Prelude.{ℕ, ◌≡◌, ◌⊎◌, Some, Vec, length}
 use Rattle.std.specs.declared.alloc.Global.{Global}
 use Rattle.cml_board.specs.declared.entry.Entry.{Entry}
 use Rattle.cml_lanes.specs.Cutting.{CutsFloor, IsBusy}
 use Rattle.cml_room.specs.Room.{RoomShown, floor_of}
-use Rattle.cml_c.specs.declared.code.Code.{Code}
 use Rattle.cml_c.specs.declared.code.Code.TheVariants.{Done, Busy, NoMemory}
 use Rattle.cml_c.specs.declared.entries.SeryugoEntry.{SeryugoEntry}
 use Rattle.cml_c.specs.declared.handle.Slot.{Slot}
