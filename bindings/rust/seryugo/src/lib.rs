@@ -2,7 +2,7 @@
 //!
 //! A [`Switchboard`] has mailboxes, channels and variables of 64-bit messages, and a journal of every call that was accepted.
 //! Threads call from [`Seat`]s, and wait by a lock and a condition variable of this crate; [`Lane`]s and [`Feed`]s keep senders
-//! and subscribers off the lock. [`replay`] plays scripts of threads.
+//! and subscribers off the lock. With the feature `scripts`, `replay` plays scripts of threads.
 
 mod entry;
 mod error;
@@ -10,6 +10,7 @@ mod feed;
 mod lane;
 mod names;
 mod raw;
+#[cfg(feature = "scripts")]
 mod script;
 mod seat;
 mod switchboard;
@@ -19,6 +20,7 @@ pub use error::Error;
 pub use feed::Feed;
 pub use lane::{Lane, LaneFull};
 pub use names::{Channel, IVar, MVar, Mailbox, Object, Port, Source, Target, Variable};
+#[cfg(feature = "scripts")]
 pub use script::{replay, BadLimit, End, Replayed, MOST_ENTRIES};
 pub use seat::Seat;
 pub use switchboard::Switchboard;

@@ -30,63 +30,65 @@ use std::sync::{Condvar, Mutex, MutexGuard, PoisonError};
 /// # }
 /// ```
 pub struct Switchboard {
-    room: Mutex<Handle>,
+    room: Mutex<Room>,
     changed: Condvar,
+}
+
+/// What the lock guards.
+pub(crate) struct Room {
+    handle: Handle,
+    /// How many threads wait for a change. Where none does nobody is to be woken, which would take a call of the system.
+    waiting: usize,
 }
 
 impl Switchboard {
     /// A switchboard with no objects, whose journal takes `limit` entries between two cuts, from 1 to 2^32.
     pub fn new(limit: u64) -> Result<Switchboard, Error> {
-        let room = Handle::opened(|room| unsafe { raw::seryugo_room_open(limit, room) })?;
+        let handle = Handle::opened(|room| unsafe { raw::seryugo_room_open(limit, room) })?;
         Ok(Switchboard {
-            room: Mutex::new(room),
+            room: Mutex::new(Room { handle, waiting: 0 }),
             changed: Condvar::new(),
         })
     }
 
     /// A new seat. Make all seats before the first thread waits: while one is free nobody is told of a stall.
     pub fn seat(&self) -> Result<Seat<'_>, Error> {
-        let mut room = self.lock();
-        let number = written(|seat| unsafe { raw::seryugo_new_seat(&mut *room, seat) })?;
+        let number = self.read(|room, seat| unsafe { raw::seryugo_new_seat(room, seat) })?;
         Ok(Seat::new(self, number))
     }
 
     /// Opens a lane to a mailbox or a channel, whose ring has room for `capacity` messages, from 1 to 1024.
     pub fn lane(&self, target: impl Target, capacity: usize) -> Result<Lane<'_>, Error> {
-        let mut room = self.lock();
         let mut number = 0;
         let handle = Handle::opened(|lane| unsafe {
-            raw::seryugo_lane_open(&mut *room, target.number(), capacity, lane, &mut number)
+            raw::seryugo_lane_open(&mut self.lock().handle, target.number(), capacity, lane, &mut number)
         })?;
         Ok(Lane::new(self, handle, number))
     }
 
     /// Opens a feed of what is multicast on a channel from now on, whose ring has room for `capacity` messages.
     pub fn feed(&self, channel: Channel, capacity: usize) -> Result<Feed<'_>, Error> {
-        let mut room = self.lock();
         let mut number = 0;
-        let handle = Handle::opened(|feed| unsafe {
-            raw::seryugo_feed_open(&mut *room, channel.0, capacity, feed, &mut number)
+        let handle = self.change(|room| {
+            Handle::opened(|feed| unsafe { raw::seryugo_feed_open(room, channel.0, capacity, feed, &mut number) })
         })?;
-        drop(room);
-        self.changed.notify_all();
         Ok(Feed::new(self, handle, number))
     }
 
     /// Takes memory for so many more entries.
     pub fn reserve(&self, entries: usize) -> Result<(), Error> {
-        done(unsafe { raw::seryugo_reserve(&mut *self.lock(), entries) })
+        done(unsafe { raw::seryugo_reserve(&mut self.lock().handle, entries) })
     }
 
     /// Cuts the journal: what it has is dropped, and it has room for as many entries again.
     pub fn cut(&self) -> Result<(), Error> {
-        done(unsafe { raw::seryugo_cut(&mut *self.lock()) })
+        done(unsafe { raw::seryugo_cut(&mut self.lock().handle) })
     }
 
     /// The journal's entry at this position, counted from 0 since the switchboard was made.
     pub fn entry(&self, at: u64) -> Option<Entry> {
         let mut entry = RawEntry::default();
-        let code = unsafe { raw::seryugo_entry(&mut *self.lock(), at, &mut entry) };
+        let code = unsafe { raw::seryugo_entry(&mut self.lock().handle, at, &mut entry) };
         done(code).ok()?;
         Some(Entry::of(&entry))
     }
@@ -123,19 +125,17 @@ impl Switchboard {
 
     /// What a variable holds; `None` where it is empty.
     pub fn held(&self, variable: impl Variable) -> Result<Option<u64>, Error> {
-        let mut room = self.lock();
-        polled(|message| unsafe { raw::seryugo_held(&mut *room, variable.number(), message) })
+        polled(|message| unsafe { raw::seryugo_held(&mut self.lock().handle, variable.number(), message) })
     }
 
     /// Whether a port is open.
     pub fn is_open(&self, port: Port) -> Result<bool, Error> {
-        let code = unsafe { raw::seryugo_is_open(&mut *self.lock(), port.0) };
+        let code = unsafe { raw::seryugo_is_open(&mut self.lock().handle, port.0) };
         Ok(told(code)? == Told::Done)
     }
 
     fn read(&self, call: impl FnOnce(&mut Handle, *mut u64) -> u32) -> Result<u64, Error> {
-        let mut room = self.lock();
-        written(|count| call(&mut room, count))
+        written(|number| call(&mut self.lock().handle, number))
     }
 
     fn count(&self, call: impl FnOnce(&mut Handle, *mut u64) -> u32) -> u64 {
@@ -143,14 +143,24 @@ impl Switchboard {
     }
 
     /// The room. A thread that panicked left it between two calls, where it is whole.
-    pub(crate) fn lock(&self) -> MutexGuard<'_, Handle> {
+    fn lock(&self) -> MutexGuard<'_, Room> {
         self.room.lock().unwrap_or_else(PoisonError::into_inner)
+    }
+
+    /// Lets the lock go, and then wakes those who wait.
+    fn wake(&self, room: MutexGuard<'_, Room>) {
+        let is_awaited = room.waiting > 0;
+        drop(room);
+        if is_awaited {
+            self.changed.notify_all();
+        }
     }
 
     /// Makes a call that changes something, and wakes those who wait.
     pub(crate) fn change<T>(&self, call: impl FnOnce(&mut Handle) -> T) -> T {
-        let answer = call(&mut self.lock());
-        self.changed.notify_all();
+        let mut room = self.lock();
+        let answer = call(&mut room.handle);
+        self.wake(room);
         answer
     }
 
@@ -158,15 +168,22 @@ impl Switchboard {
     /// who wait are woken.
     pub(crate) fn wait(&self, mut call: impl FnMut(&mut Handle, bool) -> u32) -> Result<Told, Error> {
         let mut room = self.lock();
-        let mut answer = told(call(&mut room, false));
+        let mut answer = told(call(&mut room.handle, false));
         while answer == Ok(Told::Parked) {
-            room = self.changed.wait(room).unwrap_or_else(PoisonError::into_inner);
-            answer = told(call(&mut room, true));
+            room = self.sleep(room);
+            answer = told(call(&mut room.handle, true));
         }
-        drop(room);
         if answer.is_ok() {
-            self.changed.notify_all();
+            self.wake(room);
         }
         answer
+    }
+
+    /// Lets the lock go until something has changed.
+    fn sleep<'a>(&self, mut room: MutexGuard<'a, Room>) -> MutexGuard<'a, Room> {
+        room.waiting += 1;
+        room = self.changed.wait(room).unwrap_or_else(PoisonError::into_inner);
+        room.waiting -= 1;
+        room
     }
 }

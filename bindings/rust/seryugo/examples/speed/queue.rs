@@ -1,0 +1,79 @@
+//! What one writes by hand in place of a switchboard: a lock round a deque and a journal of every call.
+
+use seryugo::{Call, Entry, Error, Reply, Who};
+use std::collections::VecDeque;
+use std::sync::{Condvar, Mutex, MutexGuard, PoisonError};
+
+/// One queue, with a journal that takes so many entries. Its entries say what those of a switchboard say.
+pub struct Queue {
+    inside: Mutex<Inside>,
+    changed: Condvar,
+    limit: usize,
+}
+
+struct Inside {
+    messages: VecDeque<u64>,
+    journal: Vec<Entry>,
+    waiting: usize,
+}
+
+/// The number under which the journal tells of the queue.
+const QUEUE: u64 = 0;
+
+impl Queue {
+    pub fn new(limit: usize) -> Queue {
+        let inside = Inside {
+            messages: VecDeque::new(),
+            journal: Vec::new(),
+            waiting: 0,
+        };
+        Queue {
+            inside: Mutex::new(inside),
+            changed: Condvar::new(),
+            limit,
+        }
+    }
+
+    /// How many calls were accepted.
+    pub fn entries(&self) -> usize {
+        self.lock().journal.len()
+    }
+
+    pub fn send(&self, sender: u64, message: u64) -> Result<(), Error> {
+        let mut inside = self.lock();
+        self.note(&mut inside, sender, Call::Send(QUEUE, message), Reply::Done)?;
+        inside.messages.push_back(message);
+        let is_awaited = inside.waiting > 0;
+        drop(inside);
+        if is_awaited {
+            self.changed.notify_all();
+        }
+        Ok(())
+    }
+
+    pub fn recv(&self, receiver: u64) -> Result<u64, Error> {
+        let mut inside = self.lock();
+        while inside.messages.is_empty() {
+            inside.waiting += 1;
+            inside = self.changed.wait(inside).unwrap_or_else(PoisonError::into_inner);
+            inside.waiting -= 1;
+        }
+        let message = inside.messages[0];
+        self.note(&mut inside, receiver, Call::Recv(QUEUE), Reply::Got(message))?;
+        inside.messages.pop_front();
+        Ok(message)
+    }
+
+    fn note(&self, inside: &mut Inside, seat: u64, call: Call, reply: Reply) -> Result<(), Error> {
+        if inside.journal.len() >= self.limit {
+            return Err(Error::JournalFull);
+        }
+        let who = Who::Seat(seat);
+        inside.journal.push(Entry { who, call, reply });
+        Ok(())
+    }
+
+    fn lock(&self) -> MutexGuard<'_, Inside> {
+        self.inside.lock().unwrap_or_else(PoisonError::into_inner)
+    }
+}
