@@ -1,6 +1,6 @@
 #!/bin/sh
-# Each paragraph of Rattle in docs/GUIDE.md and in the README stands in crates/cml_guide/src, word for word,
-# where it is proved.
+# Each paragraph of code in docs/GUIDE.md and in the README stands word for word in a source: that in Rattle in
+# crates/cml_guide/src, where it is proved, and the README's program in Rust in bindings/rust, where it is run.
 # The last line is `N passed, M failed`.
 cd "$(dirname "$0")/.." || exit 1
 awk '
@@ -18,4 +18,4 @@ awk '
         printf "%d passed, %d failed\n", passed, failed
         exit failed > 0 || passed == 0
     }
-' crates/cml_guide/src/*.rt docs/GUIDE.md README.md
+' bindings/rust/seryugo/examples/letters.rs crates/cml_guide/src/*.rt docs/GUIDE.md README.md

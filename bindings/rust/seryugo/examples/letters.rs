@@ -1,11 +1,12 @@
-use seryugo::{Error, Switchboard};
+//! One thread sends a letter, and another receives it.
 
-fn main() -> Result<(), Error> {
-    let board = Switchboard::new(1_000)?;
+fn main() -> Result<(), seryugo::Error> {
+    let board = seryugo::Switchboard::new(1_000)?;
     let (mut ann, mut ben) = (board.seat()?, board.seat()?);
     let letters = ben.mailbox()?;
     std::thread::scope(|scope| {
         scope.spawn(move || ann.send(letters, 5));
-        ben.recv(letters).map(|letter| println!("Ben received {letter:?}"))
+        println!("Ben received {:?}", ben.recv(letters)?);
+        Ok(())
     })
 }
