@@ -1,7 +1,7 @@
 //! Lanes.
 
 use crate::error::Error;
-use crate::raw::{self, done, told, written, Handle, Told};
+use crate::raw::{self, done, told, Handle, Told};
 use crate::switchboard::Switchboard;
 use std::fmt;
 
@@ -78,9 +78,7 @@ impl<'a> Lane<'a> {
 
     /// Moves what was sent into the journal, under the lock: how many messages.
     pub fn drain(&mut self) -> Result<u64, Error> {
-        let number = self.number;
-        self.board
-            .change(|room| written(|count| unsafe { raw::seryugo_lane_drain(room, number, count) }))
+        self.board.drain(self.number)
     }
 
     /// Moves all that was sent into the journal, and closes the lane. Where a message is refused the lane comes back, and may

@@ -66,6 +66,11 @@ impl Switchboard {
         Ok(Lane::new(self, handle, number))
     }
 
+    /// Moves what was sent on the lane of this number into the journal, for a thread that has not the lane: how many messages.
+    pub fn drain(&self, lane: u64) -> Result<u64, Error> {
+        self.change(|room| written(|count| unsafe { raw::seryugo_lane_drain(room, lane, count) }))
+    }
+
     /// Opens a feed of what is multicast on a channel from now on, whose ring has room for `capacity` messages.
     pub fn feed(&self, channel: Channel, capacity: usize) -> Result<Feed<'_>, Error> {
         let mut number = 0;
@@ -143,11 +148,13 @@ impl Switchboard {
     }
 
     /// The room. A thread that panicked left it between two calls, where it is whole.
+    #[inline]
     fn lock(&self) -> MutexGuard<'_, Room> {
         self.room.lock().unwrap_or_else(PoisonError::into_inner)
     }
 
     /// Lets the lock go, and then wakes those who wait.
+    #[inline]
     fn wake(&self, room: MutexGuard<'_, Room>) {
         let is_awaited = room.waiting > 0;
         drop(room);
@@ -157,6 +164,7 @@ impl Switchboard {
     }
 
     /// Makes a call that changes something, and wakes those who wait.
+    #[inline]
     pub(crate) fn change<T>(&self, call: impl FnOnce(&mut Handle) -> T) -> T {
         let mut room = self.lock();
         let answer = call(&mut room.handle);
@@ -166,6 +174,7 @@ impl Switchboard {
 
     /// Makes a call that may wait. While it is parked this waits for a change, and makes it again; once it is answered, those
     /// who wait are woken.
+    #[inline]
     pub(crate) fn wait(&self, mut call: impl FnMut(&mut Handle, bool) -> u32) -> Result<Told, Error> {
         let mut room = self.lock();
         let mut answer = told(call(&mut room.handle, false));

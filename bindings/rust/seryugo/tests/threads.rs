@@ -61,6 +61,23 @@ fn four_senders_on_lanes() {
 }
 
 #[test]
+fn one_that_receives_drains_a_lane() {
+    let board = Switchboard::new(100).unwrap();
+    let mut receiver = board.seat().unwrap();
+    let mailbox = receiver.mailbox().unwrap();
+    let mut lane = board.lane(mailbox, 2).unwrap();
+    let number = lane.number();
+    lane.send(5).unwrap();
+    thread::scope(|scope| {
+        scope.spawn(|| {
+            assert_eq!(board.drain(number), Ok(1));
+            assert_eq!(board.drain(number + 1), Err(Error::NoSuch));
+        });
+        assert_eq!(receiver.recv(mailbox), Ok(Some(5)));
+    });
+}
+
+#[test]
 fn two_that_both_wait_are_stalled() {
     let board = Switchboard::new(100).unwrap();
     let mut one = board.seat().unwrap();

@@ -1,14 +1,19 @@
 //! Four threads send, and one receives all: each sender's messages in its order.
 
-use crate::queue::Queue;
+use crate::queue::{Queue, Waking};
 use crate::Way;
 use seryugo::{Lane, LaneFull, Mailbox, Seat, Switchboard};
 use std::sync::mpsc;
 use std::thread;
 use std::time::{Duration, Instant};
 
-pub const WAYS: [Way; 4] =
-    [("lock, deque and journal", by_lock), ("seryugo, seats", by_seats), ("seryugo, lanes", by_lanes), ("mpsc", by_mpsc)];
+pub const WAYS: [Way; 5] = [
+    ("seats", by_seats),
+    ("lanes", by_lanes),
+    ("by hand, wakes always", by_lock_waking_always),
+    ("by hand, wakes at need", by_lock_waking_at_need),
+    ("mpsc", by_mpsc),
+];
 
 const SENDERS: u64 = 4;
 const CAPACITY: usize = 1_024;
@@ -29,8 +34,16 @@ fn receive_all(each: u64, mut next: impl FnMut() -> u64) {
     }
 }
 
-fn by_lock(messages: u64) -> Duration {
-    let queue = &Queue::new(1 << 32);
+fn by_lock_waking_always(messages: u64) -> Duration {
+    by_lock(messages, Waking::Always)
+}
+
+fn by_lock_waking_at_need(messages: u64) -> Duration {
+    by_lock(messages, Waking::WhereSleeping)
+}
+
+fn by_lock(messages: u64, waking: Waking) -> Duration {
+    let queue = &Queue::new(1 << 32, waking);
     let each = messages / SENDERS;
     let start = Instant::now();
     thread::scope(|scope| {

@@ -1,12 +1,13 @@
 //! What a message costs through the library, beside what one writes by hand and beside `std::sync::mpsc`, which keeps no
-//! journal: `cargo run --release --example speed`, with a number of messages behind `--` if another is wanted.
+//! journal: `cargo run --release --example speed`. Behind `--` may stand a number of messages, and then a word: only ways whose
+//! names have it are gone.
 //!
-//! First one thread sends and receives in turn; `taskset -c 0` before it keeps it on one processor. Then four threads send to
-//! one that receives. Each figure is the median of several rounds, in which all ways come in turn.
+//! First one thread sends and receives in turn. Then four threads send to one that receives. Each figure is the median of
+//! several rounds, in which all ways come in turn.
 
+mod four_senders;
 mod one_thread;
 mod queue;
-mod four_senders;
 
 use std::time::Duration;
 
@@ -16,26 +17,28 @@ const ROUNDS: usize = 11;
 type Way = (&'static str, fn(u64) -> Duration);
 
 fn main() {
-    let messages = match std::env::args().nth(1) {
+    let mut words = std::env::args().skip(1);
+    let messages = match words.next() {
         Some(word) => word.parse().expect("a number of messages"),
         None => 200_000,
     };
-    measure("one thread sends and receives", &one_thread::WAYS, messages);
-    measure("four threads send, one receives", &four_senders::WAYS, messages);
+    let only = words.next().unwrap_or_default();
+    measure("one thread sends and receives", &one_thread::WAYS, messages, &only);
+    measure("four threads send, one receives", &four_senders::WAYS, messages, &only);
 }
 
-/// Prints for each way the nanoseconds that a message takes, and how that stands to the first way.
-fn measure(what: &str, ways: &[Way], messages: u64) {
+/// Prints for each way whose name has the word in it the nanoseconds that a message takes.
+fn measure(what: &str, ways: &[Way], messages: u64, only: &str) {
+    let ways: Vec<&Way> = ways.iter().filter(|(name, _)| name.contains(only)).collect();
     let mut times = vec![Vec::with_capacity(ROUNDS); ways.len()];
     for _ in 0..ROUNDS {
         for ((_, pass), times) in ways.iter().zip(&mut times) {
             times.push(pass(messages));
         }
     }
-    println!("{what}, {messages} messages, {ROUNDS} rounds:");
-    let medians: Vec<f64> = times.into_iter().map(|times| median(times).as_nanos() as f64 / messages as f64).collect();
-    for ((name, _), nanoseconds) in ways.iter().zip(&medians) {
-        println!("  {name:<24} {nanoseconds:>8.1} ns a message, {:.2} of the first", nanoseconds / medians[0]);
+    println!("{what}, {messages} messages, {ROUNDS} rounds, nanoseconds a message:");
+    for ((name, _), times) in ways.iter().zip(times) {
+        println!("  {name:<26} {:>7.1}", median(times).as_nanos() as f64 / messages as f64);
     }
 }
 

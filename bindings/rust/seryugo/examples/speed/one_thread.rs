@@ -1,23 +1,40 @@
 //! One thread sends a message and receives it, again and again.
 
-use crate::queue::Queue;
+use crate::queue::{Queue, Waking};
 use crate::Way;
 use seryugo::Switchboard;
 use std::sync::mpsc;
 use std::time::{Duration, Instant};
 
-pub const WAYS: [Way; 3] = [("lock, deque and journal", by_lock), ("seryugo", by_seat), ("mpsc", by_mpsc)];
+pub const WAYS: [Way; 4] = [
+    ("a seat", by_seat),
+    ("by hand, wakes always", by_lock_waking_always),
+    ("by hand, wakes at need", by_lock_waking_at_need),
+    ("mpsc", by_mpsc),
+];
 
-fn by_lock(messages: u64) -> Duration {
-    let queue = Queue::new(1 << 32);
+/// The journal is cut behind so many messages, so that its memory is used again.
+const CUT: u64 = 10_000;
+
+fn by_lock_waking_always(messages: u64) -> Duration {
+    by_lock(messages, Waking::Always)
+}
+
+fn by_lock_waking_at_need(messages: u64) -> Duration {
+    by_lock(messages, Waking::WhereSleeping)
+}
+
+fn by_lock(messages: u64, waking: Waking) -> Duration {
+    let queue = Queue::new(1 << 32, waking);
     let start = Instant::now();
     for n in 0..messages {
         queue.send(0, n).unwrap();
         assert_eq!(queue.recv(0), Ok(n));
+        if n % CUT == 0 {
+            queue.cut();
+        }
     }
-    let time = start.elapsed();
-    assert_eq!(queue.entries() as u64, 2 * messages);
-    time
+    start.elapsed()
 }
 
 fn by_seat(messages: u64) -> Duration {
@@ -28,6 +45,9 @@ fn by_seat(messages: u64) -> Duration {
     for n in 0..messages {
         seat.send(mailbox, n).unwrap();
         assert_eq!(seat.recv(mailbox), Ok(Some(n)));
+        if n % CUT == 0 {
+            board.cut().unwrap();
+        }
     }
     let time = start.elapsed();
     assert_eq!(board.entries(), 2 * messages + 1);

@@ -9,43 +9,53 @@ pub struct Queue {
     inside: Mutex<Inside>,
     changed: Condvar,
     limit: usize,
+    waking: Waking,
+}
+
+/// When a send wakes the one that receives, which takes a call of the system.
+#[derive(Clone, Copy, PartialEq)]
+pub enum Waking {
+    Always,
+    /// Only where a thread sleeps, as a switchboard does.
+    WhereSleeping,
 }
 
 struct Inside {
     messages: VecDeque<u64>,
     journal: Vec<Entry>,
-    waiting: usize,
+    sleeping: usize,
 }
 
 /// The number under which the journal tells of the queue.
 const QUEUE: u64 = 0;
 
 impl Queue {
-    pub fn new(limit: usize) -> Queue {
+    pub fn new(limit: usize, waking: Waking) -> Queue {
         let inside = Inside {
             messages: VecDeque::new(),
             journal: Vec::new(),
-            waiting: 0,
+            sleeping: 0,
         };
         Queue {
             inside: Mutex::new(inside),
             changed: Condvar::new(),
             limit,
+            waking,
         }
     }
 
-    /// How many calls were accepted.
-    pub fn entries(&self) -> usize {
-        self.lock().journal.len()
+    /// Cuts the journal: what it has is dropped.
+    pub fn cut(&self) {
+        self.lock().journal.clear();
     }
 
     pub fn send(&self, sender: u64, message: u64) -> Result<(), Error> {
         let mut inside = self.lock();
         self.note(&mut inside, sender, Call::Send(QUEUE, message), Reply::Done)?;
         inside.messages.push_back(message);
-        let is_awaited = inside.waiting > 0;
+        let wakes = self.waking == Waking::Always || inside.sleeping > 0;
         drop(inside);
-        if is_awaited {
+        if wakes {
             self.changed.notify_all();
         }
         Ok(())
@@ -54,9 +64,9 @@ impl Queue {
     pub fn recv(&self, receiver: u64) -> Result<u64, Error> {
         let mut inside = self.lock();
         while inside.messages.is_empty() {
-            inside.waiting += 1;
+            inside.sleeping += 1;
             inside = self.changed.wait(inside).unwrap_or_else(PoisonError::into_inner);
-            inside.waiting -= 1;
+            inside.sleeping -= 1;
         }
         let message = inside.messages[0];
         self.note(&mut inside, receiver, Call::Recv(QUEUE), Reply::Got(message))?;
