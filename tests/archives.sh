@@ -3,6 +3,8 @@
 # each crate that crates.txt calls a static library. `rt lib` in the crate's folder writes the same, but proves for it all that
 # lies below once more, while `rt ci` proves a static library and builds none. The last line is `N passed, M failed`.
 cd "$(dirname "$0")/.." || exit 1
+work=$(mktemp -d) || exit 1
+trap 'rm -rf "$work"' EXIT
 top=$PWD
 kit=$(dirname "$(rt doc)")
 passed=0
@@ -33,12 +35,18 @@ build() {
     )
 }
 
-for name in $(sed -n 's/^\([a-z_]*\) staticlib:.*/\1/p' crates.txt); do
-    if build "$name"; then
+names=$(sed -n 's/^\([a-z_]*\) staticlib:.*/\1/p' crates.txt)
+for name in $names; do
+    { build "$name" > "$work/$name" 2>&1 || echo > "$work/$name.failed"; } &
+done
+wait
+for name in $names; do
+    if [ ! -e "$work/$name.failed" ]; then
         passed=$((passed + 1))
     else
         failed=$((failed + 1))
         echo "failed: the archive of $name"
+        tail -n 20 "$work/$name"
     fi
 done
 echo "$passed passed, $failed failed"

@@ -211,6 +211,8 @@ static void try_feeds(uint64_t seat)
     TOLD(NOTHING, seryugo_feed_recv(&feed, &message));
     TOLD(DONE, seryugo_multicast(&room, seat, 1, 30));
     TOLD(DONE, seryugo_multicast(&room, seat, 1, 31));
+    /* Without memory for an entry the pump would stop halfway, and tell how many it moved. */
+    TOLD(DONE, seryugo_reserve(&room, 2));
     TOLD(DONE, seryugo_feed_pump(&room, number, &count));
     IS(2, count);
     TOLD(DONE, seryugo_feed_recv(&feed, &message));
