@@ -84,23 +84,25 @@ rooms_from_c() {
     fi
 }
 
-# cargo_does WORD..: cargo on a copy of the crate, with the archives.
+# cargo_does COMMAND WORD..: a command of cargo's on a copy of the crate, with the archives.
 cargo_does() {
+    command=$1
+    shift
     SERYUGO_ARCHIVES="$(dirname "$rooms"):$(dirname "$replay")" SERYUGO_KIT="$kit" \
-        cargo "$@" --manifest-path "$work/bindings/rust/seryugo/Cargo.toml"
+        cargo "$command" --manifest-path "$work/bindings/rust/seryugo/Cargo.toml" --quiet --offline "$@"
 }
 
 # The README's ten lines do what it says.
 letters_from_rust() {
-    cargo_does run --quiet --offline --example letters > "$work/letters" && [ "$(cat "$work/letters")" = 'Ben received Some(5)' ]
+    cargo_does run --example letters > "$work/letters" && [ "$(cat "$work/letters")" = 'Ben received Some(5)' ]
 }
 
 from_rust() {
     cp -r bindings "$work/bindings"
     ln -s "$PWD/examples" "$work/examples"
-    check 'the crate in Rust' cargo_does test --quiet --offline --all-features
+    check 'the crate in Rust' cargo_does test --all-features
     check 'a mailbox and two threads in Rust' letters_from_rust
-    check 'messages are timed in Rust' cargo_does run --quiet --offline --release --example speed -- 4000
+    check 'messages are timed in Rust' cargo_does run --release --example speed -- 4000
 }
 
 check 'the archive of rooms is there' [ -s "$rooms" ]
