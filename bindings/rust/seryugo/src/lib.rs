@@ -7,6 +7,7 @@
 mod entry;
 mod error;
 mod feed;
+mod journal;
 mod lane;
 mod names;
 mod raw;
@@ -18,6 +19,7 @@ mod switchboard;
 pub use entry::{Call, Entry, Reply, Who};
 pub use error::Error;
 pub use feed::Feed;
+pub use journal::{Entries, Journal};
 pub use lane::{Lane, LaneFull};
 pub use names::{Channel, IVar, MVar, Mailbox, Object, Port, Source, Target, Variable};
 #[cfg(feature = "scripts")]

@@ -3,7 +3,7 @@
 use crate::error::Error;
 use std::os::raw::c_void;
 
-/// A handle to a room, a lane or a feed. Whoever has it by `&mut` has it alone, which orders its calls.
+/// A handle to a room, a lane, a feed or a journal that was taken. Whoever has it by `&mut` has it alone, which orders its calls.
 #[repr(C)]
 pub struct Handle {
     at: *mut c_void,
@@ -153,6 +153,10 @@ extern "C" {
     pub fn seryugo_reserve(room: *mut Handle, entries: usize) -> u32;
     pub fn seryugo_cut(room: *mut Handle) -> u32;
     pub fn seryugo_entry(room: *mut Handle, at: u64, entry: *mut RawEntry) -> u32;
+    pub fn seryugo_take_journal(room: *mut Handle, journal: *mut Handle, count: *mut u64) -> u32;
+    pub fn seryugo_taken_entry(journal: *mut Handle, place: u64, entry: *mut RawEntry) -> u32;
+    pub fn seryugo_channel_of(room: *mut Handle, port: u64, channel: *mut u64) -> u32;
+    pub fn seryugo_start_of(room: *mut Handle, port: u64, start: *mut u64) -> u32;
     pub fn seryugo_sent(room: *mut Handle, object: u64, count: *mut u64) -> u32;
     pub fn seryugo_got(room: *mut Handle, object: u64, count: *mut u64) -> u32;
     pub fn seryugo_owed(room: *mut Handle, object: u64, count: *mut u64) -> u32;

@@ -3,6 +3,7 @@
 use crate::entry::Entry;
 use crate::error::Error;
 use crate::feed::Feed;
+use crate::journal::Journal;
 use crate::lane::Lane;
 use crate::names::{Channel, Object, Port, Target, Variable};
 use crate::raw::{self, done, polled, told, written, Handle, RawEntry, Told};
@@ -90,6 +91,15 @@ impl Switchboard {
         done(unsafe { raw::seryugo_cut(&mut self.lock().handle) })
     }
 
+    /// Cuts the journal, and hands over the entries that it had. What was reserved goes with them.
+    pub fn take_journal(&self) -> Result<Journal, Error> {
+        let mut count = 0;
+        let handle = Handle::opened(|journal| unsafe {
+            raw::seryugo_take_journal(&mut self.lock().handle, journal, &mut count)
+        })?;
+        Ok(Journal::new(handle, count as usize))
+    }
+
     /// The journal's entry at this position, counted from 0 since the switchboard was made.
     pub fn entry(&self, at: u64) -> Option<Entry> {
         let mut entry = RawEntry::default();
@@ -137,6 +147,16 @@ impl Switchboard {
     pub fn is_open(&self, port: Port) -> Result<bool, Error> {
         let code = unsafe { raw::seryugo_is_open(&mut self.lock().handle, port.0) };
         Ok(told(code)? == Told::Done)
+    }
+
+    /// A port's channel.
+    pub fn channel_of(&self, port: Port) -> Result<Channel, Error> {
+        self.read(|room, channel| unsafe { raw::seryugo_channel_of(room, port.number(), channel) }).map(Channel)
+    }
+
+    /// How many messages had been multicast on a port's channel before the first that it receives.
+    pub fn start_of(&self, port: Port) -> Result<u64, Error> {
+        self.read(|room, start| unsafe { raw::seryugo_start_of(room, port.number(), start) })
     }
 
     fn read(&self, call: impl FnOnce(&mut Handle, *mut u64) -> u32) -> Result<u64, Error> {

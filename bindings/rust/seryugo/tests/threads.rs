@@ -109,6 +109,28 @@ fn refusals_are_told() {
 }
 
 #[test]
+fn a_journal_is_taken_and_read_by_another_thread() {
+    let board = Switchboard::new(100).unwrap();
+    let mut seat = board.seat().unwrap();
+    let channel = seat.channel().unwrap();
+    seat.multicast(channel, 5).unwrap();
+    let port = seat.port(channel).unwrap();
+    assert_eq!((board.channel_of(port), board.start_of(port)), (Ok(channel), Ok(1)));
+    let lane = board.lane(channel, 1).unwrap();
+    assert_eq!(board.take_journal().err(), Some(Error::Busy));
+    drop(lane);
+    let journal = board.take_journal().unwrap();
+    assert_eq!((board.entries(), board.cut_at(), board.entry(1)), (3, 3, None));
+    seat.multicast(channel, 6).unwrap();
+    let calls: Vec<Call> = thread::spawn(move || journal.iter().map(|entry| entry.call).collect()).join().unwrap();
+    assert_eq!(calls, [Call::NewChannel, Call::Multicast(0, 5), Call::NewPort(0)]);
+    let rest = board.take_journal().unwrap();
+    assert_eq!((rest.len(), rest.entry(0).map(|entry| entry.call)), (1, Some(Call::Multicast(0, 6))));
+    assert_eq!(rest.entry(1), None);
+    assert!(board.take_journal().unwrap().is_empty());
+}
+
+#[test]
 fn the_journal_is_read_by_position() {
     let board = Switchboard::new(100).unwrap();
     let mut seat = board.seat().unwrap();
