@@ -95,7 +95,7 @@ arrow_class row =
 unfoldable pub row_tags : Geometry → ℕ → Row → List ℕ
 row_tags g at row =
     line_tag (arrow_class row) (column_at g row.actor, place_at 80 26 at) (column_at g row.object, place_at 80 26 at)
-    ++ text_tag (codes "label") (capped (column_at g row.actor + 8), place_at 80 26 at - 5) (label_of (shown_act row.act))
+    ++ text_tag (codes "label") (capped (column_at g row.actor + 8), place_at 80 26 at - 9) (label_of (shown_act row.act))
 
 -- one row behind the other
 abbrev pub rows_from : Geometry → ℕ → List Row → List ℕ

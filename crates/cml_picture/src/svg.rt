@@ -206,7 +206,7 @@ fn push_row(
     push_line(alloc, out, arrow_class(row), (x, y), (end, y))?;
     let mut label = Vec::new(alloc);
     push_label(&mut label, &row.act)?;
-    let at = (x.saturating_add(8), y.saturating_sub(5));
+    let at = (x.saturating_add(8), y.saturating_sub(9));
     push_text(alloc, out, "label", at, &label)
 }
 
