@@ -1,7 +1,8 @@
 #!/bin/sh
-# The built program that draws charts, from outside: `sh tests/chart.sh PROGRAM`. Each example's report gives the chart beside it,
-# and three give the SVG beside them, byte for byte; then rows that are chosen, wrong words, texts that are no reports, a long
-# report and one of too many bytes, texts with bytes that XML has a meaning for, and streams that fail. Each SVG is read by a real
+# The built program that draws charts, from outside: `sh tests/chart.sh PROGRAM`. Each example's report gives with its script the
+# chart beside it, and some give the SVG beside them, byte for byte; then rows that are chosen, wrong words, texts that are no
+# reports, or none of the script, scripts with faults, the steps that threads stand at, a long report and one of too many bytes,
+# texts with bytes that XML has a meaning for, and streams that fail. Each SVG is read by a real
 # reader of XML where python3 is there. The last line is `N passed, M failed`.
 LC_ALL=C
 export LC_ALL
@@ -30,9 +31,9 @@ for text in root.iter("{http://www.w3.org/2000/svg}text"):
 examples() {
     for report in examples/*.report; do
         name=${report%.report}
-        run --text < "$report"
+        run --text --script "$name.cml" < "$report"
         if [ "$status" = 0 ] && cmp -s "$work/out" "$name.chart"; then pass; else fail "$name.chart"; fi
-        run < "$report"
+        run --script "$name.cml" < "$report"
         expect "$name as SVG" 0 some none
         if [ -f "$name.svg" ]; then
             if cmp -s "$work/out" "$name.svg"; then pass; else fail "$name.svg"; fi
@@ -77,6 +78,74 @@ faults() {
     fault "a thread in an object's place" "A send m 5: done / A send A 5: done / mailbox m: sent 1 got 0 waits 1 / end: done 2" "line 2: unknown name"
     fault "two objects of one name" "mailbox m: sent 0 got 0 waits 0 / ivar m: empty / end: done 0" "line 2: name taken"
     fault "an object with a thread's name" "m send m 5: done / mailbox m: sent 1 got 0 waits 1 / end: done 1" "line 2: name taken"
+}
+
+# stands CASE SCRIPT REPORT LINES: with the script the report's chart has these lines of steps that threads stand at.
+stands() {
+    script "$2" > "$work/script"
+    script "$3" > "$work/in"
+    run --text --script "$work/script" < "$work/in"
+    grep -E '^[A-Za-z]+ (waits|next): ' "$work/out" > "$work/stands"
+    script "$4" | sed '/^$/d' > "$work/want"
+    if [ "$status" = 0 ] && cmp -s "$work/stands" "$work/want"; then pass; else fail "$1: $(cat "$work/stands" "$work/err")"; fi
+    run --script "$work/script" < "$work/in"
+    expect "$1 as SVG" 0 some none
+    well_formed "$1"
+}
+
+# strange CASE SCRIPT REPORT FAULT: the report is none of the script.
+strange() {
+    script "$2" > "$work/script"
+    script "$3" > "$work/in"
+    run --script "$work/script" < "$work/in"
+    expect "$1" 2 none "report: $4"
+}
+
+# A script with a lane and a feed, in which B waits at its end, and what its reports have in common.
+ringed='cml 1 / mailbox m / channel c / thread A / thread B / lane A m 2 / feed B f c 1 / A send m 1 / A multicast c 2 / A send m 3 / B poll f / B recv m / B recv m / B recv m'
+ringed_rest='lane 0 send m 3: done / B recv m: 1 / B recv m: 3 / mailbox m: sent 2 got 2 waits 0 / channel c: sent 1 kept 0 first 1 / feed f: start 0 got 1 owed 0 taken 1'
+
+scripts() {
+    pair='cml 1 / mailbox m / mailbox n / thread A / thread B / A send m 5 / A recv n / B recv m / B recv m / B send n 6'
+    rest='mailbox m: sent 1 got 1 waits 0 / mailbox n: sent 0 got 0 waits 0'
+    stands "a stall" "$pair" "A send m 5: done / B recv m: 5 / $rest / end: stalled 2 left 3" "A waits: recv n / B waits: recv m"
+    stands "a thread with no row" "$pair" "A send m 5: done / mailbox m: sent 1 got 0 waits 1 / mailbox n: sent 0 got 0 waits 0 / end: full 1 left 4" "A next: recv n / B next: recv m"
+    stands "a thread that is done" "cml 1 / mailbox m / thread A / thread B / A send m 5 / B recv m / B recv m" "A send m 5: done / B recv m: 5 / mailbox m: sent 1 got 1 waits 0 / end: stalled 2 left 1" "B waits: recv m"
+    stands "threads that are all done" "cml 2 / mailbox m / thread A / A send m five / A recv m" "A send m five: done / A recv m: =five / mailbox m: sent 1 got 1 waits 0 / end: done 2" ""
+    stands "steps by a lane and a feed" "$ringed" "lane 0 send m 1: done / A multicast c 2: done / feed 0 recv f: 2 / $ringed_rest / end: stalled 6 left 1" "B waits: recv m"
+    stands "a port that a step makes" "cml 1 / channel c / thread A / A port c p / A copy p q / A recv p" "A port c p: made / A copy p q: made / channel c: sent 0 kept 0 first 0 / port p: start 0 got 0 owed 0 / port q: start 0 got 0 owed 0 / end: stalled 2 left 1" "A waits: recv p"
+    script "$pair" > "$work/script"
+    script "A send m 5: done / B recv m: 5 / $rest / end: stalled 2 left 3" > "$work/in"
+    run --text --to 1 --script "$work/script" < "$work/in"
+    if [ "$status" = 0 ] && [ "$(grep -c ' waits: ' "$work/out")" = 2 ]; then pass; else fail "a stall with some rows"; fi
+    strange "a step that is not the next" "$pair" "A recv n: 5 / $rest / end: stalled 1 left 4" "line 1: not of this script"
+    strange "another message" "$pair" "A send m 6: done / $rest / end: stalled 1 left 4" "line 1: not of this script"
+    strange "a step too many" "$pair" "A send m 5: done / A recv n: 6 / A send m 5: done / $rest / end: done 3" "line 3: not of this script"
+    strange "a thread that is not there" "$pair" "A send m 5: done / C recv m: 5 / $rest / end: stalled 2 left 3" "line 2: not of this script"
+    strange "an object that is not there" "$pair" "A send m 5: done / $rest / mailbox o: sent 0 got 0 waits 0 / end: stalled 1 left 4" "line 4: not of this script"
+    strange "an object that is left out" "$pair" "A send m 5: done / mailbox m: sent 1 got 0 waits 1 / end: stalled 1 left 4" "line 3: not of this script"
+    strange "objects in another order" "$pair" "mailbox n: sent 0 got 0 waits 0 / mailbox m: sent 0 got 0 waits 0 / end: stalled 0 left 5" "line 1: not of this script"
+    strange "an object of another kind" "$pair" "mailbox m: sent 0 got 0 waits 0 / ivar n: empty / end: stalled 0 left 5" "line 2: not of this script"
+    strange "a row of a step that goes by a lane" "$ringed" "A send m 1: done / $ringed_rest / end: stalled 4 left 1" "line 1: not of this script"
+    strange "a lane to another object" "$ringed" "lane 0 multicast c 2: done / $ringed_rest / end: stalled 4 left 1" "line 1: not of this script"
+    strange "a feed of another number" "$ringed" "feed 1 recv f: 2 / $ringed_rest / end: stalled 4 left 1" "line 1: not of this script"
+    strange "a lane in a script that has none" "$pair" "lane 0 send m 5: done / $rest / end: stalled 1 left 4" "line 1: not of this script"
+    run --script examples/swap.cml < examples/stalled.report
+    expect "a report of another example" 2 none "report: line 1: not of this script"
+    script "cml 1 / mailbox m / mailbox m" > "$work/script"
+    run --script "$work/script" < examples/stalled.report
+    expect "a script with a fault" 2 none "script: line 3: name taken"
+    : > "$work/script"
+    run --script "$work/script" < examples/stalled.report
+    expect "an empty script" 2 none "script: line 1: bad header"
+    run --script "$work/nothing" < examples/stalled.report
+    expect "a script that is not there" 4 none "cml_chart: script read failed"
+    run --script . < examples/stalled.report
+    expect "a folder for a script" 4 none "cml_chart: script read failed"
+    run --script examples/stalled.cml < /dev/null
+    expect "an empty file with a script" 2 none "report: line 1: no end line"
+    run --script
+    expect "no name of a script" 3 none some
 }
 
 words() {
@@ -156,6 +225,7 @@ streams() {
 
 examples
 faults
+scripts
 words
 sizes
 texts

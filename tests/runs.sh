@@ -2,7 +2,7 @@
 # beforehand: tests/interleaved.awk makes the report that the threads' order gives, and the two are to be the same.
 
 # The examples whose end depends on the order: in some orders all steps are performed, in others it stalls.
-either_end='chat_room late_reader philosophers'
+either_end='chat_room late_reader philosophers three_philosophers'
 
 # in_some_order LIMIT SCRIPT REPORT..: whether each of these reports is one that some order of the threads gives; where
 # `short` is set, one in which the pump of that message of feeds stopped there.

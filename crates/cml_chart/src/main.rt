@@ -2,10 +2,10 @@
 #![tactic(auto)]
 
 use clap::Error;
-use cml_picture::{Ending, draw, order, status_of, status_of_error};
-use std::env;
+use cml_picture::{Asked, Ending, draw, draw_by_script, order, status_of, status_of_error};
 use std::io::ErrorKind;
 use std::process::ExitCode;
+use std::{env, fs};
 
 fn main(rt: HostRuntime) -> ExitCode {
     let status = match words(&rt) {
@@ -32,11 +32,21 @@ fn words(rt: &HostRuntime) -> Result<Vec<String>, u8> {
 /// Does what the words ask for, and gives the exit status.
 fn obey(rt: &HostRuntime, words: &[String]) -> u8 {
     match order(rt.alloc(), words) {
-        Ok(asked) => {
-            let ending = draw(rt.alloc(), &mut rt.stdin(), &mut rt.stdout(), &asked);
-            tell(rt, ending)
-        }
+        Ok(asked) => tell(rt, draw_as(rt, &asked)),
         Err(error) => show(rt, &error),
+    }
+}
+
+/// Draws the report as it is asked for, by the script in a file where one is named.
+fn draw_as(rt: &HostRuntime, asked: &Asked<'_>) -> Ending {
+    let (input, output) = (&mut rt.stdin(), &mut rt.stdout());
+    let Some(path) = asked.script else {
+        return draw(rt.alloc(), input, output, asked);
+    };
+    match fs::open(rt, path) {
+        Ok(mut script) => draw_by_script(rt.alloc(), &mut script, input, output, asked),
+        Err(error) if error.kind() == ErrorKind::OutOfMemory => Ending::NoMemory,
+        Err(_) => Ending::ScriptReadFault,
     }
 }
 

@@ -6,3 +6,5 @@ mod HeadLemmas
 mod DrawingLemmas
 mod ReadingLemmas
 mod EscapeLemmas
+mod FollowingLemmas
+mod PlanLemmas

@@ -33,13 +33,13 @@ joined names doers d = record { deed = d; arrow = arrow_of names doers d }
 abbrev pub shown_row : Row → Joined
 shown_row row = record { deed = shown_act row.act; arrow = Some (row.actor, row.object) }
 
--- The columns are those who act, and behind them the objects, each of which has a name of its own. There is a row for each
--- line, in their order, and each has an arrow.
-pub record IsChart (deeds : List Deed) (things : List Thing) (chart : Chart) : Type 0 where
-  pub names : names_of chart.names.keys ≡ doers_of deeds ++ map (λ (t : Thing). t.name) things
-  pub free : taken_from (doers_of deeds) (length deeds + 1) things ≡ None
-  pub threads : chart.threads ≡ length (with_doers false [] deeds)
-  pub actors : chart.actors ≡ length (doers_of deeds)
+-- The columns are the threads that stand first, those others who act, and behind them the objects, each of which has a name of its
+-- own. There is a row for each line, in their order, and each has an arrow.
+pub record IsChart (first : Words) (deeds : List Deed) (things : List Thing) (chart : Chart) : Type 0 where
+  pub names : names_of chart.names.keys ≡ doers_of first deeds ++ map (λ (t : Thing). t.name) things
+  pub free : taken_from (doers_of first deeds) (length deeds + 1) things ≡ None
+  pub threads : chart.threads ≡ length (with_doers false first deeds)
+  pub actors : chart.actors ≡ length (doers_of first deeds)
   pub rows : map shown_row chart.rows.items ≡ map (joined (names_of chart.names.keys) chart.actors) deeds
 
 -- the number of the first of these lines, from k on, whose names don't both have columns
@@ -47,13 +47,13 @@ abbrev pub unknown_from : Words → ℕ → ℕ → List Deed → Option ℕ
 unknown_from names doers k [] = None
 unknown_from names doers k (d ∷ ds) = option_map_or (λ _. unknown_from names doers (suc k) ds) (arrow_of names doers d) (Some k)
 
-abbrev pub unknown_fault : List Deed → List Thing → Option Fault
-unknown_fault deeds things =
+abbrev pub unknown_fault : Words → List Deed → List Thing → Option Fault
+unknown_fault first deeds things =
     option_map (λ k. record { line = k; what = UnknownName })
-    (unknown_from (doers_of deeds ++ map (λ (t : Thing). t.name) things) (length (doers_of deeds)) 1 deeds)
+    (unknown_from (doers_of first deeds ++ map (λ (t : Thing). t.name) things) (length (doers_of first deeds)) 1 deeds)
 
 -- why the lines of a report have no chart: an object has the name of an earlier column, or else a line of the first part an object
 -- that the second doesn't tell of
-abbrev pub chart_fault : List Deed → List Thing → Option Fault
-chart_fault deeds things =
-    option_map_or (λ k. Some (record { line = k; what = NameTaken })) (taken_from (doers_of deeds) (length deeds + 1) things) (unknown_fault deeds things)
+abbrev pub chart_fault : Words → List Deed → List Thing → Option Fault
+chart_fault first deeds things =
+    option_map_or (λ k. Some (record { line = k; what = NameTaken })) (taken_from (doers_of first deeds) (length deeds + 1) things) (unknown_fault first deeds things)

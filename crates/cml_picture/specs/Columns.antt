@@ -40,9 +40,9 @@ abbrev pub with_doers : Bool → Words → List Deed → Words
 with_doers rings names [] = names
 with_doers rings names (d ∷ ds) = with_doers rings (if is_asked rings d.doer then with_name names (doer_text d.doer) else names) ds
 
--- the threads, and then the lanes and feeds
-abbrev pub doers_of : List Deed → Words
-doers_of deeds = with_doers true (with_doers false [] deeds) deeds
+-- the threads that stand first, those others that act, and then the lanes and feeds
+abbrev pub doers_of : Words → List Deed → Words
+doers_of first deeds = with_doers true (with_doers false first deeds) deeds
 
 -- the number of the first line, where these have numbers from k on, whose object has the name of an earlier column
 abbrev pub taken_from : Words → ℕ → List Thing → Option ℕ

@@ -24,9 +24,20 @@ from_rule = numbered_rule (codes "from")
 abbrev pub to_rule : Rule
 to_rule = numbered_rule (codes "to")
 
--- the program, with its three options
+-- the program, with its three options of how a report is to be drawn
+abbrev pub drawing_usage : App
+drawing_usage = with_rule (with_rule (with_rule (new_app (codes "cml_chart")) text_rule) from_rule) to_rule
+
+-- `--script`, whose value is any word
+abbrev pub script_rule : Rule
+script_rule = record (new_rule (codes "script")) {
+  long = Some (codes "script");
+  value_names = 1;
+}
+
+-- .. and with that one
 abbrev pub usage : App
-usage = with_rule (with_rule (with_rule (new_app (codes "cml_chart")) text_rule) from_rule) to_rule
+usage = with_rule drawing_usage script_rule
 
 -- the kinds of error that the words may give; none where they are understood
 abbrev pub faults_of : List Text → Kinds

@@ -1,5 +1,6 @@
 -- What the drawing of a report reads and writes, by how it ends.
-use Rattle.std.specs.Prelude.{ℕ, ◌≡◌, ◌≤◌, ◌+◌, ◌-◌, ◌^◌, ◌⊎◌, min, List, length, map, Option, Some, unwrap_or, slice_range, MatchBool, ⊤}
+use Rattle.std.specs.Prelude.{ℕ, ◌≤◌, ◌+◌, ◌-◌, ◌^◌, ◌⊎◌, min, List, [], ◌≡◌, length, map, Option, Some, None, unwrap_or, slice_range, MatchBool, ⊤}
+use Rattle.std.specs.Option.{option_map_or}
 use Rattle.std.specs.Io.KnownBytes.{Consumes, IsAtEnd, Appends, Keeps}
 use Rattle.cml_picture.specs.declared.asked.Asked.{Asked}
 use Rattle.cml_picture.specs.declared.chart.Chart.{Chart}
@@ -7,7 +8,12 @@ use Rattle.cml_picture.specs.declared.faults.Fault.{Fault}
 use Rattle.cml_picture.specs.declared.ending.Ending.{Ending}
 use Rattle.cml_picture.specs.declared.ending.Ending.TheVariants as ending
 use Rattle.cml_picture.specs.declared.svg.Geometry.{Geometry}
-use Rattle.cml_picture.specs.Lines.{Deed, Thing, Ended}
+use Rattle.cml_grammar.specs.declared.fault.Fault.{Fault as ScriptFault}
+use Rattle.cml_grammar.specs.Faults.{fault_of}
+use Rattle.cml_grammar.specs.Script.{Lines, IsScript}
+use Rattle.cml_picture.specs.Lines.{Words, Deed, Thing, Ended}
+use Rattle.cml_picture.specs.Plan.{Planned, plan_of}
+use Rattle.cml_picture.specs.Following.{strange_fault, standing}
 use Rattle.cml_picture.specs.Reading.{told, report, wrong}
 use Rattle.cml_picture.specs.Shown.{shown_object, shown_end}
 use Rattle.cml_picture.specs.Chart.{IsChart, chart_fault}
@@ -26,19 +32,40 @@ last_of asked = unwrap_or asked.to (min (asked.from + 499) (2 ^ 64 - 1))
 abbrev pub bounds_of : Asked → ℕ → ℕ × ℕ
 bounds_of asked count = let end = min count (last_of asked) in (min end (asked.from - 1), end)
 
--- the picture is the chart's with these rows, drawn as it was asked for
-abbrev pub IsDrawnBetween : Asked → Chart → ℕ × ℕ → List ℕ → Type 0
-IsDrawnBetween asked chart bounds picture =
+-- the picture is the chart's with these rows and the steps at which threads stand, drawn as it was asked for
+abbrev pub IsDrawnBetween : Asked → Chart → List Words → ℕ × ℕ → List ℕ → Type 0
+IsDrawnBetween asked chart standing bounds picture =
     let rows = slice_range chart.rows.items bounds.0 bounds.1 in
     MatchBool asked.text
-    (picture ≡ plain_text chart bounds.0 rows)
-    ((g : Geometry) × (picture ≡ svg_text g chart bounds.0 rows))
+    (picture ≡ plain_text chart standing bounds.0 rows)
+    ((g : Geometry) × (picture ≡ svg_text g chart standing bounds.0 rows))
 
-abbrev pub IsDrawingOf : Asked → Chart → List ℕ → Type 0
-IsDrawingOf asked chart picture = IsDrawnBetween asked chart (bounds_of asked (length chart.rows.items)) picture
+abbrev pub IsDrawingOf : Asked → Chart → List Words → List ℕ → Type 0
+IsDrawingOf asked chart standing picture = IsDrawnBetween asked chart standing (bounds_of asked (length chart.rows.items)) picture
 
--- all of the reader's bytes were read, they are a report, and this was drawn of it: its columns, its rows, and its last part
-pub record IsDrawnOf (asked : Asked) (old new : Option (List ℕ)) (picture : List ℕ) : Type 0 where
+-- Where there is a script its threads have the first columns, it tells the steps at which they stand, and a report may be none of
+-- it.
+
+abbrev pub threads_by : Option Planned → Words
+threads_by None = []
+threads_by (Some p) = p.threads
+
+abbrev pub standing_by : Option Planned → List Deed → List Words
+standing_by None deeds = []
+standing_by (Some p) deeds = standing p deeds
+
+abbrev pub strange_by : Option Planned → List Deed → List Thing → Option Fault
+strange_by None deeds things = None
+strange_by (Some p) deeds things = strange_fault p deeds things
+
+-- what is wrong with the lines of a report: one is not the script's, or else they have no chart
+abbrev pub lines_fault : Option Planned → List Deed → List Thing → Option Fault
+lines_fault plan deeds things =
+    option_map_or (λ (fault : Fault). Some fault) (strange_by plan deeds things) (chart_fault (threads_by plan) deeds things)
+
+-- all of the reader's bytes were read, they are a report, of the script where there is one, and this was drawn of it: its columns,
+-- its rows, the steps at which threads stand, and its last part
+pub record IsDrawnOf (asked : Asked) (plan : Option Planned) (old new : Option (List ℕ)) (picture : List ℕ) : Type 0 where
   pub text : List ℕ
   pub read : Consumes old new text
   pub whole : IsAtEnd new
@@ -46,30 +73,59 @@ pub record IsDrawnOf (asked : Asked) (old new : Option (List ℕ)) (picture : Li
   pub things : List Thing
   pub chart : Chart
   pub says : told text ≡ report deeds things (shown_end chart.end)
+  pub of_script : strange_by plan deeds things ≡ None
   pub objects : map shown_object chart.objects.items ≡ things
-  pub is_chart : IsChart deeds things chart
-  pub drawn : IsDrawingOf asked chart picture
+  pub is_chart : IsChart (threads_by plan) deeds things chart
+  pub drawn : IsDrawingOf asked chart (standing_by plan deeds) picture
 
--- the lines are no report, or those of a report that has no chart
-abbrev pub IsFaulty : List ℕ → Fault → Type 0
-IsFaulty text fault = (told text ≡ wrong fault)
-    ⊎ ((deeds : List Deed) × (things : List Thing) × (end : Ended) × (told text ≡ report deeds things end) × (chart_fault deeds things ≡ Some fault))
+-- the lines are no report, or there is a fault in what they tell
+abbrev pub IsFaulty : Option Planned → List ℕ → Fault → Type 0
+IsFaulty plan text fault = (told text ≡ wrong fault)
+    ⊎ ((deeds : List Deed) × (things : List Thing) × (end : Ended) × (told text ≡ report deeds things end) × (lines_fault plan deeds things ≡ Some fault))
 
 -- how it ends where nothing was drawn
-abbrev pub EndsUndrawn : Option (List ℕ) → Option (List ℕ) → Ending → Type 0
-EndsUndrawn old new (ending.Fault fault) = (text : List ℕ) × IsRead old new text × IsFaulty text fault
-EndsUndrawn old new ending.ReadFault = ⊤
-EndsUndrawn old new ending.NoMemory = ⊤
-EndsUndrawn old new ending.Done = ⊥
-EndsUndrawn old new ending.WriteFault = ⊥
+abbrev pub EndsUndrawn : Option Planned → Option (List ℕ) → Option (List ℕ) → Ending → Type 0
+EndsUndrawn plan old new (ending.Fault fault) = (text : List ℕ) × IsRead old new text × IsFaulty plan text fault
+EndsUndrawn plan old new ending.ReadFault = ⊤
+EndsUndrawn plan old new ending.NoMemory = ⊤
+EndsUndrawn plan old new ending.Done = ⊥
+EndsUndrawn plan old new ending.WriteFault = ⊥
+EndsUndrawn plan old new (ending.ScriptFault fault) = ⊥
+EndsUndrawn plan old new ending.ScriptReadFault = ⊥
 
 -- the picture was written, or a write failed
 abbrev pub Writes : Option (List ℕ) → Option (List ℕ) → List ℕ → Ending → Type 0
 Writes held holds picture ended = (ended ≡ ending.WriteFault) ⊎ ((ended ≡ ending.Done) × Appends held holds picture)
 
-abbrev pub Draws : Asked → Option (List ℕ) → Option (List ℕ) → Option (List ℕ) → Option (List ℕ) → Ending → Type 0
-Draws asked old new held holds ending.Done = (picture : List ℕ) × IsDrawnOf asked old new picture × Appends held holds picture
-Draws asked old new held holds (ending.Fault fault) = EndsUndrawn old new (ending.Fault fault) × Keeps held holds
-Draws asked old new held holds ending.ReadFault = Keeps held holds
-Draws asked old new held holds ending.NoMemory = Keeps held holds
-Draws asked old new held holds ending.WriteFault = ⊤
+abbrev pub Draws : Asked → Option Planned → Option (List ℕ) → Option (List ℕ) → Option (List ℕ) → Option (List ℕ) → Ending → Type 0
+Draws asked plan old new held holds ending.Done = (picture : List ℕ) × IsDrawnOf asked plan old new picture × Appends held holds picture
+Draws asked plan old new held holds (ending.Fault fault) = EndsUndrawn plan old new (ending.Fault fault) × Keeps held holds
+Draws asked plan old new held holds ending.ReadFault = Keeps held holds
+Draws asked plan old new held holds ending.NoMemory = Keeps held holds
+Draws asked plan old new held holds ending.WriteFault = ⊤
+Draws asked plan old new held holds (ending.ScriptFault fault) = ⊥
+Draws asked plan old new held holds ending.ScriptReadFault = ⊥
+
+-- these were all of the reader's bytes, and are this script
+pub record IsGiven (old new : Option (List ℕ)) (script : Lines) : Type 0 where
+  pub text : List ℕ
+  pub read : Consumes old new text
+  pub whole : IsAtEnd new
+  pub is : IsScript text script
+
+-- the reader's bytes are no script
+abbrev pub IsWrongScript : Option (List ℕ) → Option (List ℕ) → ScriptFault → Type 0
+IsWrongScript old new fault = (text : List ℕ) × IsRead old new text × (fault_of text ≡ Some fault)
+
+-- how it ends where the script was not read, or there is no memory for it
+abbrev pub EndsUnread : Option (List ℕ) → Option (List ℕ) → Ending → Type 0
+EndsUnread old new (ending.ScriptFault fault) = IsWrongScript old new fault
+EndsUnread old new ending.ScriptReadFault = ⊤
+EndsUnread old new ending.NoMemory = ⊤
+EndsUnread old new _ = ⊥
+
+-- .. or the report was drawn, or not, by the script that was read
+abbrev pub DrawsGiven : Asked → Option (List ℕ) → Option (List ℕ) → Option (List ℕ) → Option (List ℕ) → Option (List ℕ) → Option (List ℕ) → Ending → Type 0
+DrawsGiven asked given left old new held holds ended =
+    (EndsUnread given left ended × Keeps held holds)
+    ⊎ ((script : Lines) × IsGiven given left script × Draws asked (Some (plan_of script)) old new held holds ended)

@@ -3,6 +3,9 @@ use Rattle.std.specs.Prelude.{ℕ}
 use Rattle.cml_picture.specs.declared.faults.What.{What}
 use Rattle.cml_picture.specs.declared.faults.What.TheVariants as what
 use Rattle.cml_picture.specs.declared.faults.Fault.{Fault}
+use Rattle.cml_grammar.specs.declared.fault.What.{What as WrongScript}
+use Rattle.cml_grammar.specs.declared.fault.What.TheVariants as wrong
+use Rattle.cml_grammar.specs.declared.fault.Fault.{Fault as ScriptFault}
 use Rattle.cml_picture.specs.declared.read.Unread.{Unread}
 use Rattle.cml_picture.specs.declared.read.Unread.TheVariants as unread
 use Rattle.cml_picture.specs.declared.ending.Ending.{Ending}
@@ -20,9 +23,22 @@ ending_of_what _ fault = ending.Fault fault
 abbrev pub ending_of_fault : Fault → Ending
 ending_of_fault fault = ending_of_what fault.what fault
 
+abbrev pub ending_of_script : Unread → Ending
+ending_of_script unread.Failed = ending.ScriptReadFault
+ending_of_script unread.Memory = ending.NoMemory
+
+abbrev pub ending_of_script_what : WrongScript → ScriptFault → Ending
+ending_of_script_what wrong.Memory fault = ending.NoMemory
+ending_of_script_what _ fault = ending.ScriptFault fault
+
+abbrev pub ending_of_script_fault : ScriptFault → Ending
+ending_of_script_fault fault = ending_of_script_what fault.what fault
+
 abbrev pub status : Ending → ℕ
 status ending.Done = 0
 status (ending.Fault fault) = 2
+status (ending.ScriptFault fault) = 2
+status ending.ScriptReadFault = 4
 status ending.ReadFault = 4
 status ending.WriteFault = 4
 status ending.NoMemory = 5

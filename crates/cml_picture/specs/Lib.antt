@@ -5,6 +5,9 @@ pub mod Columns
 pub mod Chart
 pub mod Labels
 pub mod Closings
+pub mod Plan
+pub mod Following
+pub mod Standing
 pub mod Notes
 pub mod Heads
 pub mod Plain

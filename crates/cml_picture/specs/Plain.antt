@@ -8,6 +8,8 @@ use Rattle.cml_picture.specs.Heads.{Heading, headings_of, width_of}
 use Rattle.cml_picture.specs.Labels.{label_of, is_missed, points_out, points_back}
 use Rattle.cml_picture.specs.Notes.{note_line, note_text}
 use Rattle.cml_picture.specs.Closings.{thing_text, end_text}
+use Rattle.cml_picture.specs.Standing.{standing_line}
+use Rattle.cml_picture.specs.Lines.{Words}
 use Rattle.cml_picture.specs.Shown.{shown_reply}
 
 -- an arrow is drawn with `-`, and with `.` where a call found nothing
@@ -47,9 +49,10 @@ kinds_line hs = flat_map (λ h. padded h.kind (width_of h)) hs ++ (10 ∷ [])
 abbrev pub row_line : List Heading → Row → List ℕ
 row_line hs row = cells_from row 0 hs ++ codes " " ++ label_of (shown_act row.act) ++ (10 ∷ [])
 
--- the columns' heads, the rows in their order, the objects in theirs, and the end
-abbrev pub plain_text : Chart → ℕ → List Row → List ℕ
-plain_text chart before rows =
+-- the columns' heads, the rows in their order, the steps at which threads stand, the objects in their order, and the end
+abbrev pub plain_text : Chart → List Words → ℕ → List Row → List ℕ
+plain_text chart standing before rows =
     names_line (headings_of chart) ++ kinds_line (headings_of chart) ++ flat_map (row_line (headings_of chart)) rows
     ++ note_line (note_text before (length rows) (length chart.rows.items))
+    ++ flat_map (standing_line chart.end.stop) standing
     ++ flat_map thing_text (map shown_object chart.objects.items) ++ end_text (shown_end chart.end) ++ (10 ∷ [])

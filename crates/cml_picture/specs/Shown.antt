@@ -1,5 +1,6 @@
 -- What was read, by the bytes of its words and not by where they lie in memory.
-use Rattle.std.specs.Prelude.{ℕ, List, map}
+use Rattle.std.specs.Prelude.{ℕ, List, map, Vec}
+use Rattle.std.specs.Global.{Global}
 use Rattle.std.specs.Option.{option_map}
 use denote.Ref.{Bor}
 use Rattle.cml_picture.specs.declared.report.Actor.{Actor}
@@ -13,6 +14,10 @@ use Rattle.cml_picture.specs.declared.report.Line.{Line as ReadLine}
 use Rattle.cml_picture.specs.declared.report.Line.TheVariants as read
 use Rattle.cml_picture.specs.declared.report.Report.{Report}
 use Rattle.cml_picture.specs.declared.reading.Reading.{Reading}
+use Rattle.cml_picture.specs.declared.plan.Made.{Made as ReadMade}
+use Rattle.cml_picture.specs.declared.plan.Plan.{Plan}
+use Rattle.cml_picture.specs.Plan.{Made, Planned}
+use Rattle.cml_picture.specs.Columns.{names_of}
 use Rattle.cml_picture.specs.Reading.{SoFar, Told, report}
 use Rattle.cml_picture.specs.Lines.{Line, deed, thing, ended, Words, Doer, thread, lane, feed, Answer, done, made, message, nothing, put, closed, Deed, Thing, Ended}
 
@@ -51,3 +56,18 @@ so_far r = record { deeds = map shown_act r.acts.items; things = map shown_objec
 
 abbrev pub shown_report : Report → Told
 shown_report r = report (map shown_act r.acts.items) (map shown_object r.objects.items) (shown_end r.end)
+
+abbrev pub shown_lines : List (Vec (Bor (List ℕ)) Global) → List Words
+shown_lines lines = map (λ (w : Vec (Bor (List ℕ)) Global). texts w.items) lines
+
+abbrev pub shown_made : ReadMade → Made
+shown_made m = (m.kind.now, m.name.now)
+
+abbrev pub shown_plan : Plan → Planned
+shown_plan p = record {
+  threads = names_of p.threads.keys;
+  feeds = names_of p.feeds.keys;
+  targets = names_of p.targets.keys;
+  objects = map shown_made p.objects.items;
+  steps = shown_lines p.steps.items;
+}

@@ -6,10 +6,14 @@ use Rattle.cml_picture.specs.declared.report.Stop.TheVariants as stop
 use Rattle.cml_picture.specs.declared.chart.Row.{Row}
 use Rattle.cml_picture.specs.declared.chart.Chart.{Chart}
 use Rattle.cml_picture.specs.declared.svg.Geometry.{Geometry}
-use Rattle.cml_picture.specs.declared.svg.TheConstants.{OPENING, ROLE, ASLANT, TURN, ABOUT, STYLE, HEAD}
+use Rattle.cml_picture.specs.declared.svg.TheConstants.{OPENING, ROLE, ABOUT, STYLE, HEAD}
+use Rattle.cml_picture.specs.declared.tags.TheConstants.{ASLANT, TURN}
 use Rattle.cml_picture.specs.declared.report.Object.{Object}
 use Rattle.std.specs.Option.{option_map_or}
-use Rattle.cml_picture.specs.Lines.{Thing, Ended}
+use Rattle.std.specs.List.{flat_map}
+use Rattle.cml_picture.specs.Lines.{Words, Thing, Ended}
+use Rattle.cml_picture.specs.Columns.{names_of, column_of}
+use Rattle.cml_picture.specs.Standing.{thread_of, standing_text}
 use Rattle.cml_picture.specs.Shown.{shown_act, shown_object, shown_end, shown_reply}
 use Rattle.cml_picture.specs.Heads.{Heading, headings_of}
 use Rattle.cml_picture.specs.Labels.{label_of, is_missed, points_out, points_back}
@@ -58,13 +62,13 @@ text_tag class at content =
     start_text (codes "<text") class ++ point_text (codes "x") (codes "y") at ++ content_text content
 
 -- how the tag of a text starts that is drawn aslant from a place
-unfoldable pub aslant_text : Point → List ℕ
-aslant_text at = ASLANT.now ++ decimal at.0 ++ codes " " ++ decimal at.1 ++ TURN.now
+unfoldable pub aslant_text : List ℕ → Point → List ℕ
+aslant_text class at = start_text (codes "<text") class ++ ASLANT.now ++ decimal at.0 ++ codes " " ++ decimal at.1 ++ TURN.now
 
 -- what the second part says of an object, aslant under its column
 unfoldable pub closing_tag : Geometry → ℕ → Thing → List ℕ
 closing_tag g column t =
-    aslant_text (column_at g column, capped (g.bottom + 12)) ++ content_text (closing_text t.closing)
+    aslant_text (codes "closing") (column_at g column, capped (g.bottom + 12)) ++ content_text (closing_text t.closing)
 
 -- .. where the column is an object's
 abbrev pub closing_at : Geometry → Chart → ℕ → List ℕ
@@ -102,6 +106,20 @@ abbrev pub rows_from : Geometry → ℕ → List Row → List ℕ
 rows_from g at [] = []
 rows_from g at (row ∷ rows) = row_tags g at row ++ rows_from g (suc at) rows
 
+-- a step at which a thread stands, which has the colour of the stall where the run stalled
+abbrev pub standing_class : Stop → List ℕ
+standing_class stop.Stalled = codes "closing stalled"
+standing_class _ = codes "closing"
+
+unfoldable pub standing_under : Geometry → Stop → ℕ → Words → List ℕ
+standing_under g s column step =
+    aslant_text (standing_class s) (column_at g column, capped (g.bottom + 12)) ++ content_text (standing_text s step)
+
+-- .. aslant under the thread's column
+unfoldable pub standing_tag : Geometry → Chart → Words → List ℕ
+standing_tag g chart step =
+    option_map_or (λ column. standing_under g chart.end.stop column step) (column_of (names_of chart.names.keys) (thread_of step)) []
+
 abbrev pub end_class : Stop → List ℕ
 end_class stop.Done = codes "end done"
 end_class stop.Stalled = codes "end stalled"
@@ -114,10 +132,10 @@ end_tag g e = text_tag (end_class e.stop) (16, g.height - 16) (end_text e)
 unfoldable pub opening_of : Geometry → List ℕ
 opening_of g = OPENING.now ++ decimal g.width ++ codes " " ++ decimal g.height ++ ROLE.now
 
--- The title and the style, the columns, the rows one below the other in their order, and the end.
-abbrev pub svg_text : Geometry → Chart → ℕ → List Row → List ℕ
-svg_text g chart before rows =
+-- The title and the style, the columns, the rows one below the other in their order, the steps at which threads stand, and the end.
+abbrev pub svg_text : Geometry → Chart → List Words → ℕ → List Row → List ℕ
+svg_text g chart standing before rows =
     opening_of g ++ ABOUT.now ++ STYLE.now ++ HEAD.now
-    ++ heads_from g chart 0 (headings_of chart) ++ rows_from g 0 rows
+    ++ heads_from g chart 0 (headings_of chart) ++ rows_from g 0 rows ++ flat_map (standing_tag g chart) standing
     ++ text_tag (codes "note") (16, g.height - 38) (note_text before (length rows) (length chart.rows.items)) ++ end_tag g (shown_end chart.end)
     ++ codes "</svg>" ++ (10 ∷ [])

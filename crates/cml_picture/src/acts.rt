@@ -49,7 +49,7 @@ fn step_of<'a, 'w>(words: &'w [&'a str]) -> Option<(Verb, &'w [&'a str])>
     Some((verb, rest))
 }
 
-fn verb_of(word: &str) -> Option<Verb>
+pub(crate) fn verb_of(word: &str) -> Option<Verb>
     ensures { result ≡ verb_of word.now }
 {
     match word {
@@ -232,13 +232,13 @@ pub(crate) fn gives_message(verb: Verb) -> bool
     matches!(verb, Verb::Send | Verb::Multicast | Verb::Put | Verb::Swap)
 }
 
-fn makes_port(verb: Verb) -> bool
+pub(crate) fn makes_port(verb: Verb) -> bool
     ensures { result ≡ makes_port verb }
 {
     matches!(verb, Verb::Port | Verb::Copy)
 }
 
-fn is_sent(verb: Verb) -> bool
+pub(crate) fn is_sent(verb: Verb) -> bool
     ensures { result ≡ is_sent verb }
 {
     matches!(verb, Verb::Send | Verb::Multicast)

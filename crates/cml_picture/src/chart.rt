@@ -34,15 +34,20 @@ pub struct Chart<'a> {
     pub end: End<'a>,
 }
 
-/// The chart of a report, where each object has a name of its own, and each object of the first part stands in the second.
-pub fn chart_of<'a>(alloc: Global, report: Report<'a>) -> Result<Chart<'a>, Fault>
+/// The chart of a report, where each object has a name of its own, and each object of the first part stands in the second. The
+/// columns begin with these threads.
+pub fn chart_of<'a>(
+    alloc: Global,
+    first: IndexSet<String>,
+    report: Report<'a>,
+) -> Result<Chart<'a>, Fault>
     requires few { length report.acts.items + length report.objects.items ≤ 33554432 }
-    ensures chart { IfOk result (λ chart. IsChart (map shown_act report.entry.acts.items) (map shown_object report.entry.objects.items) chart) }
+    ensures chart { IfOk result (λ chart. IsChart (names_of first.keys) (map shown_act report.entry.acts.items) (map shown_object report.entry.objects.items) chart) }
     ensures kept { IfOk result (λ chart. (chart.objects ≡ report.entry.objects) × (chart.end ≡ report.entry.end)) }
-    ensures fault { IfErr result (λ fault. (fault.what ≡ Memory) ⊎ (chart_fault (map shown_act report.entry.acts.items) (map shown_object report.entry.objects.items) ≡ Some fault)) }
+    ensures fault { IfErr result (λ fault. (fault.what ≡ Memory) ⊎ (chart_fault (names_of first.keys) (map shown_act report.entry.acts.items) (map shown_object report.entry.objects.items) ≡ Some fault)) }
 {
     let Report { acts, objects, end } = report;
-    let mut names = IndexSet::new(alloc);
+    let mut names = first;
     add_actors(alloc, &mut names, &acts, false)?;
     let threads = names.len();
     add_actors(alloc, &mut names, &acts, true)?;

@@ -46,7 +46,7 @@ pub(crate) fn add_actors(
     Ok(())
 }
 
-fn add_name(names: &mut IndexSet<String>, name: String) -> Result<(), AllocError>
+pub(crate) fn add_name(names: &mut IndexSet<String>, name: String) -> Result<(), AllocError>
     ensures names { OnOk result (names_of names.new.keys ≡ with_name (names_of names.old.keys) (string_bytes name)) }
     ensures few { OnOk result (length names.new.keys ≤ length names.old.keys + 1) }
 {
@@ -85,7 +85,7 @@ fn add_new(alloc: Global, names: &mut IndexSet<String>, name: &str) -> Result<()
     Ok(())
 }
 
-fn is_among(names: &IndexSet<String>, name: &str) -> bool
+pub(crate) fn is_among(names: &IndexSet<String>, name: &str) -> bool
     ensures { result ≡ is_among (names_of names.now.keys) name.now }
 {
     names.contains(name)

@@ -1,7 +1,7 @@
 //! The words of the command line, by `clap`, which also writes the help.
 ghost use Rattle.std.specs.Prelude.{◌≡◌, map, IfOk, false};
 ghost use Rattle.clap.specs.Words.{app_of, FailsBy, kind_of, rule_of};
-ghost use Rattle.cml_picture.specs.CommandLine.{usage, faults_of, error_status, text_rule, from_rule, to_rule};
+ghost use Rattle.cml_picture.specs.CommandLine.{drawing_usage, usage, faults_of, error_status, text_rule, from_rule, to_rule, script_rule};
 
 use crate::asked::Asked;
 use clap::error::ErrorKind;
@@ -19,6 +19,9 @@ report's first part: an arrow between the column of who did it and that of the o
 dashed where a call found nothing. Under each object stands how it was left, and at the foot how the
 run ended. A report of cml run or cml replay is such a report.
 
+With --script the chart has a column for each thread of the script, and under each that has steps
+left the step that it stands at: the one behind the last that the report tells of.
+
 It is drawn as SVG, or with --text as lines of text.";
 
 const TEXT_HELP: &str = "Draws lines of text in place of SVG";
@@ -27,18 +30,22 @@ const FROM_HELP: &str = "The first row that is drawn, from 1";
 
 const TO_HELP: &str = "The last row that is drawn; without it 500 rows at the most";
 
+const SCRIPT_HELP: &str =
+    "The script that the report is of: tells the step at which each thread stands";
+
 const AFTER_HELP: &str = "Example:
-  cml run < chat_room.cml | cml_chart > chat_room.svg
+  cml run < chat_room.cml | cml_chart --script chat_room.cml > chat_room.svg
 
 Exit status:
   0  the chart was written (also for help)
-  2  the input is no report: standard error names the first line that isn't one of it
+  2  the input is no report, or not one of the script: standard error names the first line that
+     isn't one of it; or the script has a fault
   3  the words of the command line are not understood
-  4  standard input can't be read, or standard output can't be written
+  4  standard input or the script can't be read, or standard output can't be written
   5  no memory";
 
 /// What the program's words ask for. The first word is the program's own name.
-pub fn order<S: AsStr>(alloc: Global, words: &[S]) -> Result<Asked, Error>
+pub fn order<'a, S: AsStr>(alloc: Global, words: &'a [S]) -> Result<Asked<'a>, Error>
     ensures { FailsBy (faults_of (map S.text words.now)) result }
 {
     let matches = matches(alloc, words)?;
@@ -51,16 +58,24 @@ fn matches<'a, S: AsStr>(alloc: Global, words: &'a [S]) -> Result<ArgMatches<'a>
     command(alloc)?.try_get_matches_from(words)
 }
 
-fn asked_in(matches: &ArgMatches<'_>) -> Asked {
+fn asked_in<'a>(matches: &ArgMatches<'a>) -> Asked<'a> {
     Asked {
         text: matches.get_flag("text"),
         from: matches.get_one::<u64>("from").unwrap_or(1).max(1),
         to: matches.get_one::<u64>("to"),
+        script: matches.get_str("script"),
     }
 }
 
 fn command<'a>(alloc: Global) -> Result<Command<'a>, AllocError>
     ensures { IfOk result (λ command. app_of command ≡ usage) }
+{
+    drawing_command(alloc)?.arg(script(alloc))
+}
+
+/// The program with the options of how a report is to be drawn.
+fn drawing_command<'a>(alloc: Global) -> Result<Command<'a>, AllocError>
+    ensures { IfOk result (λ command. app_of command ≡ drawing_usage) }
 {
     Command::new(alloc, "cml_chart")
         .about(ABOUT)
@@ -98,6 +113,15 @@ fn to<'a>(alloc: Global) -> Arg<'a>
         .value_name("L")
         .value_parser(value_parser!(u64).range(1..=4_294_967_296))
         .help(TO_HELP)
+}
+
+fn script<'a>(alloc: Global) -> Arg<'a>
+    ensures { (rule_of result ≡ script_rule) × (result.global ≡ false) }
+{
+    Arg::new(alloc, "script")
+        .long("script")
+        .value_name("FILE")
+        .help(SCRIPT_HELP)
 }
 
 /// The exit status for words that were not understood, or that ask for help.

@@ -1,15 +1,28 @@
 //! A report, from the reader's bytes to the chart's.
-ghost use Rattle.std.specs.Prelude.{◌≡◌, ◌≤◌, IfOk, IfErr, OnOk};
+ghost use Rattle.std.specs.Prelude.{◌≡◌, ◌⊎◌, ◌+◌, ◌≤◌, length, map, None, Some, IfOk, IfErr, OnOk};
+ghost use Rattle.std.specs.Option.{option_map};
 ghost use Rattle.std.specs.Io.KnownBytes.{Appends};
-ghost use Rattle.cml_picture.specs.Drawing.{bounds_of, Draws, IsDrawingOf, IsDrawnOf, EndsUndrawn, Writes};
+ghost use Rattle.cml_picture.specs.declared.faults.What.TheVariants.{Memory};
+ghost use Rattle.cml_picture.specs.Columns.{names_of};
+ghost use Rattle.cml_picture.specs.Chart.{IsChart};
+ghost use Rattle.cml_picture.specs.Following.{strange_fault, standing};
+ghost use Rattle.cml_picture.specs.Plan.{plan_of};
+ghost use Rattle.cml_picture.specs.Shown.{shown_act, shown_object, shown_lines, shown_plan};
+ghost use Rattle.cml_picture.specs.Drawing.{bounds_of, threads_by, standing_by, strange_by, lines_fault, Draws, DrawsGiven, IsDrawingOf, IsDrawnOf, IsGiven, EndsUndrawn, EndsUnread, Writes};
 
 use crate::asked::Asked;
-use crate::chart::{Chart, Row, chart_of};
-use crate::ending::Ending;
+use crate::chart::{Chart, chart_of};
+use crate::ending::{Ending, ending_of_script};
+use crate::faults::Fault;
+use crate::following::standing;
 use crate::plain::draw_plain;
+use crate::plan::{Plan, plan_of};
 use crate::read::read_all;
 use crate::reading::read_report;
+use crate::report::Report;
 use crate::svg::draw_svg;
+use cml_grammar::{Script, read_script};
+use indexmap::IndexSet;
 use std::alloc::{AllocError, Global};
 use std::io::{self, Read, Write};
 
@@ -21,42 +34,154 @@ pub fn draw<R: Read, W: Write>(
     alloc: Global,
     reader: &mut R,
     writer: &mut W,
-    asked: &Asked,
+    asked: &Asked<'_>,
 ) -> Ending
-    ensures { Draws asked.now (R.remaining reader.old) (R.remaining reader.new) (W.contents writer.old) (W.contents writer.new) result }
+    ensures { Draws asked.now None (R.remaining reader.old) (R.remaining reader.new) (W.contents writer.old) (W.contents writer.new) result }
 {
-    match picture(alloc, reader, asked) {
+    draw_by(alloc, None, reader, writer, asked)
+}
+
+/// Draws a report of a script, which it reads whole before the report.
+pub fn draw_by_script<S: Read, R: Read, W: Write>(
+    alloc: Global,
+    script: &mut S,
+    reader: &mut R,
+    writer: &mut W,
+    asked: &Asked<'_>,
+) -> Ending
+    ensures { DrawsGiven asked.now (S.remaining script.old) (S.remaining script.new) (R.remaining reader.old) (R.remaining reader.new) (W.contents writer.old) (W.contents writer.new) result }
+{
+    match script_in(alloc, script) {
+        Ok(script) => draw_by(alloc, Some(&script), reader, writer, asked),
+        Err(ending) => ending,
+    }
+}
+
+/// Reads a script.
+fn script_in<S: Read>(alloc: Global, reader: &mut S) -> Result<Script, Ending>
+    ensures given { IfOk result (λ script. IsGiven (S.remaining reader.old) (S.remaining reader.new) script) }
+    ensures unread { IfErr result (λ ending. EndsUnread (S.remaining reader.old) (S.remaining reader.new) ending) }
+{
+    match read_all(alloc, reader) {
+        Ok(text) => Ok(read_script(alloc, &text)?),
+        Err(unread) => Err(ending_of_script(unread)),
+    }
+}
+
+/// Draws a report, of a script where there is one.
+fn draw_by<R: Read, W: Write>(
+    alloc: Global,
+    script: Option<&Script>,
+    reader: &mut R,
+    writer: &mut W,
+    asked: &Asked<'_>,
+) -> Ending
+    ensures { Draws asked.now (option_map (λ s. plan_of s.now) script.entry) (R.remaining reader.old) (R.remaining reader.new) (W.contents writer.old) (W.contents writer.new) result }
+{
+    match picture(alloc, script, reader, asked) {
         Ok(picture) => write_picture(writer, &picture),
         Err(ending) => ending,
     }
 }
 
 /// Reads a report and draws it.
-fn picture<R: Read>(alloc: Global, reader: &mut R, asked: &Asked) -> Result<Vec<u8>, Ending>
-    ensures drawn { IfOk result (λ picture. IsDrawnOf asked.now (R.remaining reader.old) (R.remaining reader.new) picture.items) }
-    ensures undrawn { IfErr result (λ ending. EndsUndrawn (R.remaining reader.old) (R.remaining reader.new) ending) }
+fn picture<R: Read>(
+    alloc: Global,
+    script: Option<&Script>,
+    reader: &mut R,
+    asked: &Asked<'_>,
+) -> Result<Vec<u8>, Ending>
+    ensures drawn { IfOk result (λ picture. IsDrawnOf asked.now (option_map (λ s. plan_of s.now) script.entry) (R.remaining reader.old) (R.remaining reader.new) picture.items) }
+    ensures undrawn { IfErr result (λ ending. EndsUndrawn (option_map (λ s. plan_of s.now) script.entry) (R.remaining reader.old) (R.remaining reader.new) ending) }
 {
     let text = read_all(alloc, reader)?;
     let report = read_report(alloc, &text)?;
-    let chart = chart_of(alloc, report)?;
-    let picture = draw_chart(alloc, &chart, asked)?;
+    let drawing = drawing_of(alloc, script, report)?;
+    let picture = draw_chart(alloc, &drawing.chart, &drawing.standing, asked)?;
     Ok(picture)
 }
 
-fn draw_chart(alloc: Global, chart: &Chart<'_>, asked: &Asked) -> Result<Vec<u8>, AllocError>
-    ensures { IfOk result (λ picture. IsDrawingOf asked.now chart.now picture.items) }
+/// What is drawn: a chart, and the steps at which threads stand.
+#[derive(Drop)]
+struct Drawing<'a> {
+    chart: Chart<'a>,
+    standing: Vec<Vec<&'a str>>,
+}
+
+fn drawing_of<'a>(
+    alloc: Global,
+    script: Option<&'a Script>,
+    report: Report<'a>,
+) -> Result<Drawing<'a>, Fault>
+    requires few { length report.acts.items + length report.objects.items ≤ 33554432 }
+    ensures of_script { OnOk result (strange_by (option_map (λ s. plan_of s.now) script.entry) (map shown_act report.entry.acts.items) (map shown_object report.entry.objects.items) ≡ None) }
+    ensures chart { IfOk result (λ drawing. IsChart (threads_by (option_map (λ s. plan_of s.now) script.entry)) (map shown_act report.entry.acts.items) (map shown_object report.entry.objects.items) drawing.chart) }
+    ensures kept { IfOk result (λ drawing. (drawing.chart.objects ≡ report.entry.objects) × (drawing.chart.end ≡ report.entry.end)) }
+    ensures standing { IfOk result (λ drawing. shown_lines drawing.standing.items ≡ standing_by (option_map (λ s. plan_of s.now) script.entry) (map shown_act report.entry.acts.items)) }
+    ensures fault { IfErr result (λ fault. (fault.what ≡ Memory) ⊎ (lines_fault (option_map (λ s. plan_of s.now) script.entry) (map shown_act report.entry.acts.items) (map shown_object report.entry.objects.items) ≡ Some fault)) }
+{
+    match script {
+        Some(script) => drawing_in(alloc, script, report),
+        None => {
+            let chart = chart_of(alloc, IndexSet::new(alloc), report)?;
+            Ok(Drawing {
+                chart,
+                standing: Vec::new(alloc),
+            })
+        }
+    }
+}
+
+fn drawing_in<'a>(
+    alloc: Global,
+    script: &'a Script,
+    report: Report<'a>,
+) -> Result<Drawing<'a>, Fault>
+    requires few { length report.acts.items + length report.objects.items ≤ 33554432 }
+    ensures of_script { OnOk result (strange_fault (plan_of script.now) (map shown_act report.entry.acts.items) (map shown_object report.entry.objects.items) ≡ None) }
+    ensures chart { IfOk result (λ drawing. IsChart (threads_by (Some (plan_of script.now))) (map shown_act report.entry.acts.items) (map shown_object report.entry.objects.items) drawing.chart) }
+    ensures kept { IfOk result (λ drawing. (drawing.chart.objects ≡ report.entry.objects) × (drawing.chart.end ≡ report.entry.end)) }
+    ensures standing { IfOk result (λ drawing. shown_lines drawing.standing.items ≡ standing (plan_of script.now) (map shown_act report.entry.acts.items)) }
+    ensures fault { IfErr result (λ fault. (fault.what ≡ Memory) ⊎ (lines_fault (Some (plan_of script.now)) (map shown_act report.entry.acts.items) (map shown_object report.entry.objects.items) ≡ Some fault)) }
+{
+    match plan_of(alloc, script) {
+        Ok(plan) => drawing_by(alloc, plan, report),
+        Err(error) => Err(Fault::from(error)),
+    }
+}
+
+fn drawing_by<'a>(alloc: Global, plan: Plan<'a>, report: Report<'a>) -> Result<Drawing<'a>, Fault>
+    requires few { length report.acts.items + length report.objects.items ≤ 33554432 }
+    ensures of_script { OnOk result (strange_fault (shown_plan plan.entry) (map shown_act report.entry.acts.items) (map shown_object report.entry.objects.items) ≡ None) }
+    ensures chart { IfOk result (λ drawing. IsChart (names_of plan.entry.threads.keys) (map shown_act report.entry.acts.items) (map shown_object report.entry.objects.items) drawing.chart) }
+    ensures kept { IfOk result (λ drawing. (drawing.chart.objects ≡ report.entry.objects) × (drawing.chart.end ≡ report.entry.end)) }
+    ensures standing { IfOk result (λ drawing. shown_lines drawing.standing.items ≡ standing (shown_plan plan.entry) (map shown_act report.entry.acts.items)) }
+    ensures fault { IfErr result (λ fault. (fault.what ≡ Memory) ⊎ (lines_fault (Some (shown_plan plan.entry)) (map shown_act report.entry.acts.items) (map shown_object report.entry.objects.items) ≡ Some fault)) }
+{
+    let standing = standing(alloc, &plan, &report)?;
+    let chart = chart_of(alloc, plan.threads, report)?;
+    Ok(Drawing { chart, standing })
+}
+
+fn draw_chart(
+    alloc: Global,
+    chart: &Chart<'_>,
+    standing: &[Vec<&str>],
+    asked: &Asked<'_>,
+) -> Result<Vec<u8>, AllocError>
+    ensures { IfOk result (λ picture. IsDrawingOf asked.now chart.now (shown_lines standing.now) picture.items) }
 {
     let (start, end) = bounds(asked, chart.rows.len());
     let rows = &chart.rows[start..end];
     if asked.text {
-        draw_plain(alloc, chart, start, rows)
+        draw_plain(alloc, chart, standing, start, rows)
     } else {
-        draw_svg(alloc, chart, start, rows)
+        draw_svg(alloc, chart, standing, start, rows)
     }
 }
 
 /// Between which of so many rows those stand that are asked for, as far as there are such.
-fn bounds(asked: &Asked, count: usize) -> (usize, usize)
+fn bounds(asked: &Asked<'_>, count: usize) -> (usize, usize)
     ensures bounds { result ≡ bounds_of asked.now count }
     ensures within { (result.0 ≤ result.1) × (result.1 ≤ count) }
 {

@@ -1,7 +1,7 @@
 //! How the drawing of a report ends.
 ghost use Rattle.std.specs.Prelude.{◌≡◌};
 ghost use Rattle.cml_picture.specs.declared.ending.Ending.TheVariants as ending;
-ghost use Rattle.cml_picture.specs.Endings.{ending_of_fault, ending_of_unread, status};
+ghost use Rattle.cml_picture.specs.Endings.{ending_of_fault, ending_of_unread, ending_of_script, ending_of_script_fault, status};
 
 use crate::faults::{Fault, What};
 use crate::read::Unread;
@@ -17,6 +17,12 @@ pub enum Ending {
     /// What was read is no report.
     #[error("{0}")]
     Fault(Fault),
+    /// What was read as a script is none.
+    #[error("{0}")]
+    ScriptFault(cml_grammar::Fault),
+    /// The script could not be read, or its reader was asked too often.
+    #[error("cml_chart: script read failed")]
+    ScriptReadFault,
     /// The report could not be read, or its reader was asked too often.
     #[error("cml_chart: read failed")]
     ReadFault,
@@ -58,14 +64,35 @@ impl From<Fault> for Ending {
     }
 }
 
+/// How it ends where the script was not read.
+pub(crate) fn ending_of_script(unread: Unread) -> Ending
+    ensures { result ≡ ending_of_script unread }
+{
+    match unread {
+        Unread::Failed => Ending::ScriptReadFault,
+        Unread::Memory => Ending::NoMemory,
+    }
+}
+
+impl From<cml_grammar::Fault> for Ending {
+    ghost from_gives = { λ fault ended. ended ≡ ending_of_script_fault fault };
+
+    fn from(fault: cml_grammar::Fault) -> Ending {
+        match fault.what {
+            cml_grammar::What::Memory => Ending::NoMemory,
+            _ => Ending::ScriptFault(fault),
+        }
+    }
+}
+
 /// The exit status of a program that ends so.
 pub fn status_of(ending: &Ending) -> u8
     ensures { result ≡ status ending.now }
 {
     match ending {
         Ending::Done => 0,
-        Ending::Fault(_) => 2,
-        Ending::ReadFault | Ending::WriteFault => 4,
+        Ending::Fault(_) | Ending::ScriptFault(_) => 2,
+        Ending::ScriptReadFault | Ending::ReadFault | Ending::WriteFault => 4,
         Ending::NoMemory => 5,
     }
 }

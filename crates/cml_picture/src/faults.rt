@@ -24,6 +24,8 @@ pub enum What {
     NameTaken,
     #[error("unknown name")]
     UnknownName,
+    #[error("not of this script")]
+    OtherScript,
     #[error("too long")]
     TooLong,
     #[error("no memory")]

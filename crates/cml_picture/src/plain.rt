@@ -1,10 +1,11 @@
 //! A chart as lines of text: a column for each thread and object, and a line for each row.
 ghost use Rattle.std.specs.Prelude.{◌≡◌, ◌++◌, ◌-◌, ◌∷◌, [], length, map, replicate, IfOk, OnOk};
 ghost use Rattle.std.specs.List.{flat_map};
-ghost use Rattle.cml_picture.specs.Shown.{shown_object};
+ghost use Rattle.cml_picture.specs.Shown.{shown_lines, shown_object};
 ghost use Rattle.cml_picture.specs.Heads.{headings_of, shown_head};
 ghost use Rattle.cml_picture.specs.Closings.{thing_text, end_text};
 ghost use Rattle.cml_picture.specs.Notes.{note_line};
+ghost use Rattle.cml_picture.specs.Standing.{standing_line};
 ghost use Rattle.cml_picture.specs.Plain.{dash_of, lead_at, fill_at, padded, cell_at, cells_from, names_line, kinds_line, row_line, plain_text};
 
 use crate::chart::{Chart, Row};
@@ -12,17 +13,20 @@ use crate::closings::{push_end, push_object};
 use crate::heads::{Head, heads_of};
 use crate::labels::{is_missed, points_back, points_out, push, push_label};
 use crate::notes::note_of;
-use crate::report::Object;
+use crate::report::{Object, Stop};
+use crate::standing::push_standing_line;
 use std::alloc::{AllocError, Global};
 
-/// These rows of a chart as text, where so many stand before them: the columns' heads, a line for each row, a line for each object, and the end.
+/// These rows of a chart as text, where so many stand before them: the columns' heads, a line for each row, for each thread that
+/// stands at a step, and for each object, and the end.
 pub fn draw_plain(
     alloc: Global,
     chart: &Chart<'_>,
+    standing: &[Vec<&str>],
     before: usize,
     rows: &[Row<'_>],
 ) -> Result<Vec<u8>, AllocError>
-    ensures { IfOk result (λ out. out.items ≡ plain_text chart.now before rows.now) }
+    ensures { IfOk result (λ out. out.items ≡ plain_text chart.now (shown_lines standing.now) before rows.now) }
 {
     let heads = heads_of(alloc, chart)?;
     let mut out = Vec::new(alloc);
@@ -31,6 +35,7 @@ pub fn draw_plain(
     push_rows(&mut out, &heads, rows)?;
     let note = note_of(alloc, before, rows.len(), chart.rows.len())?;
     push_note(&mut out, &note)?;
+    push_all_standing(&mut out, chart.end.stop, standing)?;
     push_objects(&mut out, &chart.objects)?;
     push_end(&mut out, &chart.end)?;
     push(&mut out, "\n")?;
@@ -158,6 +163,19 @@ fn push_objects(out: &mut Vec<u8>, objects: &[Object<'_>]) -> Result<(), AllocEr
 {
     for object in objects {
         push_object(out, object)?;
+    }
+    Ok(())
+}
+
+fn push_all_standing(
+    out: &mut Vec<u8>,
+    stop: Stop,
+    standing: &[Vec<&str>],
+) -> Result<(), AllocError>
+    ensures { OnOk result (out.new.items ≡ out.old.items ++ flat_map (standing_line stop) (shown_lines standing.now)) }
+{
+    for step in standing {
+        push_standing_line(out, stop, step)?;
     }
     Ok(())
 }

@@ -1,27 +1,25 @@
 //! A chart as SVG.
 ghost use Rattle.std.specs.Prelude.{◌≡◌, ◌++◌, ◌-◌, map, codes, IfOk, OnOk};
-ghost use Rattle.cml_picture.specs.Shown.{shown_object, shown_end};
+ghost use Rattle.std.specs.List.{flat_map};
+ghost use Rattle.cml_picture.specs.Shown.{texts, shown_lines, shown_object, shown_end};
 ghost use Rattle.cml_picture.specs.Heads.{headings_of, shown_head};
-ghost use Rattle.cml_picture.specs.Svg.{attribute, start_text, aslant_text, point_text, content_text, line_tag, text_tag, place_at, arrow_class, row_tags, rows_from, head_tags, heads_from, closing_tag, closing_at, opening_of, end_class, end_tag, svg_text};
+ghost use Rattle.cml_picture.specs.Svg.{text_tag, place_at, arrow_class, row_tags, rows_from, head_tags, heads_from, closing_tag, closing_at, standing_class, standing_under, standing_tag, opening_of, end_class, end_tag, svg_text};
 
 use crate::chart::{Chart, Row};
 use crate::closings::{push_closing, push_end};
-use crate::escape::push_escaped;
+use crate::columns::column_of;
 use crate::heads::{Head, heads_of};
 use crate::labels::{is_missed, points_back, points_out, push, push_label, push_number};
 use crate::notes::note_of;
 use crate::report::{Object, Reply, Stop};
+use crate::standing::{push_standing, thread_of};
+use crate::tags::{push_aslant, push_content, push_line, push_text};
 use std::alloc::{AllocError, Global};
 
 /// What stands before and behind the picture's size.
 const OPENING: &str = "<svg xmlns='http://www.w3.org/2000/svg' viewBox='0 0 ";
 
 const ROLE: &str = "' role='img' aria-labelledby='title about'>\n";
-
-/// What stands before and behind the place of a text that is drawn aslant.
-const ASLANT: &str = "<text class='closing' transform='translate(";
-
-const TURN: &str = ") rotate(30)'";
 
 /// What readers of screens are told of the picture.
 const ABOUT: &str =
@@ -44,17 +42,18 @@ pub(crate) struct Geometry {
     pub(crate) bottom: u64,
 }
 
-/// These rows of a chart as SVG, where so many stand before them.
+/// These rows of a chart as SVG, where so many stand before them, and the steps at which threads stand.
 pub fn draw_svg(
     alloc: Global,
     chart: &Chart<'_>,
+    standing: &[Vec<&str>],
     before: usize,
     rows: &[Row<'_>],
 ) -> Result<Vec<u8>, AllocError>
-    ensures { IfOk result (λ out. (g : Geometry) × (out.items ≡ svg_text g chart.now before rows.now)) }
+    ensures { IfOk result (λ out. (g : Geometry) × (out.items ≡ svg_text g chart.now (shown_lines standing.now) before rows.now)) }
 {
     let heads = heads_of(alloc, chart)?;
-    let geometry = geometry_of(chart, &heads, rows);
+    let geometry = geometry_of(chart, &heads, standing, rows);
     let mut out = Vec::new(alloc);
     push_opening(alloc, &mut out, &geometry)?;
     push(&mut out, ABOUT)?;
@@ -62,6 +61,7 @@ pub fn draw_svg(
     push(&mut out, HEAD)?;
     push_heads(alloc, &mut out, &geometry, chart, &heads)?;
     push_rows(alloc, &mut out, &geometry, rows)?;
+    push_all_standing(alloc, &mut out, &geometry, chart, standing)?;
     push_note(
         alloc,
         &mut out,
@@ -73,10 +73,17 @@ pub fn draw_svg(
     Ok(out)
 }
 
-fn geometry_of(chart: &Chart<'_>, heads: &[Head<'_>], rows: &[Row<'_>]) -> Geometry {
+fn geometry_of(
+    chart: &Chart<'_>,
+    heads: &[Head<'_>],
+    standing: &[Vec<&str>],
+    rows: &[Row<'_>],
+) -> Geometry {
     let gap = widest_head(heads).saturating_mul(8).saturating_add(12);
     let bottom = place_at(84, 26, rows.len());
-    let foot = longest_closing(&chart.objects).saturating_mul(5);
+    let foot = longest_closing(&chart.objects)
+        .max(longest_standing(standing))
+        .saturating_mul(5);
     let across = place_at(60, gap, heads.len());
     Geometry {
         gap,
@@ -98,6 +105,14 @@ fn longest_closing(objects: &[Object<'_>]) -> u64 {
     let mut most = 0;
     for object in objects {
         most = most.max(length_of(&object.closing));
+    }
+    most
+}
+
+fn longest_standing(standing: &[Vec<&str>]) -> u64 {
+    let mut most = 0;
+    for step in standing {
+        most = most.max(length_of(step));
     }
     most
 }
@@ -243,18 +258,6 @@ fn push_closing_at(
     }
 }
 
-/// Adds how the tag of a text starts that is drawn aslant from this place.
-#[tactic(auto, unfolding(crate::specs::Svg::aslant_text))]
-fn push_aslant(alloc: Global, out: &mut Vec<u8>, x: u64, y: u64) -> Result<(), AllocError>
-    ensures { OnOk result (out.new.items ≡ out.old.items ++ aslant_text (x, y)) }
-{
-    push(out, ASLANT)?;
-    push_number(alloc, out, x)?;
-    push(out, " ")?;
-    push_number(alloc, out, y)?;
-    push(out, TURN)
-}
-
 /// What the second part says of an object, aslant under its column.
 #[tactic(auto, unfolding(crate::specs::Svg::closing_tag))]
 fn push_object(
@@ -268,10 +271,70 @@ fn push_object(
 {
     let x = place_at(60, geometry.gap, column);
     let y = geometry.bottom.saturating_add(12);
-    push_aslant(alloc, out, x, y)?;
+    push_aslant(alloc, out, "closing", (x, y))?;
     let mut says = Vec::new(alloc);
     push_closing(&mut says, &object.closing)?;
     push_content(out, &says)
+}
+
+fn push_all_standing(
+    alloc: Global,
+    out: &mut Vec<u8>,
+    geometry: &Geometry,
+    chart: &Chart<'_>,
+    standing: &[Vec<&str>],
+) -> Result<(), AllocError>
+    ensures { OnOk result (out.new.items ≡ out.old.items ++ flat_map (standing_tag geometry.now chart.now) (shown_lines standing.now)) }
+{
+    for step in standing {
+        push_standing_step(alloc, out, geometry, chart, step)?;
+    }
+    Ok(())
+}
+
+/// The step at which a thread stands, aslant under the thread's column.
+#[tactic(auto, unfolding(crate::specs::Svg::standing_tag))]
+fn push_standing_step(
+    alloc: Global,
+    out: &mut Vec<u8>,
+    geometry: &Geometry,
+    chart: &Chart<'_>,
+    step: &[&str],
+) -> Result<(), AllocError>
+    ensures { OnOk result (out.new.items ≡ out.old.items ++ standing_tag geometry.now chart.now (texts step.now)) }
+{
+    match column_of(&chart.names, thread_of(step)) {
+        Some(column) => push_standing_under(alloc, out, geometry, chart.end.stop, column, step),
+        None => Ok(()),
+    }
+}
+
+#[tactic(auto, unfolding(crate::specs::Svg::standing_under))]
+fn push_standing_under(
+    alloc: Global,
+    out: &mut Vec<u8>,
+    geometry: &Geometry,
+    stop: Stop,
+    column: usize,
+    step: &[&str],
+) -> Result<(), AllocError>
+    ensures { OnOk result (out.new.items ≡ out.old.items ++ standing_under geometry.now stop column (texts step.now)) }
+{
+    let x = place_at(60, geometry.gap, column);
+    let y = geometry.bottom.saturating_add(12);
+    push_aslant(alloc, out, standing_class(stop), (x, y))?;
+    let mut says = Vec::new(alloc);
+    push_standing(&mut says, stop, step)?;
+    push_content(out, &says)
+}
+
+fn standing_class(stop: Stop) -> &'static str
+    ensures { result.now ≡ standing_class stop }
+{
+    match stop {
+        Stop::Stalled => "closing stalled",
+        Stop::Done | Stop::Full | Stop::Held => "closing",
+    }
 }
 
 /// How many rows there are, where not all are drawn.
@@ -311,87 +374,4 @@ fn end_class(stop: Stop) -> &'static str
         Stop::Full => "end full",
         Stop::Held => "end held",
     }
-}
-
-#[tactic(auto, unfolding(crate::specs::Svg::line_tag))]
-fn push_line(
-    alloc: Global,
-    out: &mut Vec<u8>,
-    class: &str,
-    from: (u64, u64),
-    to: (u64, u64),
-) -> Result<(), AllocError>
-    ensures { OnOk result (out.new.items ≡ out.old.items ++ line_tag class.now from to) }
-{
-    push_start(out, "<line", class)?;
-    push_point(alloc, out, ("x1", "y1"), from)?;
-    push_point(alloc, out, ("x2", "y2"), to)?;
-    push(out, "/>\n")
-}
-
-/// Adds a text with its content escaped.
-#[tactic(auto, unfolding(crate::specs::Svg::text_tag))]
-fn push_text(
-    alloc: Global,
-    out: &mut Vec<u8>,
-    class: &str,
-    at: (u64, u64),
-    content: &[u8],
-) -> Result<(), AllocError>
-    ensures { OnOk result (out.new.items ≡ out.old.items ++ text_tag class.now at content.now) }
-{
-    push_start(out, "<text", class)?;
-    push_point(alloc, out, ("x", "y"), at)?;
-    push_content(out, content)
-}
-
-/// Adds what stands in a text's tag, escaped.
-#[tactic(auto, unfolding(crate::specs::Svg::content_text))]
-fn push_content(out: &mut Vec<u8>, content: &[u8]) -> Result<(), AllocError>
-    ensures { OnOk result (out.new.items ≡ out.old.items ++ content_text content.now) }
-{
-    push(out, ">")?;
-    push_escaped(out, content)?;
-    push(out, "</text>\n")
-}
-
-/// Adds how a tag of this class starts.
-#[tactic(auto, unfolding(crate::specs::Svg::start_text))]
-fn push_start(out: &mut Vec<u8>, tag: &str, class: &str) -> Result<(), AllocError>
-    ensures { OnOk result (out.new.items ≡ out.old.items ++ start_text tag.now class.now) }
-{
-    push(out, tag)?;
-    push(out, " class='")?;
-    push(out, class)?;
-    push(out, "'")
-}
-
-/// Adds a place by two attributes of these names.
-#[tactic(auto, unfolding(crate::specs::Svg::point_text))]
-fn push_point(
-    alloc: Global,
-    out: &mut Vec<u8>,
-    names: (&str, &str),
-    at: (u64, u64),
-) -> Result<(), AllocError>
-    ensures { OnOk result (out.new.items ≡ out.old.items ++ point_text names.entry.0.now names.entry.1.now at) }
-{
-    push_attribute(alloc, out, names.0, at.0)?;
-    push_attribute(alloc, out, names.1, at.1)
-}
-
-#[tactic(auto, unfolding(crate::specs::Svg::attribute))]
-fn push_attribute(
-    alloc: Global,
-    out: &mut Vec<u8>,
-    name: &str,
-    number: u64,
-) -> Result<(), AllocError>
-    ensures { OnOk result (out.new.items ≡ out.old.items ++ attribute name.now number) }
-{
-    push(out, " ")?;
-    push(out, name)?;
-    push(out, "='")?;
-    push_number(alloc, out, number)?;
-    push(out, "'")
 }

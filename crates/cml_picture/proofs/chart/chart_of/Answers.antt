@@ -12,14 +12,14 @@ pub returns-in_err-rows-clause-fault : goal.returns-in_err-rows-clause-fault
 returns-in_err-rows-clause-fault c =
     let acts = c.args.report.acts.items in
     let objects = c.args.report.objects.items in
-    let none = c.new-names.result.keys in
+    let none = c.args.first.keys in
     let some = c.add_actors.new.names.keys in
     let doers = c.add_actors-2.new.names.keys in
     let all = c.add_objects.new.names.keys in
     let fault = c.in_err-rows.field-0.0 in
     let count : c.len.result ≡ length acts = search rules in
-    let either : (fault.what ≡ Memory) ⊎ (chart_fault (map shown_act acts) (map shown_object objects) ≡ Some fault) =
-    fault_of_rows acts (map shown_object objects) none some doers c.new-names.ensures.empty
+    let either : (fault.what ≡ Memory) ⊎ (chart_fault (names_of none) (map shown_act acts) (map shown_object objects) ≡ Some fault) =
+    fault_of_rows acts (map shown_object objects) none some doers
     (c.in_ok-add_actors.ensures.names ∙ ap (λ a. with_doers false (names_of none) (map shown_act a)) c.deref.ensures.value)
     (c.in_ok-add_actors-2.ensures.names ∙ ap (λ a. with_doers true (names_of some) (map shown_act a)) c.deref-2.ensures.value)
     fault all c.len-actors.result
@@ -33,12 +33,12 @@ pub returns-clause-chart : goal.returns-clause-chart
 returns-clause-chart c =
     let acts = c.args.report.acts.items in
     let objects = c.args.report.objects.items in
-    let none = c.new-names.result.keys in
+    let none = c.args.first.keys in
     let some = c.add_actors.new.names.keys in
     let doers = c.add_actors-2.new.names.keys in
     let all = c.add_objects.new.names.keys in
     let count : c.len.result ≡ length acts = search rules in
-    chart_made acts (map shown_object objects) none some doers c.new-names.ensures.empty
+    chart_made acts (map shown_object objects) none some doers
     (c.in_ok-add_actors.ensures.names ∙ ap (λ a. with_doers false (names_of none) (map shown_act a)) c.deref.ensures.value)
     (c.in_ok-add_actors-2.ensures.names ∙ ap (λ a. with_doers true (names_of some) (map shown_act a)) c.deref-2.ensures.value)
     _

@@ -1,0 +1,65 @@
+-- Lines with too few words, and what a script's lines make together.
+use Rattle.std.proofs.Common.{◌≡◌, ℕ, ◌<◌, ◌≤◌, List, [], ◌∷◌, ◌++◌, length, map, drop, slice_get, None, refl, sym, ap, ap₂, ◌∙◌, arith}
+use denote.Ref.{Bor}
+use Rattle.std.specs.List.{filter, filter_map}
+use Rattle.std.proofs.lemmas.List.{append-nil}
+use Rattle.cml_grammar.specs.Script.{SourceLine, Lines}
+use Rattle.cml_picture.specs.declared.plan.Role.TheVariants as role
+use Rattle.cml_picture.specs.Lines.{Words}
+use Rattle.cml_picture.specs.Shown.{texts}
+use Rattle.cml_picture.specs.Plan.{Planned, thread_in, feed_in, target_in, lane_in, words_in, with_named, declared_in, port_in, is_told, plan_from, plan_of}
+use Rattle.cml_picture.proofs.FollowingLemmas.{none_left}
+
+abbrev Read : Type 0
+Read = List (Bor (List ℕ))
+
+pub no_thread : (words : Read) → length words < 2 → thread_in (texts words) ≡ None
+no_thread [] h = refl
+no_thread (a ∷ []) h = refl
+no_thread (a ∷ b ∷ words) h = absurd (omega arith)
+
+pub no_feed : (words : Read) → length words < 3 → feed_in (texts words) ≡ None
+no_feed [] h = refl
+no_feed (a ∷ []) h = refl
+no_feed (a ∷ b ∷ []) h = refl
+no_feed (a ∷ b ∷ c ∷ words) h = absurd (omega arith)
+
+pub no_target : (words : Read) → length words < 3 → target_in (texts words) ≡ None
+no_target [] h = refl
+no_target (a ∷ []) h = refl
+no_target (a ∷ b ∷ []) h = refl
+no_target (a ∷ b ∷ c ∷ words) h = absurd (omega arith)
+
+pub no_lane : (words : Read) → length words < 3 → lane_in (texts words) ≡ None
+no_lane [] h = refl
+no_lane (a ∷ []) h = refl
+no_lane (a ∷ b ∷ []) h = refl
+no_lane (a ∷ b ∷ c ∷ words) h = absurd (omega arith)
+
+pub no_second : (words : Read) → length words < 2 → slice_get (texts words) 1 ≡ None
+no_second [] h = refl
+no_second (a ∷ []) h = refl
+no_second (a ∷ b ∷ words) h = absurd (omega arith)
+
+-- the words of lines that were read one by one
+
+words_each : {X : Type 0} (source : X → SourceLine) (xs : List X) → map (λ x. (source x).words) xs ≡ words_in (map source xs)
+words_each source [] = refl
+words_each source (x ∷ xs) = ap (λ l. (source x).words ∷ l) (words_each source xs)
+
+pub all_read : {X : Type 0} (source : X → SourceLine) (xs : List X) (lines : List SourceLine) (read : List Words) (n : ℕ) → map source xs ≡ lines → length xs ≤ n → read ++ map (λ x. (source x).words) (drop n xs) ≡ map (λ x. (source x).words) xs → read ≡ words_in lines
+all_read source xs lines read n are all so_far =
+    sym (append-nil read)
+    ∙ sym (ap (λ l. read ++ map (λ x. (source x).words) l) (none_left xs n all))
+    ∙ so_far ∙ words_each source xs ∙ ap words_in are
+
+-- a plan whose parts are those of the lines is the script's
+pub planned : (script : Lines) (plan : Planned) (declared lanes asked : List Words) (laid : Words) → declared ≡ words_in script.declarations → lanes ≡ words_in script.lanes → asked ≡ words_in script.steps → plan.threads ≡ with_named role.Thread [] declared → plan.feeds ≡ with_named role.Feed [] declared → plan.targets ≡ with_named role.Target [] lanes → plan.objects ≡ filter_map declared_in declared ++ filter_map port_in asked → laid ≡ with_named role.Lane [] lanes → plan.steps ≡ filter (is_told laid plan.feeds) asked → plan ≡ plan_of script
+planned script plan declared lanes asked laid d l a threads feeds targets objects lay steps =
+    let made : Planned = plan_from declared lanes asked in
+    ap (λ t. record plan { threads = t }) threads
+    ∙ ap (λ f. record plan { threads = made.threads; feeds = f }) feeds
+    ∙ ap (λ t. record plan { threads = made.threads; feeds = made.feeds; targets = t }) targets
+    ∙ ap (λ o. record plan { threads = made.threads; feeds = made.feeds; targets = made.targets; objects = o }) objects
+    ∙ ap (λ s. record made { steps = s }) (steps ∙ ap₂ (λ x y. filter (is_told x y) asked) lay feeds)
+    ∙ ap (λ x. plan_from x lanes asked) d ∙ ap (λ x. plan_from (words_in script.declarations) x asked) l ∙ ap (λ x. plan_from (words_in script.declarations) (words_in script.lanes) x) a

@@ -1,0 +1,12 @@
+use Rattle.std.proofs.Common.{◌≡◌, ◌++◌, List, drop}
+use Rattle.std.specs.List.{filter_map}
+use Rattle.cml_picture.specs.Lines.{Deed}
+use Rattle.cml_picture.specs.Columns.{names_of}
+use Rattle.cml_picture.specs.Shown.{shown_lines, shown_plan}
+use Rattle.cml_picture.specs.Following.{stands_at, IsLeft}
+use Rattle.cml_picture.proofs.following.standing_at.Given as goal
+
+abbrev pub invariant-loop-at : goal.invariant-loop-at
+invariant-loop-at l =
+    (deeds : List Deed) → IsLeft (shown_plan l.plan) deeds l.left →
+    shown_lines l.steps.items ++ filter_map (stands_at (shown_plan l.plan) deeds) (drop l.at (names_of l.plan.threads.keys)) ≡ filter_map (stands_at (shown_plan l.plan) deeds) (names_of l.plan.threads.keys)
