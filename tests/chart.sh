@@ -148,6 +148,33 @@ scripts() {
     expect "no name of a script" 3 none some
 }
 
+# marked CASE MESSAGE COUNT: in the last chart the row that multicasts this message has so many marks.
+marked() {
+    if [ "$(grep " multicast $2\$" "$work/out" | tr -cd '*' | wc -c)" -eq "$3" ]; then pass; else fail "$1"; fi
+}
+
+marks() {
+    made="A port c p: made / A port d q: made / A copy p r: made / A multicast c 5: done / B multicast d 6: done / A close p: done / lane 0 multicast c 7: done / A copy p s: closed / A multicast c 8: done / A send c 9: done"
+    script "$made / channel c: sent 3 kept 1 first 2 / channel d: sent 1 kept 0 first 1 / port p: start 0 got 0 closed / port q: start 0 got 1 owed 0 / port r: start 0 got 1 owed 2 / port s: not made / end: done 10" > "$work/in"
+    run --text < "$work/in"
+    marked "a port and its copy" 5 2
+    marked "a port of another channel" 6 1
+    marked "a port that was closed" 7 1
+    marked "a copy of a closed port" 8 1
+    if ! grep ' send 9$' "$work/out" | grep -q '\*'; then pass; else fail "a row that doesn't multicast"; fi
+    run --text --from 7 < "$work/in"
+    marked "a port that was closed before the first row that is drawn" 7 1
+    run < "$work/in"
+    if [ "$(grep -c "^<line class='told'" "$work/out")" -eq 5 ]; then pass; else fail "marks as SVG"; fi
+    well_formed "marks as SVG"
+    script "cml 1 / channel c / port c p / thread A / feed A f c 1 / A multicast c 5" > "$work/script"
+    script "A multicast c 5: done / channel c: sent 1 kept 1 first 0 / port p: start 0 got 0 owed 1 / feed f: start 0 got 0 owed 1 taken 0 / end: done 1" > "$work/in"
+    run --text --script "$work/script" < "$work/in"
+    marked "a declared port and a feed" 5 2
+    run --text < "$work/in"
+    marked "declared ports without their script" 5 0
+}
+
 words() {
     run --frob < /dev/null
     expect "an unknown word" 3 none some
@@ -226,6 +253,7 @@ streams() {
 examples
 faults
 scripts
+marks
 words
 sizes
 texts

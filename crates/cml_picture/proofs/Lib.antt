@@ -8,3 +8,4 @@ mod ReadingLemmas
 mod EscapeLemmas
 mod FollowingLemmas
 mod PlanLemmas
+mod ListeningLemmas

@@ -15,7 +15,8 @@ use Rattle.cml_picture.specs.Lines.{Words, Deed, Thing, Ended}
 use Rattle.cml_picture.specs.Plan.{Planned, plan_of}
 use Rattle.cml_picture.specs.Following.{strange_fault, standing}
 use Rattle.cml_picture.specs.Reading.{told, report, wrong}
-use Rattle.cml_picture.specs.Shown.{shown_object, shown_end}
+use Rattle.cml_picture.specs.Listening.{Listener, behind}
+use Rattle.cml_picture.specs.Shown.{shown_object, shown_end, shown_rows}
 use Rattle.cml_picture.specs.Chart.{IsChart, chart_fault}
 use Rattle.cml_picture.specs.Plain.{plain_text}
 use Rattle.cml_picture.specs.Svg.{svg_text}
@@ -32,23 +33,29 @@ last_of asked = unwrap_or asked.to (min (asked.from + 499) (2 ^ 64 - 1))
 abbrev pub bounds_of : Asked → ℕ → ℕ × ℕ
 bounds_of asked count = let end = min count (last_of asked) in (min end (asked.from - 1), end)
 
--- the picture is the chart's with these rows and the steps at which threads stand, drawn as it was asked for
-abbrev pub IsDrawnBetween : Asked → Chart → List Words → ℕ × ℕ → List ℕ → Type 0
-IsDrawnBetween asked chart standing bounds picture =
+-- the picture is the chart's with these rows and the steps at which threads stand, drawn as it was asked for, where these ports
+-- are open before the first of all rows
+abbrev pub IsDrawnBetween : Asked → Chart → List Listener → List Words → ℕ × ℕ → List ℕ → Type 0
+IsDrawnBetween asked chart first standing bounds picture =
     let rows = slice_range chart.rows.items bounds.0 bounds.1 in
+    let listeners = behind first (shown_rows (slice_range chart.rows.items 0 bounds.0)) in
     MatchBool asked.text
-    (picture ≡ plain_text chart standing bounds.0 rows)
-    ((g : Geometry) × (picture ≡ svg_text g chart standing bounds.0 rows))
+    (picture ≡ plain_text chart listeners standing bounds.0 rows)
+    ((g : Geometry) × (picture ≡ svg_text g chart listeners standing bounds.0 rows))
 
-abbrev pub IsDrawingOf : Asked → Chart → List Words → List ℕ → Type 0
-IsDrawingOf asked chart standing picture = IsDrawnBetween asked chart standing (bounds_of asked (length chart.rows.items)) picture
+abbrev pub IsDrawingOf : Asked → Chart → List Listener → List Words → List ℕ → Type 0
+IsDrawingOf asked chart first standing picture = IsDrawnBetween asked chart first standing (bounds_of asked (length chart.rows.items)) picture
 
--- Where there is a script its threads have the first columns, it tells the steps at which they stand, and a report may be none of
--- it.
+-- Where there is a script its threads have the first columns, its declared ports are open before the first row, it tells the steps
+-- at which the threads stand, and a report may be none of it.
 
 abbrev pub threads_by : Option Planned → Words
 threads_by None = []
 threads_by (Some p) = p.threads
+
+abbrev pub listeners_by : Option Planned → List Listener
+listeners_by None = []
+listeners_by (Some p) = p.listeners
 
 abbrev pub standing_by : Option Planned → List Deed → List Words
 standing_by None deeds = []
@@ -76,7 +83,7 @@ pub record IsDrawnOf (asked : Asked) (plan : Option Planned) (old new : Option (
   pub of_script : strange_by plan deeds things ≡ None
   pub objects : map shown_object chart.objects.items ≡ things
   pub is_chart : IsChart (threads_by plan) deeds things chart
-  pub drawn : IsDrawingOf asked chart (standing_by plan deeds) picture
+  pub drawn : IsDrawingOf asked chart (listeners_by plan) (standing_by plan deeds) picture
 
 -- the lines are no report, or there is a fault in what they tell
 abbrev pub IsFaulty : Option Planned → List ℕ → Fault → Type 0

@@ -5,6 +5,7 @@ pub mod Columns
 pub mod Chart
 pub mod Labels
 pub mod Closings
+pub mod Listening
 pub mod Plan
 pub mod Following
 pub mod Standing

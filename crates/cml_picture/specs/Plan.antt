@@ -8,6 +8,7 @@ use Rattle.cml_picture.specs.declared.plan.Role.{Role}
 use Rattle.cml_picture.specs.declared.plan.Role.TheVariants as role
 use Rattle.cml_picture.specs.Lines.{Words, makes_port, is_sent}
 use Rattle.cml_picture.specs.Columns.{with_name, is_among}
+use Rattle.cml_picture.specs.Listening.{Listener, listener_in}
 
 abbrev pub words_in : List SourceLine → List Words
 words_in lines = map (λ (l : SourceLine). l.words) lines
@@ -73,14 +74,15 @@ is_told laid feeds (thread ∷ word ∷ object ∷ rest) =
     not (option_map_or is_sent (verb_of word) false && is_among laid (joined_names thread object)) && not (is_among feeds object)
 is_told laid feeds _ = false
 
--- the threads, the feeds, the objects that lanes lead to, all objects in the order of a report's second part, and the steps that
--- have rows of their threads
+-- the threads, the feeds, the objects that lanes lead to, all objects in the order of a report's second part, the steps that have
+-- rows of their threads, and the declared ports, those of feeds too
 pub record Planned : Type 0 where
   pub threads : Words
   pub feeds : Words
   pub targets : Words
   pub objects : List Made
   pub steps : List Words
+  pub listeners : List Listener
 
 -- .. by the words of a script's declarations, lane lines and steps
 abbrev pub plan_from : List Words → List Words → List Words → Planned
@@ -90,6 +92,7 @@ plan_from declared lanes asked = record {
   targets = with_named role.Target [] lanes;
   objects = filter_map declared_in declared ++ filter_map port_in asked;
   steps = filter (is_told (with_named role.Lane [] lanes) (with_named role.Feed [] declared)) asked;
+  listeners = filter_map listener_in declared;
 }
 
 abbrev pub plan_of : Lines → Planned

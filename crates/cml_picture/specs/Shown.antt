@@ -16,6 +16,9 @@ use Rattle.cml_picture.specs.declared.report.Report.{Report}
 use Rattle.cml_picture.specs.declared.reading.Reading.{Reading}
 use Rattle.cml_picture.specs.declared.plan.Made.{Made as ReadMade}
 use Rattle.cml_picture.specs.declared.plan.Plan.{Plan}
+use Rattle.cml_picture.specs.declared.listening.Listener.{Listener as ReadListener}
+use Rattle.cml_picture.specs.declared.chart.Row.{Row}
+use Rattle.cml_picture.specs.Listening.{Listener}
 use Rattle.cml_picture.specs.Plan.{Made, Planned}
 use Rattle.cml_picture.specs.Columns.{names_of}
 use Rattle.cml_picture.specs.Reading.{SoFar, Told, report}
@@ -63,6 +66,12 @@ shown_lines lines = map (λ (w : Vec (Bor (List ℕ)) Global). texts w.items) li
 abbrev pub shown_made : ReadMade → Made
 shown_made m = (m.kind.now, m.name.now)
 
+abbrev pub shown_listener : ReadListener → Listener
+shown_listener l = record { port = l.port.now; channel = l.channel.now }
+
+abbrev pub shown_rows : List Row → List Deed
+shown_rows rows = map (λ (r : Row). shown_act r.act) rows
+
 abbrev pub shown_plan : Plan → Planned
 shown_plan p = record {
   threads = names_of p.threads.keys;
@@ -70,4 +79,5 @@ shown_plan p = record {
   targets = names_of p.targets.keys;
   objects = map shown_made p.objects.items;
   steps = shown_lines p.steps.items;
+  listeners = map shown_listener p.listeners.items;
 }

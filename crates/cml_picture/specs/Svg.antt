@@ -13,6 +13,7 @@ use Rattle.std.specs.Option.{option_map_or}
 use Rattle.std.specs.List.{flat_map}
 use Rattle.cml_picture.specs.Lines.{Words, Thing, Ended}
 use Rattle.cml_picture.specs.Columns.{names_of, column_of}
+use Rattle.cml_picture.specs.Listening.{Listener, marks_of, behind_row}
 use Rattle.cml_picture.specs.Standing.{thread_of, standing_text}
 use Rattle.cml_picture.specs.Shown.{shown_act, shown_object, shown_end, shown_reply}
 use Rattle.cml_picture.specs.Heads.{Heading, headings_of}
@@ -95,16 +96,23 @@ arrow_class row =
     then (if points_back row.act.verb then codes "both" else if is_missed (shown_reply row.act.reply) then codes "out missed" else codes "out")
     else (if is_missed (shown_reply row.act.reply) then codes "back missed" else codes "back")
 
--- a row: its arrow from the line of the actor's column to that of the object's, and what is said of it
-unfoldable pub row_tags : Geometry → ℕ → Row → List ℕ
-row_tags g at row =
+-- a mark: the object's column is joined to this one
+abbrev pub mark_tag : Geometry → ℕ → Row → ℕ → List ℕ
+mark_tag g at row mark = line_tag (codes "told") (column_at g row.object, place_at 80 26 at) (column_at g mark, place_at 80 26 at)
+
+-- a row: its arrow from the line of the actor's column to that of the object's, marks at the ports that its message goes to, and
+-- what is said of it
+unfoldable pub row_tags : Geometry → ℕ → List ℕ → Row → List ℕ
+row_tags g at marks row =
     line_tag (arrow_class row) (column_at g row.actor, place_at 80 26 at) (column_at g row.object, place_at 80 26 at)
+    ++ flat_map (mark_tag g at row) marks
     ++ text_tag (codes "label") (capped (column_at g row.actor + 8), place_at 80 26 at - 9) (label_of (shown_act row.act))
 
--- one row behind the other
-abbrev pub rows_from : Geometry → ℕ → List Row → List ℕ
-rows_from g at [] = []
-rows_from g at (row ∷ rows) = row_tags g at row ++ rows_from g (suc at) rows
+-- one row behind the other, the first where these ports are open
+abbrev pub rows_from : Geometry → Words → ℕ → List Listener → List Row → List ℕ
+rows_from g names at ls [] = []
+rows_from g names at ls (row ∷ rows) =
+    row_tags g at (marks_of names ls (shown_act row.act)) row ++ rows_from g names (suc at) (behind_row ls (shown_act row.act)) rows
 
 -- a step at which a thread stands, which has the colour of the stall where the run stalled
 abbrev pub standing_class : Stop → List ℕ
@@ -133,9 +141,9 @@ unfoldable pub opening_of : Geometry → List ℕ
 opening_of g = OPENING.now ++ decimal g.width ++ codes " " ++ decimal g.height ++ ROLE.now
 
 -- The title and the style, the columns, the rows one below the other in their order, the steps at which threads stand, and the end.
-abbrev pub svg_text : Geometry → Chart → List Words → ℕ → List Row → List ℕ
-svg_text g chart standing before rows =
+abbrev pub svg_text : Geometry → Chart → List Listener → List Words → ℕ → List Row → List ℕ
+svg_text g chart listeners standing before rows =
     opening_of g ++ ABOUT.now ++ STYLE.now ++ HEAD.now
-    ++ heads_from g chart 0 (headings_of chart) ++ rows_from g 0 rows ++ flat_map (standing_tag g chart) standing
+    ++ heads_from g chart 0 (headings_of chart) ++ rows_from g (names_of chart.names.keys) 0 listeners rows ++ flat_map (standing_tag g chart) standing
     ++ text_tag (codes "note") (16, g.height - 38) (note_text before (length rows) (length chart.rows.items)) ++ end_tag g (shown_end chart.end)
     ++ codes "</svg>" ++ (10 ∷ [])

@@ -7,14 +7,15 @@ ghost use Rattle.cml_picture.specs.Columns.{names_of};
 ghost use Rattle.cml_picture.specs.Chart.{IsChart};
 ghost use Rattle.cml_picture.specs.Following.{strange_fault, standing};
 ghost use Rattle.cml_picture.specs.Plan.{plan_of};
-ghost use Rattle.cml_picture.specs.Shown.{shown_act, shown_object, shown_lines, shown_plan};
-ghost use Rattle.cml_picture.specs.Drawing.{bounds_of, threads_by, standing_by, strange_by, lines_fault, Draws, DrawsGiven, IsDrawingOf, IsDrawnOf, IsGiven, EndsUndrawn, EndsUnread, Writes};
+ghost use Rattle.cml_picture.specs.Shown.{shown_act, shown_object, shown_lines, shown_listener, shown_plan};
+ghost use Rattle.cml_picture.specs.Drawing.{bounds_of, threads_by, listeners_by, standing_by, strange_by, lines_fault, Draws, DrawsGiven, IsDrawingOf, IsDrawnOf, IsGiven, EndsUndrawn, EndsUnread, Writes};
 
 use crate::asked::Asked;
 use crate::chart::{Chart, chart_of};
 use crate::ending::{Ending, ending_of_script};
 use crate::faults::Fault;
 use crate::following::standing;
+use crate::listening::{Listener, behind};
 use crate::plain::draw_plain;
 use crate::plan::{Plan, plan_of};
 use crate::read::read_all;
@@ -97,14 +98,20 @@ fn picture<R: Read>(
     let text = read_all(alloc, reader)?;
     let report = read_report(alloc, &text)?;
     let drawing = drawing_of(alloc, script, report)?;
-    let picture = draw_chart(alloc, &drawing.chart, &drawing.standing, asked)?;
+    let Drawing {
+        chart,
+        listeners,
+        standing,
+    } = drawing;
+    let picture = draw_chart(alloc, &chart, listeners, &standing, asked)?;
     Ok(picture)
 }
 
-/// What is drawn: a chart, and the steps at which threads stand.
+/// What is drawn: a chart, the ports that are open before its first row, and the steps at which threads stand.
 #[derive(Drop)]
 struct Drawing<'a> {
     chart: Chart<'a>,
+    listeners: Vec<Listener<'a>>,
     standing: Vec<Vec<&'a str>>,
 }
 
@@ -117,6 +124,7 @@ fn drawing_of<'a>(
     ensures of_script { OnOk result (strange_by (option_map (λ s. plan_of s.now) script.entry) (map shown_act report.entry.acts.items) (map shown_object report.entry.objects.items) ≡ None) }
     ensures chart { IfOk result (λ drawing. IsChart (threads_by (option_map (λ s. plan_of s.now) script.entry)) (map shown_act report.entry.acts.items) (map shown_object report.entry.objects.items) drawing.chart) }
     ensures kept { IfOk result (λ drawing. (drawing.chart.objects ≡ report.entry.objects) × (drawing.chart.end ≡ report.entry.end)) }
+    ensures listeners { IfOk result (λ drawing. map shown_listener drawing.listeners.items ≡ listeners_by (option_map (λ s. plan_of s.now) script.entry)) }
     ensures standing { IfOk result (λ drawing. shown_lines drawing.standing.items ≡ standing_by (option_map (λ s. plan_of s.now) script.entry) (map shown_act report.entry.acts.items)) }
     ensures fault { IfErr result (λ fault. (fault.what ≡ Memory) ⊎ (lines_fault (option_map (λ s. plan_of s.now) script.entry) (map shown_act report.entry.acts.items) (map shown_object report.entry.objects.items) ≡ Some fault)) }
 {
@@ -126,6 +134,7 @@ fn drawing_of<'a>(
             let chart = chart_of(alloc, IndexSet::new(alloc), report)?;
             Ok(Drawing {
                 chart,
+                listeners: Vec::new(alloc),
                 standing: Vec::new(alloc),
             })
         }
@@ -141,6 +150,7 @@ fn drawing_in<'a>(
     ensures of_script { OnOk result (strange_fault (plan_of script.now) (map shown_act report.entry.acts.items) (map shown_object report.entry.objects.items) ≡ None) }
     ensures chart { IfOk result (λ drawing. IsChart (threads_by (Some (plan_of script.now))) (map shown_act report.entry.acts.items) (map shown_object report.entry.objects.items) drawing.chart) }
     ensures kept { IfOk result (λ drawing. (drawing.chart.objects ≡ report.entry.objects) × (drawing.chart.end ≡ report.entry.end)) }
+    ensures listeners { IfOk result (λ drawing. map shown_listener drawing.listeners.items ≡ (plan_of script.now).listeners) }
     ensures standing { IfOk result (λ drawing. shown_lines drawing.standing.items ≡ standing (plan_of script.now) (map shown_act report.entry.acts.items)) }
     ensures fault { IfErr result (λ fault. (fault.what ≡ Memory) ⊎ (lines_fault (Some (plan_of script.now)) (map shown_act report.entry.acts.items) (map shown_object report.entry.objects.items) ≡ Some fault)) }
 {
@@ -155,28 +165,40 @@ fn drawing_by<'a>(alloc: Global, plan: Plan<'a>, report: Report<'a>) -> Result<D
     ensures of_script { OnOk result (strange_fault (shown_plan plan.entry) (map shown_act report.entry.acts.items) (map shown_object report.entry.objects.items) ≡ None) }
     ensures chart { IfOk result (λ drawing. IsChart (names_of plan.entry.threads.keys) (map shown_act report.entry.acts.items) (map shown_object report.entry.objects.items) drawing.chart) }
     ensures kept { IfOk result (λ drawing. (drawing.chart.objects ≡ report.entry.objects) × (drawing.chart.end ≡ report.entry.end)) }
+    ensures listeners { IfOk result (λ drawing. map shown_listener drawing.listeners.items ≡ (shown_plan plan.entry).listeners) }
     ensures standing { IfOk result (λ drawing. shown_lines drawing.standing.items ≡ standing (shown_plan plan.entry) (map shown_act report.entry.acts.items)) }
     ensures fault { IfErr result (λ fault. (fault.what ≡ Memory) ⊎ (lines_fault (Some (shown_plan plan.entry)) (map shown_act report.entry.acts.items) (map shown_object report.entry.objects.items) ≡ Some fault)) }
 {
     let standing = standing(alloc, &plan, &report)?;
-    let chart = chart_of(alloc, plan.threads, report)?;
-    Ok(Drawing { chart, standing })
+    let Plan {
+        threads,
+        listeners,
+        ..
+    } = plan;
+    let chart = chart_of(alloc, threads, report)?;
+    Ok(Drawing {
+        chart,
+        listeners,
+        standing,
+    })
 }
 
-fn draw_chart(
+fn draw_chart<'a>(
     alloc: Global,
-    chart: &Chart<'_>,
+    chart: &Chart<'a>,
+    first: Vec<Listener<'a>>,
     standing: &[Vec<&str>],
     asked: &Asked<'_>,
 ) -> Result<Vec<u8>, AllocError>
-    ensures { IfOk result (λ picture. IsDrawingOf asked.now chart.now (shown_lines standing.now) picture.items) }
+    ensures { IfOk result (λ picture. IsDrawingOf asked.now chart.now (map shown_listener first.entry.items) (shown_lines standing.now) picture.items) }
 {
     let (start, end) = bounds(asked, chart.rows.len());
     let rows = &chart.rows[start..end];
+    let listeners = behind(alloc, first, &chart.rows[0..start])?;
     if asked.text {
-        draw_plain(alloc, chart, standing, start, rows)
+        draw_plain(alloc, chart, listeners, standing, start, rows)
     } else {
-        draw_svg(alloc, chart, standing, start, rows)
+        draw_svg(alloc, chart, listeners, standing, start, rows)
     }
 }
 

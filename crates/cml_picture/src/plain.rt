@@ -1,38 +1,41 @@
 //! A chart as lines of text: a column for each thread and object, and a line for each row.
 ghost use Rattle.std.specs.Prelude.{◌≡◌, ◌++◌, ◌-◌, ◌∷◌, [], length, map, replicate, IfOk, OnOk};
 ghost use Rattle.std.specs.List.{flat_map};
-ghost use Rattle.cml_picture.specs.Shown.{shown_lines, shown_object};
+ghost use Rattle.cml_picture.specs.Columns.{names_of};
+ghost use Rattle.cml_picture.specs.Shown.{shown_lines, shown_listener, shown_object};
 ghost use Rattle.cml_picture.specs.Heads.{headings_of, shown_head};
 ghost use Rattle.cml_picture.specs.Closings.{thing_text, end_text};
 ghost use Rattle.cml_picture.specs.Notes.{note_line};
 ghost use Rattle.cml_picture.specs.Standing.{standing_line};
-ghost use Rattle.cml_picture.specs.Plain.{dash_of, lead_at, fill_at, padded, cell_at, cells_from, names_line, kinds_line, row_line, plain_text};
+ghost use Rattle.cml_picture.specs.Plain.{dash_of, lead_at, fill_at, padded, cells_from, names_line, kinds_line, row_line, row_lines, plain_text};
 
 use crate::chart::{Chart, Row};
 use crate::closings::{push_end, push_object};
 use crate::heads::{Head, heads_of};
 use crate::labels::{is_missed, points_back, points_out, push, push_label};
+use crate::listening::{Listener, behind_row, marks_of};
 use crate::notes::note_of;
 use crate::report::{Object, Stop};
 use crate::standing::push_standing_line;
 use std::alloc::{AllocError, Global};
 
 /// These rows of a chart as text, where so many stand before them: the columns' heads, a line for each row, for each thread that
-/// stands at a step, and for each object, and the end.
-pub fn draw_plain(
+/// stands at a step, and for each object, and the end. These ports are open before the first of the rows.
+pub fn draw_plain<'a>(
     alloc: Global,
     chart: &Chart<'_>,
+    listeners: Vec<Listener<'a>>,
     standing: &[Vec<&str>],
     before: usize,
-    rows: &[Row<'_>],
+    rows: &[Row<'a>],
 ) -> Result<Vec<u8>, AllocError>
-    ensures { IfOk result (λ out. out.items ≡ plain_text chart.now (shown_lines standing.now) before rows.now) }
+    ensures { IfOk result (λ out. out.items ≡ plain_text chart.now (map shown_listener listeners.entry.items) (shown_lines standing.now) before rows.now) }
 {
     let heads = heads_of(alloc, chart)?;
     let mut out = Vec::new(alloc);
     push_names(&mut out, &heads)?;
     push_kinds(&mut out, &heads)?;
-    push_rows(&mut out, &heads, rows)?;
+    push_rows(alloc, &mut out, &heads, chart, listeners, rows)?;
     let note = note_of(alloc, before, rows.len(), chart.rows.len())?;
     push_note(&mut out, &note)?;
     push_all_standing(&mut out, chart.end.stop, standing)?;
@@ -60,43 +63,57 @@ fn push_kinds(out: &mut Vec<u8>, heads: &[Head<'_>]) -> Result<(), AllocError>
     push(out, "\n")
 }
 
-fn push_rows(out: &mut Vec<u8>, heads: &[Head<'_>], rows: &[Row<'_>]) -> Result<(), AllocError>
-    ensures { OnOk result (out.new.items ≡ out.old.items ++ flat_map (row_line (map shown_head heads.now)) rows.now) }
+fn push_rows<'a>(
+    alloc: Global,
+    out: &mut Vec<u8>,
+    heads: &[Head<'_>],
+    chart: &Chart<'_>,
+    first: Vec<Listener<'a>>,
+    rows: &[Row<'a>],
+) -> Result<(), AllocError>
+    ensures { OnOk result (out.new.items ≡ out.old.items ++ row_lines (map shown_head heads.now) (names_of chart.now.names.keys) (map shown_listener first.entry.items) rows.now) }
 {
+    let mut listeners = first;
     for row in rows {
-        push_row(out, heads, row)?;
+        let marks = marks_of(alloc, &chart.names, &listeners, &row.act)?;
+        push_row(out, heads, &marks, row)?;
+        listeners = behind_row(alloc, listeners, &row.act)?;
     }
     Ok(())
 }
 
-fn push_row(out: &mut Vec<u8>, heads: &[Head<'_>], row: &Row<'_>) -> Result<(), AllocError>
-    ensures { OnOk result (out.new.items ≡ out.old.items ++ row_line (map shown_head heads.now) row.now) }
+fn push_row(
+    out: &mut Vec<u8>,
+    heads: &[Head<'_>],
+    marks: &[usize],
+    row: &Row<'_>,
+) -> Result<(), AllocError>
+    ensures { OnOk result (out.new.items ≡ out.old.items ++ row_line (map shown_head heads.now) marks.now row.now) }
 {
-    push_cells(out, heads, row)?;
+    push_cells(out, heads, marks, row)?;
     push(out, " ")?;
     push_label(out, &row.act)?;
     push(out, "\n")
 }
 
-fn push_cells(out: &mut Vec<u8>, heads: &[Head<'_>], row: &Row<'_>) -> Result<(), AllocError>
-    ensures { OnOk result (out.new.items ≡ out.old.items ++ cells_from row.now 0 (map shown_head heads.now)) }
+fn push_cells(
+    out: &mut Vec<u8>,
+    heads: &[Head<'_>],
+    marks: &[usize],
+    row: &Row<'_>,
+) -> Result<(), AllocError>
+    ensures { OnOk result (out.new.items ≡ out.old.items ++ cells_from row.now marks.now 0 (map shown_head heads.now)) }
 {
     for (at, head) in heads.iter().enumerate() {
-        push_cell(out, row, at, head)?;
+        out.push(lead_at(row, marks, at))?;
+        push_many(out, fill_at(row, at), head.width() - 1)?;
     }
     Ok(())
 }
 
-fn push_cell(out: &mut Vec<u8>, row: &Row<'_>, at: usize, head: &Head<'_>) -> Result<(), AllocError>
-    ensures { OnOk result (out.new.items ≡ out.old.items ++ cell_at row.now at (shown_head head.now)) }
-{
-    out.push(lead_at(row, at))?;
-    push_many(out, fill_at(row, at), head.width() - 1)
-}
-
-/// What stands where a row crosses a column's line: an arrow's head, a part of the arrow, or the column's line.
-fn lead_at(row: &Row<'_>, at: usize) -> u8
-    ensures { result ≡ lead_at row.now at }
+/// What stands where a row crosses a column's line: an arrow's head, a mark, a part of the arrow, or the column's line.
+fn lead_at(row: &Row<'_>, marks: &[usize], at: usize) -> u8
+    ensures { result ≡ lead_at row.now marks.now at }
 {
     if at == row.object {
         return if points_out(row.act.verb) { b'>' } else { b'|' };
@@ -107,6 +124,9 @@ fn lead_at(row: &Row<'_>, at: usize) -> u8
         } else {
             b'|'
         };
+    }
+    if marks.contains(&at) {
+        return b'*';
     }
     if row.actor < at && at < row.object {
         return dash_of(row);

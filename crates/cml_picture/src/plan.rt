@@ -9,6 +9,7 @@ ghost use Rattle.cml_picture.specs.Shown.{texts, shown_lines, shown_made, shown_
 
 use crate::acts::{is_sent, makes_port, verb_of};
 use crate::columns::{add_name, is_among};
+use crate::listening::{Listener, listeners_in};
 use crate::source::{Source, source_of};
 use cml_grammar::Script;
 use indexmap::IndexSet;
@@ -45,6 +46,8 @@ pub(crate) struct Plan<'a> {
     pub(crate) objects: Vec<Made<'a>>,
     /// The steps that have rows of their threads.
     pub(crate) steps: Vec<Vec<&'a str>>,
+    /// The declared ports, those of feeds too.
+    pub(crate) listeners: Vec<Listener<'a>>,
 }
 
 pub(crate) fn plan_of(alloc: Global, script: &Script) -> Result<Plan<'_>, AllocError>
@@ -58,6 +61,7 @@ pub(crate) fn plan_of(alloc: Global, script: &Script) -> Result<Plan<'_>, AllocE
         targets: names_in(alloc, Role::Target, &source.lanes)?,
         objects: objects_of(alloc, &source)?,
         steps: told_steps(alloc, &laid, &feeds, &source.steps)?,
+        listeners: listeners_in(alloc, &source.declarations)?,
         feeds,
     })
 }

@@ -1,15 +1,17 @@
 //! A chart as SVG.
-ghost use Rattle.std.specs.Prelude.{◌≡◌, ◌++◌, ◌-◌, map, codes, IfOk, OnOk};
+ghost use Rattle.std.specs.Prelude.{◌≡◌, ◌++◌, ◌∷◌, [], ◌-◌, map, codes, IfOk, OnOk};
 ghost use Rattle.std.specs.List.{flat_map};
-ghost use Rattle.cml_picture.specs.Shown.{texts, shown_lines, shown_object, shown_end};
+ghost use Rattle.cml_picture.specs.Columns.{names_of};
+ghost use Rattle.cml_picture.specs.Shown.{texts, shown_lines, shown_listener, shown_object, shown_end};
 ghost use Rattle.cml_picture.specs.Heads.{headings_of, shown_head};
-ghost use Rattle.cml_picture.specs.Svg.{text_tag, place_at, arrow_class, row_tags, rows_from, head_tags, heads_from, closing_tag, closing_at, standing_class, standing_under, standing_tag, opening_of, end_class, end_tag, svg_text};
+ghost use Rattle.cml_picture.specs.Svg.{text_tag, place_at, arrow_class, mark_tag, row_tags, rows_from, head_tags, heads_from, closing_tag, closing_at, standing_class, standing_under, standing_tag, opening_of, end_class, end_tag, svg_text};
 
 use crate::chart::{Chart, Row};
 use crate::closings::{push_closing, push_end};
 use crate::columns::column_of;
 use crate::heads::{Head, heads_of};
 use crate::labels::{is_missed, points_back, points_out, push, push_label, push_number};
+use crate::listening::{Listener, behind_row, marks_of};
 use crate::notes::note_of;
 use crate::report::{Object, Reply, Stop};
 use crate::standing::{push_standing, thread_of};
@@ -27,11 +29,11 @@ const ABOUT: &str =
 
 /// The style: it needs no font and no script, and follows light and dark.
 const STYLE: &str =
-    "<style>svg{font-family:ui-monospace,Menlo,Consolas,monospace;font-size:12px;background:#fff}text{fill:#1c1e21}.kind,.name{text-anchor:middle}.kind{font-size:10px;fill:#5f6670}.name{font-weight:bold}.life{stroke:#c3c8cf}.out,.back,.both{stroke:#1f5fa8;stroke-width:1.5}.out,.both{marker-end:url(#head)}.back,.both{marker-start:url(#head)}.missed{stroke-dasharray:4 3}#head path{fill:#1f5fa8}.closing{font-size:11px}.end{font-weight:bold;font-size:14px}.done{fill:#1b7a3d}.stalled{fill:#b3261e}.full{fill:#9a5b00}.held{fill:#6b4fa0}@media(prefers-color-scheme:dark){svg{background:#16181c}text{fill:#e6e8eb}.kind{fill:#9aa2ad}.life{stroke:#434a54}.out,.back,.both{stroke:#7fb2f0}#head path{fill:#7fb2f0}.done{fill:#6fcf97}.stalled{fill:#ff8a80}.full{fill:#f2b35c}.held{fill:#b9a3e8}}</style>\n";
+    "<style>svg{font-family:ui-monospace,Menlo,Consolas,monospace;font-size:12px;background:#fff}text{fill:#1c1e21}.kind,.name{text-anchor:middle}.kind{font-size:10px;fill:#5f6670}.name{font-weight:bold}.life{stroke:#c3c8cf}.out,.back,.both{stroke:#1f5fa8;stroke-width:1.5}.out,.both{marker-end:url(#head)}.back,.both{marker-start:url(#head)}.missed{stroke-dasharray:4 3}.told{stroke:#1f5fa8;stroke-opacity:.5;marker-end:url(#dot)}#head path,#dot circle{fill:#1f5fa8}.closing{font-size:11px}.end{font-weight:bold;font-size:14px}.done{fill:#1b7a3d}.stalled{fill:#b3261e}.full{fill:#9a5b00}.held{fill:#6b4fa0}@media(prefers-color-scheme:dark){svg{background:#16181c}text{fill:#e6e8eb}.kind{fill:#9aa2ad}.life{stroke:#434a54}.out,.back,.both,.told{stroke:#7fb2f0}#head path,#dot circle{fill:#7fb2f0}.done{fill:#6fcf97}.stalled{fill:#ff8a80}.full{fill:#f2b35c}.held{fill:#b9a3e8}}</style>\n";
 
-/// An arrow's head, which is drawn at either end.
+/// An arrow's head, which is drawn at either end, and the dot of a mark.
 const HEAD: &str =
-    "<defs><marker id='head' viewBox='0 0 8 8' refX='8' refY='4' markerWidth='7' markerHeight='7' orient='auto-start-reverse'><path d='M0 0 8 4 0 8z'/></marker></defs>\n";
+    "<defs><marker id='head' viewBox='0 0 8 8' refX='8' refY='4' markerWidth='7' markerHeight='7' orient='auto-start-reverse'><path d='M0 0 8 4 0 8z'/></marker><marker id='dot' viewBox='0 0 6 6' refX='3' refY='3' markerWidth='6' markerHeight='6'><circle cx='3' cy='3' r='2.5'/></marker></defs>\n";
 
 /// How far the columns and the rows stand apart, how large the whole is, and where the lines of the columns end.
 #[derive(Clone, Copy, Debug)]
@@ -42,35 +44,53 @@ pub(crate) struct Geometry {
     pub(crate) bottom: u64,
 }
 
-/// These rows of a chart as SVG, where so many stand before them, and the steps at which threads stand.
-pub fn draw_svg(
+/// These rows of a chart as SVG, where so many stand before them, and the steps at which threads stand. These ports are open before
+/// the first of the rows.
+pub fn draw_svg<'a>(
     alloc: Global,
     chart: &Chart<'_>,
+    listeners: Vec<Listener<'a>>,
     standing: &[Vec<&str>],
     before: usize,
-    rows: &[Row<'_>],
+    rows: &[Row<'a>],
 ) -> Result<Vec<u8>, AllocError>
-    ensures { IfOk result (λ out. (g : Geometry) × (out.items ≡ svg_text g chart.now (shown_lines standing.now) before rows.now)) }
+    ensures { IfOk result (λ out. (g : Geometry) × (out.items ≡ svg_text g chart.now (map shown_listener listeners.entry.items) (shown_lines standing.now) before rows.now)) }
 {
     let heads = heads_of(alloc, chart)?;
     let geometry = geometry_of(chart, &heads, standing, rows);
     let mut out = Vec::new(alloc);
-    push_opening(alloc, &mut out, &geometry)?;
-    push(&mut out, ABOUT)?;
-    push(&mut out, STYLE)?;
-    push(&mut out, HEAD)?;
+    push_beginning(alloc, &mut out, &geometry)?;
     push_heads(alloc, &mut out, &geometry, chart, &heads)?;
-    push_rows(alloc, &mut out, &geometry, rows)?;
+    push_rows(alloc, &mut out, &geometry, chart, listeners, rows)?;
     push_all_standing(alloc, &mut out, &geometry, chart, standing)?;
-    push_note(
-        alloc,
-        &mut out,
-        &geometry,
-        &note_of(alloc, before, rows.len(), chart.rows.len())?,
-    )?;
-    push_ending(alloc, &mut out, &geometry, chart)?;
-    push(&mut out, "</svg>\n")?;
+    let note = note_of(alloc, before, rows.len(), chart.rows.len())?;
+    push_foot(alloc, &mut out, &geometry, chart, &note)?;
     Ok(out)
+}
+
+/// What stands before the columns.
+fn push_beginning(alloc: Global, out: &mut Vec<u8>, geometry: &Geometry) -> Result<(), AllocError>
+    ensures { OnOk result (out.new.items ≡ out.old.items ++ opening_of geometry.now ++ ABOUT.now ++ STYLE.now ++ HEAD.now) }
+{
+    push_opening(alloc, out, geometry)?;
+    push(out, ABOUT)?;
+    push(out, STYLE)?;
+    push(out, HEAD)
+}
+
+/// What stands below the columns, and the end of the whole.
+fn push_foot(
+    alloc: Global,
+    out: &mut Vec<u8>,
+    geometry: &Geometry,
+    chart: &Chart<'_>,
+    note: &[u8],
+) -> Result<(), AllocError>
+    ensures { OnOk result (out.new.items ≡ out.old.items ++ text_tag (codes "note") (16, geometry.now.height - 38) note.now ++ end_tag geometry.now (shown_end chart.now.end) ++ codes "</svg>" ++ (10 ∷ [])) }
+{
+    push_note(alloc, out, geometry, note)?;
+    push_ending(alloc, out, geometry, chart)?;
+    push(out, "</svg>\n")
 }
 
 fn geometry_of(
@@ -190,39 +210,71 @@ fn push_head(
     push_closing_at(alloc, out, geometry, chart, at)
 }
 
-fn push_rows(
+fn push_rows<'a>(
     alloc: Global,
     out: &mut Vec<u8>,
     geometry: &Geometry,
-    rows: &[Row<'_>],
+    chart: &Chart<'_>,
+    first: Vec<Listener<'a>>,
+    rows: &[Row<'a>],
 ) -> Result<(), AllocError>
-    ensures { OnOk result (out.new.items ≡ out.old.items ++ rows_from geometry.now 0 rows.now) }
+    ensures { OnOk result (out.new.items ≡ out.old.items ++ rows_from geometry.now (names_of chart.now.names.keys) 0 (map shown_listener first.entry.items) rows.now) }
 {
+    let mut listeners = first;
     for (at, row) in rows.iter().enumerate() {
-        push_row(alloc, out, geometry, at, row)?;
+        let marks = marks_of(alloc, &chart.names, &listeners, &row.act)?;
+        push_row(alloc, out, geometry, at, &marks, row)?;
+        listeners = behind_row(alloc, listeners, &row.act)?;
     }
     Ok(())
 }
 
-/// The arrow of a row, from the line of the actor's column to that of the object's, and what is said of it.
+/// The arrow of a row, from the line of the actor's column to that of the object's, its marks, and what is said of it.
 #[tactic(auto, unfolding(crate::specs::Svg::row_tags))]
 fn push_row(
     alloc: Global,
     out: &mut Vec<u8>,
     geometry: &Geometry,
     at: usize,
+    marks: &[usize],
     row: &Row<'_>,
 ) -> Result<(), AllocError>
-    ensures { OnOk result (out.new.items ≡ out.old.items ++ row_tags geometry.now at row.now) }
+    ensures { OnOk result (out.new.items ≡ out.old.items ++ row_tags geometry.now at marks.now row.now) }
 {
     let y = place_at(80, 26, at);
     let x = place_at(60, geometry.gap, row.actor);
     let end = place_at(60, geometry.gap, row.object);
     push_line(alloc, out, arrow_class(row), (x, y), (end, y))?;
+    push_marks(alloc, out, geometry, at, marks, row)?;
     let mut label = Vec::new(alloc);
     push_label(&mut label, &row.act)?;
     let at = (x.saturating_add(8), y.saturating_sub(9));
     push_text(alloc, out, "label", at, &label)
+}
+
+/// The object's column is joined to each that is marked.
+fn push_marks(
+    alloc: Global,
+    out: &mut Vec<u8>,
+    geometry: &Geometry,
+    at: usize,
+    marks: &[usize],
+    row: &Row<'_>,
+) -> Result<(), AllocError>
+    ensures { OnOk result (out.new.items ≡ out.old.items ++ flat_map (mark_tag geometry.now at row.now) marks.now) }
+{
+    let y = place_at(80, 26, at);
+    let x = place_at(60, geometry.gap, row.object);
+    for &mark in marks {
+        push_line(
+            alloc,
+            out,
+            "told",
+            (x, y),
+            (place_at(60, geometry.gap, mark), y),
+        )?;
+    }
+    Ok(())
 }
 
 fn arrow_class(row: &Row<'_>) -> &'static str
