@@ -1,14 +1,14 @@
 -- Lines with too few words, and what a script's lines make together.
-use Rattle.std.proofs.Common.{◌≡◌, ℕ, ◌<◌, ◌≤◌, List, [], ◌∷◌, ◌++◌, length, map, drop, slice_get, None, refl, sym, ap, ap₂, ◌∙◌, arith}
+use Rattle.std.proofs.Common.{◌≡◌, ℕ, ◌<◌, ◌≤◌, List, [], ◌∷◌, ◌++◌, length, map, drop, slice_get, None, refl, sym, ap, ◌∙◌, arith}
 use denote.Ref.{Bor}
 use Rattle.std.specs.List.{filter, filter_map}
 use Rattle.std.proofs.lemmas.List.{append-nil}
-use Rattle.cml_grammar.specs.Script.{SourceLine, Lines}
+use Rattle.cml_grammar.specs.Script.{SourceLine}
 use Rattle.cml_picture.specs.declared.plan.Role.TheVariants as role
 use Rattle.cml_picture.specs.Lines.{Words}
 use Rattle.cml_picture.specs.Shown.{texts}
 use Rattle.cml_picture.specs.Listening.{listener_in}
-use Rattle.cml_picture.specs.Plan.{Planned, thread_in, feed_in, target_in, lane_in, words_in, with_named, declared_in, port_in, is_told, plan_from, plan_of}
+use Rattle.cml_picture.specs.Plan.{Planned, thread_in, feed_in, target_in, lane_in, words_in, with_named, declared_in, port_in, is_told, plan_from}
 use Rattle.cml_picture.proofs.FollowingLemmas.{none_left}
 
 abbrev Read : Type 0
@@ -54,14 +54,13 @@ all_read source xs lines read n are all so_far =
     ∙ sym (ap (λ l. read ++ map (λ x. (source x).words) l) (none_left xs n all))
     ∙ so_far ∙ words_each source xs ∙ ap words_in are
 
--- a plan whose parts are those of the lines is the script's
-pub planned : (script : Lines) (plan : Planned) (declared lanes asked : List Words) (laid : Words) → declared ≡ words_in script.declarations → lanes ≡ words_in script.lanes → asked ≡ words_in script.steps → plan.threads ≡ with_named role.Thread [] declared → plan.feeds ≡ with_named role.Feed [] declared → plan.targets ≡ with_named role.Target [] lanes → plan.objects ≡ filter_map declared_in declared ++ filter_map port_in asked → laid ≡ with_named role.Lane [] lanes → plan.steps ≡ filter (is_told laid plan.feeds) asked → plan.listeners ≡ filter_map listener_in declared → plan ≡ plan_of script
-planned script plan declared lanes asked laid d l a threads feeds targets objects lay steps listeners =
+-- a plan whose parts are those of the lines is theirs
+pub planned : (plan : Planned) (declared lanes asked : List Words) → plan.threads ≡ with_named role.Thread [] declared → plan.feeds ≡ with_named role.Feed [] declared → plan.targets ≡ with_named role.Target [] lanes → plan.objects ≡ filter_map declared_in declared ++ filter_map port_in asked → plan.steps ≡ filter (is_told (with_named role.Lane [] lanes) plan.feeds) asked → plan.listeners ≡ filter_map listener_in declared → plan ≡ plan_from declared lanes asked
+planned plan declared lanes asked threads feeds targets objects steps listeners =
     let made : Planned = plan_from declared lanes asked in
     ap (λ t. record plan { threads = t }) threads
     ∙ ap (λ f. record plan { threads = made.threads; feeds = f }) feeds
     ∙ ap (λ t. record plan { threads = made.threads; feeds = made.feeds; targets = t }) targets
     ∙ ap (λ o. record plan { threads = made.threads; feeds = made.feeds; targets = made.targets; objects = o }) objects
-    ∙ ap (λ s. record plan { threads = made.threads; feeds = made.feeds; targets = made.targets; objects = made.objects; steps = s }) (steps ∙ ap₂ (λ x y. filter (is_told x y) asked) lay feeds)
+    ∙ ap (λ s. record plan { threads = made.threads; feeds = made.feeds; targets = made.targets; objects = made.objects; steps = s }) (steps ∙ ap (λ f. filter (is_told (with_named role.Lane [] lanes) f) asked) feeds)
     ∙ ap (λ x. record made { listeners = x }) listeners
-    ∙ ap (λ x. plan_from x lanes asked) d ∙ ap (λ x. plan_from (words_in script.declarations) x asked) l ∙ ap (λ x. plan_from (words_in script.declarations) (words_in script.lanes) x) a

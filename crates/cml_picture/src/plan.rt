@@ -3,8 +3,9 @@ ghost use Rattle.std.specs.Prelude.{◌≡◌, ◌++◌, [], false, map, slice_g
 ghost use Rattle.std.specs.Option.{option_map, option_map_or};
 ghost use Rattle.cml_grammar.specs.Forms.{verb_of};
 ghost use Rattle.cml_picture.specs.Lines.{is_sent};
+ghost use Rattle.cml_picture.specs.declared.plan.Role.TheVariants.{Lane};
 ghost use Rattle.cml_picture.specs.Columns.{names_of};
-ghost use Rattle.cml_picture.specs.Plan.{thread_in, feed_in, target_in, lane_in, name_in, named_in, with_named, joined_names, declared_in, port_in, is_told, plan_of};
+ghost use Rattle.cml_picture.specs.Plan.{thread_in, feed_in, target_in, lane_in, name_in, named_in, with_named, joined_names, declared_in, port_in, is_told, plan_from, plan_of};
 ghost use Rattle.cml_picture.specs.Shown.{texts, shown_lines, shown_made, shown_plan};
 
 use crate::acts::{is_sent, makes_port, verb_of};
@@ -54,16 +55,39 @@ pub(crate) fn plan_of(alloc: Global, script: &Script) -> Result<Plan<'_>, AllocE
     ensures { IfOk result (λ plan. shown_plan plan ≡ plan_of script.now) }
 {
     let source = source_of(alloc, script)?;
+    plan_from(alloc, &source)
+}
+
+/// What a script of these lines says of its reports.
+fn plan_from<'a>(alloc: Global, source: &Source<'a>) -> Result<Plan<'a>, AllocError>
+    ensures { IfOk result (λ plan. shown_plan plan ≡ plan_from (shown_lines source.now.declarations.items) (shown_lines source.now.lanes.items) (shown_lines source.now.steps.items)) }
+{
     let feeds = names_in(alloc, Role::Feed, &source.declarations)?;
-    let laid = names_in(alloc, Role::Lane, &source.lanes)?;
+    let steps = steps_with(alloc, source, &feeds)?;
+    let objects = objects_of(alloc, source)?;
+    let listeners = listeners_in(alloc, &source.declarations)?;
+    let threads = names_in(alloc, Role::Thread, &source.declarations)?;
+    let targets = names_in(alloc, Role::Target, &source.lanes)?;
     Ok(Plan {
-        threads: names_in(alloc, Role::Thread, &source.declarations)?,
-        targets: names_in(alloc, Role::Target, &source.lanes)?,
-        objects: objects_of(alloc, &source)?,
-        steps: told_steps(alloc, &laid, &feeds, &source.steps)?,
-        listeners: listeners_in(alloc, &source.declarations)?,
+        threads,
         feeds,
+        targets,
+        objects,
+        steps,
+        listeners,
     })
+}
+
+/// Those steps that have rows of their threads, where these are the feeds.
+fn steps_with<'a>(
+    alloc: Global,
+    source: &Source<'a>,
+    feeds: &IndexSet<String>,
+) -> Result<Vec<Vec<&'a str>>, AllocError>
+    ensures { IfOk result (λ told. shown_lines told.items ≡ filter (is_told (with_named Lane [] (shown_lines source.now.lanes.items)) (names_of feeds.now.keys)) (shown_lines source.now.steps.items)) }
+{
+    let laid = names_in(alloc, Role::Lane, &source.lanes)?;
+    told_steps(alloc, &laid, feeds, &source.steps)
 }
 
 /// What these lines name, each once.
