@@ -1,8 +1,11 @@
 //! `cml_chart`: draws the report on standard input as a sequence chart, on standard output.
 #![tactic(auto)]
 
+mod command_line;
+
 use clap::Error;
-use cml_picture::{Asked, Ending, draw, draw_by_script, order, status_of, status_of_error};
+use cml_picture::{Asked, Ending, draw, draw_by_script, status_of};
+use command_line::{order, status_of_error};
 use std::io::ErrorKind;
 use std::process::ExitCode;
 use std::{env, fs};

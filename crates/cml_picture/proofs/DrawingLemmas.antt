@@ -3,16 +3,17 @@ use Rattle.std.proofs.Common.{◌≡◌, ℕ, ◌≤◌, inl, inr, List, length,
 use Rattle.std.proofs.lemmas.Bool.{lt-ltb}
 use Rattle.cml_grammar.specs.Words.{parts_of}
 use Rattle.cml_picture.specs.declared.asked.Asked.{Asked}
-use Rattle.cml_picture.specs.declared.report.Report.{Report}
-use Rattle.cml_picture.specs.declared.chart.Chart.{Chart}
-use Rattle.cml_picture.specs.declared.faults.What.TheVariants as what
-use Rattle.cml_picture.specs.Lines.{Words, Deed, Thing, Ended}
-use Rattle.cml_picture.specs.Reading.{told, report, wrong_at, told_from, nothing_yet}
-use Rattle.cml_picture.specs.Shown.{shown_act, shown_object, shown_end, shown_report}
-use Rattle.cml_picture.specs.Chart.{IsChart}
-use Rattle.cml_picture.specs.Listening.{Listener}
-use Rattle.cml_picture.specs.Plan.{Planned}
-use Rattle.cml_picture.specs.Drawing.{IsRead, IsDrawingOf, IsDrawnOf, threads_by, listeners_by, standing_by, strange_by}
+use Rattle.cml_report.specs.declared.report.Report.{Report}
+use Rattle.cml_sequence.specs.declared.chart.Chart.{Chart}
+use Rattle.cml_report.specs.declared.faults.What.TheVariants as what
+use Rattle.cml_report.specs.Lines.{Words, Deed, Thing, Ended}
+use Rattle.cml_report.specs.Reading.{told, report, wrong_at, told_from, nothing_yet}
+use Rattle.cml_report.specs.Shown.{shown_act, shown_object, shown_end, shown_report}
+use Rattle.cml_sequence.specs.Chart.{IsChart}
+use Rattle.cml_sequence.specs.Listening.{Listener}
+use Rattle.cml_course.specs.Plan.{Planned}
+use Rattle.cml_course.specs.Course.{threads_by, listeners_by, standing_by, strange_by}
+use Rattle.cml_picture.specs.Drawing.{IsRead, IsDrawingOf, IsDrawnOf}
 
 -- too long a text is no report
 too_long : (text : List ℕ) (deeds : List Deed) (things : List Thing) (end : Ended) → told text ≡ report deeds things end → 33554433 ≤ length text → ⊥

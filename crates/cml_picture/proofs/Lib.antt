@@ -1,11 +1,2 @@
-mod WordLemmas
-mod ShapeLemmas
-mod NameLemmas
-mod ChartLemmas
-mod HeadLemmas
 mod DrawingLemmas
-mod ReadingLemmas
 mod EscapeLemmas
-mod FollowingLemmas
-mod PlanLemmas
-mod ListeningLemmas

@@ -1,23 +1,23 @@
 -- What the drawing of a report reads and writes, by how it ends.
-use Rattle.std.specs.Prelude.{ℕ, ◌≤◌, ◌+◌, ◌-◌, ◌^◌, ◌⊎◌, min, List, [], ◌≡◌, length, map, Option, Some, None, unwrap_or, slice_range, MatchBool, ⊤}
-use Rattle.std.specs.Option.{option_map_or}
+use Rattle.std.specs.Prelude.{ℕ, ◌≤◌, ◌+◌, ◌-◌, ◌^◌, ◌⊎◌, min, List, ◌≡◌, length, map, Option, Some, None, unwrap_or, slice_range, MatchBool, ⊤}
 use Rattle.std.specs.Io.KnownBytes.{Consumes, IsAtEnd, Appends, Keeps}
 use Rattle.cml_picture.specs.declared.asked.Asked.{Asked}
-use Rattle.cml_picture.specs.declared.chart.Chart.{Chart}
-use Rattle.cml_picture.specs.declared.faults.Fault.{Fault}
+use Rattle.cml_sequence.specs.declared.chart.Chart.{Chart}
+use Rattle.cml_report.specs.declared.faults.Fault.{Fault}
 use Rattle.cml_picture.specs.declared.ending.Ending.{Ending}
 use Rattle.cml_picture.specs.declared.ending.Ending.TheVariants as ending
 use Rattle.cml_picture.specs.declared.svg.Geometry.{Geometry}
 use Rattle.cml_grammar.specs.declared.fault.Fault.{Fault as ScriptFault}
 use Rattle.cml_grammar.specs.Faults.{fault_of}
 use Rattle.cml_grammar.specs.Script.{Lines, IsScript}
-use Rattle.cml_picture.specs.Lines.{Words, Deed, Thing, Ended}
-use Rattle.cml_picture.specs.Plan.{Planned, plan_of}
-use Rattle.cml_picture.specs.Following.{strange_fault, standing}
-use Rattle.cml_picture.specs.Reading.{told, report, wrong}
-use Rattle.cml_picture.specs.Listening.{Listener, behind}
-use Rattle.cml_picture.specs.Shown.{shown_object, shown_end, shown_rows}
-use Rattle.cml_picture.specs.Chart.{IsChart, chart_fault}
+use Rattle.cml_report.specs.Lines.{Words, Deed, Thing, Ended}
+use Rattle.cml_course.specs.Plan.{Planned, plan_of}
+use Rattle.cml_report.specs.Reading.{told, report, wrong}
+use Rattle.cml_sequence.specs.Listening.{Listener, behind}
+use Rattle.cml_report.specs.Shown.{shown_object, shown_end}
+use Rattle.cml_sequence.specs.Shown.{shown_rows}
+use Rattle.cml_sequence.specs.Chart.{IsChart}
+use Rattle.cml_course.specs.Course.{threads_by, listeners_by, standing_by, strange_by, lines_fault}
 use Rattle.cml_picture.specs.Plain.{plain_text}
 use Rattle.cml_picture.specs.Svg.{svg_text}
 
@@ -45,30 +45,6 @@ IsDrawnBetween asked chart first standing bounds picture =
 
 abbrev pub IsDrawingOf : Asked → Chart → List Listener → List Words → List ℕ → Type 0
 IsDrawingOf asked chart first standing picture = IsDrawnBetween asked chart first standing (bounds_of asked (length chart.rows.items)) picture
-
--- Where there is a script its threads have the first columns, its declared ports are open before the first row, it tells the steps
--- at which the threads stand, and a report may be none of it.
-
-abbrev pub threads_by : Option Planned → Words
-threads_by None = []
-threads_by (Some p) = p.threads
-
-abbrev pub listeners_by : Option Planned → List Listener
-listeners_by None = []
-listeners_by (Some p) = p.listeners
-
-abbrev pub standing_by : Option Planned → List Deed → List Words
-standing_by None deeds = []
-standing_by (Some p) deeds = standing p deeds
-
-abbrev pub strange_by : Option Planned → List Deed → List Thing → Option Fault
-strange_by None deeds things = None
-strange_by (Some p) deeds things = strange_fault p deeds things
-
--- what is wrong with the lines of a report: one is not the script's, or else they have no chart
-abbrev pub lines_fault : Option Planned → List Deed → List Thing → Option Fault
-lines_fault plan deeds things =
-    option_map_or (λ (fault : Fault). Some fault) (strange_by plan deeds things) (chart_fault (threads_by plan) deeds things)
 
 -- all of the reader's bytes were read, they are a report, of the script where there is one, and this was drawn of it: its columns,
 -- its rows, the steps at which threads stand, and its last part

@@ -1,18 +1,18 @@
 -- A chart as lines of text.
 use Rattle.std.specs.Prelude.{ℕ, suc, ◌-◌, ◌==◌, ◌&&◌, nat_eq, nat_lt, nat_le, List, [], ◌∷◌, ◌++◌, length, map, replicate, if◌then◌else◌, codes}
 use Rattle.std.specs.List.{flat_map, list_any}
-use Rattle.cml_picture.specs.declared.chart.Row.{Row}
-use Rattle.cml_picture.specs.declared.chart.Chart.{Chart}
-use Rattle.cml_picture.specs.Shown.{shown_act, shown_object, shown_end}
-use Rattle.cml_picture.specs.Heads.{Heading, headings_of, width_of}
-use Rattle.cml_picture.specs.Labels.{label_of, is_missed, points_out, points_back}
-use Rattle.cml_picture.specs.Notes.{note_line, note_text}
-use Rattle.cml_picture.specs.Closings.{thing_text, end_text}
-use Rattle.cml_picture.specs.Columns.{names_of}
-use Rattle.cml_picture.specs.Listening.{Listener, marks_of, behind_row}
-use Rattle.cml_picture.specs.Standing.{standing_line}
-use Rattle.cml_picture.specs.Lines.{Words}
-use Rattle.cml_picture.specs.Shown.{shown_reply}
+use Rattle.cml_sequence.specs.declared.chart.Row.{Row}
+use Rattle.cml_sequence.specs.declared.chart.Chart.{Chart}
+use Rattle.cml_report.specs.Shown.{shown_act, shown_object, shown_end, shown_reply}
+use Rattle.cml_sequence.specs.Heads.{Heading, headings_of, width_of}
+use Rattle.cml_sequence.specs.Labels.{label_of, is_missed, points_out, points_back}
+use Rattle.cml_sequence.specs.Notes.{note_text}
+use Rattle.cml_sequence.specs.Closings.{thing_text, end_text}
+use Rattle.cml_sequence.specs.Columns.{names_of}
+use Rattle.cml_sequence.specs.Listening.{Listener, marks_of, behind_row}
+use Rattle.cml_sequence.specs.Standing.{thread_of, standing_text}
+use Rattle.cml_report.specs.declared.report.Stop.{Stop}
+use Rattle.cml_report.specs.Lines.{Words}
 
 -- an arrow is drawn with `-`, and with `.` where a call found nothing
 abbrev pub dash_of : Row → ℕ
@@ -57,6 +57,15 @@ abbrev pub row_lines : List Heading → Words → List Listener → List Row →
 row_lines hs names ls [] = []
 row_lines hs names ls (row ∷ rows) =
     row_line hs (marks_of names ls (shown_act row.act)) row ++ row_lines hs names (behind_row ls (shown_act row.act)) rows
+
+-- how many rows there are is a line of its own, where it is told
+abbrev pub note_line : List ℕ → List ℕ
+note_line [] = []
+note_line (b ∷ bs) = (b ∷ bs) ++ (10 ∷ [])
+
+-- the step at which a thread stands, behind the thread's name
+abbrev pub standing_line : Stop → Words → List ℕ
+standing_line s step = thread_of step ++ codes " " ++ standing_text s step ++ (10 ∷ [])
 
 -- the columns' heads, the rows in their order, the steps at which threads stand, the objects in their order, and the end
 abbrev pub plain_text : Chart → List Listener → List Words → ℕ → List Row → List ℕ

@@ -1,25 +1,25 @@
 -- A chart as SVG.
 use Rattle.std.specs.Prelude.{ℕ, suc, ◌+◌, ◌-◌, ◌*◌, ◌^◌, min, nat_lt, slice_get, length, List, [], ◌∷◌, ◌++◌, if◌then◌else◌, codes}
 use Rattle.std.specs.Fmt.{decimal}
-use Rattle.cml_picture.specs.declared.report.Stop.{Stop}
-use Rattle.cml_picture.specs.declared.report.Stop.TheVariants as stop
-use Rattle.cml_picture.specs.declared.chart.Row.{Row}
-use Rattle.cml_picture.specs.declared.chart.Chart.{Chart}
+use Rattle.cml_report.specs.declared.report.Stop.{Stop}
+use Rattle.cml_report.specs.declared.report.Stop.TheVariants as stop
+use Rattle.cml_sequence.specs.declared.chart.Row.{Row}
+use Rattle.cml_sequence.specs.declared.chart.Chart.{Chart}
 use Rattle.cml_picture.specs.declared.svg.Geometry.{Geometry}
 use Rattle.cml_picture.specs.declared.svg.TheConstants.{OPENING, ROLE, ABOUT, STYLE, HEAD}
 use Rattle.cml_picture.specs.declared.tags.TheConstants.{ASLANT, TURN}
-use Rattle.cml_picture.specs.declared.report.Object.{Object}
+use Rattle.cml_report.specs.declared.report.Object.{Object}
 use Rattle.std.specs.Option.{option_map_or}
 use Rattle.std.specs.List.{flat_map}
-use Rattle.cml_picture.specs.Lines.{Words, Thing, Ended}
-use Rattle.cml_picture.specs.Columns.{names_of, column_of}
-use Rattle.cml_picture.specs.Listening.{Listener, marks_of, behind_row}
-use Rattle.cml_picture.specs.Standing.{thread_of, standing_text}
-use Rattle.cml_picture.specs.Shown.{shown_act, shown_object, shown_end, shown_reply}
-use Rattle.cml_picture.specs.Heads.{Heading, headings_of}
-use Rattle.cml_picture.specs.Labels.{label_of, is_missed, points_out, points_back}
-use Rattle.cml_picture.specs.Closings.{closing_text, end_text}
-use Rattle.cml_picture.specs.Notes.{note_text}
+use Rattle.cml_report.specs.Lines.{Words, Thing, Ended}
+use Rattle.cml_sequence.specs.Columns.{names_of, column_of}
+use Rattle.cml_sequence.specs.Listening.{Listener, marks_of, behind_row}
+use Rattle.cml_sequence.specs.Standing.{thread_of, standing_text}
+use Rattle.cml_report.specs.Shown.{shown_act, shown_object, shown_end, shown_reply}
+use Rattle.cml_sequence.specs.Heads.{Heading, headings_of}
+use Rattle.cml_sequence.specs.Labels.{label_of, is_missed, points_out, points_back}
+use Rattle.cml_sequence.specs.Closings.{closing_text, end_text}
+use Rattle.cml_sequence.specs.Notes.{note_text}
 use Rattle.cml_picture.specs.Escape.{escaped}
 
 -- a place in the picture: so far to the right, and so far down

@@ -7,6 +7,6 @@ pub struct Asked<'a> {
     pub from: u64,
     /// The last row; where it is not told, 500 rows are drawn at the most.
     pub to: Option<u64>,
-    /// The file with the script that the report is of.
+    /// The file with the script that the report is of, which whoever asks opens.
     pub script: Option<&'a str>,
 }

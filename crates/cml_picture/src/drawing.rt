@@ -1,29 +1,21 @@
 //! A report, from the reader's bytes to the chart's.
-ghost use Rattle.std.specs.Prelude.{◌≡◌, ◌⊎◌, ◌+◌, ◌≤◌, length, map, None, Some, IfOk, IfErr, OnOk};
+ghost use Rattle.std.specs.Prelude.{◌≡◌, ◌≤◌, map, None, IfOk, IfErr, OnOk};
 ghost use Rattle.std.specs.Option.{option_map};
 ghost use Rattle.std.specs.Io.KnownBytes.{Appends};
-ghost use Rattle.cml_picture.specs.declared.faults.What.TheVariants.{Memory};
-ghost use Rattle.cml_picture.specs.Columns.{names_of};
-ghost use Rattle.cml_picture.specs.Chart.{IsChart};
-ghost use Rattle.cml_picture.specs.Following.{strange_fault, standing};
-ghost use Rattle.cml_picture.specs.Plan.{plan_of};
-ghost use Rattle.cml_picture.specs.Shown.{shown_act, shown_object, shown_lines, shown_listener, shown_plan};
-ghost use Rattle.cml_picture.specs.Drawing.{bounds_of, threads_by, listeners_by, standing_by, strange_by, lines_fault, Draws, DrawsGiven, IsDrawingOf, IsDrawnOf, IsGiven, EndsUndrawn, EndsUnread, Writes};
+ghost use Rattle.cml_course.specs.Plan.{plan_of};
+ghost use Rattle.cml_report.specs.Shown.{shown_lines};
+ghost use Rattle.cml_sequence.specs.Shown.{shown_listener};
+ghost use Rattle.cml_picture.specs.Drawing.{bounds_of, Draws, DrawsGiven, IsDrawingOf, IsDrawnOf, IsGiven, EndsUndrawn, EndsUnread, Writes};
 
 use crate::asked::Asked;
-use crate::chart::{Chart, chart_of};
 use crate::ending::{Ending, ending_of_script};
-use crate::faults::Fault;
-use crate::following::standing;
-use crate::listening::{Listener, behind};
 use crate::plain::draw_plain;
-use crate::plan::{Plan, plan_of};
 use crate::read::read_all;
-use crate::reading::read_report;
-use crate::report::Report;
 use crate::svg::draw_svg;
+use cml_course::{Course, course_of};
 use cml_grammar::{Script, read_script};
-use indexmap::IndexSet;
+use cml_report::read_report;
+use cml_sequence::{Chart, Listener, behind};
 use std::alloc::{AllocError, Global};
 use std::io::{self, Read, Write};
 
@@ -97,90 +89,14 @@ fn picture<R: Read>(
 {
     let text = read_all(alloc, reader)?;
     let report = read_report(alloc, &text)?;
-    let drawing = drawing_of(alloc, script, report)?;
-    let Drawing {
+    let course = course_of(alloc, script, report)?;
+    let Course {
         chart,
         listeners,
         standing,
-    } = drawing;
+    } = course;
     let picture = draw_chart(alloc, &chart, listeners, &standing, asked)?;
     Ok(picture)
-}
-
-/// What is drawn: a chart, the ports that are open before its first row, and the steps at which threads stand.
-#[derive(Drop)]
-struct Drawing<'a> {
-    chart: Chart<'a>,
-    listeners: Vec<Listener<'a>>,
-    standing: Vec<Vec<&'a str>>,
-}
-
-fn drawing_of<'a>(
-    alloc: Global,
-    script: Option<&'a Script>,
-    report: Report<'a>,
-) -> Result<Drawing<'a>, Fault>
-    requires few { length report.acts.items + length report.objects.items ≤ 33554432 }
-    ensures of_script { OnOk result (strange_by (option_map (λ s. plan_of s.now) script.entry) (map shown_act report.entry.acts.items) (map shown_object report.entry.objects.items) ≡ None) }
-    ensures chart { IfOk result (λ drawing. IsChart (threads_by (option_map (λ s. plan_of s.now) script.entry)) (map shown_act report.entry.acts.items) (map shown_object report.entry.objects.items) drawing.chart) }
-    ensures kept { IfOk result (λ drawing. (drawing.chart.objects ≡ report.entry.objects) × (drawing.chart.end ≡ report.entry.end)) }
-    ensures listeners { IfOk result (λ drawing. map shown_listener drawing.listeners.items ≡ listeners_by (option_map (λ s. plan_of s.now) script.entry)) }
-    ensures standing { IfOk result (λ drawing. shown_lines drawing.standing.items ≡ standing_by (option_map (λ s. plan_of s.now) script.entry) (map shown_act report.entry.acts.items)) }
-    ensures fault { IfErr result (λ fault. (fault.what ≡ Memory) ⊎ (lines_fault (option_map (λ s. plan_of s.now) script.entry) (map shown_act report.entry.acts.items) (map shown_object report.entry.objects.items) ≡ Some fault)) }
-{
-    match script {
-        Some(script) => drawing_in(alloc, script, report),
-        None => {
-            let chart = chart_of(alloc, IndexSet::new(alloc), report)?;
-            Ok(Drawing {
-                chart,
-                listeners: Vec::new(alloc),
-                standing: Vec::new(alloc),
-            })
-        }
-    }
-}
-
-fn drawing_in<'a>(
-    alloc: Global,
-    script: &'a Script,
-    report: Report<'a>,
-) -> Result<Drawing<'a>, Fault>
-    requires few { length report.acts.items + length report.objects.items ≤ 33554432 }
-    ensures of_script { OnOk result (strange_fault (plan_of script.now) (map shown_act report.entry.acts.items) (map shown_object report.entry.objects.items) ≡ None) }
-    ensures chart { IfOk result (λ drawing. IsChart (threads_by (Some (plan_of script.now))) (map shown_act report.entry.acts.items) (map shown_object report.entry.objects.items) drawing.chart) }
-    ensures kept { IfOk result (λ drawing. (drawing.chart.objects ≡ report.entry.objects) × (drawing.chart.end ≡ report.entry.end)) }
-    ensures listeners { IfOk result (λ drawing. map shown_listener drawing.listeners.items ≡ (plan_of script.now).listeners) }
-    ensures standing { IfOk result (λ drawing. shown_lines drawing.standing.items ≡ standing (plan_of script.now) (map shown_act report.entry.acts.items)) }
-    ensures fault { IfErr result (λ fault. (fault.what ≡ Memory) ⊎ (lines_fault (Some (plan_of script.now)) (map shown_act report.entry.acts.items) (map shown_object report.entry.objects.items) ≡ Some fault)) }
-{
-    match plan_of(alloc, script) {
-        Ok(plan) => drawing_by(alloc, plan, report),
-        Err(error) => Err(Fault::from(error)),
-    }
-}
-
-fn drawing_by<'a>(alloc: Global, plan: Plan<'a>, report: Report<'a>) -> Result<Drawing<'a>, Fault>
-    requires few { length report.acts.items + length report.objects.items ≤ 33554432 }
-    ensures of_script { OnOk result (strange_fault (shown_plan plan.entry) (map shown_act report.entry.acts.items) (map shown_object report.entry.objects.items) ≡ None) }
-    ensures chart { IfOk result (λ drawing. IsChart (names_of plan.entry.threads.keys) (map shown_act report.entry.acts.items) (map shown_object report.entry.objects.items) drawing.chart) }
-    ensures kept { IfOk result (λ drawing. (drawing.chart.objects ≡ report.entry.objects) × (drawing.chart.end ≡ report.entry.end)) }
-    ensures listeners { IfOk result (λ drawing. map shown_listener drawing.listeners.items ≡ (shown_plan plan.entry).listeners) }
-    ensures standing { IfOk result (λ drawing. shown_lines drawing.standing.items ≡ standing (shown_plan plan.entry) (map shown_act report.entry.acts.items)) }
-    ensures fault { IfErr result (λ fault. (fault.what ≡ Memory) ⊎ (lines_fault (Some (shown_plan plan.entry)) (map shown_act report.entry.acts.items) (map shown_object report.entry.objects.items) ≡ Some fault)) }
-{
-    let standing = standing(alloc, &plan, &report)?;
-    let Plan {
-        threads,
-        listeners,
-        ..
-    } = plan;
-    let chart = chart_of(alloc, threads, report)?;
-    Ok(Drawing {
-        chart,
-        listeners,
-        standing,
-    })
 }
 
 fn draw_chart<'a>(

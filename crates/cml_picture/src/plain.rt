@@ -1,22 +1,20 @@
 //! A chart as lines of text: a column for each thread and object, and a line for each row.
-ghost use Rattle.std.specs.Prelude.{◌≡◌, ◌++◌, ◌-◌, ◌∷◌, [], length, map, replicate, IfOk, OnOk};
+ghost use Rattle.std.specs.Prelude.{◌≡◌, ◌++◌, ◌-◌, ◌∷◌, [], map, replicate, IfOk, OnOk};
 ghost use Rattle.std.specs.List.{flat_map};
-ghost use Rattle.cml_picture.specs.Columns.{names_of};
-ghost use Rattle.cml_picture.specs.Shown.{shown_lines, shown_listener, shown_object};
-ghost use Rattle.cml_picture.specs.Heads.{headings_of, shown_head};
-ghost use Rattle.cml_picture.specs.Closings.{thing_text, end_text};
-ghost use Rattle.cml_picture.specs.Notes.{note_line};
-ghost use Rattle.cml_picture.specs.Standing.{standing_line};
-ghost use Rattle.cml_picture.specs.Plain.{dash_of, lead_at, fill_at, padded, cells_from, names_line, kinds_line, row_line, row_lines, plain_text};
+ghost use Rattle.cml_sequence.specs.Columns.{names_of};
+ghost use Rattle.cml_report.specs.Shown.{texts, shown_act, shown_object, shown_end, shown_lines};
+ghost use Rattle.cml_sequence.specs.Listening.{marks_of};
+ghost use Rattle.cml_sequence.specs.Shown.{shown_listener};
+ghost use Rattle.cml_sequence.specs.Heads.{headings_of, shown_head};
+ghost use Rattle.cml_sequence.specs.Closings.{thing_text, end_text};
+ghost use Rattle.cml_sequence.specs.Notes.{note_text};
+ghost use Rattle.cml_picture.specs.Plain.{note_line, standing_line, dash_of, lead_at, fill_at, padded, cells_from, names_line, kinds_line, row_line, row_lines, plain_text};
 
-use crate::chart::{Chart, Row};
-use crate::closings::{push_end, push_object};
-use crate::heads::{Head, heads_of};
-use crate::labels::{is_missed, points_back, points_out, push, push_label};
-use crate::listening::{Listener, behind_row, marks_of};
-use crate::notes::note_of;
-use crate::report::{Object, Stop};
-use crate::standing::push_standing_line;
+use cml_report::{Object, Stop};
+use cml_sequence::{
+    Chart, Head, Listener, Row, behind_row, heads_of, is_missed, marks_of, note_of, points_back,
+    points_out, push, push_end, push_label, push_object, push_standing, thread_of,
+};
 use std::alloc::{AllocError, Global};
 
 /// These rows of a chart as text, where so many stand before them: the columns' heads, a line for each row, for each thread that
@@ -31,18 +29,55 @@ pub fn draw_plain<'a>(
 ) -> Result<Vec<u8>, AllocError>
     ensures { IfOk result (λ out. out.items ≡ plain_text chart.now (map shown_listener listeners.entry.items) (shown_lines standing.now) before rows.now) }
 {
-    let heads = heads_of(alloc, chart)?;
     let mut out = Vec::new(alloc);
-    push_names(&mut out, &heads)?;
-    push_kinds(&mut out, &heads)?;
-    push_rows(alloc, &mut out, &heads, chart, listeners, rows)?;
-    let note = note_of(alloc, before, rows.len(), chart.rows.len())?;
-    push_note(&mut out, &note)?;
-    push_all_standing(&mut out, chart.end.stop, standing)?;
-    push_objects(&mut out, &chart.objects)?;
-    push_end(&mut out, &chart.end)?;
-    push(&mut out, "\n")?;
+    push_columns(alloc, &mut out, chart, listeners, rows)?;
+    push_counts(alloc, &mut out, before, rows.len(), chart.rows.len())?;
+    push_below(&mut out, chart, standing)?;
     Ok(out)
+}
+
+/// The columns' heads, and the rows.
+fn push_columns<'a>(
+    alloc: Global,
+    out: &mut Vec<u8>,
+    chart: &Chart<'_>,
+    listeners: Vec<Listener<'a>>,
+    rows: &[Row<'a>],
+) -> Result<(), AllocError>
+    ensures { OnOk result (out.new.items ≡ out.old.items ++ names_line (headings_of chart.now) ++ kinds_line (headings_of chart.now) ++ row_lines (headings_of chart.now) (names_of chart.now.names.keys) (map shown_listener listeners.entry.items) rows.now) }
+{
+    let heads = heads_of(alloc, chart)?;
+    push_names(out, &heads)?;
+    push_kinds(out, &heads)?;
+    push_rows(alloc, out, &heads, chart, listeners, rows)
+}
+
+/// How many rows there are, where not all are drawn.
+fn push_counts(
+    alloc: Global,
+    out: &mut Vec<u8>,
+    before: usize,
+    drawn: usize,
+    all: usize,
+) -> Result<(), AllocError>
+    ensures { OnOk result (out.new.items ≡ out.old.items ++ note_line (note_text before drawn all)) }
+{
+    let note = note_of(alloc, before, drawn, all)?;
+    push_note(out, &note)
+}
+
+/// What stands below the rows.
+fn push_below(
+    out: &mut Vec<u8>,
+    chart: &Chart<'_>,
+    standing: &[Vec<&str>],
+) -> Result<(), AllocError>
+    ensures { OnOk result (out.new.items ≡ out.old.items ++ flat_map (standing_line chart.now.end.stop) (shown_lines standing.now) ++ flat_map thing_text (map shown_object chart.now.objects.items) ++ end_text (shown_end chart.now.end) ++ (10 ∷ [])) }
+{
+    push_all_standing(out, chart.end.stop, standing)?;
+    push_objects(out, &chart.objects)?;
+    push_end(out, &chart.end)?;
+    push(out, "\n")
 }
 
 fn push_names(out: &mut Vec<u8>, heads: &[Head<'_>]) -> Result<(), AllocError>
@@ -75,11 +110,25 @@ fn push_rows<'a>(
 {
     let mut listeners = first;
     for row in rows {
-        let marks = marks_of(alloc, &chart.names, &listeners, &row.act)?;
-        push_row(out, heads, &marks, row)?;
+        push_marked(alloc, out, heads, chart, &listeners, row)?;
         listeners = behind_row(alloc, listeners, &row.act)?;
     }
     Ok(())
+}
+
+/// A row, where these ports are open.
+fn push_marked(
+    alloc: Global,
+    out: &mut Vec<u8>,
+    heads: &[Head<'_>],
+    chart: &Chart<'_>,
+    listeners: &[Listener<'_>],
+    row: &Row<'_>,
+) -> Result<(), AllocError>
+    ensures { OnOk result (out.new.items ≡ out.old.items ++ row_line (map shown_head heads.now) (marks_of (names_of chart.now.names.keys) (map shown_listener listeners.now) (shown_act row.now.act)) row.now) }
+{
+    let marks = marks_of(alloc, &chart.names, listeners, &row.act)?;
+    push_row(out, heads, &marks, row)
 }
 
 fn push_row(
@@ -185,6 +234,16 @@ fn push_objects(out: &mut Vec<u8>, objects: &[Object<'_>]) -> Result<(), AllocEr
         push_object(out, object)?;
     }
     Ok(())
+}
+
+/// Adds a thread and the step that it stands at, as a line.
+fn push_standing_line(out: &mut Vec<u8>, stop: Stop, step: &[&str]) -> Result<(), AllocError>
+    ensures { OnOk result (out.new.items ≡ out.old.items ++ standing_line stop (texts step.now)) }
+{
+    push(out, thread_of(step))?;
+    push(out, " ")?;
+    push_standing(out, stop, step)?;
+    push(out, "\n")
 }
 
 fn push_all_standing(

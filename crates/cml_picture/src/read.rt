@@ -21,6 +21,7 @@ const ROOM: usize = 65_536;
 pub enum Unread {
     /// A read failed, or the reader was asked too often.
     Failed,
+    /// There was no memory.
     Memory,
 }
 

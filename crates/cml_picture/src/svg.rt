@@ -1,21 +1,21 @@
 //! A chart as SVG.
-ghost use Rattle.std.specs.Prelude.{◌≡◌, ◌++◌, ◌∷◌, [], ◌-◌, map, codes, IfOk, OnOk};
+ghost use Rattle.std.specs.Prelude.{◌≡◌, ◌++◌, ◌∷◌, [], ◌-◌, length, map, codes, IfOk, OnOk};
 ghost use Rattle.std.specs.List.{flat_map};
-ghost use Rattle.cml_picture.specs.Columns.{names_of};
-ghost use Rattle.cml_picture.specs.Shown.{texts, shown_lines, shown_listener, shown_object, shown_end};
-ghost use Rattle.cml_picture.specs.Heads.{headings_of, shown_head};
+ghost use Rattle.cml_sequence.specs.Columns.{names_of};
+ghost use Rattle.cml_sequence.specs.Listening.{marks_of};
+ghost use Rattle.cml_report.specs.Shown.{texts, shown_act, shown_object, shown_end, shown_lines};
+ghost use Rattle.cml_sequence.specs.Shown.{shown_listener};
+ghost use Rattle.cml_sequence.specs.Notes.{note_text};
+ghost use Rattle.cml_sequence.specs.Heads.{shown_head};
 ghost use Rattle.cml_picture.specs.Svg.{text_tag, place_at, arrow_class, mark_tag, row_tags, rows_from, head_tags, heads_from, closing_tag, closing_at, standing_class, standing_under, standing_tag, opening_of, end_class, end_tag, svg_text};
 
-use crate::chart::{Chart, Row};
-use crate::closings::{push_closing, push_end};
-use crate::columns::column_of;
-use crate::heads::{Head, heads_of};
-use crate::labels::{is_missed, points_back, points_out, push, push_label, push_number};
-use crate::listening::{Listener, behind_row, marks_of};
-use crate::notes::note_of;
-use crate::report::{Object, Reply, Stop};
-use crate::standing::{push_standing, thread_of};
 use crate::tags::{push_aslant, push_content, push_line, push_text};
+use cml_report::{Object, Reply, Stop};
+use cml_sequence::{
+    Chart, Head, Listener, Row, behind_row, column_of, heads_of, is_missed, marks_of, note_of,
+    points_back, points_out, push, push_closing, push_end, push_label, push_number, push_standing,
+    thread_of,
+};
 use std::alloc::{AllocError, Global};
 
 /// What stands before and behind the picture's size.
@@ -36,7 +36,7 @@ const HEAD: &str =
     "<defs><marker id='head' viewBox='0 0 8 8' refX='8' refY='4' markerWidth='7' markerHeight='7' orient='auto-start-reverse'><path d='M0 0 8 4 0 8z'/></marker><marker id='dot' viewBox='0 0 6 6' refX='3' refY='3' markerWidth='6' markerHeight='6'><circle cx='3' cy='3' r='2.5'/></marker></defs>\n";
 
 /// How far the columns and the rows stand apart, how large the whole is, and where the lines of the columns end.
-#[derive(Clone, Copy, Debug)]
+#[derive(Clone, Copy)]
 pub(crate) struct Geometry {
     pub(crate) gap: u64,
     pub(crate) width: u64,
@@ -58,14 +58,41 @@ pub fn draw_svg<'a>(
 {
     let heads = heads_of(alloc, chart)?;
     let geometry = geometry_of(chart, &heads, standing, rows);
-    let mut out = Vec::new(alloc);
-    push_beginning(alloc, &mut out, &geometry)?;
-    push_heads(alloc, &mut out, &geometry, chart, &heads)?;
+    let mut out = columns_of(alloc, &geometry, chart, &heads)?;
     push_rows(alloc, &mut out, &geometry, chart, listeners, rows)?;
     push_all_standing(alloc, &mut out, &geometry, chart, standing)?;
-    let note = note_of(alloc, before, rows.len(), chart.rows.len())?;
-    push_foot(alloc, &mut out, &geometry, chart, &note)?;
+    push_counted(alloc, &mut out, &geometry, chart, before, rows.len())?;
     Ok(out)
+}
+
+/// What stands before the rows.
+fn columns_of(
+    alloc: Global,
+    geometry: &Geometry,
+    chart: &Chart<'_>,
+    heads: &[Head<'_>],
+) -> Result<Vec<u8>, AllocError>
+    ensures { IfOk result (λ out. out.items ≡ opening_of geometry.now ++ ABOUT.now ++ STYLE.now ++ HEAD.now ++ heads_from geometry.now chart.now 0 (map shown_head heads.now)) }
+{
+    let mut out = Vec::new(alloc);
+    push_beginning(alloc, &mut out, geometry)?;
+    push_heads(alloc, &mut out, geometry, chart, heads)?;
+    Ok(out)
+}
+
+/// The foot, with how many rows there are where not all are drawn.
+fn push_counted(
+    alloc: Global,
+    out: &mut Vec<u8>,
+    geometry: &Geometry,
+    chart: &Chart<'_>,
+    before: usize,
+    drawn: usize,
+) -> Result<(), AllocError>
+    ensures { OnOk result (out.new.items ≡ out.old.items ++ text_tag (codes "note") (16, geometry.now.height - 38) (note_text before drawn (length chart.now.rows.items)) ++ end_tag geometry.now (shown_end chart.now.end) ++ codes "</svg>" ++ (10 ∷ [])) }
+{
+    let note = note_of(alloc, before, drawn, chart.rows.len())?;
+    push_foot(alloc, out, geometry, chart, &note)
 }
 
 /// What stands before the columns.
@@ -222,11 +249,26 @@ fn push_rows<'a>(
 {
     let mut listeners = first;
     for (at, row) in rows.iter().enumerate() {
-        let marks = marks_of(alloc, &chart.names, &listeners, &row.act)?;
-        push_row(alloc, out, geometry, at, &marks, row)?;
+        push_marked(alloc, out, geometry, chart, &listeners, at, row)?;
         listeners = behind_row(alloc, listeners, &row.act)?;
     }
     Ok(())
+}
+
+/// A row, where these ports are open.
+fn push_marked(
+    alloc: Global,
+    out: &mut Vec<u8>,
+    geometry: &Geometry,
+    chart: &Chart<'_>,
+    listeners: &[Listener<'_>],
+    at: usize,
+    row: &Row<'_>,
+) -> Result<(), AllocError>
+    ensures { OnOk result (out.new.items ≡ out.old.items ++ row_tags geometry.now at (marks_of (names_of chart.now.names.keys) (map shown_listener listeners.now) (shown_act row.now.act)) row.now) }
+{
+    let marks = marks_of(alloc, &chart.names, listeners, &row.act)?;
+    push_row(alloc, out, geometry, at, &marks, row)
 }
 
 /// The arrow of a row, from the line of the actor's column to that of the object's, its marks, and what is said of it.

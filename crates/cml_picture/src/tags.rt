@@ -3,7 +3,7 @@ ghost use Rattle.std.specs.Prelude.{◌≡◌, ◌++◌, OnOk};
 ghost use Rattle.cml_picture.specs.Svg.{attribute, start_text, aslant_text, point_text, content_text, line_tag, text_tag};
 
 use crate::escape::push_escaped;
-use crate::labels::{push, push_number};
+use cml_sequence::{push, push_number};
 use std::alloc::{AllocError, Global};
 
 /// What stands before and behind the place in a text's tag that is drawn aslant.

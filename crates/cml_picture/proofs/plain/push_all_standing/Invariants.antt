@@ -1,7 +1,7 @@
 use Rattle.std.proofs.Common.{◌≡◌, ◌++◌, drop}
 use Rattle.std.specs.List.{flat_map}
-use Rattle.cml_picture.specs.Shown.{shown_lines}
-use Rattle.cml_picture.specs.Standing.{standing_line}
+use Rattle.cml_report.specs.Shown.{shown_lines}
+use Rattle.cml_picture.specs.Plain.{standing_line}
 use Rattle.cml_picture.proofs.plain.push_all_standing.Given as goal
 
 abbrev pub invariant-loop-step : goal.invariant-loop-step

@@ -1,5 +1,5 @@
 use Rattle.std.proofs.Common.{◌≡◌, ◌++◌, drop, map}
-use Rattle.cml_picture.specs.Heads.{shown_head}
+use Rattle.cml_sequence.specs.Heads.{shown_head}
 use Rattle.cml_picture.specs.Plain.{cells_from}
 use Rattle.cml_picture.proofs.plain.push_cells.Given as goal
 

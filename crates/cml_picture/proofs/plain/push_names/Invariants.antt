@@ -1,5 +1,5 @@
 use Rattle.std.proofs.Common.{◌≡◌, ◌++◌, drop, map}
-use Rattle.cml_picture.specs.Heads.{shown_head, width_of}
+use Rattle.cml_sequence.specs.Heads.{shown_head, width_of}
 use Rattle.cml_picture.specs.Plain.{padded}
 use Rattle.std.specs.List.{flat_map}
 use Rattle.cml_picture.proofs.plain.push_names.Given as goal

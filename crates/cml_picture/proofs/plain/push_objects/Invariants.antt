@@ -1,7 +1,7 @@
 use Rattle.std.proofs.Common.{◌≡◌, ◌++◌, drop, map}
 use Rattle.std.specs.List.{flat_map}
-use Rattle.cml_picture.specs.Shown.{shown_object}
-use Rattle.cml_picture.specs.Closings.{thing_text}
+use Rattle.cml_report.specs.Shown.{shown_object}
+use Rattle.cml_sequence.specs.Closings.{thing_text}
 use Rattle.cml_picture.proofs.plain.push_objects.Given as goal
 
 abbrev pub invariant-loop-object : goal.invariant-loop-object

@@ -1,7 +1,7 @@
 use Rattle.std.proofs.Common.{◌≡◌, ◌++◌, drop, map}
-use Rattle.cml_picture.specs.Columns.{names_of}
-use Rattle.cml_picture.specs.Heads.{shown_head}
-use Rattle.cml_picture.specs.Shown.{shown_listener}
+use Rattle.cml_sequence.specs.Columns.{names_of}
+use Rattle.cml_sequence.specs.Heads.{shown_head}
+use Rattle.cml_sequence.specs.Shown.{shown_listener}
 use Rattle.cml_picture.specs.Plain.{row_lines}
 use Rattle.cml_picture.proofs.plain.push_rows.Given as goal
 

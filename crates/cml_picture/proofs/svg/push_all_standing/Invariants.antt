@@ -1,6 +1,6 @@
 use Rattle.std.proofs.Common.{◌≡◌, ◌++◌, drop}
 use Rattle.std.specs.List.{flat_map}
-use Rattle.cml_picture.specs.Shown.{shown_lines}
+use Rattle.cml_report.specs.Shown.{shown_lines}
 use Rattle.cml_picture.specs.Svg.{standing_tag}
 use Rattle.cml_picture.proofs.svg.push_all_standing.Given as goal
 

@@ -1,6 +1,6 @@
 use Rattle.std.proofs.Common.{◌≡◌, ◌++◌, drop, map}
-use Rattle.cml_picture.specs.Columns.{names_of}
-use Rattle.cml_picture.specs.Shown.{shown_listener}
+use Rattle.cml_sequence.specs.Columns.{names_of}
+use Rattle.cml_sequence.specs.Shown.{shown_listener}
 use Rattle.cml_picture.specs.Svg.{rows_from}
 use Rattle.cml_picture.proofs.svg.push_rows.Given as goal
 

@@ -1,0 +1,148 @@
+//! The words of the command line, by `clap`, which also writes the help.
+ghost use Rattle.std.specs.Prelude.{◌≡◌, ◌≤◌, map, codes, IfOk, false};
+ghost use Rattle.clap.specs.Words.{app_of, new_app, FailsBy, kind_of, rule_of};
+ghost use Rattle.cml_chart.specs.CommandLine.{drawing_usage, usage, faults_of, error_status, text_rule, bare_rule, from_rule, to_rule, script_rule};
+
+use clap::error::ErrorKind;
+use clap::{Arg, ArgAction, ArgMatches, Command, Error, value_parser};
+use cml_picture::Asked;
+use std::alloc::{AllocError, Global};
+use std::convert::AsStr;
+
+const ABOUT: &str = "Draws the report on standard input as a sequence chart, on standard output";
+
+const LONG_ABOUT: &str =
+    "Draws the report on standard input as a sequence chart, on standard output.
+
+The chart has a column for each thread, lane, feed and object, and a row for each line of the
+report's first part: an arrow between the column of who did it and that of the object. An arrow is
+dashed where a call found nothing. Under each object stands how it was left, and at the foot how the
+run ended. A report of cml run or cml replay is such a report.
+
+With --script the chart has a column for each thread of the script, and under each that has steps
+left the step that it stands at: the one behind the last that the report tells of.
+
+It is drawn as SVG, or with --text as lines of text.";
+
+const TEXT_HELP: &str = "Draws lines of text in place of SVG";
+
+const FROM_HELP: &str = "The first row that is drawn, from 1";
+
+const TO_HELP: &str = "The last row that is drawn; without it 500 rows at the most";
+
+const SCRIPT_HELP: &str =
+    "The script that the report is of: tells the step at which each thread stands";
+
+const AFTER_HELP: &str = "Example:
+  cml run < chat_room.cml | cml_chart --script chat_room.cml > chat_room.svg
+
+Exit status:
+  0  the chart was written (also for help)
+  2  the input is no report, or not one of the script: standard error names the first line that
+     isn't one of it; or the script has a fault
+  3  the words of the command line are not understood
+  4  standard input or the script can't be read, or standard output can't be written
+  5  no memory";
+
+/// What the program's words ask for. The first word is the program's own name.
+pub(crate) fn order<'a, S: AsStr>(alloc: Global, words: &'a [S]) -> Result<Asked<'a>, Error>
+    ensures fails { FailsBy (faults_of (map S.text words.now)) result }
+    ensures from { IfOk result (λ asked. 1 ≤ asked.from) }
+{
+    let matches = matches(alloc, words)?;
+    Ok(asked_in(&matches))
+}
+
+fn matches<'a, S: AsStr>(alloc: Global, words: &'a [S]) -> Result<ArgMatches<'a>, Error>
+    ensures { FailsBy (faults_of (map S.text words.now)) result }
+{
+    command(alloc)?.try_get_matches_from(words)
+}
+
+/// What the program's words ask for, once they are understood: the rows begin with the first, or that which is told.
+fn asked_in<'a>(matches: &ArgMatches<'a>) -> Asked<'a>
+    ensures { 1 ≤ result.from }
+{
+    Asked {
+        text: matches.get_flag("text"),
+        from: matches.get_one::<u64>("from").unwrap_or(1).max(1),
+        to: matches.get_one::<u64>("to"),
+        script: matches.get_str("script"),
+    }
+}
+
+fn command<'a>(alloc: Global) -> Result<Command<'a>, AllocError>
+    ensures { IfOk result (λ command. app_of command ≡ usage) }
+{
+    drawing_command(alloc)?.arg(script(alloc))
+}
+
+/// The program with the options of how a report is to be drawn.
+fn drawing_command<'a>(alloc: Global) -> Result<Command<'a>, AllocError>
+    ensures { IfOk result (λ command. app_of command ≡ drawing_usage) }
+{
+    bare_command(alloc)
+        .arg(text(alloc))?
+        .arg(from(alloc))?
+        .arg(to(alloc))
+}
+
+/// The program without an option.
+fn bare_command<'a>(alloc: Global) -> Command<'a>
+    ensures { app_of result ≡ new_app (codes "cml_chart") }
+{
+    Command::new(alloc, "cml_chart")
+        .about(ABOUT)
+        .long_about(LONG_ABOUT)
+        .after_help(AFTER_HELP)
+}
+
+fn text<'a>(alloc: Global) -> Arg<'a>
+    ensures { (rule_of result ≡ text_rule) × (result.global ≡ false) }
+{
+    Arg::new(alloc, "text")
+        .long("text")
+        .action(ArgAction::SetTrue)
+        .help(TEXT_HELP)
+}
+
+fn from<'a>(alloc: Global) -> Arg<'a>
+    ensures { (rule_of result ≡ from_rule) × (result.global ≡ false) }
+{
+    numbered(alloc, "from").value_name("K").help(FROM_HELP)
+}
+
+fn to<'a>(alloc: Global) -> Arg<'a>
+    ensures { (rule_of result ≡ to_rule) × (result.global ≡ false) }
+{
+    numbered(alloc, "to").value_name("L").help(TO_HELP)
+}
+
+/// An option whose value is the number of a row.
+fn numbered<'a>(alloc: Global, name: &'static str) -> Arg<'a>
+    ensures { (rule_of result ≡ bare_rule name.now) × (result.global ≡ false) }
+{
+    Arg::new(alloc, name)
+        .long(name)
+        .value_parser(value_parser!(u64).range(1..=4_294_967_296))
+}
+
+fn script<'a>(alloc: Global) -> Arg<'a>
+    ensures { (rule_of result ≡ script_rule) × (result.global ≡ false) }
+{
+    Arg::new(alloc, "script")
+        .long("script")
+        .value_name("FILE")
+        .help(SCRIPT_HELP)
+}
+
+/// The exit status for words that were not understood, or that ask for help.
+pub(crate) fn status_of_error(error: &Error) -> u8
+    ensures { result ≡ error_status (kind_of error.now) }
+{
+    match error.kind() {
+        ErrorKind::OutOfMemory => 5,
+        ErrorKind::DisplayHelp => 0,
+        _ => 3,
+    }
+}

@@ -1,0 +1,4 @@
+mod ShapeLemmas
+mod FollowingLemmas
+mod PlanLemmas
+mod ListeningLemmas

@@ -1,0 +1,4 @@
+pub mod Plan
+pub mod Following
+pub mod Course
+pub mod ShownPlan

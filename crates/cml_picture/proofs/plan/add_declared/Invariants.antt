@@ -1,8 +1,0 @@
-use Rattle.std.proofs.Common.{◌≡◌, ◌++◌, drop, map}
-use Rattle.std.specs.List.{filter_map}
-use Rattle.cml_picture.specs.Shown.{shown_lines, shown_made}
-use Rattle.cml_picture.specs.Plan.{declared_in}
-use Rattle.cml_picture.proofs.plan.add_declared.Given as goal
-
-abbrev pub invariant-loop-words : goal.invariant-loop-words
-invariant-loop-words l = map shown_made l.made.items ++ filter_map declared_in (shown_lines (drop l.words-index l.lines)) ≡ map shown_made l.fn.made.items ++ filter_map declared_in (shown_lines l.lines)

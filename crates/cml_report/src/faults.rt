@@ -1,0 +1,102 @@
+//! What is wrong with a report, and on which line.
+ghost use Rattle.std.specs.Prelude.{◌≡◌};
+ghost use Rattle.cml_report.specs.declared.faults.What.TheVariants.{Memory};
+
+use std::alloc::{AllocError, AllocFailed};
+use std::error::Error;
+use std::fmt;
+use thiserror::Error;
+
+/// Why a text is no report.
+#[derive(Clone, Copy, Debug, PartialEq, Eq, Error)]
+pub enum What {
+    #[error("no line end")]
+    NoLineEnd,
+    #[error("bad bytes")]
+    BadBytes,
+    #[error("no line of a report")]
+    NoReportLine,
+    #[error("out of place")]
+    OutOfPlace,
+    #[error("no end line")]
+    NoEndLine,
+    #[error("name taken")]
+    NameTaken,
+    #[error("unknown name")]
+    UnknownName,
+    #[error("not of this script")]
+    OtherScript,
+    #[error("too long")]
+    TooLong,
+    #[error("no memory")]
+    Memory,
+}
+
+/// The fault of a report. `line` counts from 1, and is 0 for `TooLong` and `Memory`, which concern none.
+#[derive(Clone, Copy, Debug, PartialEq, Eq)]
+pub struct Fault {
+    pub line: u64,
+    pub what: What,
+}
+
+impl What {
+    /// This fault at a line.
+    pub fn at(self, line: u64) -> Fault
+        ensures { result ≡ record { line = line; what = self } }
+    {
+        Fault { line, what: self }
+    }
+}
+
+impl From<AllocError> for What {
+    ghost from_gives = { λ _ what. what ≡ Memory };
+
+    fn from(_error: AllocError) -> What {
+        What::Memory
+    }
+}
+
+impl<T: Drop> From<AllocFailed<T>> for What {
+    ghost from_gives = { λ _ what. what ≡ Memory };
+
+    fn from(_error: AllocFailed<T>) -> What {
+        What::Memory
+    }
+}
+
+impl From<What> for Fault {
+    ghost from_gives = { λ what fault. fault ≡ record { line = 0; what = what } };
+
+    fn from(what: What) -> Fault {
+        Fault { line: 0, what }
+    }
+}
+
+impl From<AllocError> for Fault {
+    ghost from_gives = { λ _ fault. fault ≡ record { line = 0; what = Memory } };
+
+    fn from(_error: AllocError) -> Fault {
+        What::Memory.at(0)
+    }
+}
+
+impl<T: Drop> From<AllocFailed<T>> for Fault {
+    ghost from_gives = { λ _ fault. fault ≡ record { line = 0; what = Memory } };
+
+    fn from(_error: AllocFailed<T>) -> Fault {
+        What::Memory.at(0)
+    }
+}
+
+impl fmt::Display for Fault {
+    fn fmt<W: fmt::Write>(&self, f: &mut fmt::Formatter<W>) -> fmt::Result {
+        let line = self.line;
+        let what = self.what;
+        match what {
+            What::TooLong | What::Memory => write!(f, "report: {what}"),
+            _ => write!(f, "report: line {line}: {what}"),
+        }
+    }
+}
+
+impl Error for Fault {}

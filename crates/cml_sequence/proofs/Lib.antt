@@ -1,0 +1,3 @@
+mod NameLemmas
+mod ChartLemmas
+mod HeadLemmas
