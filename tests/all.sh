@@ -1,9 +1,10 @@
 #!/bin/sh
 # Everything: every crate is proved and its wrong edits are refused, but for what was so on this machine before, and its
 # tests run; then the tables of calls are performed, also with the journal cut behind each line, the guide's code is
-# compared with the sources, the guide, the tables and scripts are run with each request for memory refused in turn, logs
-# and journals that are cut are seen not to grow, threads that wait for each other are seen to go on, the built programs are
-# tried from outside, and the libraries for C are built and used from C and from Rust. The last line is `N passed, M failed`.
+# compared with the sources, the guide, the tables, scripts and charts are run with each request for memory refused in
+# turn, logs and journals that are cut are seen not to grow, threads that wait for each other are seen to go on, the built
+# programs are tried from outside, and the libraries for C are built and used from C and from Rust. The last line is
+# `N passed, M failed`.
 cd "$(dirname "$0")/.." || exit 1
 work=$(mktemp -d) || exit 1
 trap 'rm -rf "$work"' EXIT
@@ -28,7 +29,7 @@ step crates rt ci
 step calls sh tests/calls.sh crates/cml_rows/out/cml_rows
 step cuts sh tests/cuts.sh crates/cml_rows/out/cml_rows
 step guide sh tests/guide.sh
-step refused sh tests/refused.sh crates/cml_guide/out/cml_guide crates/cml_rows/out/cml_rows crates/cml/out/cml
+step refused sh tests/refused.sh crates/cml_guide/out/cml_guide crates/cml_rows/out/cml_rows crates/cml/out/cml crates/cml_chart/out/cml_chart
 step memory sh tests/memory.sh crates/cml_bench/out/cml_bench
 step waiting sh tests/waiting.sh crates/cml_bench/out/cml_bench
 step program sh tests/program.sh crates/cml/out/cml

@@ -9,6 +9,7 @@
 #   replay   a script by `cml replay`: its report, or status 5, nothing written and `cml: no memory`
 #   run      a script by `cml run`: a report of some order of its threads, or the same
 #   threads  the same where threads are refused, and not memory: with no report
+#   chart    a report by `cml_chart`: its chart, or status 5, nothing written and `cml_chart: no memory`
 #
 # The last line is `KIND HOW INPUT: N passed, M failed, K met`: so often a call, or the whole program, told of a refusal.
 work=$1
@@ -18,6 +19,7 @@ input=$4
 shift 4
 room=$(mktemp -d "$work/each.XXXXXX") || exit 1
 case $kind in threads) variable=REFUSE_THREAD ;; *) variable=REFUSE ;; esac
+case $kind in chart) lack='cml_chart: no memory' ;; *) lack='cml: no memory' ;; esac
 case $how in rest) rest=REFUSE_REST=1 ;; *) rest=REFUSED=once ;; esac
 
 # refuse NUMBER PROGRAM WORDS..: whether a request was refused. Only the program itself meets the refusal.
@@ -75,16 +77,17 @@ in_order_or_short() {
 }
 
 # report_stands REPORT: it is that of a run without refusals, or by `run` such a one. Where a thread wasn't started there is
-# none: so only the last run, in which all were, has one.
+# none: so only the last run, in which all were, has one. A chart is that of a run without refusals too, with status 0.
 report_stands() {
     case $kind in
+        chart) cmp -s "$room/report" "$1" && [ "$status" = 0 ]; return ;;
         replay) cmp -s "$room/report" "$1" ;;
         run) in_order_or_short "$1" ;;
         threads) [ "$number" -eq "$last" ] && in_some_order 65536 "$input" "$1" ;;
     esac && [ "$status" = "$(meant_by "$1")" ]
 }
 
-# What a script came to in each run.
+# What a script or a report came to in each run.
 judge_script() {
     passed=0
     failed=0
@@ -92,7 +95,7 @@ judge_script() {
     while read -r number status; do
         told=
         read -r told < "$room/err.$number"
-        if [ "$status" = 5 ] && [ "$told" = 'cml: no memory' ] && [ ! -s "$room/out.$number" ]; then
+        if [ "$status" = 5 ] && [ "$told" = "$lack" ] && [ ! -s "$room/out.$number" ]; then
             passed=$((passed + 1))
             met=$((met + 1))
         elif [ -z "$told" ] && report_stands "$room/out.$number"; then
@@ -105,7 +108,7 @@ judge_script() {
     echo "$kind $how $input: $passed passed, $failed failed, $met met"
 }
 
-[ "$kind" != replay ] || "$@" < "$input" > "$room/report"
+case $kind in replay | chart) "$@" < "$input" > "$room/report" ;; esac
 number=1
 while refuse "$number" "$@" && [ "$number" -lt 100000 ]; do
     number=$((number + 1))
