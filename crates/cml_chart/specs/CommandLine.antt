@@ -1,10 +1,12 @@
 -- What the words of the command line ask for.
-use Rattle.std.specs.Prelude.{ℕ, List, Some, codes}
-use Rattle.clap.specs.Words.{App, Kinds, Rule, Text, fault_of, new_app, new_rule, with_rule}
+use Rattle.std.specs.Prelude.{◌≡◌, ◌⊎◌, ◌≤◌, ◌^◌, ℕ, Bool, List, Option, None, Some, codes, option_map, true, false}
+use Rattle.std.specs.Str.Parse.{IsNumeral, digits_value, without_leading_plus}
+use Rattle.clap.specs.Words.{App, Kinds, Row, Rule, Text, fault_of, first_of, matches_of, new_app, new_rule, one_of, with_rule}
 use Rattle.clap.specs.declared.builder.action.ArgAction.TheVariants.{SetTrue}
 use Rattle.clap.specs.declared.builder.value_parser.ValueParser.TheVariants as parser
 use Rattle.clap.specs.declared.error.kind.ErrorKind.{ErrorKind}
 use Rattle.clap.specs.declared.error.kind.ErrorKind.TheVariants as kind
+use Rattle.cml_chart.specs.declared.asked.Order.{Order}
 
 -- `--text`, which takes no value
 abbrev pub text_rule : Rule
@@ -44,6 +46,38 @@ usage = with_rule drawing_usage script_rule
 -- the kinds of error that the words may give; none where they are understood
 abbrev pub faults_of : List Text → Kinds
 faults_of words = fault_of usage words
+
+-- what is found of each option in words that are understood
+abbrev pub options_in : List Text → List Row
+options_in words = matches_of usage words
+
+-- the text is read as this number of a row: decimal digits, which a plus may precede
+abbrev pub TellsRow : Text → ℕ → Type 0
+TellsRow text number = IsNumeral 10 (without_leading_plus text)
+    × (number ≡ digits_value 10 (without_leading_plus text))
+    × (1 ≤ number) × (number ≤ 2 ^ 32)
+
+-- a flag is set just where it is found as set
+abbrev pub IsFlag : Option Text → Bool → Type 0
+IsFlag found flag = ((found ≡ Some (codes "true")) → flag ≡ true)
+    × (((found ≡ None) ⊎ (found ≡ Some (codes "false"))) → flag ≡ false)
+
+-- the first row that is drawn: the first of all, or that which is told
+abbrev pub IsFirst : Option Text → ℕ → Type 0
+IsFirst found from = (1 ≤ from) × ((found ≡ None) → from ≡ 1)
+    × ((text : Text) (number : ℕ) → found ≡ Some text → TellsRow text number → from ≡ number)
+
+-- the last row that is drawn, where it is told
+abbrev pub IsLast : Option Text → Option ℕ → Type 0
+IsLast found to = ((found ≡ None) → to ≡ None)
+    × ((text : Text) (number : ℕ) → found ≡ Some text → TellsRow text number → to ≡ Some number)
+
+-- what is asked for is what was found of each option, under that option's name
+pub record IsAsked (options : List Row) (order : Order) : Type 0 where
+  pub text : IsFlag (one_of (codes "text") options) order.asked.text
+  pub from : IsFirst (one_of (codes "from") options) order.asked.from
+  pub to : IsLast (one_of (codes "to") options) order.asked.to
+  pub script : option_map (λ path. path.now) order.script ≡ first_of (codes "script") options
 
 -- the exit status for an error of this kind
 abbrev pub error_status : ErrorKind → ℕ

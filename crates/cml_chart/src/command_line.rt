@@ -1,8 +1,9 @@
 //! The words of the command line, by `clap`, which also writes the help.
-ghost use Rattle.std.specs.Prelude.{◌≡◌, ◌≤◌, map, codes, IfOk, false};
-ghost use Rattle.clap.specs.Words.{app_of, new_app, FailsBy, kind_of, rule_of};
-ghost use Rattle.cml_chart.specs.CommandLine.{drawing_usage, usage, faults_of, error_status, text_rule, bare_rule, from_rule, to_rule, script_rule};
+ghost use Rattle.std.specs.Prelude.{◌≡◌, map, codes, IfOk, false};
+ghost use Rattle.clap.specs.Words.{app_of, found_of, new_app, FailsBy, kind_of, rows_of, rule_of};
+ghost use Rattle.cml_chart.specs.CommandLine.{drawing_usage, usage, faults_of, options_in, error_status, text_rule, bare_rule, from_rule, to_rule, script_rule, IsAsked};
 
+use crate::asked::Order;
 use clap::error::ErrorKind;
 use clap::{Arg, ArgAction, ArgMatches, Command, Error, value_parser};
 use cml_picture::Asked;
@@ -45,28 +46,31 @@ Exit status:
   5  no memory";
 
 /// What the program's words ask for. The first word is the program's own name.
-pub(crate) fn order<'a, S: AsStr>(alloc: Global, words: &'a [S]) -> Result<Asked<'a>, Error>
+pub(crate) fn order<'a, S: AsStr>(alloc: Global, words: &'a [S]) -> Result<Order<'a>, Error>
     ensures fails { FailsBy (faults_of (map S.text words.now)) result }
-    ensures from { IfOk result (λ asked. 1 ≤ asked.from) }
+    ensures asked { IfOk result (λ order. IsAsked (options_in (map S.text words.now)) order) }
 {
     let matches = matches(alloc, words)?;
-    Ok(asked_in(&matches))
+    Ok(order_in(&matches))
 }
 
 fn matches<'a, S: AsStr>(alloc: Global, words: &'a [S]) -> Result<ArgMatches<'a>, Error>
-    ensures { FailsBy (faults_of (map S.text words.now)) result }
+    ensures fails { FailsBy (faults_of (map S.text words.now)) result }
+    ensures found { IfOk result (λ matches. rows_of (found_of matches) ≡ options_in (map S.text words.now)) }
 {
     command(alloc)?.try_get_matches_from(words)
 }
 
 /// What the program's words ask for, once they are understood: the rows begin with the first, or that which is told.
-fn asked_in<'a>(matches: &ArgMatches<'a>) -> Asked<'a>
-    ensures { 1 ≤ result.from }
+fn order_in<'a>(matches: &ArgMatches<'a>) -> Order<'a>
+    ensures { IsAsked (rows_of (found_of matches.now)) result }
 {
-    Asked {
-        text: matches.get_flag("text"),
-        from: matches.get_one::<u64>("from").unwrap_or(1).max(1),
-        to: matches.get_one::<u64>("to"),
+    Order {
+        asked: Asked {
+            text: matches.get_flag("text"),
+            from: matches.get_one::<u64>("from").unwrap_or(1).max(1),
+            to: matches.get_one::<u64>("to"),
+        },
         script: matches.get_str("script"),
     }
 }

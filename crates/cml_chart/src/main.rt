@@ -1,10 +1,12 @@
 //! `cml_chart`: draws the report on standard input as a sequence chart, on standard output.
 #![tactic(auto)]
 
+mod asked;
 mod command_line;
 
+use asked::Order;
 use clap::Error;
-use cml_picture::{Asked, Ending, draw, draw_by_script, status_of};
+use cml_picture::{Ending, draw, draw_by_script, status_of};
 use command_line::{order, status_of_error};
 use std::io::ErrorKind;
 use std::process::ExitCode;
@@ -35,19 +37,19 @@ fn words(rt: &HostRuntime) -> Result<Vec<String>, u8> {
 /// Does what the words ask for, and gives the exit status.
 fn obey(rt: &HostRuntime, words: &[String]) -> u8 {
     match order(rt.alloc(), words) {
-        Ok(asked) => tell(rt, draw_as(rt, &asked)),
+        Ok(order) => tell(rt, draw_as(rt, &order)),
         Err(error) => show(rt, &error),
     }
 }
 
 /// Draws the report as it is asked for, by the script in a file where one is named.
-fn draw_as(rt: &HostRuntime, asked: &Asked<'_>) -> Ending {
+fn draw_as(rt: &HostRuntime, order: &Order<'_>) -> Ending {
     let (input, output) = (&mut rt.stdin(), &mut rt.stdout());
-    let Some(path) = asked.script else {
-        return draw(rt.alloc(), input, output, asked);
+    let Some(path) = order.script else {
+        return draw(rt.alloc(), input, output, &order.asked);
     };
     match fs::open(rt, path) {
-        Ok(mut script) => draw_by_script(rt.alloc(), &mut script, input, output, asked),
+        Ok(mut script) => draw_by_script(rt.alloc(), &mut script, input, output, &order.asked),
         Err(error) if error.kind() == ErrorKind::OutOfMemory => Ending::NoMemory,
         Err(_) => Ending::ScriptReadFault,
     }

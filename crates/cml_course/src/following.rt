@@ -10,9 +10,8 @@ ghost use Rattle.cml_report.specs.Shown.{texts, shown_act, shown_object, shown_l
 ghost use Rattle.cml_course.specs.ShownPlan.{shown_made, shown_plan};
 
 use crate::plan::{Made, Plan};
-use cml_report::{
-    Act, Actor, Fault, Object, Report, What, kind_text, makes_port, number_of, verb_text,
-};
+use cml_grammar::number_of;
+use cml_report::{Act, Actor, Fault, Object, Report, What, kind_text, makes_port, verb_text};
 use cml_sequence::{column_of, is_among};
 use indexmap::IndexSet;
 use std::alloc::{AllocError, Global};

@@ -11,8 +11,8 @@ ghost use Rattle.cml_course.specs.ShownPlan.{shown_made, shown_plan};
 
 use crate::declared_ports::add_listeners;
 use crate::source::{Source, source_of};
-use cml_grammar::Script;
-use cml_report::{is_sent, makes_port, verb_of};
+use cml_grammar::{Script, Verb};
+use cml_report::{is_sent, makes_port};
 use cml_sequence::{Listener, add_name, is_among};
 use indexmap::IndexSet;
 use std::alloc::{AllocError, Global};
@@ -268,7 +268,7 @@ fn port_in<'a>(words: &[&'a str]) -> Option<Made<'a>>
     let [_, word, _, name] = words else {
         return None;
     };
-    if !makes_port(verb_of(word)?) {
+    if !makes_port(Verb::of_word(word)?) {
         return None;
     }
     Some(Made { kind: "port", name })
@@ -314,7 +314,7 @@ fn is_told(
 fn is_sent_by(word: &str) -> bool
     ensures { result ≡ option_map_or is_sent (verb_of word.now) false }
 {
-    match verb_of(word) {
+    match Verb::of_word(word) {
         Some(verb) => is_sent(verb),
         None => false,
     }

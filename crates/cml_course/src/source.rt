@@ -3,8 +3,7 @@ ghost use Rattle.std.specs.Prelude.{◌≡◌, IfOk};
 ghost use Rattle.cml_course.specs.Plan.{words_in};
 ghost use Rattle.cml_report.specs.Shown.{shown_lines};
 
-use cml_grammar::Script;
-use cml_report::split_words;
+use cml_grammar::{Script, split_words};
 use std::alloc::{AllocError, Global};
 
 /// The words of a script's declarations, lanes and steps, line by line, in text order.

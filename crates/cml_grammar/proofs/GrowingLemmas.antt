@@ -1,5 +1,5 @@
 -- What is said of names stays true where more names are given.
-use Rattle.std.proofs.Common.{◌≡◌, ℕ, ◌+◌, ◌≤◌, ◌==◌, ◌&&◌, Bool, cond, List, [], ◌∷◌, ◌++◌, map, All, slice_get, Option, Some, None, is_some, string_bytes, refl, sym, ap, ◌∙◌, subst, inl, inr, arith}
+use Rattle.std.proofs.Common.{◌≡◌, ℕ, ◌+◌, ◌≤◌, cond, List, [], ◌∷◌, ◌++◌, map, All, slice_get, Option, Some, None, is_some, string_bytes, refl, sym, ap, ◌∙◌, subst, inl, inr, arith}
 use Rattle.std.specs.Map.{keys_of, lookup}
 use Rattle.std.specs.Option.{option_map, option_map_or, option_and_then, option_to_list}
 use Rattle.std.specs.Str.Parse.{digits_value}

@@ -1,9 +1,9 @@
 -- What holds of the lines so far holds with one more lane.
-use Rattle.std.proofs.Common.{◌≡◌, ℕ, ◌==◌, Bool, true, false, not, cond, List, [], ◌∷◌, ◌++◌, length, map, Option, Some, None, String, string_bytes, All, refl, sym, ap, ◌∙◌, subst}
+use Rattle.std.proofs.Common.{◌≡◌, ℕ, ◌==◌, false, not, cond, List, [], ◌∷◌, ◌++◌, Some, None, String, string_bytes, All, refl, sym, ap, ◌∙◌, subst}
 use Rattle.std.specs.Global.{Global}
 use Rattle.std.specs.Map.{keys_of, lookup}
 use Rattle.std.specs.List.{list_any}
-use Rattle.std.specs.Option.{option_map, option_map_or}
+use Rattle.std.specs.Option.{option_map_or}
 use Rattle.std.specs.Str.Parse.{digits_value}
 use Rattle.std.specs.declared.hash.FoldHasher.{FoldHasher}
 use Rattle.std.specs.declared.hash.BuildHasherDefault.{BuildHasherDefault}
@@ -24,7 +24,7 @@ use Rattle.cml_grammar.specs.Faults.{Ends, fault_in_words, after_words, ends_by,
 use Rattle.cml_grammar.specs.Script.{Lines}
 use Rattle.cml_grammar.specs.Meaning.{scope_of, names_of}
 use Rattle.cml_grammar.specs.Rings.{Laid, lane_by, lane_of}
-use Rattle.cml_grammar.specs.Reading.{source_of, view_of, texts_of, IsSeat, IsTargetAt, IsCapacity, ReadsLane, capacities_of, IsReadSoFar}
+use Rattle.cml_grammar.specs.Reading.{view_of, texts_of, IsSeat, IsTargetAt, IsCapacity, ReadsLane, capacities_of, IsReadSoFar}
 use Rattle.cml_grammar.specs.Suiting.{AllSuit}
 use Rattle.cml_grammar.proofs.ListLemmas.{mapped_some}
 use Rattle.cml_grammar.proofs.TableLemmas.{Passes, words_pass, all_suit-passes}

@@ -1,8 +1,8 @@
 -- Words that suit their places mean something, and what they mean uses names well.
-use Rattle.std.proofs.Common.{◌≡◌, ℕ, ◌<◌, ◌^◌, true, if◌then◌else◌, List, [], ◌∷◌, length, slice_get, Some, refl, sym, ap, ◌∙◌, subst, true≢false, arith, inl, inr, All}
+use Rattle.std.proofs.Common.{◌≡◌, ℕ, true, if◌then◌else◌, List, [], ◌∷◌, length, slice_get, Some, refl, sym, ap, ◌∙◌, subst, true≢false, arith, inl, inr, All}
 use Rattle.std.specs.Option.{option_map}
 use Rattle.std.specs.Str.Parse.{digits_value}
-use Rattle.std.proofs.lemmas.Bool.{ne_eqb, and_parts, leb-true, ltb-true}
+use Rattle.std.proofs.lemmas.Bool.{ne_eqb, and_parts, leb-true}
 use Rattle.std.proofs.lemmas.Option.{none-some, same_Some, slice_get_within}
 use Rattle.cml_grammar.specs.declared.names.Named.{Named}
 use Rattle.cml_grammar.specs.declared.names.Named.TheVariants as called
@@ -17,10 +17,10 @@ use Rattle.cml_grammar.specs.declared.forms.Place.{Place}
 use Rattle.cml_grammar.specs.declared.forms.Place.TheVariants.{Fresh, Thread, Mailbox, Channel, Target, Port, Receiver, Polled, Variable, MVar, Message, Capacity}
 use Rattle.cml_grammar.specs.declared.forms.Action.{Action}
 use Rattle.cml_grammar.specs.declared.forms.Action.TheVariants as action
-use Rattle.cml_grammar.specs.Names.{Given, is_name, is_number, is_capacity, position_of, seat_of, thread_count}
+use Rattle.cml_grammar.specs.Names.{Given, is_name, is_capacity, position_of, seat_of, thread_count}
 use Rattle.cml_grammar.specs.Faults.{Ends}
 use Rattle.cml_grammar.specs.Forms.{declared_places, lane_places, step_places, suits, fresh_word}
-use Rattle.cml_grammar.specs.Meaning.{feed_by, makes_by, action_by}
+use Rattle.cml_grammar.specs.Meaning.{makes_by, action_by}
 use Rattle.cml_grammar.specs.Rings.{lane_by}
 use Rattle.cml_grammar.specs.Reading.{IsMailboxAt, IsChannelAt, IsTargetAt, UsesWell, IsSeat, IsCapacity, IsMadeWell, IsSeatedWithin}
 use Rattle.cml_grammar.specs.Suiting.{IsSuitedAt, Suits, AllSuit}

@@ -1,18 +1,16 @@
 -- A script of version 1 is one of version 2 too: its messages are numbers, and those are texts.
-use Rattle.std.proofs.Common.{◌≡◌, ℕ, suc, ◌<◌, ◌≤◌, ◌==◌, Bool, true, false, not, ◌&&◌, nat_le, List, [], ◌∷◌, ◌++◌, length, Option, None, Some, if◌then◌else◌, refl, sym, ap, ◌∙◌, subst, arith, cond, true≢false}
+use Rattle.std.proofs.Common.{◌≡◌, ℕ, suc, ◌<◌, Bool, true, false, not, List, [], ◌∷◌, length, Option, None, Some, if◌then◌else◌, refl, sym, ap, ◌∙◌, subst, arith}
 use Rattle.std.specs.Prelude.{codes}
 use Rattle.std.specs.List.{list_any, zip}
-use Rattle.std.proofs.lemmas.Bool.{or_parts, false_from_ne_true, eq-eqb, not-false, and_parts}
-use Rattle.cml_text.specs.Text.{is_text}
+use Rattle.std.proofs.lemmas.Bool.{or_parts, eq-eqb, not-false}
 use Rattle.cml_grammar.specs.declared.fault.What.{What}
 use Rattle.cml_grammar.specs.declared.forms.Place.{Place}
 use Rattle.cml_grammar.specs.declared.forms.Place.TheVariants.{Fresh, Thread, Mailbox, Channel, Target, Port, Receiver, Polled, Variable, MVar, Message, Capacity}
-use Rattle.cml_grammar.specs.declared.fault.What.TheVariants.{BadBytes, BadHeader, BadWords}
-use Rattle.cml_grammar.specs.Words.{parts_of, words_of, is_bad_byte, has_empty_word}
-use Rattle.cml_grammar.specs.Names.{is_number, thread_count}
+use Rattle.cml_grammar.specs.declared.fault.What.TheVariants.{BadBytes, BadHeader}
+use Rattle.cml_grammar.specs.Words.{parts_of, words_of, is_bad_byte}
 use Rattle.cml_grammar.specs.Forms.{Form, form_of, places_of, rest_of}
 use Rattle.cml_grammar.specs.Faults.{Scope, start, says, is_bad_header, first_of, tests_of_form, fault_in_words, fault_in, after, after_words, any_word, is_bad_number, is_bad_text}
-use Rattle.cml_grammar.specs.Script.{SourceLine, Lines, source, with_line, Says, IsScript}
+use Rattle.cml_grammar.specs.Script.{SourceLine, Says}
 use Rattle.cml_grammar.specs.Laws.{NumbersAreTexts}
 use Rattle.cml_grammar.proofs.NameLemmas.{number_word_is_text}
 use Rattle.cml_grammar.proofs.PartsLemmas.{some_part}

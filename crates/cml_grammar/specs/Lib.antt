@@ -1,3 +1,4 @@
+pub mod Input
 pub mod Words
 pub mod Names
 pub mod Forms

@@ -1,5 +1,5 @@
 -- How a script is kept, and what a reader of its lists may rely on.
-use Rattle.std.specs.Prelude.{ℕ, ◌≡◌, ◌<◌, ◌≤◌, ◌==◌, ◌^◌, Bool, true, false, not, if◌then◌else◌, List, [], ◌++◌, length, map, Some, is_some, String, string_bytes, slice_get, All, ⊤, ◌⊎◌}
+use Rattle.std.specs.Prelude.{ℕ, ◌≡◌, ◌<◌, ◌≤◌, ◌==◌, Bool, true, false, not, if◌then◌else◌, List, [], ◌++◌, length, map, Some, is_some, String, string_bytes, slice_get, All, ⊤, ◌⊎◌}
 use Rattle.std.specs.Global.{Global}
 use Rattle.std.specs.Map.{keys_of}
 use Rattle.cml_text.specs.Text.{is_text}

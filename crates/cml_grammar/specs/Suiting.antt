@@ -4,7 +4,7 @@ use Rattle.cml_text.specs.Text.{is_text}
 use Rattle.cml_grammar.specs.declared.forms.Place.{Place}
 use Rattle.cml_grammar.specs.declared.forms.Place.TheVariants.{Fresh, Message, Capacity}
 use Rattle.cml_grammar.specs.declared.names.Named.{Named}
-use Rattle.cml_grammar.specs.Names.{Given, is_name, is_number, is_capacity, is_given, position_of}
+use Rattle.cml_grammar.specs.Names.{Given, is_name, is_capacity, is_given, position_of}
 use Rattle.cml_grammar.specs.Forms.{suits}
 
 -- what is named at this position may stand in the place

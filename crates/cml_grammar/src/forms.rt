@@ -162,7 +162,8 @@ impl Declares {
 }
 
 impl Verb {
-    fn of_word(word: &str) -> Option<Verb>
+    /// The step that a word stands for.
+    pub fn of_word(word: &str) -> Option<Verb>
         ensures { result ≡ verb_of word.now }
     {
         match word {

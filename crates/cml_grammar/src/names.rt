@@ -67,7 +67,8 @@ fn is_reserved(word: &str) -> bool
     )
 }
 
-pub(crate) fn is_name(word: &str) -> bool
+/// Whether the word may name something: a letter and at most 31 letters, digits and `_`, and no word with a meaning of its own.
+pub fn is_name(word: &str) -> bool
     ensures { result ≡ is_name word.now }
 {
     let Some((first, rest)) = word.as_bytes().split_first() else {
@@ -79,8 +80,8 @@ pub(crate) fn is_name(word: &str) -> bool
     rest.iter().all(|byte| is_name_byte(*byte))
 }
 
-/// The number that a word is, if it is one.
-pub(crate) fn number_of(word: &str) -> Option<u64>
+/// The number below 2^64 that a word is in decimal digits, without a zero in front, if it is one.
+pub fn number_of(word: &str) -> Option<u64>
     ensures { result ≡ (if is_number word.now then Some (digits_value 10 word.now) else None) }
 {
     let first = word.as_bytes().first()?;

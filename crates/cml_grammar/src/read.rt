@@ -60,7 +60,7 @@ fn version_of(text: &[u8]) -> u64
 }
 
 /// The first line, without its line end, and what follows; or nothing where no line ends.
-fn cut_line(text: &[u8]) -> Option<(&[u8], &[u8])>
+pub fn cut_line(text: &[u8]) -> Option<(&[u8], &[u8])>
     ensures { MatchOption result
         (parts_of text.now ≡ text.now ∷ [])
         (λ cut. (parts_of text.now ≡ cut.0.now ∷ parts_of cut.1.now) × (length cut.1.now < length text.now)) }

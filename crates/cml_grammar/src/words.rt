@@ -5,7 +5,8 @@ ghost use Rattle.cml_grammar.specs.Words.{words_of, is_bad_byte, is_skipped, has
 
 use std::alloc::{AllocError, Global};
 
-pub(crate) fn has_bad_byte(line: &[u8]) -> bool
+/// Whether a byte of the line is neither a space nor printed.
+pub fn has_bad_byte(line: &[u8]) -> bool
     ensures { result ≡ list_any is_bad_byte line.now }
 {
     line.iter().any(|byte| *byte < b' ' || *byte > b'~')
@@ -21,7 +22,8 @@ pub(crate) fn is_skipped(line: &[u8]) -> bool
     }
 }
 
-pub(crate) fn split_words<'a>(alloc: Global, line: &'a str) -> Result<Vec<&'a str>, AllocError>
+/// The words of a line, which stand between single spaces.
+pub fn split_words<'a>(alloc: Global, line: &'a str) -> Result<Vec<&'a str>, AllocError>
     ensures { IfOk result (λ words. map (λ w. w.now) words.items ≡ words_of line.now) }
 {
     line.split(' ').collect(alloc)

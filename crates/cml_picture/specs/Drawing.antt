@@ -1,6 +1,7 @@
 -- What the drawing of a report reads and writes, by how it ends.
 use Rattle.std.specs.Prelude.{ℕ, ◌≤◌, ◌+◌, ◌-◌, ◌^◌, ◌⊎◌, min, List, ◌≡◌, length, map, Option, Some, None, unwrap_or, slice_range, MatchBool, ⊤}
 use Rattle.std.specs.Io.KnownBytes.{Consumes, IsAtEnd, Appends, Keeps}
+use Rattle.cml_grammar.specs.Input.{IsReadUpTo}
 use Rattle.cml_picture.specs.declared.asked.Asked.{Asked}
 use Rattle.cml_sequence.specs.declared.chart.Chart.{Chart}
 use Rattle.cml_report.specs.declared.faults.Fault.{Fault}
@@ -23,7 +24,7 @@ use Rattle.cml_picture.specs.Svg.{svg_text}
 
 -- These were the reader's next bytes, and no byte is left; or there are too many for a report.
 abbrev pub IsRead : Option (List ℕ) → Option (List ℕ) → List ℕ → Type 0
-IsRead old new text = Consumes old new text × (IsAtEnd new ⊎ (33554433 ≤ length text))
+IsRead old new text = IsReadUpTo 33554433 old new text
 
 -- the last row that is asked for: 500 rows where it is not told
 abbrev pub last_of : Asked → ℕ

@@ -6,8 +6,8 @@ use Rattle.cml_report.specs.declared.faults.Fault.{Fault}
 use Rattle.cml_grammar.specs.declared.fault.What.{What as WrongScript}
 use Rattle.cml_grammar.specs.declared.fault.What.TheVariants as wrong
 use Rattle.cml_grammar.specs.declared.fault.Fault.{Fault as ScriptFault}
-use Rattle.cml_picture.specs.declared.read.Unread.{Unread}
-use Rattle.cml_picture.specs.declared.read.Unread.TheVariants as unread
+use Rattle.cml_grammar.specs.declared.input.Unread.{Unread}
+use Rattle.cml_grammar.specs.declared.input.Unread.TheVariants as unread
 use Rattle.cml_picture.specs.declared.ending.Ending.{Ending}
 use Rattle.cml_picture.specs.declared.ending.Ending.TheVariants as ending
 

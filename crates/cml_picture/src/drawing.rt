@@ -27,7 +27,7 @@ pub fn draw<R: Read, W: Write>(
     alloc: Global,
     reader: &mut R,
     writer: &mut W,
-    asked: &Asked<'_>,
+    asked: &Asked,
 ) -> Ending
     ensures { Draws asked.now None (R.remaining reader.old) (R.remaining reader.new) (W.contents writer.old) (W.contents writer.new) result }
 {
@@ -40,7 +40,7 @@ pub fn draw_by_script<S: Read, R: Read, W: Write>(
     script: &mut S,
     reader: &mut R,
     writer: &mut W,
-    asked: &Asked<'_>,
+    asked: &Asked,
 ) -> Ending
     ensures { DrawsGiven asked.now (S.remaining script.old) (S.remaining script.new) (R.remaining reader.old) (R.remaining reader.new) (W.contents writer.old) (W.contents writer.new) result }
 {
@@ -67,7 +67,7 @@ fn draw_by<R: Read, W: Write>(
     script: Option<&Script>,
     reader: &mut R,
     writer: &mut W,
-    asked: &Asked<'_>,
+    asked: &Asked,
 ) -> Ending
     ensures { Draws asked.now (option_map (λ s. plan_of s.now) script.entry) (R.remaining reader.old) (R.remaining reader.new) (W.contents writer.old) (W.contents writer.new) result }
 {
@@ -82,7 +82,7 @@ fn picture<R: Read>(
     alloc: Global,
     script: Option<&Script>,
     reader: &mut R,
-    asked: &Asked<'_>,
+    asked: &Asked,
 ) -> Result<Vec<u8>, Ending>
     ensures drawn { IfOk result (λ picture. IsDrawnOf asked.now (option_map (λ s. plan_of s.now) script.entry) (R.remaining reader.old) (R.remaining reader.new) picture.items) }
     ensures undrawn { IfErr result (λ ending. EndsUndrawn (option_map (λ s. plan_of s.now) script.entry) (R.remaining reader.old) (R.remaining reader.new) ending) }
@@ -104,7 +104,7 @@ fn draw_chart<'a>(
     chart: &Chart<'a>,
     first: Vec<Listener<'a>>,
     standing: &[Vec<&str>],
-    asked: &Asked<'_>,
+    asked: &Asked,
 ) -> Result<Vec<u8>, AllocError>
     ensures { IfOk result (λ picture. IsDrawingOf asked.now chart.now (map shown_listener first.entry.items) (shown_lines standing.now) picture.items) }
 {
@@ -119,7 +119,7 @@ fn draw_chart<'a>(
 }
 
 /// Between which of so many rows those stand that are asked for, as far as there are such.
-fn bounds(asked: &Asked<'_>, count: usize) -> (usize, usize)
+fn bounds(asked: &Asked, count: usize) -> (usize, usize)
     ensures bounds { result ≡ bounds_of asked.now count }
     ensures within { (result.0 ≤ result.1) × (result.1 ≤ count) }
 {

@@ -3,7 +3,7 @@ ghost use Rattle.std.specs.Prelude.{◌≡◌};
 ghost use Rattle.cml_picture.specs.declared.ending.Ending.TheVariants as ending;
 ghost use Rattle.cml_picture.specs.Endings.{ending_of_fault, ending_of_unread, ending_of_script, ending_of_script_fault, status};
 
-use crate::read::Unread;
+use cml_grammar::Unread;
 use cml_report::{Fault, What};
 use std::alloc::AllocError;
 use thiserror::Error;

@@ -1,11 +1,10 @@
-//! A reader's bytes, up to a limit.
-ghost use Rattle.std.specs.Prelude.{◌≡◌, ◌<◌, ◌≤◌, ◌++◌, ℕ, List, IfOk, IsTrue, length};
-ghost use Rattle.std.specs.Io.KnownBytes.{Consumes, IsAtEnd};
-ghost use Rattle.cml_picture.specs.declared.read.Unread.TheVariants.{Memory};
+//! The bytes of a report or a script.
+ghost use Rattle.std.specs.Prelude.{IfOk};
 ghost use Rattle.cml_picture.specs.Drawing.{IsRead};
 
-use std::alloc::{AllocError, Global};
-use std::io::{ErrorKind, Read};
+use cml_grammar::{Unread, read_up_to};
+use std::alloc::Global;
+use std::io::Read;
 
 /// A report has fewer bytes than this, so that no more is read.
 const MOST_BYTES: usize = 33_554_433;
@@ -13,58 +12,9 @@ const MOST_BYTES: usize = 33_554_433;
 /// How often a reader is asked, so that one that never ends is given up.
 const MOST_CALLS: usize = 67_108_864;
 
-/// The most bytes that the reader is asked for at once.
-const ROOM: usize = 65_536;
-
-/// Why a reader's bytes were not read.
-#[derive(Clone, Copy, Debug, PartialEq, Eq)]
-pub enum Unread {
-    /// A read failed, or the reader was asked too often.
-    Failed,
-    /// There was no memory.
-    Memory,
-}
-
-impl From<AllocError> for Unread {
-    ghost from_gives = { λ _ unread. unread ≡ Memory };
-
-    fn from(_error: AllocError) -> Unread {
-        Unread::Memory
-    }
-}
-
-/// Reads all bytes, or the first 33,554,433 where there are more. A read that was interrupted is made again.
+/// Reads all bytes, or the first 33,554,433 where there are more.
 pub(crate) fn read_all<R: Read>(alloc: Global, reader: &mut R) -> Result<Vec<u8>, Unread>
     ensures { IfOk result (λ bytes. IsRead (R.remaining reader.old) (R.remaining reader.new) bytes.items) }
 {
-    let mut bytes = Vec::new(alloc);
-    let mut room = [0; ROOM];
-    for _ in 0..MOST_CALLS {
-        if read_more(reader, &mut room, &mut bytes)? || bytes.len() >= MOST_BYTES {
-            return Ok(bytes);
-        }
-    }
-    Err(Unread::Failed)
-}
-
-/// Asks the reader once, adds what it gave, and answers whether it was at its end.
-fn read_more<R: Read>(reader: &mut R, room: &mut [u8], bytes: &mut Vec<u8>) -> Result<bool, Unread>
-    requires short { length bytes.old.items < 33554433 }
-    requires room { 0 < length room.old }
-    ensures end { IfOk result (λ ended. IsTrue ended → IsAtEnd (R.remaining reader.new)) }
-    ensures more { IfOk result (λ ended. (given : List ℕ) × Consumes (R.remaining reader.old) (R.remaining reader.new) given
-        × (bytes.new.items ≡ bytes.old.items ++ given)) }
-    ensures few { IfOk result (λ ended. length bytes.new.items ≤ 33554433) }
-    ensures same { length room.new ≡ length room.old }
-{
-    let most = room.len().min(MOST_BYTES - bytes.len());
-    match reader.read(&mut room[..most]) {
-        Ok(0) => Ok(true),
-        Ok(n) => {
-            bytes.extend_from_slice(&room[..n])?;
-            Ok(false)
-        }
-        Err(error) if error.kind() == ErrorKind::Interrupted => Ok(false),
-        Err(_) => Err(Unread::Failed),
-    }
+    read_up_to(alloc, reader, MOST_BYTES, MOST_CALLS)
 }

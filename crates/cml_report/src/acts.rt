@@ -1,13 +1,12 @@
 //! Lines of the first part.
 ghost use Rattle.std.specs.Prelude.{◌≡◌, ◌∷◌, []};
 ghost use Rattle.std.specs.Option.{option_map};
-ghost use Rattle.cml_grammar.specs.Forms.{verb_of};
 ghost use Rattle.cml_report.specs.Lines.{verb_text, numbered, lane_in, feed_in, doer_of, step_of, answer_of, is_done, is_made, has_message, is_nothing, is_put, is_closed, may_answer, gives_message, makes_port, is_sent, is_received, may_do, is_given_by, deed_on, deed_with, deed_by, deed_of};
 ghost use Rattle.cml_report.specs.Shown.{texts, shown_actor, shown_reply, shown_act};
 
 use crate::report::{Act, Actor, Reply};
-use crate::words::{before_colon, is_message, is_name, is_number};
-use cml_grammar::Verb;
+use crate::words::{before_colon, is_message, is_number};
+use cml_grammar::{Verb, is_name};
 use cml_text::is_text;
 
 /// The act that a line's words are, if they are one.
@@ -55,30 +54,8 @@ fn step_of<'a, 'w>(words: &'w [&'a str]) -> Option<(Verb, &'w [&'a str])>
     ensures { option_map (λ found. (found.0, texts found.1.now)) result ≡ step_of (texts words.now) }
 {
     let (word, rest) = words.split_first()?;
-    let verb = verb_of(word)?;
+    let verb = Verb::of_word(word)?;
     Some((verb, rest))
-}
-
-/// The step that a word stands for.
-pub fn verb_of(word: &str) -> Option<Verb>
-    ensures { result ≡ verb_of word.now }
-{
-    match word {
-        "send" => Some(Verb::Send),
-        "multicast" => Some(Verb::Multicast),
-        "recv" => Some(Verb::Recv),
-        "poll" => Some(Verb::Poll),
-        "port" => Some(Verb::Port),
-        "copy" => Some(Verb::Copy),
-        "close" => Some(Verb::Close),
-        "put" => Some(Verb::Put),
-        "get" => Some(Verb::Get),
-        "getpoll" => Some(Verb::GetPoll),
-        "take" => Some(Verb::Take),
-        "takepoll" => Some(Verb::TakePoll),
-        "swap" => Some(Verb::Swap),
-        _ => None,
-    }
 }
 
 /// The word of a step.

@@ -5,7 +5,8 @@ ghost use Rattle.cml_report.specs.Lines.{stop_text, begins_end, is_count, stop_o
 ghost use Rattle.cml_report.specs.Shown.{texts, shown_end};
 
 use crate::report::{End, Stop};
-use crate::words::{is_number, number_of};
+use crate::words::is_number;
+use cml_grammar::number_of;
 
 /// Whether a line of these words is the last one, if it is one of a report at all.
 pub(crate) fn begins_end(words: &[&str]) -> bool

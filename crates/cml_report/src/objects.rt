@@ -5,7 +5,8 @@ ghost use Rattle.cml_report.specs.Lines.{kind_of, kind_text, after_counts, is_en
 ghost use Rattle.cml_report.specs.Shown.{texts, shown_object};
 
 use crate::report::{Kind, Object};
-use crate::words::{before_colon, is_message, is_name, is_number};
+use crate::words::{before_colon, is_message, is_number};
+use cml_grammar::is_name;
 use std::alloc::{AllocError, Global};
 
 /// Whether a line of these words is one of the second part, if it is one of a report at all.

@@ -1,7 +1,7 @@
 //! A report's lines, read one by one.
-ghost use Rattle.std.specs.Prelude.{◌≡◌, ◌⊎◌, ◌≤◌, ◌<◌, ◌+◌, ◌==◌, ◌∷◌, [], Ok, Err, IfOk, IfErr, OnOk, MatchOption, length, position};
+ghost use Rattle.std.specs.Prelude.{◌≡◌, ◌⊎◌, ◌≤◌, ◌+◌, Ok, Err, IfOk, IfErr, OnOk, length};
 ghost use Rattle.std.specs.Option.{option_map};
-ghost use Rattle.cml_grammar.specs.Words.{parts_of, words_of};
+ghost use Rattle.cml_grammar.specs.Words.{words_of};
 ghost use Rattle.cml_report.specs.declared.faults.What.TheVariants.{Memory};
 ghost use Rattle.cml_report.specs.Lines.{line_of, deed, thing, ended};
 ghost use Rattle.cml_report.specs.ShownReading.{shown_line, so_far};
@@ -13,7 +13,7 @@ use crate::end::{begins_end, end_of};
 use crate::faults::{Fault, What};
 use crate::objects::{begins_object, object_of};
 use crate::report::{Act, End, Line, Object, Report};
-use crate::words::{has_bad_byte, split_words};
+use cml_grammar::{cut_line, has_bad_byte, split_words};
 use std::alloc::{AllocError, Global};
 
 /// The most bytes that a report may have. With a journal of 65,536 entries, as many as there are where `cml` is not told
@@ -61,22 +61,6 @@ fn read_lines(alloc: Global, text: &[u8]) -> Result<Report<'_>, Fault>
         number += 1;
     }
     finish(reading, number, rest)
-}
-
-/// The first line, without its line end, and what follows; or nothing where no line ends.
-fn cut_line(text: &[u8]) -> Option<(&[u8], &[u8])>
-    ensures { MatchOption result
-        (parts_of text.now ≡ text.now ∷ [])
-        (λ cut. (parts_of text.now ≡ cut.0.now ∷ parts_of cut.1.now) × (length cut.1.now < length text.now)) }
-{
-    let end = line_end(text)?;
-    Some((&text[..end], &text[end + 1..]))
-}
-
-fn line_end(text: &[u8]) -> Option<usize>
-    ensures { result ≡ position (λ byte. byte == 10) text.now }
-{
-    text.iter().position(|byte| *byte == b'\n')
 }
 
 fn read_line<'a>(alloc: Global, reading: &mut Reading<'a>, line: &'a [u8]) -> Result<(), What>

@@ -3,8 +3,8 @@ use Rattle.std.specs.Prelude.{ℕ}
 use Rattle.cml_grammar.specs.declared.fault.What.{What}
 use Rattle.cml_grammar.specs.declared.fault.What.TheVariants as what
 use Rattle.cml_grammar.specs.declared.fault.Fault.{Fault}
-use Rattle.cml_script.specs.declared.read.Unread.{Unread}
-use Rattle.cml_script.specs.declared.read.Unread.TheVariants as unread
+use Rattle.cml_grammar.specs.declared.input.Unread.{Unread}
+use Rattle.cml_grammar.specs.declared.input.Unread.TheVariants as unread
 use Rattle.cml_script.specs.declared.stop.Stop.{Stop}
 use Rattle.cml_script.specs.declared.stop.Stop.TheVariants as stop
 use Rattle.cml_script.specs.declared.ending.Ending.{Ending}

@@ -1,6 +1,7 @@
 -- What a replay reads and writes, by how it ends.
-use Rattle.std.specs.Prelude.{ℕ, ◌≡◌, ◌≤◌, ◌⊎◌, List, length, Option, Some, ⊤}
+use Rattle.std.specs.Prelude.{ℕ, ◌≡◌, ◌⊎◌, List, Option, Some, ⊤}
 use Rattle.std.specs.Io.KnownBytes.{Consumes, IsAtEnd, Appends, Keeps}
+use Rattle.cml_grammar.specs.Input.{IsReadUpTo}
 use Rattle.cml_grammar.specs.declared.fault.Fault.{Fault}
 use Rattle.cml_grammar.specs.Script.{Lines, IsScript}
 use Rattle.cml_grammar.specs.declared.fault.What.TheVariants.{NeedsRun}
@@ -16,7 +17,7 @@ use Rattle.cml_script.specs.Play.{IsPlayed}
 -- These were the reader's next bytes, and no byte is left; or there are too many for a script.
 -- The lists are what the reader has left and what the writer holds, before and after, where they tell it.
 abbrev pub IsRead : Option (List ℕ) → Option (List ℕ) → List ℕ → Type 0
-IsRead old new text = Consumes old new text × (IsAtEnd new ⊎ (1048577 ≤ length text))
+IsRead old new text = IsReadUpTo 1048577 old new text
 
 -- all of the reader's bytes were read, they are a script without rings, and this was played of it
 pub record IsPlayedOf (limit : ℕ) (old new : Option (List ℕ)) (stop : Stop) (report : List ℕ) : Type 0 where

@@ -3,9 +3,8 @@ ghost use Rattle.std.specs.Prelude.{◌≡◌};
 ghost use Rattle.cml_script.specs.declared.ending.Ending.TheVariants as ending;
 ghost use Rattle.cml_script.specs.Endings.{ending_of_fault, ending_of_stop, ending_of_unread, status};
 
-use crate::read::Unread;
 use crate::stop::Stop;
-use cml_grammar::{Fault, What};
+use cml_grammar::{Fault, Unread, What};
 use std::alloc::AllocError;
 use thiserror::Error;
 

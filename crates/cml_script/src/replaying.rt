@@ -6,7 +6,7 @@ ghost use Rattle.cml_script.specs.Replay.{Replays, IsPlayedOf, EndsUnplayed};
 
 use crate::ending::Ending;
 use crate::perform::{Played, play};
-use crate::read::{Unread, read_all};
+use crate::read::read_all;
 use crate::writing::write_report;
 use cml_grammar::{Fault, What, read_script};
 use std::alloc::{AllocError, Global};

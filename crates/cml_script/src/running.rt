@@ -12,7 +12,7 @@ mod worker;
 
 use crate::ending::Ending;
 use crate::perform::Played;
-use crate::read::{Unread, read_all};
+use crate::read::read_all;
 use crate::stop::Stop;
 use crate::tally::Tally;
 use crate::writing::write_report;

@@ -1,4 +1,4 @@
-use Rattle.std.proofs.Common.{◌≡◌, ℕ, ◌==◌, not, List, map, Some, None, Bor, inr, refl, sym, ap, ◌∙◌, string_bytes}
+use Rattle.std.proofs.Common.{ℕ, ◌==◌, not, List, map, Bor, inr, refl, sym, ap, ◌∙◌}
 use Rattle.std.specs.Map.{keys_of}
 use Rattle.cml_grammar.specs.Words.{words_of, has_empty_word}
 use Rattle.cml_grammar.specs.Forms.{form_of}
