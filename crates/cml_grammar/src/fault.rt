@@ -8,8 +8,8 @@ use std::error::Error;
 use std::fmt;
 use thiserror::Error;
 
-/// What is wrong with a line of a script, in the order in which the tests are made, and then what
-/// concerns no line of it.
+/// What is wrong with a line of a script, in the order in which the tests are made, and then what is
+/// told of a script as a whole: that it is too long, that it is not to be replayed, or that there was no memory.
 #[derive(Clone, Copy, Debug, PartialEq, Eq, Error)]
 pub enum What {
     #[error("no line end")]

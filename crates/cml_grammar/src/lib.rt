@@ -8,6 +8,7 @@ mod input;
 mod laws;
 mod meaning;
 mod names;
+mod output;
 mod read;
 mod reading;
 mod script;
@@ -21,6 +22,7 @@ pub use laws::{
     texts_are_one_script, words_make_lines,
 };
 pub use names::{Named, Users, is_name, number_of};
+pub use output::write_whole;
 pub use read::{cut_line, read_script};
 pub use script::{Declaration, Lane, Line, Script, Step};
 pub use words::{has_bad_byte, split_words};

@@ -101,6 +101,7 @@ impl Script {
         }
     }
 
+    /// The version that its first line asks for, 1 or 2.
     pub fn version(&self) -> u64
         ensures { result ≡ self.now.version }
     {

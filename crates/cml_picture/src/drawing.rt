@@ -1,7 +1,6 @@
 //! A report, from the reader's bytes to the chart's.
-ghost use Rattle.std.specs.Prelude.{◌≡◌, ◌≤◌, map, None, IfOk, IfErr, OnOk};
+ghost use Rattle.std.specs.Prelude.{◌≡◌, ◌≤◌, map, None, IfOk, IfErr};
 ghost use Rattle.std.specs.Option.{option_map};
-ghost use Rattle.std.specs.Io.KnownBytes.{Appends};
 ghost use Rattle.cml_course.specs.Plan.{plan_of};
 ghost use Rattle.cml_report.specs.Shown.{shown_lines};
 ghost use Rattle.cml_sequence.specs.Shown.{shown_listener};
@@ -13,11 +12,11 @@ use crate::plain::draw_plain;
 use crate::read::read_all;
 use crate::svg::draw_svg;
 use cml_course::{Course, course_of};
-use cml_grammar::{Script, read_script};
+use cml_grammar::{Script, read_script, write_whole};
 use cml_report::read_report;
 use cml_sequence::{Chart, Listener, behind};
 use std::alloc::{AllocError, Global};
-use std::io::{self, Read, Write};
+use std::io::{Read, Write};
 
 /// How many rows are drawn at the most where it is not told.
 const MOST_ROWS: u64 = 500;
@@ -136,11 +135,4 @@ fn write_picture<W: Write>(writer: &mut W, picture: &[u8]) -> Ending
         Ok(()) => Ending::Done,
         Err(_) => Ending::WriteFault,
     }
-}
-
-fn write_whole<W: Write>(writer: &mut W, bytes: &[u8]) -> io::Result<()>
-    ensures { OnOk result (Appends (W.contents writer.old) (W.contents writer.new) bytes.now) }
-{
-    writer.write_all(bytes)?;
-    writer.flush()
 }

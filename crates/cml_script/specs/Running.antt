@@ -8,7 +8,7 @@ use Rattle.cml_script.specs.declared.stop.Stop.{Stop}
 use Rattle.cml_script.specs.declared.stop.Stop.TheVariants as stop
 use Rattle.cml_script.specs.declared.ending.Ending.{Ending}
 use Rattle.cml_script.specs.declared.ending.Ending.TheVariants as ending
-use Rattle.cml_script.specs.Schedule.{History, feed_count, feed_at, declared_object}
+use Rattle.cml_script.specs.Schedule.{History, apart_count, feed_count, feed_at, declared_object}
 use Rattle.cml_script.specs.Audit.{IsOfScript, IsFirstForeign}
 use Rattle.cml_script.specs.Report.{Tallied, taken_by, unperformed, report}
 use Rattle.cml_script.specs.Replay.{IsFaulty}
@@ -27,10 +27,11 @@ abbrev pub IsTakenAt : Lines → History → Tallied → ℕ → Type 0
 IsTakenAt script history tally at = (feed object : ℕ) → feed_at script at ≡ Some feed → declared_object script history at ≡ Some object
     → taken_by script tally at ≤ unwrap_or (got_count history object) 0
 
--- the journal and the tally are those of a run that ends so: there is a count for each feed, and none is more than its port
--- received
+-- the journal and the tally are those of a run that ends so: no more steps went by lanes and feeds than there are of such; there
+-- is a count for each feed, and none is more than its port received
 pub record MayEnd (script : Lines) (limit : ℕ) (history : History) (tally : Tallied) (stop : Stop) : Type 0 where
   pub leaves : Leaves script limit history tally stop
+  pub apart : tally.apart ≤ apart_count script
   pub counts : length tally.taken ≡ feed_count script
   pub taken : (at : ℕ) → at < length script.declarations → IsTakenAt script history tally at
 

@@ -123,6 +123,10 @@ is_by_ring (route.Feed feed) = true
 abbrev pub is_apart : Lines → SourceLine → Bool
 is_apart script line = is_by_ring (route_of_line script line)
 
+-- how many such steps there are
+abbrev pub apart_count : Lines → ℕ
+apart_count script = how_many (is_apart script) script.steps
+
 -- a step that the seat of its thread performs
 abbrev pub is_called : Lines → ℕ → SourceLine → Bool
 is_called script seat line = is_seated script seat line && not (is_apart script line)

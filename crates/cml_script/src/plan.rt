@@ -4,7 +4,7 @@ ghost use Rattle.std.specs.Option.{option_map};
 ghost use Rattle.cml_board.specs.History.{no_entries, entries_in};
 ghost use Rattle.cml_grammar.specs.Rings.{makes_feed};
 ghost use Rattle.cml_script.specs.Counting.{how_many};
-ghost use Rattle.cml_script.specs.Schedule.{History, makes_object, is_object, is_feed, is_seated, is_called, number_of, feed_at, declared_count, feed_count, positions_where, positions_from, lane_route, feed_route, route_of, given_by, object_of};
+ghost use Rattle.cml_script.specs.Schedule.{History, makes_object, is_object, is_feed, is_seated, is_called, number_of, apart_count, feed_at, declared_count, feed_count, positions_where, positions_from, lane_route, feed_route, route_of, given_by, object_of};
 ghost use Rattle.cml_grammar.specs.Reading.{gives_name, IsCapacity};
 ghost use Rattle.cml_script.specs.Plan.{IsKnown, AreNumbers, AreFeedNumbers, AreQueues, AreGivings, NamesObjects, HasSeats, AsksForPorts, items_of, object_among, route_at, HasLaneRoom};
 ghost use Rattle.cml_script.specs.Bindings.{AreBindings};
@@ -49,6 +49,7 @@ impl<'a> Model for Plan<'a> {
 }
 
 impl<'a> Plan<'a> {
+    /// What is known of this script.
     pub fn new(alloc: Global, script: &'a Script) -> Result<Plan<'a>, AllocError>
         ensures script { IfOk result (λ plan. plan ≡ script.now) }
         ensures known { IfOk result (λ plan. IsKnown plan) }
@@ -69,6 +70,7 @@ impl<'a> Plan<'a> {
         })
     }
 
+    /// The script that is planned.
     pub fn script(&self) -> &'a Script
         ensures { result.now ≡ self.now }
     {
@@ -111,6 +113,13 @@ impl<'a> Plan<'a> {
         ensures fits { HasLaneRoom result }
     {
         route_of(self.script, &self.feeds, &self.script.steps()[step])
+    }
+
+    /// How many steps go by lanes and feeds.
+    pub fn apart(&self) -> usize
+        ensures { result ≡ apart_count self.now }
+    {
+        count_apart(self.script, &self.feeds)
     }
 
     /// The number of the feed that the name at this position is, if it is one: feeds are counted from 0 in text order.
@@ -264,6 +273,18 @@ fn route_of(script: &Script, feeds: &[usize], step: &Step) -> Route
         | Action::TakePoll(_)
         | Action::Swap(_, _) => Route::Seat,
     }
+}
+
+/// How many steps go by lanes and feeds, where by name so many feeds are declared before it.
+fn count_apart(script: &Script, feeds: &[usize]) -> usize
+    requires { AreFeedNumbers script.now feeds.now }
+    ensures { result ≡ apart_count script.now }
+{
+    let mut apart = 0;
+    for step in script.steps() {
+        apart += usize::from(route_of(script, feeds, step).is_by_ring());
+    }
+    apart
 }
 
 fn lane_route(capacity: Option<usize>) -> Route

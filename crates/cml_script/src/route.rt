@@ -14,6 +14,7 @@ pub enum Route {
 }
 
 impl Route {
+    /// Whether it goes by a lane or a feed.
     pub fn is_by_ring(self) -> bool
         ensures { result ≡ is_by_ring self }
     {

@@ -90,6 +90,9 @@ fn may_end(plan: &Plan<'_>, board: &Board<Text, BoardLog<Text>>, tally: &Tally, 
     if !leaves(plan.script(), board, tally, stop) {
         return false;
     }
+    if tally.apart > plan.apart() {
+        return false;
+    }
     if tally.taken.len() != count_feeds(plan.script()) {
         return false;
     }
