@@ -92,15 +92,15 @@ fn steps_on(plan: &Plan<'_>, left: &mut Vec<usize>, act: &Act<'_>, name: &str) -
     if !is_step_of(act, name, &plan.steps[place.at]) {
         return false;
     }
-    left[place.seat] = place.at + 1;
+    left[place.thread] = place.at + 1;
     true
 }
 
 /// Where a thread stands.
 #[derive(Clone, Copy)]
 struct Place {
-    /// The thread's place among the script's.
-    seat: usize,
+    /// The thread's position among those of the script.
+    thread: usize,
     /// Its step's place among the steps.
     at: usize,
 }
@@ -110,12 +110,12 @@ fn place_of(plan: &Plan<'_>, left: &[usize], name: &str) -> Option<Place>
     requires { length left.now ≡ length plan.now.threads.keys }
     ensures place { (deeds : List Deed) → IsLeft (shown_plan plan.now) deeds left.now → MatchOption result
         (stands_at (shown_plan plan.now) deeds name.now ≡ None)
-        (λ place. IsStanding (shown_plan plan.now) left.now name.now place.seat place.at) }
-    ensures within { IfSome result (λ place. (place.seat < length left.now) × (place.at < length plan.now.steps.items)) }
+        (λ place. IsStanding (shown_plan plan.now) left.now name.now place.thread place.at) }
+    ensures within { IfSome result (λ place. (place.thread < length left.now) × (place.at < length plan.now.steps.items)) }
 {
-    let seat = column_of(&plan.threads, name)?;
-    let at = next_own(&plan.steps, left[seat], name)?;
-    Some(Place { seat, at })
+    let thread = column_of(&plan.threads, name)?;
+    let at = next_own(&plan.steps, left[thread], name)?;
+    Some(Place { thread, at })
 }
 
 /// Where the first of these steps stands, from this place on, that is the thread's.

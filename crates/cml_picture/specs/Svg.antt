@@ -38,6 +38,10 @@ place_at origin step at = capped (capped (step * at) + origin)
 abbrev pub column_at : Geometry → ℕ → ℕ
 column_at g at = place_at 60 g.gap at
 
+-- how far down the arrow of a row stands
+abbrev pub row_at : ℕ → ℕ
+row_at at = place_at 80 26 at
+
 unfoldable pub attribute : List ℕ → ℕ → List ℕ
 attribute name number = codes " " ++ name ++ codes "='" ++ decimal number ++ codes "'"
 
@@ -66,10 +70,13 @@ text_tag class at content =
 unfoldable pub aslant_text : List ℕ → Point → List ℕ
 aslant_text class at = start_text (codes "<text") class ++ ASLANT.now ++ decimal at.0 ++ codes " " ++ decimal at.1 ++ TURN.now
 
--- what the second part says of an object, aslant under its column
+-- a text aslant under a column
+unfoldable pub under_tag : Geometry → ℕ → List ℕ → List ℕ → List ℕ
+under_tag g column class content = aslant_text class (column_at g column, capped (g.bottom + 12)) ++ content_text content
+
+-- what the second part says of an object
 unfoldable pub closing_tag : Geometry → ℕ → Thing → List ℕ
-closing_tag g column t =
-    aslant_text (codes "closing") (column_at g column, capped (g.bottom + 12)) ++ content_text (closing_text t.closing)
+closing_tag g column t = under_tag g column (codes "closing") (closing_text t.closing)
 
 -- .. where the column is an object's
 abbrev pub closing_at : Geometry → Chart → ℕ → List ℕ
@@ -98,15 +105,15 @@ arrow_class row =
 
 -- a mark: the object's column is joined to this one
 abbrev pub mark_tag : Geometry → ℕ → Row → ℕ → List ℕ
-mark_tag g at row mark = line_tag (codes "told") (column_at g row.object, place_at 80 26 at) (column_at g mark, place_at 80 26 at)
+mark_tag g at row mark = line_tag (codes "told") (column_at g row.object, row_at at) (column_at g mark, row_at at)
 
 -- a row: its arrow from the line of the actor's column to that of the object's, marks at the ports that its message goes to, and
 -- what is said of it
 unfoldable pub row_tags : Geometry → ℕ → List ℕ → Row → List ℕ
 row_tags g at marks row =
-    line_tag (arrow_class row) (column_at g row.actor, place_at 80 26 at) (column_at g row.object, place_at 80 26 at)
+    line_tag (arrow_class row) (column_at g row.actor, row_at at) (column_at g row.object, row_at at)
     ++ flat_map (mark_tag g at row) marks
-    ++ text_tag (codes "label") (capped (column_at g row.actor + 8), place_at 80 26 at - 9) (label_of (shown_act row.act))
+    ++ text_tag (codes "label") (capped (column_at g row.actor + 8), row_at at - 9) (label_of (shown_act row.act))
 
 -- one row behind the other, the first where these ports are open
 abbrev pub rows_from : Geometry → Words → ℕ → List Listener → List Row → List ℕ
@@ -120,8 +127,7 @@ standing_class stop.Stalled = codes "closing stalled"
 standing_class _ = codes "closing"
 
 unfoldable pub standing_under : Geometry → Stop → ℕ → Words → List ℕ
-standing_under g s column step =
-    aslant_text (standing_class s) (column_at g column, capped (g.bottom + 12)) ++ content_text (standing_text s step)
+standing_under g s column step = under_tag g column (standing_class s) (standing_text s step)
 
 -- .. aslant under the thread's column
 unfoldable pub standing_tag : Geometry → Chart → Words → List ℕ

@@ -7,7 +7,7 @@ ghost use Rattle.cml_report.specs.Shown.{texts, shown_act, shown_object, shown_e
 ghost use Rattle.cml_sequence.specs.Shown.{shown_listener};
 ghost use Rattle.cml_sequence.specs.Notes.{note_text};
 ghost use Rattle.cml_sequence.specs.Heads.{shown_head};
-ghost use Rattle.cml_picture.specs.Svg.{text_tag, place_at, arrow_class, mark_tag, row_tags, rows_from, head_tags, heads_from, closing_tag, closing_at, standing_class, standing_under, standing_tag, opening_of, end_class, end_tag, svg_text};
+ghost use Rattle.cml_picture.specs.Svg.{text_tag, place_at, column_at, row_at, arrow_class, mark_tag, row_tags, rows_from, head_tags, heads_from, under_tag, closing_tag, closing_at, standing_class, standing_under, standing_tag, opening_of, end_class, end_tag, svg_text};
 
 use crate::tags::{push_aslant, push_content, push_line, push_text};
 use cml_report::{Object, Reply, Stop};
@@ -193,6 +193,20 @@ fn place_at(origin: u64, step: u64, at: usize) -> u64
     step.saturating_mul(at as u64).saturating_add(origin)
 }
 
+/// Where the line of a column stands.
+fn column_at(geometry: &Geometry, at: usize) -> u64
+    ensures { result ≡ column_at geometry.now at }
+{
+    place_at(60, geometry.gap, at)
+}
+
+/// How far down the arrow of a row stands.
+fn row_at(at: usize) -> u64
+    ensures { result ≡ row_at at }
+{
+    place_at(80, 26, at)
+}
+
 #[tactic(auto, unfolding(crate::specs::Svg::opening_of))]
 fn push_opening(alloc: Global, out: &mut Vec<u8>, geometry: &Geometry) -> Result<(), AllocError>
     ensures { OnOk result (out.new.items ≡ out.old.items ++ opening_of geometry.now) }
@@ -230,7 +244,7 @@ fn push_head(
 ) -> Result<(), AllocError>
     ensures { OnOk result (out.new.items ≡ out.old.items ++ head_tags geometry.now chart.now at (shown_head head.now)) }
 {
-    let x = place_at(60, geometry.gap, at);
+    let x = column_at(geometry, at);
     push_line(alloc, out, "life", (x, 52), (x, geometry.bottom))?;
     push_text(alloc, out, "kind", (x, 26), head.kind.as_bytes())?;
     push_text(alloc, out, "name", (x, 43), head.name.as_bytes())?;
@@ -283,9 +297,9 @@ fn push_row(
 ) -> Result<(), AllocError>
     ensures { OnOk result (out.new.items ≡ out.old.items ++ row_tags geometry.now at marks.now row.now) }
 {
-    let y = place_at(80, 26, at);
-    let x = place_at(60, geometry.gap, row.actor);
-    let end = place_at(60, geometry.gap, row.object);
+    let y = row_at(at);
+    let x = column_at(geometry, row.actor);
+    let end = column_at(geometry, row.object);
     push_line(alloc, out, arrow_class(row), (x, y), (end, y))?;
     push_marks(alloc, out, geometry, at, marks, row)?;
     let mut label = Vec::new(alloc);
@@ -305,16 +319,10 @@ fn push_marks(
 ) -> Result<(), AllocError>
     ensures { OnOk result (out.new.items ≡ out.old.items ++ flat_map (mark_tag geometry.now at row.now) marks.now) }
 {
-    let y = place_at(80, 26, at);
-    let x = place_at(60, geometry.gap, row.object);
+    let y = row_at(at);
+    let x = column_at(geometry, row.object);
     for &mark in marks {
-        push_line(
-            alloc,
-            out,
-            "told",
-            (x, y),
-            (place_at(60, geometry.gap, mark), y),
-        )?;
+        push_line(alloc, out, "told", (x, y), (column_at(geometry, mark), y))?;
     }
     Ok(())
 }
@@ -363,12 +371,27 @@ fn push_object(
 ) -> Result<(), AllocError>
     ensures { OnOk result (out.new.items ≡ out.old.items ++ closing_tag geometry.now column (shown_object object.now)) }
 {
-    let x = place_at(60, geometry.gap, column);
-    let y = geometry.bottom.saturating_add(12);
-    push_aslant(alloc, out, "closing", (x, y))?;
     let mut says = Vec::new(alloc);
     push_closing(&mut says, &object.closing)?;
-    push_content(out, &says)
+    push_under(alloc, out, geometry, column, "closing", &says)
+}
+
+/// A text aslant under a column.
+#[tactic(auto, unfolding(crate::specs::Svg::under_tag))]
+fn push_under(
+    alloc: Global,
+    out: &mut Vec<u8>,
+    geometry: &Geometry,
+    column: usize,
+    class: &str,
+    says: &[u8],
+) -> Result<(), AllocError>
+    ensures { OnOk result (out.new.items ≡ out.old.items ++ under_tag geometry.now column class.now says.now) }
+{
+    let x = column_at(geometry, column);
+    let y = geometry.bottom.saturating_add(12);
+    push_aslant(alloc, out, class, (x, y))?;
+    push_content(out, says)
 }
 
 fn push_all_standing(
@@ -414,12 +437,9 @@ fn push_standing_under(
 ) -> Result<(), AllocError>
     ensures { OnOk result (out.new.items ≡ out.old.items ++ standing_under geometry.now stop column (texts step.now)) }
 {
-    let x = place_at(60, geometry.gap, column);
-    let y = geometry.bottom.saturating_add(12);
-    push_aslant(alloc, out, standing_class(stop), (x, y))?;
     let mut says = Vec::new(alloc);
     push_standing(&mut says, stop, step)?;
-    push_content(out, &says)
+    push_under(alloc, out, geometry, column, standing_class(stop), &says)
 }
 
 fn standing_class(stop: Stop) -> &'static str

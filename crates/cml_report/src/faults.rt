@@ -7,7 +7,7 @@ use std::error::Error;
 use std::fmt;
 use thiserror::Error;
 
-/// Why a text is no report.
+/// Why a text is no report, or none of its script, or has no chart, in the order in which the tests are made.
 #[derive(Clone, Copy, Debug, PartialEq, Eq, Error)]
 pub enum What {
     #[error("no line end")]
@@ -20,12 +20,12 @@ pub enum What {
     OutOfPlace,
     #[error("no end line")]
     NoEndLine,
+    #[error("not of this script")]
+    OtherScript,
     #[error("name taken")]
     NameTaken,
     #[error("unknown name")]
     UnknownName,
-    #[error("not of this script")]
-    OtherScript,
     #[error("too long")]
     TooLong,
     #[error("no memory")]

@@ -10,8 +10,7 @@ use std::alloc::{AllocError, Global};
 
 /// Whether a journal is lawful and a script's: the declared objects first, and then the steps of its threads, each
 /// thread's in order. Else where it first isn't. A journal that breaks off is judged as far as it goes. It takes memory
-/// in proportion to the script and the journal, and as much time as making the journal's calls again: in proportion
-/// too, but that a receive looks at each open port of its channel.
+/// in proportion to the script and the journal, and as much time as making the journal's calls again.
 pub fn audit(alloc: Global, script: &Script, entries: &[Entry<Text>]) -> Result<Verdict, AllocError>
     requires { length entries.now ≤ 2 ^ 32 }
     ensures { IfOk result (λ verdict. Judges script.now entries.now verdict) }

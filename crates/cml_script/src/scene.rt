@@ -71,7 +71,7 @@ impl<'a> Scene<'a> {
         self.trail.script()
     }
 
-    /// How many steps were performed.
+    /// How many lines the first part has: how many entries stand behind those of the declared objects.
     pub fn performed(&self) -> usize
         ensures { result ≡ performed_count self.now.script self.now.history }
     {

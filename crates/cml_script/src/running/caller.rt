@@ -79,6 +79,7 @@ pub struct Seated<'a, Led: Ledger, R: Wait> {
 }
 
 impl<'a, Led: Ledger, R: Wait> Seated<'a, Led, R> {
+    /// A caller from this seat, whose thread has these lanes and feeds.
     pub fn new(
         alloc: Global,
         rt: &'a R,
