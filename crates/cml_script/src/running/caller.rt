@@ -79,7 +79,7 @@ pub struct Seated<'a, Led: Ledger, R: Wait> {
 }
 
 impl<'a, Led: Ledger, R: Wait> Seated<'a, Led, R> {
-    /// A caller from this seat, whose thread has these lanes and feeds.
+    /// A caller from this seat, which has no lane and no feed yet.
     pub fn new(
         alloc: Global,
         rt: &'a R,
