@@ -1,5 +1,5 @@
 -- What the drawing of a report reads and writes, by how it ends.
-use Rattle.std.specs.Prelude.{ℕ, ◌≤◌, ◌+◌, ◌-◌, ◌^◌, ◌⊎◌, min, List, ◌≡◌, length, map, Option, Some, None, unwrap_or, slice_range, MatchBool, ⊤}
+use Rattle.std.specs.Prelude.{ℕ, ◌+◌, ◌-◌, ◌^◌, ◌⊎◌, min, List, ◌≡◌, length, map, Option, Some, None, unwrap_or, slice_range, MatchBool, ⊤}
 use Rattle.std.specs.Io.KnownBytes.{Consumes, IsAtEnd, Appends, Keeps}
 use Rattle.cml_grammar.specs.Input.{IsReadUpTo}
 use Rattle.cml_picture.specs.declared.asked.Asked.{Asked}
