@@ -173,7 +173,7 @@ fn asks_a_reader_that_is_always_interrupted_so_often_and_no_more(rt: HostRuntime
 
 #[test]
 fn stops_reading_where_a_script_is_too_long(rt: HostRuntime) {
-    ends_after(&rt, Endless::new(0, usize::MAX), TOO_LONG, 257, 1_048_577);
+    ends_after(&rt, Endless::new(0, usize::MAX), TOO_LONG, 17, 1_048_577);
 }
 
 #[test]
