@@ -1,31 +1,39 @@
 #!/bin/sh
-# Everything: every crate is proved and its wrong edits are refused, but for what was so on this machine before, and its
-# tests run; then the tables of calls are performed, also with the journal cut behind each line, the guide's code is
-# compared with the sources, the guide, the tables, scripts and charts are run with each request for memory refused in
-# turn, logs and journals that are cut are seen not to grow, threads that wait for each other are seen to go on, the built
-# programs are tried from outside, and the libraries for C are built and used from C and from Rust. The last line is
-# `N passed, M failed`.
+# Everything. `rt ci` proves every crate, has the prover refuse the wrong edits in must-fail, and runs tests and programs; it
+# skips what it has passed on this machine before. Then the built programs are tried from outside: the tables of calls, also
+# with the journal cut behind each line; the guide's code against the sources; each request for memory refused in turn; logs
+# and journals that are cut, which are not to grow; threads that wait for each other; scripts, faults and charts. Beside that
+# the libraries for C are built, and used from C and from Rust. The last line is `N passed, M failed`.
 cd "$(dirname "$0")/.." || exit 1
 work=$(mktemp -d) || exit 1
 trap 'rm -rf "$work"' EXIT
 
-# step NAME COMMAND..: runs it, shows what it prints and keeps it. Without success there is nothing after it.
+# step NAME COMMAND..: runs it, shows what it prints and keeps it. If it fails, its status ends this script, or the part of
+# it that runs beside the rest.
 step() {
     name=$1
     shift
-    { "$@" 2>&1; echo $? > "$work/status"; } | tee "$work/$name"
-    status=$(cat "$work/status")
+    { "$@" 2>&1; echo $? > "$work/$name.status"; } | tee "$work/$name"
+    status=$(cat "$work/$name.status")
     [ "$status" -eq 0 ] || exit "$status"
 }
 
 # counted NAME WORD: the number before this word in the last line of a step.
 counted() { tail -n 1 "$work/$1" | sed -n "s/.*\\b\\([0-9][0-9]*\\) $2.*/\\1/p"; }
 
-# As many proofs at once as there are processors. By itself `rt ci` reckons with more memory than a proof takes, and lets
-# the largest crate wait until nearly all else has ended.
+# The libraries for C: they prove two crates once more, which takes as long as all that is tried from outside.
+libraries() {
+    step archives sh tests/archives.sh
+    step bindings sh tests/bindings.sh crates/cml_c/out/libcml_c.a crates/cml_script_c/out/libcml_script_c.a
+}
+
+# As many proofs at once as there are processors. Without RT_JOBS `rt ci` expects more memory of a proof than it takes, and
+# begins with the largest crate only when nearly all others have ended.
 RT_JOBS=${RT_JOBS:-$(nproc 2> /dev/null || echo 2)}
 export RT_JOBS
 step crates rt ci
+(libraries) > "$work/libraries" 2>&1 &
+beside=$!
 step calls sh tests/calls.sh crates/cml_rows/out/cml_rows
 step cuts sh tests/cuts.sh crates/cml_rows/out/cml_rows
 step guide sh tests/guide.sh
@@ -34,8 +42,10 @@ step memory sh tests/memory.sh crates/cml_bench/out/cml_bench
 step waiting sh tests/waiting.sh crates/cml_bench/out/cml_bench
 step program sh tests/program.sh crates/cml/out/cml
 step chart sh tests/chart.sh crates/cml_chart/out/cml_chart
-step archives sh tests/archives.sh
-step bindings sh tests/bindings.sh crates/cml_c/out/libcml_c.a crates/cml_script_c/out/libcml_script_c.a
+wait "$beside"
+status=$?
+cat "$work/libraries"
+[ "$status" -eq 0 ] || exit "$status"
 passed=0
 failed=0
 for name in crates calls cuts guide refused memory waiting program chart archives bindings; do
