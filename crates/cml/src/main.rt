@@ -1,76 +1,24 @@
 //! `cml`: replays or runs the script on standard input, and writes its report to standard output.
 #![tactic(auto)]
 
-use clap::Error;
-use cml_script::{Ending, OpenGate, Order, order, replay, run, status_of, status_of_error};
-use std::env;
-use std::io::ErrorKind;
+use cml_script::{Ending, OpenGate, Order, order, replay, run};
+use cml_shell::{NoOrder, end, words};
 use std::process::ExitCode;
 use std::sync::Wait;
 use std::thread::Threads;
 
 fn main(rt: HostRuntime) -> ExitCode {
-    let status = match words(&rt) {
-        Ok(words) => obey(&rt, &rt, words.as_slice()),
-        Err(status) => status,
-    };
-    ExitCode::from(status)
+    let ended = obey(&rt, &rt);
+    ExitCode::from(end(&rt, "cml", ended))
 }
 
-/// The program's words, its own name first; or the exit status where they can't be had.
-fn words(rt: &HostRuntime) -> Result<Vec<String>, u8> {
-    match env::args(rt) {
-        Ok(args) => args
-            .collect(rt.alloc())
-            .map_err(|_| tell(rt, Ending::NoMemory)),
-        Err(error) if error.kind() == ErrorKind::OutOfMemory => Err(tell(rt, Ending::NoMemory)),
-        Err(_) => {
-            let _unheard = eprintln!(rt; "cml: the command line is not UTF-8");
-            Err(3)
-        }
+/// Does what the program's words ask for, with threads from `system`.
+fn obey<R: Threads + Wait + Sync>(rt: &HostRuntime, system: &R) -> Result<Ending, NoOrder> {
+    let alloc = rt.alloc();
+    let words = words(rt)?;
+    let (input, output) = (&mut rt.stdin(), &mut rt.stdout());
+    match order(alloc, words.as_slice())? {
+        Order::Replay(limit) => Ok(replay(alloc, input, output, limit)),
+        Order::Run(limit) => Ok(run(system, alloc, input, output, limit, &OpenGate)),
     }
-}
-
-/// Does what the words ask for, with threads from `system`, and gives the exit status.
-fn obey<R: Threads + Wait + Sync>(rt: &HostRuntime, system: &R, words: &[String]) -> u8 {
-    match order(rt.alloc(), words) {
-        Ok(Order::Replay(limit)) => {
-            let ending = replay(rt.alloc(), &mut rt.stdin(), &mut rt.stdout(), limit);
-            tell(rt, ending)
-        }
-        Ok(Order::Run(limit)) => {
-            let ending = run(
-                system,
-                rt.alloc(),
-                &mut rt.stdin(),
-                &mut rt.stdout(),
-                limit,
-                &OpenGate,
-            );
-            tell(rt, ending)
-        }
-        Err(error) => show(rt, &error),
-    }
-}
-
-/// Shows the help, or what is wrong with the words.
-fn show(rt: &HostRuntime, error: &Error) -> u8 {
-    if error.kind() == clap::error::ErrorKind::OutOfMemory {
-        return tell(rt, Ending::NoMemory);
-    }
-    if error.print(rt).is_err() && !error.use_stderr() {
-        return tell(rt, Ending::WriteFault);
-    }
-    status_of_error(error)
-}
-
-/// Tells standard error how the run ended, where the report doesn't.
-fn tell(rt: &HostRuntime, ending: Ending) -> u8 {
-    match ending {
-        Ending::Done | Ending::Stalled | Ending::Full | Ending::Held => {}
-        _ => {
-            let _unheard = eprintln!(rt; "{ending}");
-        }
-    }
-    status_of(&ending)
 }

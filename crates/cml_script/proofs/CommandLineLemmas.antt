@@ -16,7 +16,8 @@ use Rattle.clap.specs.Values.{kind_of}
 use Rattle.clap.proofs.FaultLemmas.{stopped_fault}
 use Rattle.clap.proofs.OnLiterals.{clap_on_literals}
 use Rattle.clap.proofs.WalkLemmas.{walk_stopped}
-use Rattle.cml_script.specs.CommandLine.{Asks, AsksFor, AsksHelp, HasLimit, HasOrder, asked_of, error_status, faults_of, limit_in, usage}
+use Rattle.cml_shell.specs.Statuses.{error_status}
+use Rattle.cml_script.specs.CommandLine.{Asks, AsksFor, AsksHelp, HasLimit, HasOrder, asked_of, faults_of, limit_in, usage}
 use Rattle.cml_script.specs.declared.asked.Order.{Order}
 use Rattle.cml_script.specs.declared.asked.Order.TheVariants.{Replay, Run}
 use Rattle.cml_script.proofs.RefusalLemmas.{or_else-nil, or_else-refuses, refused_is_some, refuses, same_text}

@@ -4,8 +4,6 @@ use Rattle.std.specs.Str.Parse.{IsNumeral, digits_value, without_leading_plus}
 use Rattle.clap.specs.Words.{App, Kinds, Row, Rule, Shape, Text, fault_of, new_app, new_rule, one_of, with_rule, with_subcommand}
 use Rattle.clap.specs.Simple.{on_top}
 use Rattle.clap.specs.declared.builder.value_parser.ValueParser.TheVariants as parser
-use Rattle.clap.specs.declared.error.kind.ErrorKind.{ErrorKind}
-use Rattle.clap.specs.declared.error.kind.ErrorKind.TheVariants as kind
 use Rattle.cml_script.specs.declared.asked.Order.{Order}
 use Rattle.cml_script.specs.declared.asked.Order.TheVariants as order
 
@@ -104,9 +102,3 @@ HasOrder entered (order.Run limit) = Enters entered (codes "run") × HasLimit en
 -- the kinds of error that the words may give; none where they are understood
 abbrev pub faults_of : List Text → Kinds
 faults_of words = fault_of usage words
-
--- the exit status for an error of this kind
-abbrev pub error_status : ErrorKind → ℕ
-error_status kind.OutOfMemory = 5
-error_status kind.DisplayHelp = 0
-error_status _ = 3

@@ -1,10 +1,10 @@
 //! The words of the command line, by `clap`, which also writes the help.
 ghost use Rattle.std.specs.Prelude.{◌≡◌, ◌⊎◌, ◌≤◌, ◌^◌, ℕ, IfOk, IfErr, IsErrAnd, Some, false, map};
 ghost use Rattle.clap.specs.Words.{app_of, FailsBy, kind_of, rule_of, subcommand_of, subcommand_rows_of, with_subcommand};
-ghost use Rattle.cml_script.specs.CommandLine.{usage, faults_of, error_status, limit_in, limit_rule, limited, AsksFor, AsksReplay, AsksRun, AsksHelp, HasOrder};
+ghost use Rattle.cml_shell.specs.Statuses.{error_status};
+ghost use Rattle.cml_script.specs.CommandLine.{usage, faults_of, limit_in, limit_rule, limited, AsksFor, AsksReplay, AsksRun, AsksHelp, HasOrder};
 
 use crate::asked::Order;
-use clap::error::ErrorKind;
 use clap::{Arg, ArgMatches, Command, Error, value_parser};
 use std::alloc::{AllocError, Global};
 use std::convert::AsStr;
@@ -168,15 +168,4 @@ fn limit<'a>(alloc: Global) -> Arg<'a>
         .value_parser(value_parser!(u64).range(1..=4_294_967_296))
         .default_value(DEFAULT_LIMIT)
         .help(LIMIT_HELP)
-}
-
-/// The exit status for words that were not understood, or that ask for help.
-pub fn status_of_error(error: &Error) -> u8
-    ensures { result ≡ error_status (kind_of error.now) }
-{
-    match error.kind() {
-        ErrorKind::OutOfMemory => 5,
-        ErrorKind::DisplayHelp => 0,
-        _ => 3,
-    }
 }

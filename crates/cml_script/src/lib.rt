@@ -28,7 +28,7 @@ mod writing;
 pub use asked::Order;
 pub use auditing::audit;
 pub use cml_grammar::{Fault, Script, What, read_script};
-pub use command_line::{order, status_of_error};
+pub use command_line::order;
 pub use ending::{Ending, status_of};
 pub use laws::{
     reports_tell_what_is_left, schedules_are_one, scripts_have_a_schedule, stalled_threads_wait,

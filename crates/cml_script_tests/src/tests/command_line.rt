@@ -1,5 +1,6 @@
 //! The words of the command line.
-use cml_script::{Order, order, status_of_error};
+use cml_script::{Order, order};
+use cml_shell::status_of_error;
 use std::alloc::{AllocError, Global};
 use std::process::Abort;
 use std::test::Fail;
