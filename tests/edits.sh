@@ -1,0 +1,53 @@
+#!/bin/sh
+# The wrong edits in crates/*/edits: `sh tests/edits.sh [NAME..]` has the prover refuse each one of the crates that are named, or of all
+# crates. `rt ci` tries those in crates/*/must-fail, which guard what the README and docs/PROVED.md promise. Who changes a crate tries the
+# others of that crate.
+#
+# They are tried on a copy of the crates, where they lie in must-fail/. The copy has what `rt check` kept in out/, and begins with it.
+# `rt` tries an edit again only if something that it rests on has changed.
+# The last line is `N passed, M failed`.
+cd "$(dirname "$0")/.." || exit 1
+work=$(mktemp -d) || exit 1
+trap 'rm -rf "$work"' EXIT
+trap 'exit 1' HUP INT TERM
+
+if [ $# -eq 0 ]; then
+    for folder in crates/*/edits; do
+        set -- "$@" "$(basename "$(dirname "$folder")")"
+    done
+fi
+for name; do
+    if [ ! -d "crates/$name/edits" ]; then
+        echo "there is no folder crates/$name/edits"
+        echo '0 passed, 1 failed'
+        exit 1
+    fi
+done
+
+# copy CRATE PART..: those of the parts that are there.
+copy() {
+    folder=$1
+    shift
+    for part; do
+        if [ -d "$folder/$part" ]; then
+            mkdir -p "$work/$folder/$part" && cp -a "$folder/$part/." "$work/$folder/$part"
+        fi
+    done
+}
+
+cp crates.txt HANDLES "$work" || exit 1
+for folder in crates/*; do
+    copy "$folder" src specs proofs out/rlib
+done
+for name; do
+    copy "crates/$name" out/incremental
+    cp -a "crates/$name/edits" "$work/crates/$name/must-fail" || exit 1
+done
+
+RT_JOBS=${RT_JOBS:-$(nproc 2> /dev/null || echo 2)}
+export RT_JOBS
+(cd "$work" && rt must-fail "$@" 2>&1) | tee "$work/told"
+edits=$(find "$work"/crates/*/must-fail -name '*.edit' | wc -l)
+passed=$(grep -c '^rt: must-fail .*: refused, as it must be' "$work/told")
+echo "$passed passed, $((edits - passed)) failed"
+[ "$passed" -eq "$edits" ] && [ "$edits" -gt 0 ]
