@@ -1,33 +1,19 @@
 -- The machine values of the types of the blocks. Assumes `Logic`.
-use Rattle.std.proofs.Common.{◌≡◌, ℕ, ◌^◌, ◌<◌, List, [], ◌∷◌, ◌++◌, refl, subst}
-use mathlib.Core.Bool.{◌&&◌, true}
-use lib.Dec.{T}
+use Rattle.std.proofs.Common.{ℕ, ◌^◌, ◌<◌, [], ◌∷◌, refl}
 use seplogic.Ra.Ura.{Ura}
-use mir.Syntax.{impl, tnil, dnil, w64}
-use mir.Raw.{raw as bare}
-use mir.Val.{Val, vint, vptr, vstruct, vcons, vnil, of_list, has_ty, WT}
-use base.Logic.{ent, emp, never, fst∗}
+use mir.Syntax.{w64}
+use mir.Val.{Val, vint, vstruct, vcons, vnil}
+use base.Logic.{ent, emp}
 use types.Logic.{Logic, sem}
-use types.Kit.{Item, Goal, Seq, Step, step, ‵, ◌$◌, move, drop, fsplit, fjoin, fpick, fpack, feq_i, feq_l}
-use denote.RattleType.{RattleType, Valss}
-use denote.Builtin.{RawPtr}
-use denote.Memory.{lone}
-use denote.Param.{layout}
-use denote.Param.Laws.{Laws}
-use denote.RawPtr.{Ptr, block_ptr, null_ptr, ptr_val, in_a_block}
+use denote.RattleType.{RattleType}
+use denote.RawPtr.{Ptr, ptr_val}
 use denote.Shadow.{makes_shadow}
-use denote.Steps.{nothing}
-use denote.Struct.Struct.{Struct, within}
+use denote.Struct.Struct.{Struct}
 use denote.Struct.Owning.{shape}
-use Rattle.core.specs.declared.alloc.Allocator.{Ghosts}
-use Rattle.core.proofs.alloc.Calls.{Al, handle_tells}
-use Rattle.std_alloc.specs.Box.Ownership.{box_owns}
-use Rattle.std_alloc.proofs.RcSteps.{Good, word}
-use Rattle.std_alloc.proofs.ResultValues.{and_tt}
+use Rattle.std_alloc.proofs.RcSteps.{word}
 use Rattle.cml_log.specs.contracts.chunk.raw.Address as address
 use Rattle.cml_log.specs.contracts.chunk.raw.Blocks as blocks
 use Rattle.cml_log.specs.contracts.chunk.raw.Counter as counter
-use Rattle.cml_log.specs.contracts.chunk.raw.Loose as loose
 use Rattle.cml_log.specs.contracts.chunk.raw.Right as right
 
 -- a struct with no bytes but its mark, and one of two fields
@@ -61,31 +47,3 @@ module _ (R : RattleType) where
 
     pub pointing_made : (at : Ptr) → ent 𝓤 (emp 𝓤) (sem 𝓛 (Pointing.own_val (at, tt) (word at ∷ [])))
     pointing_made at = makes_shadow 𝓛 (Pointing.own_val (at, tt) (word at ∷ [])) (λ vss. (tt, (tt, tt))) ((ptr_val at ∷ [], tt), (refl, (refl, tt)))
-
--- a box taken apart, with its allocator's handle of the row Z
-module _ (R Z : RattleType) (L : Laws Z) (g : Ghosts Z.Denot) where
-  abbrev pub Loose : RattleType
-  Loose = loose.the_row R Z g
-
-  abbrev pub handle : Al
-  handle = record { row = Z; laws = L; g = g; d = impl [] tnil dnil; drops = impl [] tnil dnil }
-
-  pub loose_good : (b o : ℕ) (h : Val) → Good (layout Z) h → T (has_ty (layout Z) h && true) × WT (both (vptr b o) h)
-  loose_good b o h fits = (and_tt (has_ty (layout Z) h) fits.0, (tt, (fits.1, tt)))
-
-  module _ {M : Type 1} {𝓤 : Ura M} {𝓛 : Logic 𝓤} {K : Type 0} {Γ : List (Item 𝓤)} {G : Goal 𝓤 𝓛.H} where
-    pub loose_out : K → (d : Loose.Denot) (vs : List Val)
-        → ((b o : ℕ) (h : Val) → d.at ≡ block_ptr b o → vs ≡ both (vptr b o) h ∷ [] → Good (layout Z) h → Seq K 𝓛 (‵ (box_owns (g.dealloc_token d.alloc) R (block_ptr b o) d.content) ∷ ‵ (Z.own_val d.alloc (h ∷ [])) ∷ Γ) G)
-        → Seq K 𝓛 (‵ (Loose.own_val d vs) ∷ Γ) G
-    loose_out t d vs k =
-        fsplit t $ fpick t (λ vss. fsplit t $ feq_l t (λ ev. fsplit t $ feq_l t (λ ep. fsplit t $ handle_tells handle t d.alloc vss.1.0 (λ h eh fits. move t (1 ∷ []) $ drop t $ move t (1 ∷ []) $
-        in_a_block t d.at (λ p. box_owns (g.dealloc_token d.alloc) R p d.content) (fst∗ 𝓤 (never 𝓤) (sem 𝓛 (g.dealloc_token d.alloc (bare (lone R.mir)) null_ptr))) (λ b o e.
-        let by_parts : vs ≡ vstruct (of_list (ptr_val d.at ∷ h ∷ [])) ∷ [] =
-        subst (λ (ws : List Val). vs ≡ vstruct (of_list (ptr_val d.at ∷ (ws ++ []))) ∷ []) eh (subst (λ (ps : List Val). vs ≡ vstruct (of_list (ps ++ (vss.1.0 ++ []))) ∷ []) ep ev) in
-        k b o h e (subst (λ (p : Ptr). vs ≡ vstruct (of_list (ptr_val p ∷ h ∷ [])) ∷ []) e by_parts) fits)))))
-
-    pub loose_in : K → (at : Ptr) (h : Val) (a : Z.Denot) (x : R.Denot)
-        → Step K 𝓛 (‵ (Loose.own_val (record { at = at; alloc = a; content = x }) (both (ptr_val at) h ∷ [])) ∷ Γ) G (‵ (box_owns (g.dealloc_token a) R at x) ∷ ‵ (Z.own_val a (h ∷ [])) ∷ Γ) G
-    loose_in t at h a x = step (λ s. let v : Val = both (ptr_val at) h in
-        nothing t $ move t (2 ∷ 0 ∷ []) $ fjoin t $ feq_i t (List Val) (ptr_val at ∷ []) (ptr_val at ∷ []) refl $ fjoin t $ feq_i t (List Val) (v ∷ []) (v ∷ []) refl $ fjoin t $
-        fpack t (Valss (RawPtr ∷ Z ∷ [])) (within (shape (loose.the_type R Z g)) (at, (a, tt)) (v ∷ [])) (ptr_val at ∷ [], (h ∷ [], tt)) $ fjoin t $ s)

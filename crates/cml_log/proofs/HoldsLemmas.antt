@@ -1,5 +1,5 @@
 -- Lemmas on what a log holds of the items that were ever pushed, for this crate and its callers.
-use Rattle.std.proofs.Common.{◌≡◌, ℕ, zero, ◌+◌, ◌-◌, ◌*◌, ◌/◌, ◌<◌, ◌≤◌, List, [], ◌∷◌, ◌++◌, length, drop, Some, None, refl, sym, ap, subst, ◌∙◌, arith}
+use Rattle.std.proofs.Common.{◌≡◌, ℕ, ◌+◌, ◌-◌, ◌*◌, ◌/◌, ◌<◌, ◌≤◌, List, [], ◌∷◌, ◌++◌, length, drop, Some, None, refl, sym, ap, subst, ◌∙◌, arith}
 use Rattle.std.proofs.Math.Nat.{mul-div-le, zero-div}
 use Rattle.std.proofs.lemmas.List.{length-append, length-drop, drop-drop, drop-append-le}
 use Rattle.cml_log.specs.Log.{Log, empty_log, least, next_of, IsOpen, place_of, owed_items, trimmed, with_item, with_place, Opens}

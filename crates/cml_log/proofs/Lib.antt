@@ -2,7 +2,8 @@ pub mod LeastLemmas
 pub mod LogLemmas
 pub mod HoldsLemmas
 mod PlainLogLemmas
-mod Steps
+pub mod Steps
+pub mod HeapBox
 mod BlockMemory
 mod BlockValues
 mod BlockSend

@@ -5,11 +5,10 @@ ghost use Rattle.std.specs.Prelude.{◌≡◌, ℕ, ◌+◌, List, Option, [], �
 ghost use base.Fml.{ftrue};
 ghost use denote.RawPtr.{Ptr};
 ghost use Rattle.std.specs.Mem.{FitsInMemory};
-ghost use Rattle.std_alloc.specs.Box.Ownership.{box_owns};
 ghost use Rattle.cml_log.specs.Blocks.{block_at, IsKept, IsBare, blocks_own, blocks_lent, right_owns};
 ghost use Rattle.cml_log.specs.declared.chunk.raw.Address.{Address};
 
-use std::alloc::{AllocError, Allocator, Global};
+use std::alloc::{AllocError, Global};
 use std::marker::{Model, PhantomData, Send, Sync};
 use std::mem::size_of;
 
@@ -102,46 +101,22 @@ impl<C> Model for Right<C> {
 
 unsafe impl<C: Send> Send for Right<C> {}
 
-// A box taken apart: where its content lies, and what gives it back.
-struct Loose<T, A: Allocator> {
-    at: *mut T,
-    alloc: A,
-    ghost content: { T },
-}
-
-impl<T, A: Allocator> Model for Loose<T, A> {
-    ghost also_owns = { λ loose. box_owns (A.dealloc_token loose.alloc) T.row loose.at loose.content };
-}
-
-impl<T: Drop, A: Allocator> Loose<T, A> {
-    fn of(block: Box<T, A>) -> Loose<T, A>
+// A box, and the pointer to where its content lies.
+impl<C> Right<C> {
+    fn of(block: Box<C, Global>) -> Right<C>
+    where
+        C: Drop,
         ensures { result.content ≡ block.value }
     {
-        let (at, alloc) = Box::into_raw_with_allocator(block);
-        Loose { at, alloc }
-    }
-
-    fn into_box(self) -> Box<T, A>
-        ensures { result.value ≡ self.content }
-    {
-        let Loose { at, alloc } = self;
-        unsafe { Box::from_raw(alloc, at) }
-    }
-}
-
-impl<C> Right<C> {
-    fn of(loose: Loose<C, Global>) -> Right<C>
-        ensures { result.content ≡ loose.content }
-    {
-        let Loose { at, alloc: _ } = loose;
+        let at = Box::into_raw(block);
         Right { at }
     }
 
-    fn loosen(self, alloc: Global) -> Loose<C, Global>
-        ensures { result.content ≡ self.content }
+    fn into_box(self, alloc: Global) -> Box<C, Global>
+        ensures { result.value ≡ self.content }
     {
         let Right { at } = self;
-        Loose { at, alloc }
+        unsafe { Box::from_raw(alloc, at) }
     }
 }
 
@@ -158,7 +133,7 @@ impl<C: Drop> Right<C> {
     {
         let block = Box::new(alloc, content)?;
         made.add();
-        Ok(Right::of(Loose::of(block)))
+        Ok(Right::of(block))
     }
 
     /// Drops the block's content and gives its memory back.
@@ -166,7 +141,7 @@ impl<C: Drop> Right<C> {
         ensures { given.new.count ≡ given.old.count + 1 }
     {
         given.add();
-        drop(self.loosen(alloc).into_box());
+        drop(self.into_box(alloc));
     }
 }
 
