@@ -1,2 +1,1 @@
-mod Steps
-mod LooseValues
+mod HandleBox

@@ -42,7 +42,7 @@ unsafe impl Send for Handle {}
 
 impl Drop for Handle {
     fn drop(self) {
-        drop(self.loosen().into_box());
+        drop(self.into_box());
     }
 }
 
@@ -61,7 +61,7 @@ impl Handle {
     pub(crate) fn into_kept(self) -> Kept
         ensures { result ≡ self.kept }
     {
-        Box::into_inner(self.loosen().into_box())
+        Box::into_inner(self.into_box())
     }
 
     /// Gives the handle into C's care: whoever writes this into C's memory writes a handle there.
@@ -90,13 +90,10 @@ impl Handle {
         }
     }
 
-    fn loosen(self) -> Loose<Kept, Global>
-        ensures { result.content ≡ self.kept }
+    fn into_box(self) -> Box<Kept, Global>
+        ensures { result.value ≡ self.kept }
     {
         let Handle { at, alloc } = self;
-        Loose {
-            at: at as *mut Kept,
-            alloc,
-        }
+        unsafe { Box::from_raw(alloc, at as *mut Kept) }
     }
 }

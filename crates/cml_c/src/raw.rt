@@ -5,7 +5,8 @@ ghost use Rattle.std_alloc.specs.Box.Ownership.{box_owns};
 use std::alloc::Allocator;
 use std::marker::Model;
 
-/// Where a box's content lies, and what gives its memory back.
+/// Where a box's content lies, and what gives its memory back. `Handle`, which C holds, has no type parameter, so that what
+/// takes the box apart stands here: `T: Drop` tells it what a drop of the content does.
 pub(crate) struct Loose<T, A: Allocator> {
     pub(crate) at: *mut T,
     pub(crate) alloc: A,
@@ -22,12 +23,5 @@ impl<T: Drop, A: Allocator> Loose<T, A> {
     {
         let (at, alloc) = Box::into_raw_with_allocator(block);
         Loose { at, alloc }
-    }
-
-    pub(crate) fn into_box(self) -> Box<T, A>
-        ensures { result.value ≡ self.content }
-    {
-        let Loose { at, alloc } = self;
-        unsafe { Box::from_raw(alloc, at) }
     }
 }

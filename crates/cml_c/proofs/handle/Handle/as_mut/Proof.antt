@@ -1,5 +1,5 @@
 -- `as_mut` lends what lies there, and the handle follows it.
-use Rattle.cml_c.proofs.Steps.{List, [], ◌∷◌, ◌≡◌, refl, sym, raw, ‵, ◌⊛◌, some, later, ◌$◌, ◌∵◌, !, at_ret, qed, by, keep, move, split, split3, join, group, fsplit, fsplit3, fjoin, fpack, pick, await, use0, use1, rewrite, done, id⊢, ent, sep, sem, emp, ftrue, fsep, flft, Fml, GName, Logic, full_share, fact, fact_i, SProp, Val, vptr, named, bare, owns, types_at, enter, alloc_all, pass_all, free_all, look_at, get, through, sets, sets_last, of_opd, addr, fld, stop, sub, whole, first, blocks, exec, env, tail, returns, nothing, opens, tables, proved, leaves, no, Stays, stay_dropped, mut_ref_to, plain, Goes-spent_ref, walk_of, mem, cell_at, lone, mut_vals, mut_Tells, MutRef, Ptr, block_ptr, lies_at}
+use Rattle.cml_log.proofs.Steps.{List, [], ◌∷◌, ◌≡◌, refl, sym, raw, ‵, ◌⊛◌, some, later, ◌$◌, ◌∵◌, !, at_ret, qed, by, keep, move, split, split3, join, group, fsplit, fsplit3, fjoin, fpack, pick, await, use0, use1, rewrite, done, id⊢, ent, sep, sem, emp, ftrue, fsep, flft, Fml, GName, Logic, full_share, fact, fact_i, SProp, Val, vptr, named, bare, owns, types_at, enter, alloc_all, pass_all, free_all, look_at, get, through, sets, sets_last, of_opd, addr, fld, stop, sub, whole, first, blocks, exec, env, tail, returns, nothing, opens, tables, proved, leaves, no, Stays, stay_dropped, mut_ref_to, plain, Goes-spent_ref, walk_of, mem, cell_at, lone, mut_vals, mut_Tells, MutRef, Ptr, block_ptr, lies_at}
 use Prim.Native.Nat.{ℕ}
 use seplogic.Ra.Ura.{Ura}
 use types.Part.{look_in}
@@ -7,13 +7,13 @@ use types.Run.{load}
 use denote.Memory.{part_of}
 use denote.Follow.{follows, lends_Part}
 use Rattle.std.specs.contracts.alloc.Global.{the_row as Heap}
-use Rattle.std.proofs.alloc.Global.TheLaws as heap_laws
 use Rattle.std.specs.contracts.impls.GlobalAllocator.TheImpl.{ghosts}
 use Rattle.cml_c.specs.declared.kept.Kept.{Kept}
-use Rattle.cml_c.specs.contracts.kept.Kept.{the_row as Room}
+use Rattle.std_alloc.proofs.BoxSteps.Form as box
+use Rattle.std_alloc.proofs.BoxSteps.Steps.{box_out, box_in}
 use Rattle.cml_c.specs.contracts.handle.Handle.{the_row}
 use Rattle.cml_c.specs.Lending.{with_kept}
-use Rattle.cml_c.proofs.LooseValues.{both, Loose, loose_in, loose_out}
+use Rattle.cml_c.proofs.HandleBox.{Room, E, Boxed, boxed}
 use Rattle.cml_c.specs.contracts.handle.Handle.as_mut as f
 use Rattle.cml_c.proofs.handle.Handle.as_mut.Statement.{statement}
 use Rattle.cml_c.proofs.handle.Handle.as_mut.Code as code
@@ -21,19 +21,19 @@ use Rattle.cml_c.proofs.handle.Handle.as_mut.Code as code
 module _ {M : Type 1} {𝓤 : Ura M} (𝓛 : Logic 𝓤) (d : the_row.Denot) (b o pb po : ℕ) (h : Val) where
   -- all but what lies there
   abbrev Rest : Fml
-  Rest = fsep (ghosts.dealloc_token d.alloc (bare (lone Room.mir)) (block_ptr pb po)) (fsep (Heap.own_val d.alloc (h ∷ [])) (cell_at full_share the_row.mir (both (vptr pb po) h ∷ []) b o))
+  Rest = fsep (ghosts.dealloc_token d.alloc (bare (lone Room.mir)) (block_ptr pb po)) (fsep (Heap.own_val d.alloc (h ∷ [])) (cell_at full_share the_row.mir (box.word E h pb po ∷ []) b o))
 
   back : d.at ≡ block_ptr pb po → (w : Kept) → ent 𝓤 (sep 𝓤 (sem 𝓛 ((mem Room).own_at w pb po)) (sem 𝓛 Rest)) (sem 𝓛 ((mem the_row).own_at (with_kept d w) b o))
   unfolding part_of
-  back e w = let us = both (vptr pb po) h ∷ [] in
-      qed 𝓛 (‵ (lies_at Room full_share (block_ptr pb po) w) ∷ ‵ Rest ∷ []) ∵ move ! (1 ∷ []) $ fsplit3 ! $ move ! (3 ∷ 0 ∷ []) $ fjoin ! $
-      loose_in Room Heap heap_laws.the_row_laws ghosts ! (block_ptr pb po) h d.alloc w $ use1 𝓛 (‵ (the_row.own_val (record { at = block_ptr pb po; alloc = d.alloc; kept = w }) us)) (id⊢ 𝓤 _) $
+  back e w = let us = box.word E h pb po ∷ [] in
+      qed 𝓛 (‵ (lies_at Room full_share (block_ptr pb po) w) ∷ ‵ Rest ∷ []) ∵ move ! (1 ∷ []) $ fsplit3 ! $ move ! (3 ∷ 0 ∷ []) $
+      box_in E ! (boxed (block_ptr pb po) d.alloc w) pb po w refl refl $ use1 𝓛 (‵ (the_row.own_val (record { at = block_ptr pb po; alloc = d.alloc; kept = w }) us)) (id⊢ 𝓤 _) $
       rewrite ! 0 (λ (p : Ptr). ‵ (the_row.own_val (record { at = p; alloc = d.alloc; kept = w }) us)) (sym e) refl $ move ! (1 ∷ 0 ∷ []) $ fjoin ! $
       fpack ! (List Val) (λ vs. fsep (cell_at full_share the_row.mir vs b o) (the_row.own_val (with_kept d w) vs)) us $ done !
 
 pub as_mut_spec : {M : Type 1} → statement M
 as_mut_spec 𝓤 𝓛 𝓜 𝓡 wired =
-    let 𝓣 = tables 𝓤 𝓛.H 𝓜 𝓡 𝓡.env in let LZ = heap_laws.the_row_laws in let c = f.clauses 𝓛 𝓜.mem 𝓡.returns in let fn = code.function in
+    let 𝓣 = tables 𝓤 𝓛.H 𝓜 𝓡 𝓡.env in let c = f.clauses 𝓛 𝓜.mem 𝓡.returns in let fn = code.function in
     let hs : Stays f.ended.signature.params f.ended.kept = (stay_dropped (mut_ref_to (0 ∷ []) tt (plain (λ _. the_row))) no, tt) in
     proved 𝓛 f.ended hs c 𝓜 𝓡 (Goes-spent_ref 𝓛 1 (0 ∷ []) tt (plain (λ _. the_row)), tt) f.Key.name fn (code.unfolded 𝓤 𝓛.H 𝓜 𝓡 wired)
     (λ κs. (mut_vals, tt)) (λ κs. (mut_Tells (named 0) κs.0 the_row, tt)) (λ κs qs bounds a gh are.
@@ -42,10 +42,10 @@ as_mut_spec 𝓤 𝓛 𝓜 𝓡 wired =
     qed 𝓛 (((‵ (flft κ q) ⊛ ‵ ftrue) ⊛ ‵ (owns (types_at f.ended.signature.params κs) a y.0.4)) ∷ raw ((c κs a).requires gh) ∷ []) ∵
     split ! $ split ! $ move ! (2 ∷ []) $ fsplit ! $ fsplit3 ! $ keep ! (1 ∷ 2 ∷ 4 ∷ 5 ∷ []) $
     enter ! 𝓣.C 𝓣.Λ fn (vptr b o ∷ []) Post $ alloc_all ! (λ l. pass_all ! refl ((tt, tt), tt) $
-    opens ! tt the_row {h = d} b o (λ vs. move ! (1 ∷ []) $ use1 𝓛 (‵ ((Loose Room Heap LZ ghosts).own_val (record { at = d.at; alloc = d.alloc; content = d.kept }) vs)) (id⊢ 𝓤 _) $
-    loose_out Room Heap LZ ghosts ! (record { at = d.at; alloc = d.alloc; content = d.kept }) vs (λ pb po h e us fits.
+    opens ! tt the_row {h = d} b o (λ vs. move ! (1 ∷ []) $ use1 𝓛 (‵ (Boxed.own_val (boxed d.at d.alloc d.kept) vs)) (id⊢ 𝓤 _) $
+    box_out E ! (boxed d.at d.alloc d.kept) vs (λ pb po h e us fits.
     let there : Val = vptr pb po in let way = back 𝓛 d b o pb po h e in let rest : Fml = Rest 𝓛 d b o pb po h in
-    rewrite ! 2 (λ (ws : List Val). ‵ (cell_at full_share the_row.mir ws b o)) us refl $ fsplit ! $
+    rewrite ! 3 (λ (ws : List Val). ‵ (cell_at full_share the_row.mir ws b o)) us refl $
     -- [what lies there; what gives its block back; the allocator; the cell; the open borrow, in three; the tokens]
     first ! $ blocks ! $ sets ! (of_opd ! (load ! (through ! refl (fld ! refl (stop !))) (look_in ! 3 (sub ! 0 refl (whole !))))) refl (tt, tt) $
     sets ! (of_opd ! (get ! refl)) refl (tt, tt) $ sets_last ! (addr ! (through ! refl (stop !))) refl (tt, tt) $ exec ! 𝓣.C 𝓣.Λ (env fn.locals l) (tail fn.body) (at_ret _ Post) $ sets ! (of_opd ! (get ! refl)) refl (tt, tt) $
