@@ -1,8 +1,13 @@
--- A reservation of so many entries, as of a floor.
-use Rattle.std.specs.Prelude.{ℕ, Result, ⊤}
+-- A reservation of so many entries, and a cut, as of a floor.
+use Rattle.std.specs.Prelude.{ℕ, ◌≤◌, Result, ⊤}
 use Rattle.cml_board.specs.declared.outcome.Refusal.{Refusal}
 use Rattle.cml_lanes.specs.Floor.{FloorShown}
 use Rattle.cml_lanes.specs.Reserving.{Reserves}
+use Rattle.cml_lanes.specs.Cutting.{CutsAFloor}
 
 abbrev pub ReservesSome : ℕ → FloorShown ℕ → FloorShown ℕ → Result ⊤ Refusal → Type 0
 ReservesSome entries old new outcome = Reserves old new entries outcome
+
+-- the cut loses nothing of what was reserved
+abbrev pub CutsReserved : FloorShown ℕ → FloorShown ℕ → Result ⊤ Refusal → Type 0
+CutsReserved old new outcome = CutsAFloor old new outcome × (old.board.reserved ≤ new.board.reserved)

@@ -1,9 +1,7 @@
 //! The journal: memory that is taken for it in advance, and its cuts.
 ghost use Rattle.std.specs.Prelude.{◌≡◌};
-ghost use Rattle.cml_lanes.specs.Reserving.{Reserves};
-ghost use Rattle.cml_lanes.specs.Cutting.{CutsAFloor};
 ghost use Rattle.cml_c.specs.Floors.{Does, DoesOn};
-ghost use Rattle.cml_c.specs.Reserved.{ReservesSome};
+ghost use Rattle.cml_c.specs.Reserved.{ReservesSome, CutsReserved};
 ghost use Rattle.cml_c.specs.Journals.{TakesIn, TakesAJournal, FindsTaken};
 
 use crate::code::Code;
@@ -30,10 +28,10 @@ fn reserve_in(room: &mut NumberRoom, entries: usize) -> u32
     code_of(room.floor_mut().reserve(entries))
 }
 
-/// Cuts the journal: what it has is dropped, and it has room for as many entries again.
+/// Cuts the journal: what it has is dropped, and it has room for as many entries again. Nothing of what was reserved is lost.
 #[unsafe(no_mangle)]
 pub extern "C" fn seryugo_cut(room: &mut Handle) -> u32
-    ensures { DoesOn CutsAFloor room.old.kept room.new.kept result }
+    ensures { DoesOn CutsReserved room.old.kept room.new.kept result }
 {
     match room.as_mut() {
         Kept::Room(room) => cut_in(room),
@@ -42,12 +40,12 @@ pub extern "C" fn seryugo_cut(room: &mut Handle) -> u32
 }
 
 fn cut_in(room: &mut NumberRoom) -> u32
-    ensures { Does CutsAFloor result room.old room.new }
+    ensures { Does CutsReserved result room.old room.new }
 {
     code_of(room.floor_mut().cut())
 }
 
-/// Cuts the journal as `seryugo_cut` does, and writes a handle to the entries that it had and how many they are.
+/// Cuts the journal, and writes a handle to the entries that it had and how many they are. What was reserved goes with them.
 #[unsafe(no_mangle)]
 pub extern "C" fn seryugo_take_journal(
     alloc: Global,

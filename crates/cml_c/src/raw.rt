@@ -5,8 +5,8 @@ ghost use Rattle.std_alloc.specs.Box.Ownership.{box_owns};
 use std::alloc::Allocator;
 use std::marker::Model;
 
-/// Where a box's content lies, and what gives its memory back. `Handle`, which C holds, has no type parameter, so that what
-/// takes the box apart stands here: `T: Drop` tells it what a drop of the content does.
+/// Where a box's content lies, and what frees its memory. A function over any `T: Drop` takes the box apart, since that bound
+/// says what a drop of the content does. `Handle` has no such bound: C can hold no struct with a type parameter.
 pub(crate) struct Loose<T, A: Allocator> {
     pub(crate) at: *mut T,
     pub(crate) alloc: A,
