@@ -39,7 +39,8 @@ enum seryugo_code {
     /* The call would wait: its seat is parked, and does nothing but to make the same call again with is_again, once
      * something has changed. Nothing is written. */
     SERYUGO_PARKED = 4,
-    /* The seat can't make this call: it waits, or has left, or was never made. */
+    /* The seat can't make this call: it was never made, or has left; it waits, and this isn't its call made again with is_again;
+     * or is_again is true, and it doesn't wait. Of a lane: its room has let go of it. */
     SERYUGO_GONE = 5,
     /* A lane or a feed is open, so that the journal can't be cut. */
     SERYUGO_BUSY = 6,
@@ -92,8 +93,9 @@ uint32_t seryugo_leave(struct seryugo *room, uint64_t seat);
  * ---- a seat's calls ----
  *
  * Each is refused, in this order, SERYUGO_GONE, SERYUGO_NO_SUCH, SERYUGO_WRONG_KIND, SERYUGO_JOURNAL_FULL, SERYUGO_STALLED
- * and SERYUGO_NO_MEMORY, and then nothing is changed, but that a seat which was parked is free. What is answered adds one
- * entry to the journal. A name is told by the call that makes the object; it is never given again.
+ * and SERYUGO_NO_MEMORY. SERYUGO_GONE changes nothing: a parked seat stays parked. After any other refusal the seat is free,
+ * and nothing else is changed. What is answered adds one entry to the journal. A name is told by the call that makes the
+ * object; it is never given again.
  *
  * Those with `is_again` may wait. Make such a call with false; where it is told SERYUGO_PARKED, let the lock go until
  * something has changed, and make it again with true, until it is told something else. Whoever's call is answered wakes those
@@ -157,43 +159,48 @@ uint32_t seryugo_swap(struct seryugo *room, uint64_t seat, uint64_t variable, ui
  */
 
 /* Opens a lane to a mailbox or a channel, whose ring has room for `capacity` messages (1 to 1024), and writes a handle to it
- * and its number. Refused SERYUGO_NO_SUCH, SERYUGO_WRONG_KIND or SERYUGO_NO_MEMORY; then the room and *lane are as they
- * were. */
+ * and its number. SERYUGO_NO_SUCH, SERYUGO_WRONG_KIND, SERYUGO_NO_MEMORY or SERYUGO_OUT_OF_BOUNDS: the room and *lane are as
+ * they were. */
 uint32_t seryugo_lane_open(struct seryugo *room, uint64_t target, size_t capacity, struct seryugo *lane, uint64_t *lane_number);
 
 /* Sends a message on a lane, without the room's lock: the room's next drain may move it into the journal. It is told
  * SERYUGO_FULL where no free slot is seen, never while the lane has accepted fewer messages than its capacity. */
 uint32_t seryugo_lane_send(struct seryugo *lane, uint64_t message);
 
-/* Ends a lane, without the room's lock: nothing more is sent on it, and seryugo_lane_close takes its handle. It is told
- * SERYUGO_GONE where its room has let go of it before. */
+/* Ends a lane, without the room's lock: nothing more is sent on it, and seryugo_lane_close takes its handle. SERYUGO_GONE: its
+ * room had let go of it. The lane has ended then too, and its handle leads to nothing: only seryugo_close takes that. */
 uint32_t seryugo_lane_finish(struct seryugo *lane);
 
 /* Moves what is seen of a lane that has finished, and closes it where then as many of its messages stand in the journal as
- * were sent on it; its handle leads to nothing then, and is closed as ever. Else it may be tried again: SERYUGO_UNSEEN where
- * they aren't as many, SERYUGO_JOURNAL_FULL or SERYUGO_NO_MEMORY where one was refused, SERYUGO_NO_SUCH where the room has no
- * open lane of its number. Both handles are used by this call. It asks for no handle of this very room, but counts alone. */
+ * were sent on it; its handle leads to nothing then, and is closed as ever. Else it may be tried again. SERYUGO_UNSEEN: the
+ * counts differ; what was seen has moved. SERYUGO_JOURNAL_FULL or SERYUGO_NO_MEMORY: one was refused; those before it have
+ * moved. SERYUGO_NO_SUCH: the room has no open lane of its number, and nothing was changed. SERYUGO_WRONG_HANDLE: the lane has
+ * not finished, or was closed. Both handles are used by this call. It asks for no handle of this very room, but counts alone. */
 uint32_t seryugo_lane_close(struct seryugo *room, struct seryugo *lane);
 
-/* Moves what is seen of an open lane into the journal, in order, and writes how many messages. It stops where one is refused,
- * and is refused itself only where that was the first. */
+/* Moves what is seen of an open lane into the journal, in order, and writes how many messages. It stops where one is refused.
+ * SERYUGO_JOURNAL_FULL or SERYUGO_NO_MEMORY: the first was refused, and none has moved. SERYUGO_NO_SUCH: no open lane has the
+ * number. */
 uint32_t seryugo_lane_drain(struct seryugo *room, uint64_t lane_number, uint64_t *count);
 
-/* The same, and closes the lane where none was refused, whether or not all that was sent was seen; told SERYUGO_STILL_OPEN
- * where one was, but not the first. */
+/* The same, and closes the lane where none was refused, whether or not all that was sent was seen. SERYUGO_STILL_OPEN: one was
+ * refused, but not the first. It is refused as seryugo_lane_drain is, and then the lane stays open. */
 uint32_t seryugo_lane_drop(struct seryugo *room, uint64_t lane_number, uint64_t *count);
 
-/* Closes an open lane at once, and drops what is left in its ring. */
+/* Closes an open lane at once, and drops what is left in its ring. The only refusal is SERYUGO_NO_SUCH, where no open lane has
+ * the number. */
 uint32_t seryugo_lane_abandon(struct seryugo *room, uint64_t lane_number);
 
 /* ---- feeds ---- */
 
 /* Opens a feed of what is multicast on a channel from now on, whose ring has room for `capacity` messages (1 to 1024), and
  * writes a handle to it and its number. It makes a port of the feed's own, by an entry of the journal, and is refused as that
- * would be; then *feed is as it was, and nothing is opened. */
+ * would be. A refusal or SERYUGO_OUT_OF_BOUNDS: *feed is as it was, no port is made, and nothing is opened. */
 uint32_t seryugo_feed_open(struct seryugo *room, uint64_t channel, size_t capacity, struct seryugo *feed, uint64_t *feed_number);
 
-/* Receives what an open feed is owed into its ring, while that has a free slot, and writes how many messages. */
+/* Receives what an open feed is owed into its ring, while that has a free slot, and writes how many messages. It stops where
+ * one is refused. SERYUGO_JOURNAL_FULL or SERYUGO_NO_MEMORY: the first was refused, and none was received. SERYUGO_NO_SUCH: no
+ * open feed has the number. */
 uint32_t seryugo_feed_pump(struct seryugo *room, uint64_t feed_number, uint64_t *count);
 
 /* Takes the next message that was pumped, without the room's lock; told SERYUGO_NOTHING where none is seen. */
@@ -203,16 +210,17 @@ uint32_t seryugo_feed_recv(struct seryugo *feed, uint64_t *message);
 uint32_t seryugo_feed_port(struct seryugo *feed, uint64_t *port);
 
 /* Ends an open feed for good: nothing more is pumped into it. What is left in it can still be taken, and its port is a port
- * like any other from now on. */
+ * like any other from now on. The only refusal is SERYUGO_NO_SUCH, where no open feed has the number. */
 uint32_t seryugo_feed_end(struct seryugo *room, uint64_t feed_number);
 
 /* ---- the journal ---- */
 
-/* Takes memory for `entries` more entries. The only refusal is SERYUGO_NO_MEMORY. */
+/* Takes memory for `entries` more entries. The only refusal is SERYUGO_NO_MEMORY. Nothing of what was reserved before is
+ * lost. */
 uint32_t seryugo_reserve(struct seryugo *room, size_t entries);
 
 /* Cuts the journal: what it has is dropped, and it has room for as many entries again. Objects stay, and names and positions
- * go on counting. The only refusal is SERYUGO_BUSY, where a lane or a feed is open. */
+ * go on counting. Nothing of what was reserved is lost. The only refusal is SERYUGO_BUSY, where a lane or a feed is open. */
 uint32_t seryugo_cut(struct seryugo *room);
 
 enum seryugo_maker_kind { SERYUGO_SEAT = 0, SERYUGO_LANE = 1, SERYUGO_FEED = 2 };
@@ -269,9 +277,9 @@ struct seryugo_entry {
  * yet, and where it was cut away. */
 uint32_t seryugo_entry(struct seryugo *room, uint64_t at, struct seryugo_entry *entry);
 
-/* Cuts the journal as seryugo_cut does, and writes a handle to the entries that it had, oldest first, and how many they are.
- * What was reserved goes with them. SERYUGO_NO_MEMORY or SERYUGO_BUSY: nothing is cut, and *journal is as it was. The handle is
- * the caller's own: it is used without the room's lock, and is closed like any other. */
+/* Cuts the journal, and writes a handle to the entries that it had, oldest first, and how many they are. Unlike seryugo_cut it
+ * takes what was reserved along with them: reserve again. SERYUGO_NO_MEMORY or SERYUGO_BUSY: nothing is cut, and *journal is as
+ * it was. The handle is the caller's own: it is used without the room's lock, and is closed like any other. */
 uint32_t seryugo_take_journal(struct seryugo *room, struct seryugo *journal, uint64_t *count);
 
 /* Writes the entry of this place, from 0, of a journal that was taken; SERYUGO_NO_SUCH behind the last one. */

@@ -2,7 +2,10 @@
 
 use std::fmt;
 
-/// Why a call was refused. What is refused changed nothing.
+/// Why a call was refused. A refused call changed nothing, with one exception: a refused [`Lane::close`](crate::Lane::close)
+/// has ended the lane, which sends no more, and may have moved messages into the journal.
+///
+/// A refused `drain` or `pump` moved nothing. Where a message after the first was refused it returns how many moved.
 #[derive(Clone, Copy, Debug, PartialEq, Eq, Hash)]
 pub enum Error {
     /// The seat waits, or has left; or the switchboard has let go of the lane.

@@ -82,7 +82,7 @@ impl<'a> Lane<'a> {
     }
 
     /// Moves all that was sent into the journal, and closes the lane. Where a message is refused the lane comes back, and may
-    /// be closed again later, but sends no more.
+    /// be closed again later. The messages before it have moved. The lane has ended all the same: to send on it panics.
     pub fn close(mut self) -> Result<(), (Lane<'a>, Error)> {
         // A lane that has ended before, and couldn't be closed, is tried again.
         let _ = unsafe { raw::seryugo_lane_finish(&mut self.handle) };

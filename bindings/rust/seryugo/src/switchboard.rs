@@ -86,7 +86,7 @@ impl Switchboard {
         done(unsafe { raw::seryugo_reserve(&mut self.lock().handle, entries) })
     }
 
-    /// Cuts the journal: what it has is dropped, and it has room for as many entries again.
+    /// Cuts the journal: what it has is dropped, and it has room for as many entries again. Nothing of what was reserved is lost.
     pub fn cut(&self) -> Result<(), Error> {
         done(unsafe { raw::seryugo_cut(&mut self.lock().handle) })
     }
