@@ -1,10 +1,10 @@
 #!/bin/sh
-# The wrong edits in crates/*/edits: `sh tests/edits.sh [NAME..]` has the prover refuse each one of the crates that are named, or of all
-# crates. `rt ci` tries those in crates/*/must-fail, which guard what the README and docs/PROVED.md promise. Who changes a crate tries the
-# others of that crate.
+# The wrong edits in crates/*/edits: `sh tests/edits.sh [NAME..]` has the prover refuse each one of the crates that are named,
+# or of all crates. Those in crates/*/must-fail, which guard what the README and docs/PROVED.md promise, `rt ci` tries itself.
+# Who changes a crate tries the others of that crate by this script.
 #
-# They are tried on a copy of the crates, where they lie in must-fail/. The copy has what `rt check` kept in out/, and begins with it.
-# `rt` tries an edit again only if something that it rests on has changed.
+# It tries them on a copy of the crates, in which they stand in must-fail/. The copy has what `rt check` kept in out/, and
+# begins with it. An edit that was tried before is not tried again unless something that it rests on has changed.
 # The last line is `N passed, M failed`.
 cd "$(dirname "$0")/.." || exit 1
 work=$(mktemp -d) || exit 1

@@ -1,0 +1,156 @@
+#!/bin/sh
+# The tests in minutes, without a proof: `sh tests/quick.sh`. It proves nothing. Code that does what the tests look at passes
+# here, even where it breaks a contract; `rt ci` refuses that.
+#
+# It compiles the programs and the test crates as `rt try` does (tests/tried.sh). It runs each test function, the tables of
+# calls, those with cuts too, the guide, each example with its report and its chart, each fault, and the library from C.
+# As many steps run at once as there are processors. `sh tests/quick.sh NAME..` runs some steps alone.
+# The last line is `N passed, M failed`.
+top=$(cd "$(dirname "$0")/.." && pwd) || exit 1
+cd "$top" || exit 1
+kit=$(dirname "$(rt doc)")
+. tests/tried.sh
+
+# The steps, those that take longest first. Each prints lines `N passed, M failed`, and before them what failed.
+steps() {
+    echo cml
+    echo cml_rows
+    echo cml_c
+    for folder in crates/*_tests; do
+        basename "$folder"
+    done
+    echo cml_chart
+    echo cml_script_c
+    echo cml_guide
+    echo cml_bench
+    echo guide
+}
+
+step() {
+    case $1 in
+        cml) build cml crates/cml/src/main.rt && sh tests/program.sh "$program" ;;
+        cml_chart) build cml_chart crates/cml_chart/src/main.rt && sh tests/chart.sh "$program" ;;
+        cml_rows)
+            build cml_rows crates/cml_rows/src/main.rt || return
+            prints cml_rows
+            sh tests/calls.sh "$program" && sh tests/cuts.sh "$program"
+            ;;
+        cml_c) calls_from_c ;;
+        cml_script_c) replays_from_c ;;
+        *_tests) passes "$1" ;;
+        guide) sh tests/guide.sh ;;
+        *) build "$1" "crates/$1/src/main.rt" && prints "$1" ;;
+    esac
+}
+
+# prints NAME: the program writes what the file stdout of its crate has, from the file stdin there, if there is one.
+prints() {
+    input=/dev/null
+    [ ! -f "crates/$1/stdin" ] || input=crates/$1/stdin
+    if timeout 120 "$program" < "$input" 2>&1 | cmp - "crates/$1/stdout"; then
+        echo '1 passed, 0 failed'
+    else
+        echo "failed: what $1 prints"
+        echo '0 passed, 1 failed'
+        return 1
+    fi
+}
+
+# passes NAME: the crate's test functions. Here each access to memory is watched too.
+passes() {
+    compile "$1" "$kit/toolchain" "--test crates/$1/src/lib.rt" > "$work/$1.ran" 2>&1
+    grep -v '^tests: \| ok$\|^test result: ok\|^run=\|^races: \|^checked: ended' "$work/$1.ran"
+    sed -n 's/^test result: .* \([0-9]* passed\); \([0-9]* failed\); .*/\1, \2/p' "$work/$1.ran"
+    grep -q '^test result: ok' "$work/$1.ran"
+}
+
+# does CASE COMMAND..: the command ends well.
+does() {
+    name=$1
+    shift
+    if "$@" > "$work/$name.does" 2>&1; then
+        echo '1 passed, 0 failed'
+    else
+        echo "failed: $name: $(tail -n 5 "$work/$name.does")"
+        echo '0 passed, 1 failed'
+    fi
+}
+
+# The programs in C of bindings/c make each call of the library, on one thread and on several.
+calls_from_c() {
+    has_c || return
+    build_with_c cml_c '
+        let (Ok(mut one), Ok(mut other), Ok(last), Ok(spare)) = (
+            handle::Handle::new(alloc, kept::Kept::Spent),
+            handle::Handle::new(alloc, kept::Kept::Spent),
+            handle::Handle::new(alloc, kept::Kept::Spent),
+            handle::Handle::new(alloc, kept::Kept::Spent),
+        ) else {
+            return;
+        };
+        let mut slot = spare.into_slot();
+        let mut found = entries::SeryugoEntry {
+            maker: entries::SeryugoMaker { kind: 0, number: 0 },
+            call: entries::SeryugoCall { kind: 0, object: 0, message: 0 },
+            reply: entries::SeryugoReply { kind: 0, given: 0 },
+        };' calls threads || return
+    does calls env TRIED=calls timeout 60 "$program"
+    does threads env TRIED=threads timeout 60 "$program"
+}
+
+replays_from_c() {
+    has_c || return
+    build_with_c cml_script_c 'let mut found = SeryugoEnd { status: 0, line: 0, length: 0 };' replay || return
+    for report in examples/*.report; do
+        does "$(basename "$report")" replays "${report%.report}"
+    done
+}
+
+# replays EXAMPLE: the program in C writes the report beside the script; `replay` refuses one with lanes or feeds.
+replays() {
+    if grep -q '^\(lane\|feed\) ' "$1.cml"; then
+        ! "$program" < "$1.cml"
+    else
+        "$program" < "$1.cml" | cmp - "$1.report"
+    fi
+}
+
+# has_c: whether there is a C compiler, with what gives a function another name.
+has_c() {
+    command -v cc > /dev/null && command -v nm > /dev/null && command -v objcopy > /dev/null && return
+    echo 'skipped: there is no C compiler with nm and objcopy'
+    echo '0 passed, 0 failed'
+    return 1
+}
+
+if [ "$1" = --step ]; then
+    work=$2
+    step "$3" > "$work/$3.told" 2>&1
+    status=$?
+    grep -v '^[0-9]* passed, [0-9]* failed$' "$work/$3.told" | sed "s/^/$3: /"
+    sed -n 's/^\([0-9]*\) passed, \([0-9]*\) failed$/\1 \2/p' "$work/$3.told" |
+        awk -v name="$3" -v status="$status" '
+            { passed += $1; failed += $2 }
+            END {
+                # It was stopped before its last line.
+                if (!NR || (status && !failed)) failed++
+                print name ": " passed + 0 " passed, " failed + 0 " failed"
+            }
+        ' | tee "$work/$3.count"
+    exit
+fi
+
+work=$(mktemp -d) || exit 1
+trap 'rm -rf "$work"' EXIT
+trap 'exit 1' HUP INT TERM
+[ $# -gt 0 ] || set -- $(steps)
+echo "This proves nothing. $# steps are tried, and some take minutes:"
+printf '%s\n' "$@" | xargs -P "$(nproc 2> /dev/null || echo 2)" -n 1 sh tests/quick.sh --step "$work"
+cat "$work"/*.count | awk -v steps=$# '
+    { steps--; passed += $2; failed += $4 }
+    END {
+        failed += steps
+        print passed + 0 " passed, " failed + 0 " failed"
+        exit failed > 0
+    }
+'
