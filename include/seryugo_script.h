@@ -28,7 +28,8 @@ enum seryugo_replay_code {
 /* How a replay ended. */
 struct seryugo_end {
     /* The exit status of the program `cml`: 0 all steps were performed, 1 it stalled, 2 the script has a fault, 5 there was no
-     * memory, 6 the journal met its limit. With 2 and 5 the report is empty. */
+     * memory, 6 the journal met its limit. With 2 and 5 the report is empty. There is no other status: nothing is read from or
+     * written to a file, so the statuses of a failed read or write never come. */
     uint32_t status;
     /* The line of the script's fault, from 1; 0 where it has none. */
     uint64_t line;

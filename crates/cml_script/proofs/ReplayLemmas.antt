@@ -1,14 +1,14 @@
 -- A script with a lane or a feed is not replayed.
 use Rattle.std.proofs.Common.{◌≡◌, ℕ, List, Option, Some, None, Result, Ok, Err, inl, inr, refl, sym, subst, arith}
 use Rattle.std.specs.Prelude.{IfOk, IfErr, string_bytes}
-use Rattle.std.specs.Io.KnownBytes.{Keeps}
+use Rattle.std.specs.Io.KnownBytes.{IsAtEnd, Keeps}
+use Rattle.cml_grammar.specs.declared.fault.Fault.{Fault}
 use Rattle.cml_grammar.specs.declared.fault.What.TheVariants.{NeedsRun}
 use Rattle.cml_grammar.specs.Faults.{at_line}
 use Rattle.cml_grammar.specs.Rings.{first_ring}
 use Rattle.cml_grammar.specs.Script.{Lines, IsScript}
 use Rattle.cml_script.specs.declared.stop.Stop.{Stop}
-use Rattle.cml_script.specs.Play.{IsPlayed}
-use Rattle.cml_script.specs.Replay.{IsRead, IsForRun, IsPlayedOf, EndsUnplayed, Replays}
+use Rattle.cml_script.specs.Replay.{IsRead, IsForRun, IsTextForRun, IsPlayedOf, IsPlayedText, EndsUnplayed, EndsUnplayedText, Replays}
 use Rattle.cml_script.specs.Running.{EndsUntold, IsReportOf, IsRunOf, IsUnsettled}
 use Rattle.cml_script.specs.Schedule.{History}
 use Rattle.cml_script.specs.Report.{Tallied}
@@ -16,30 +16,63 @@ use Rattle.cml_script.specs.declared.perform.Played.{Played}
 use Rattle.cml_script.specs.declared.ending.Ending.{Ending}
 use Rattle.cml_script.specs.declared.ending.Ending.TheVariants as ending
 
-pub for_run : (old new : Option (List ℕ)) (text : List ℕ) (script : Lines) (line : ℕ) → IsRead old new text → IsScript text script → Some line ≡ first_ring script → IsForRun old new (at_line line NeedsRun)
-for_run old new text script line read says first = record {
-  text = text;
-  read = read.0;
-  whole = elim read.1 [ inl end ↦ end | inr long ↦ absurd (omega (arith, long, says.short)) ];
+pub unplayed : (text : List ℕ) (script : Lines) (line : ℕ) (ended : Ending) → IsScript text script → Some line ≡ first_ring script → ended ≡ ending.Fault (at_line line NeedsRun) → EndsUnplayedText text ended
+unplayed text script line ended says first is = subst (EndsUnplayedText text) (sym is) (inr (record {
   script = script;
   says = says;
   line = line;
   first = sym first;
   tells = refl;
-}
+}))
 
-pub played_of : (limit : ℕ) (old new : Option (List ℕ)) (text : List ℕ) (script : Lines) (stop : Stop) (report : List ℕ) → IsRead old new text → IsScript text script → IsPlayed script limit stop report → IsPlayedOf limit old new stop report
-played_of limit old new text script stop report read says played = record {
+-- no script is so long that more of it is left
+at_end : (old new : Option (List ℕ)) (text : List ℕ) (script : Lines) → IsRead old new text → IsScript text script → IsAtEnd new
+at_end old new text script read says = elim read.1 [ inl end ↦ end | inr long ↦ absurd (omega (arith, long, says.short)) ]
+
+for_run : (old new : Option (List ℕ)) (text : List ℕ) (fault : Fault) → IsRead old new text → IsTextForRun text fault → IsForRun old new fault
+for_run old new text fault read ends = record {
   text = text;
   read = read.0;
-  whole = elim read.1 [ inl end ↦ end | inr long ↦ absurd (omega (arith, long, says.short)) ];
-  script = script;
-  says = says;
-  played = played;
+  whole = at_end old new text ends.script read ends.says;
+  script = ends.script;
+  says = ends.says;
+  line = ends.line;
+  first = ends.first;
+  tells = ends.tells;
 }
 
-pub unplayed : (old new : Option (List ℕ)) (text : List ℕ) (script : Lines) (line : ℕ) (ended : Ending) → IsRead old new text → IsScript text script → Some line ≡ first_ring script → ended ≡ ending.Fault (at_line line NeedsRun) → EndsUnplayed old new ended
-unplayed old new text script line ended read says first is = subst (EndsUnplayed old new) (sym is) (inr (for_run old new text script line read says first))
+unplayed_read : (old new : Option (List ℕ)) (text : List ℕ) (ended : Ending) → IsRead old new text → EndsUnplayedText text ended → EndsUnplayed old new ended
+unplayed_read old new text (ending.Fault fault) read (inl faulty) = inl (text, read, faulty)
+unplayed_read old new text (ending.Fault fault) read (inr ends) = inr (for_run old new text fault read ends)
+unplayed_read old new text ending.NoMemory read why = tt
+unplayed_read old new text ending.ReadFault read why = tt
+unplayed_read old new text ending.Done read why = absurd why
+unplayed_read old new text ending.Stalled read why = absurd why
+unplayed_read old new text ending.Full read why = absurd why
+unplayed_read old new text ending.WriteFault read why = absurd why
+unplayed_read old new text (ending.NotLawful at) read why = absurd why
+unplayed_read old new text ending.Held read why = absurd why
+
+-- what came of the text came of the reader's bytes, which these are
+pub read_played : (limit : ℕ) (old new : Option (List ℕ)) (shown text : List ℕ) (r : Result Played Ending) → shown ≡ text → IsRead old new text
+    → IfOk r (λ p. IsPlayedText limit shown p.stop (string_bytes p.report)) → IfOk r (λ p. IsPlayedOf limit old new p.stop (string_bytes p.report))
+read_played limit old new shown text (Err ended) is read played = tt
+read_played limit old new shown text (Ok p) is read played =
+    let says = subst (λ (t : List ℕ). IsScript t played.script) is played.says in
+    record {
+      text = text;
+      read = read.0;
+      whole = at_end old new text played.script read says;
+      script = played.script;
+      says = says;
+      played = played.played;
+    }
+
+pub read_unplayed : (old new : Option (List ℕ)) (shown text : List ℕ) (r : Result Played Ending) → shown ≡ text → IsRead old new text
+    → IfErr r (λ ended. EndsUnplayedText shown ended) → IfErr r (λ ended. EndsUnplayed old new ended)
+read_unplayed old new shown text (Ok p) is read why = tt
+read_unplayed old new shown text (Err ended) is read why =
+    unplayed_read old new text ended read (subst (λ (t : List ℕ). EndsUnplayedText t ended) is why)
 
 pub kept : (held : Option (List ℕ)) → Keeps held held
 kept None = tt
@@ -65,7 +98,7 @@ run_of limit old new text script history tally stop (Err ended) read says stops 
 run_of limit old new text script history tally stop (Ok p) read says stops told = record {
   bytes = text;
   read = read.0;
-  whole = elim read.1 [ inl end ↦ end | inr long ↦ absurd (omega (arith, long, says.short)) ];
+  whole = at_end old new text script read says;
   script = script;
   says = says;
   history = history;

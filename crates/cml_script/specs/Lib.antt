@@ -9,6 +9,7 @@ pub use Rattle.cml_board.specs.Checking
 pub mod Counting
 pub mod Schedule
 pub mod Report
+pub mod Left
 pub mod Play
 pub mod Plan
 pub mod Bindings

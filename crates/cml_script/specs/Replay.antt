@@ -19,6 +19,12 @@ use Rattle.cml_script.specs.Play.{IsPlayed}
 abbrev pub IsRead : Option (List ℕ) → Option (List ℕ) → List ℕ → Type 0
 IsRead old new text = IsReadUpTo 1048577 old new text
 
+-- the text is a script without rings, and this was played of it
+pub record IsPlayedText (limit : ℕ) (text : List ℕ) (stop : Stop) (report : List ℕ) : Type 0 where
+  pub script : Lines
+  pub says : IsScript text script
+  pub played : IsPlayed script limit stop report
+
 -- all of the reader's bytes were read, they are a script without rings, and this was played of it
 pub record IsPlayedOf (limit : ℕ) (old new : Option (List ℕ)) (stop : Stop) (report : List ℕ) : Type 0 where
   pub text : List ℕ
@@ -61,6 +67,20 @@ Replays limit old new held holds ending.NoMemory = Keeps held holds
 Replays limit old new held holds ending.WriteFault = ⊤
 Replays limit old new held holds (ending.NotLawful at) = ⊥
 Replays limit old new held holds ending.Held = ⊥
+
+-- the text is a script, and its first lane or feed is what this fault tells
+pub record IsTextForRun (text : List ℕ) (fault : Fault) : Type 0 where
+  pub script : Lines
+  pub says : IsScript text script
+  pub line : ℕ
+  pub first : first_ring script ≡ Some line
+  pub tells : fault ≡ at_line line NeedsRun
+
+-- how a text ends that was not played: it has a fault, it is not replayed, or there was no memory
+abbrev pub EndsUnplayedText : List ℕ → Ending → Type 0
+EndsUnplayedText text (ending.Fault fault) = (fault_of text ≡ Some fault) ⊎ IsTextForRun text fault
+EndsUnplayedText text ending.NoMemory = ⊤
+EndsUnplayedText text _ = ⊥
 
 -- how it ends where nothing was played
 abbrev pub EndsUnplayed : Option (List ℕ) → Option (List ℕ) → Ending → Type 0

@@ -5,6 +5,7 @@ ghost use Rattle.cml_shell.specs.Statuses.{error_status};
 ghost use Rattle.cml_script.specs.CommandLine.{usage, faults_of, limit_in, limit_rule, limited, AsksFor, AsksReplay, AsksRun, AsksHelp, HasOrder};
 
 use crate::asked::Order;
+use clap::error::ErrorKind;
 use clap::{Arg, ArgMatches, Command, Error, value_parser};
 use std::alloc::{AllocError, Global};
 use std::convert::AsStr;

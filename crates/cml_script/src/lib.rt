@@ -35,7 +35,7 @@ pub use laws::{
 };
 pub use perform::{Played, play};
 pub use plan::Plan;
-pub use replaying::replay;
+pub use replaying::{replay, replay_text};
 pub use route::Route;
 pub use running::{
     Caller, Ended, Gate, OpenGate, Seated, conclude, declare, perform_in_threads, run, work,

@@ -8,6 +8,7 @@ ghost use Rattle.cml_script.specs.Schedule.{History, makes_object, is_object, is
 ghost use Rattle.cml_grammar.specs.Reading.{gives_name, IsCapacity};
 ghost use Rattle.cml_script.specs.Plan.{IsKnown, AreNumbers, AreFeedNumbers, AreQueues, AreGivings, NamesObjects, HasSeats, AsksForPorts, items_of, object_among, route_at, HasLaneRoom};
 ghost use Rattle.cml_script.specs.Bindings.{AreBindings};
+ghost use Rattle.cml_script.specs.Left.{laid_count};
 
 use crate::binding::Binding;
 use crate::route::Route;
@@ -120,6 +121,13 @@ impl<'a> Plan<'a> {
         ensures { result ≡ apart_count self.now }
     {
         count_apart(self.script, &self.feeds)
+    }
+
+    /// How many steps send by lanes.
+    pub fn laid(&self) -> usize
+        ensures { result ≡ laid_count self.now }
+    {
+        count_laid(self.script, &self.feeds)
     }
 
     /// The number of the feed that the name at this position is, if it is one: feeds are counted from 0 in text order.
@@ -285,6 +293,18 @@ fn count_apart(script: &Script, feeds: &[usize]) -> usize
         apart += usize::from(route_of(script, feeds, step).is_by_ring());
     }
     apart
+}
+
+/// How many steps send by lanes, where by name so many feeds are declared before it.
+fn count_laid(script: &Script, feeds: &[usize]) -> usize
+    requires { AreFeedNumbers script.now feeds.now }
+    ensures { result ≡ laid_count script.now }
+{
+    let mut laid = 0;
+    for step in script.steps() {
+        laid += usize::from(route_of(script, feeds, step).is_by_lane());
+    }
+    laid
 }
 
 fn lane_route(capacity: Option<usize>) -> Route

@@ -2,7 +2,7 @@
 ghost use Rattle.std.specs.Prelude.{◌≡◌, ◌≤◌, ◌^◌, IfOk, IfErr, string_bytes};
 ghost use Rattle.cml_grammar.specs.declared.fault.What.TheVariants.{NeedsRun};
 ghost use Rattle.cml_grammar.specs.Faults.{at_line};
-ghost use Rattle.cml_script.specs.Replay.{Replays, IsPlayedOf, EndsUnplayed};
+ghost use Rattle.cml_script.specs.Replay.{Replays, IsPlayedOf, IsPlayedText, EndsUnplayed, EndsUnplayedText};
 
 use crate::ending::Ending;
 use crate::perform::{Played, play};
@@ -25,7 +25,7 @@ pub fn replay<R: Read, W: Write>(
     requires most { limit ≤ 2 ^ 32 }
     ensures { Replays limit (R.remaining reader.old) (R.remaining reader.new) (W.contents writer.old) (W.contents writer.new) result }
 {
-    match play_text(alloc, reader, limit) {
+    match play_read(alloc, reader, limit) {
         Ok(played) => write_report(writer, &played),
         Err(ending) => ending,
     }
@@ -41,19 +41,29 @@ pub fn needs_run(line: u64) -> Ending
     })
 }
 
-/// Reads a script and performs it.
+/// Replays the text of a script on one thread, as [`replay`] does.
 #[tactic(auto, using(crate::proofs::ReplayLemmas::unplayed))]
-fn play_text<R: Read>(alloc: Global, reader: &mut R, limit: u64) -> Result<Played, Ending>
+pub fn replay_text(alloc: Global, text: &[u8], limit: u64) -> Result<Played, Ending>
+    requires least { 1 ≤ limit }
+    requires most { limit ≤ 2 ^ 32 }
+    ensures played { IfOk result (λ played. IsPlayedText limit text.now played.stop (string_bytes played.report)) }
+    ensures unplayed { IfErr result (λ ending. EndsUnplayedText text.now ending) }
+{
+    let script = read_script(alloc, text)?;
+    if let Some(line) = script.first_ring() {
+        return Err(needs_run(line));
+    }
+    let played = play(alloc, &script, limit)?;
+    Ok(played)
+}
+
+/// Reads a script and performs it.
+fn play_read<R: Read>(alloc: Global, reader: &mut R, limit: u64) -> Result<Played, Ending>
     requires least { 1 ≤ limit }
     requires most { limit ≤ 2 ^ 32 }
     ensures played { IfOk result (λ played. IsPlayedOf limit (R.remaining reader.old) (R.remaining reader.new) played.stop (string_bytes played.report)) }
     ensures unplayed { IfErr result (λ ending. EndsUnplayed (R.remaining reader.old) (R.remaining reader.new) ending) }
 {
     let text = read_all(alloc, reader)?;
-    let script = read_script(alloc, &text)?;
-    if let Some(line) = script.first_ring() {
-        return Err(needs_run(line));
-    }
-    let played = play(alloc, &script, limit)?;
-    Ok(played)
+    replay_text(alloc, &text, limit)
 }

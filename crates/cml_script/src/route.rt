@@ -1,6 +1,7 @@
 //! How the steps of a script go.
 ghost use Rattle.std.specs.Prelude.{◌≡◌};
 ghost use Rattle.cml_script.specs.Schedule.{is_by_ring};
+ghost use Rattle.cml_script.specs.Left.{is_by_lane};
 
 /// How a step goes.
 #[derive(Clone, Copy, Debug, PartialEq, Eq)]
@@ -19,5 +20,12 @@ impl Route {
         ensures { result ≡ is_by_ring self }
     {
         matches!(self, Route::Lane(_) | Route::Feed(_))
+    }
+
+    /// Whether it goes by a lane.
+    pub fn is_by_lane(self) -> bool
+        ensures { result ≡ is_by_lane self }
+    {
+        matches!(self, Route::Lane(_))
     }
 }

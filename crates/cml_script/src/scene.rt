@@ -5,6 +5,7 @@ ghost use Rattle.cml_board.specs.History.{no_entries, Lawful, kind_of};
 ghost use Rattle.cml_grammar.specs.Meaning.{names_of};
 ghost use Rattle.cml_script.specs.Counting.{how_many};
 ghost use Rattle.cml_script.specs.Schedule.{made_of};
+ghost use Rattle.cml_script.specs.Left.{is_lane, is_moved};
 ghost use Rattle.cml_script.specs.Report.{performed_count, unperformed, taken_by, is_of_thread, is_step_entry};
 ghost use Rattle.cml_script.specs.Plan.{IsObject, IsObjectAt};
 ghost use Rattle.cml_script.specs.Audit.{IsOfScript};
@@ -133,4 +134,21 @@ fn is_of_thread(who: Who) -> bool
         Who::Seat(seat) => seat != 0,
         Who::Lane(_) | Who::Feed(_) => false,
     }
+}
+
+/// How many messages lanes moved.
+pub fn count_moved(journal: &[Entry<Text>]) -> usize
+    ensures { result ≡ how_many is_moved (reverse journal.now) }
+{
+    let mut moved = 0;
+    for entry in journal {
+        moved += usize::from(is_lane(entry.who));
+    }
+    moved
+}
+
+fn is_lane(who: Who) -> bool
+    ensures { result ≡ is_lane who }
+{
+    matches!(who, Who::Lane(_))
 }

@@ -1,20 +1,27 @@
 -- What a caller in C is told of a replay.
-use Rattle.std.specs.Prelude.{ℕ, ◌≡◌, ◌≤◌, ◌<◌, List, [], ◌++◌, length, drop, Option, Some}
+use Rattle.std.specs.Prelude.{ℕ, ◌≡◌, ◌≤◌, ◌<◌, List, [], ◌++◌, length, drop}
 use Rattle.cml_script.specs.declared.ending.Ending.{Ending}
-use Rattle.cml_script.specs.declared.ending.Ending.TheVariants.{Fault}
+use Rattle.cml_script.specs.declared.ending.Ending.TheVariants as ending
+use Rattle.cml_script.specs.declared.stop.Stop.TheVariants as stop
 use Rattle.cml_script.specs.Endings.{status}
-use Rattle.cml_script.specs.Replay.{Replays}
+use Rattle.cml_script.specs.Replay.{IsPlayedText, EndsUnplayedText}
 use Rattle.cml_script_c.specs.declared.SeryugoEnd.{SeryugoEnd}
 
 abbrev pub line_of : Ending → ℕ
-line_of (Fault fault) = fault.line
-line_of ending = 0
+line_of (ending.Fault fault) = fault.line
+line_of _ = 0
 
--- all of the script's bytes were there to be read, this is the report that came of them, and this is told of how it ended
+-- this report came of the script, and it ended so: what was not played has none
+abbrev pub IsReplay : ℕ → List ℕ → List ℕ → Ending → Type 0
+IsReplay limit script report ending.Done = IsPlayedText limit script stop.Done report
+IsReplay limit script report ending.Stalled = IsPlayedText limit script stop.Stalled report
+IsReplay limit script report ending.Full = IsPlayedText limit script stop.Full report
+IsReplay limit script report unplayed = EndsUnplayedText script unplayed × (report ≡ [])
+
+-- this report came of the script, and this is told of how it ended
 pub record Comes (limit : ℕ) (script report : List ℕ) (end : SeryugoEnd) : Type 0 where
-  pub rest : Option (List ℕ)
   pub ending : Ending
-  pub replays : Replays limit (Some script) rest (Some []) (Some report) ending
+  pub replay : IsReplay limit script report ending
   pub status : end.status ≡ status ending
   pub line : end.line ≡ line_of ending
   pub length : end.length ≡ length report

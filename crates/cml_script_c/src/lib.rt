@@ -1,10 +1,10 @@
 //! Scripts replayed for C and whatever calls C. `include/seryugo_script.h` says in plain words what the clauses say here.
 #![tactic(auto)]
 
-ghost use Rattle.std.specs.Prelude.{◌≡◌, ◌≤◌, ◌<◌, ◌++◌, length, drop};
-ghost use Rattle.cml_script_c.specs.Replaying.{Fills, HasNoRoom, line_of};
+ghost use Rattle.std.specs.Prelude.{◌≡◌, ◌≤◌, ◌<◌, ◌^◌, ◌++◌, length, drop, string_bytes};
+ghost use Rattle.cml_script_c.specs.Replaying.{Fills, HasNoRoom, IsReplay, line_of};
 
-use cml_script::{Ending, replay, status_of};
+use cml_script::{Ending, replay_text, status_of};
 use std::alloc::Global;
 
 /// The report, or nothing, stands in the buffer.
@@ -49,15 +49,26 @@ pub extern "C" fn seryugo_replay(
     if limit < 1 || limit > MOST {
         return BAD_LIMIT;
     }
-    let mut reader = script;
-    let mut written = Vec::new(alloc);
-    let ending = replay(alloc, &mut reader, &mut written, limit);
+    let (text, ending) = replayed(alloc, script, limit);
     *end = SeryugoEnd {
         status: status_of(&ending) as u32,
         line: line_of(&ending),
-        length: written.len(),
+        length: text.len(),
     };
-    fill(report, &written)
+    fill(report, text.as_bytes())
+}
+
+/// The report of a script, or an empty one where it has none, and how the replay ended.
+#[tactic(auto, using(crate::proofs::ReplayLemmas::played, crate::proofs::ReplayLemmas::unplayed))]
+fn replayed(alloc: Global, script: &[u8], limit: u64) -> (String, Ending)
+    requires least { 1 ≤ limit }
+    requires most { limit ≤ 2 ^ 32 }
+    ensures { IsReplay limit script.now (string_bytes result.0) result.1 }
+{
+    match replay_text(alloc, script, limit) {
+        Ok(played) => (played.report, Ending::from(played.stop)),
+        Err(ending) => (String::new(alloc), ending),
+    }
 }
 
 /// Copies these bytes to the front of a buffer, where it has room for them.

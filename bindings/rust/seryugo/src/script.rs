@@ -110,8 +110,9 @@ impl RawEnd {
             0 => End::Done,
             1 => End::Stalled,
             2 => End::Fault(self.line),
+            5 => End::NoMemory,
             6 => End::Full,
-            _ => End::NoMemory,
+            status => unreachable!("no replay has the status {status}"),
         }
     }
 }

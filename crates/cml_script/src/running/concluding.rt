@@ -2,6 +2,7 @@
 ghost use Rattle.std.specs.Prelude.{◌≡◌, ◌↔◌, ◌<◌, ℕ, length, IsTrue, IfOk, IfErr, string_bytes};
 ghost use Rattle.cml_board.specs.History.{no_entries};
 ghost use Rattle.cml_script.specs.Audit.{IsOfScript};
+ghost use Rattle.cml_script.specs.Left.{HasLeft};
 ghost use Rattle.cml_script.specs.Running.{IsReportOf, IsRefused, IsUnsettled, IsTakenAt, Leaves, MayEnd};
 
 use crate::auditing::audit;
@@ -9,7 +10,7 @@ use crate::ending::Ending;
 use crate::perform::Played;
 use crate::plan::{Plan, count_feeds};
 use crate::report::report;
-use crate::scene::unperformed;
+use crate::scene::{count_moved, unperformed};
 use crate::stop::Stop;
 use crate::tally::Tally;
 use crate::verdict::Verdict;
@@ -87,7 +88,7 @@ fn may_end(plan: &Plan<'_>, board: &Board<Text, BoardLog<Text>>, tally: &Tally, 
     requires { board.now.past ≡ no_entries }
     ensures { IsTrue result ↔ MayEnd plan.now board.now.limit board.now.history tally.now stop }
 {
-    if !leaves(plan.script(), board, tally, stop) {
+    if !leaves(plan, board, tally, stop) {
         return false;
     }
     if tally.apart > plan.apart() {
@@ -100,15 +101,25 @@ fn may_end(plan: &Plan<'_>, board: &Board<Text, BoardLog<Text>>, tally: &Tally, 
 }
 
 /// Whether so much is left.
-fn leaves(script: &Script, board: &Board<Text, BoardLog<Text>>, tally: &Tally, stop: Stop) -> bool
+fn leaves(plan: &Plan<'_>, board: &Board<Text, BoardLog<Text>>, tally: &Tally, stop: Stop) -> bool
     requires { board.now.past ≡ no_entries }
-    ensures { IsTrue result ↔ Leaves script.now board.now.limit board.now.history tally.now stop }
+    ensures { IsTrue result ↔ Leaves plan.now board.now.limit board.now.history tally.now stop }
 {
     match stop {
-        Stop::Done => unperformed(script, board, tally) == 0,
-        Stop::Stalled | Stop::Held => 0 < unperformed(script, board, tally),
-        Stop::Full => board.entries() == board.limit(),
+        Stop::Done => unperformed(plan.script(), board, tally) == 0,
+        Stop::Stalled | Stop::Held => 0 < unperformed(plan.script(), board, tally),
+        Stop::Full => board.entries() == board.limit() && has_left(plan, board, tally),
     }
+}
+
+/// Whether a declared object was not made, a step was not performed, or a message sent by a lane was not moved.
+fn has_left(plan: &Plan<'_>, board: &Board<Text, BoardLog<Text>>, tally: &Tally) -> bool
+    requires { board.now.past ≡ no_entries }
+    ensures { IsTrue result ↔ HasLeft plan.now board.now.history tally.now }
+{
+    board.entries() < plan.declared() as u64
+        || 0 < unperformed(plan.script(), board, tally)
+        || count_moved(journal(board)) < plan.laid()
 }
 
 /// Whether of no feed more was taken than its port received.
