@@ -1,3 +1,2 @@
 mod WordLemmas
-mod ShapeLemmas
 mod ReadingLemmas

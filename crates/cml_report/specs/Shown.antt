@@ -1,7 +1,6 @@
 -- What was read, by the bytes of its words and not by where they lie in memory.
-use Rattle.std.specs.Prelude.{ℕ, List, map, Vec}
+use Rattle.std.specs.Prelude.{ℕ, List, map}
 use Rattle.std.specs.Option.{option_map}
-use Rattle.std.specs.Global.{Global}
 use denote.Ref.{Bor}
 use Rattle.cml_report.specs.declared.report.Actor.{Actor}
 use Rattle.cml_report.specs.declared.report.Actor.TheVariants as actor
@@ -17,9 +16,6 @@ use Rattle.cml_report.specs.Lines.{Words, Doer, thread, lane, feed, Answer, done
 abbrev pub texts : List (Bor (List ℕ)) → Words
 texts words = map (λ w. w.now) words
 
-abbrev pub shown_lines : List (Vec (Bor (List ℕ)) Global) → List Words
-shown_lines lines = map (λ (w : Vec (Bor (List ℕ)) Global). texts w.items) lines
-
 abbrev pub shown_actor : Actor → Doer
 shown_actor (actor.Thread name) = thread name.now
 shown_actor (actor.Lane number) = lane number.now
@@ -34,13 +30,13 @@ shown_reply reply.Put = put
 shown_reply reply.Closed = closed
 
 abbrev pub shown_act : Act → Deed
-shown_act a = record { doer = shown_actor a.actor; verb = a.verb; object = a.object.now; with = option_map (λ (w : Bor (List ℕ)). w.now) a.with; answer = shown_reply a.reply }
+shown_act a = record { doer = shown_actor a.actor; verb = a.verb; word = a.word.now; object = a.object.now; with = option_map (λ (w : Bor (List ℕ)). w.now) a.with; answer = shown_reply a.reply }
 
 abbrev pub shown_object : Object → Thing
-shown_object o = record { kind = o.kind; name = o.name.now; closing = texts o.closing.items }
+shown_object o = record { kind = o.kind.now; name = o.name.now; line = o.line.now }
 
 abbrev pub shown_end : End → Ended
-shown_end e = record { stop = e.stop; performed = e.performed.now; left = option_map (λ (w : Bor (List ℕ)). w.now) e.left }
+shown_end e = record { stop = e.stop; line = e.line.now }
 
 abbrev pub shown_report : Report → Told
 shown_report r = report (map shown_act r.acts.items) (map shown_object r.objects.items) (shown_end r.end)

@@ -3,15 +3,15 @@ ghost use Rattle.std.specs.Prelude.{◌≡◌, ◌⊎◌, ◌≤◌, ◌+◌, Ok
 ghost use Rattle.std.specs.Option.{option_map};
 ghost use Rattle.cml_grammar.specs.Words.{words_of};
 ghost use Rattle.cml_report.specs.declared.faults.What.TheVariants.{Memory};
-ghost use Rattle.cml_report.specs.Lines.{line_of, deed, thing, ended};
-ghost use Rattle.cml_report.specs.ShownReading.{shown_line, so_far};
-ghost use Rattle.cml_report.specs.Shown.{texts, shown_act, shown_object, shown_end, shown_report};
-ghost use Rattle.cml_report.specs.Reading.{told, told_at_end, with_line, with_words, with_text, wrong, IsFaultOf};
+ghost use Rattle.cml_report.specs.Lines.{line_by, line_of};
+ghost use Rattle.cml_report.specs.ShownReading.{shown_line, so_far, line_count};
+ghost use Rattle.cml_report.specs.Shown.{texts, shown_report};
+ghost use Rattle.cml_report.specs.Reading.{told, told_at_end, with_line, with_text, wrong, IsFaultOf};
 
 use crate::acts::act_of;
-use crate::end::{begins_end, end_of};
+use crate::endings::end_of;
 use crate::faults::{Fault, What};
-use crate::objects::{begins_object, object_of};
+use crate::objects::object_of;
 use crate::report::{Act, End, Line, Object, Report};
 use cml_grammar::{cut_line, has_bad_byte, split_words};
 use std::alloc::{AllocError, Global};
@@ -65,102 +65,63 @@ fn read_lines(alloc: Global, text: &[u8]) -> Result<Report<'_>, Fault>
 
 fn read_line<'a>(alloc: Global, reading: &mut Reading<'a>, line: &'a [u8]) -> Result<(), What>
     ensures fits { OnOk result (with_text (so_far reading.old) line.now ≡ Ok (so_far reading.new)) }
-    ensures few { OnOk result (length reading.new.acts.items + length reading.new.objects.items ≤ length reading.old.acts.items + length reading.old.objects.items + 1) }
+    ensures few { OnOk result (line_count reading.new ≤ line_count reading.old + 1) }
     ensures fault { IfErr result (λ what. (what ≡ Memory) ⊎ (with_text (so_far reading.old) line.now ≡ Err what)) }
 {
     if has_bad_byte(line) {
         return Err(What::BadBytes);
     }
-    match str::from_utf8(line) {
-        Ok(text) => read_words(alloc, reading, text),
-        Err(_) => unreachable!(),
-    }
-}
-
-fn read_words<'a>(alloc: Global, reading: &mut Reading<'a>, text: &'a str) -> Result<(), What>
-    ensures fits { OnOk result (with_words (so_far reading.old) (words_of text.now) ≡ Ok (so_far reading.new)) }
-    ensures few { OnOk result (length reading.new.acts.items + length reading.new.objects.items ≤ length reading.old.acts.items + length reading.old.objects.items + 1) }
-    ensures fault { IfErr result (λ what. (what ≡ Memory) ⊎ (with_words (so_far reading.old) (words_of text.now) ≡ Err what)) }
-{
-    let words = split_words(alloc, text)?;
-    let line = line_of(alloc, &words, reading.acts.len())?;
-    match line {
+    let Ok(line) = str::from_utf8(line) else {
+        unreachable!();
+    };
+    match line_of(alloc, line, reading.acts.len())? {
         Some(line) => add_line(reading, line),
         None => Err(What::NoReportLine),
     }
 }
 
-/// The line of these words, behind so many lines of the first part.
-fn line_of<'a>(
-    alloc: Global,
-    words: &[&'a str],
-    count: usize,
-) -> Result<Option<Line<'a>>, AllocError>
-    ensures { IfOk result (λ line. option_map shown_line line ≡ line_of count (texts words.now)) }
+/// The line that a text is behind so many lines of the first part.
+fn line_of(alloc: Global, line: &str, count: usize) -> Result<Option<Line<'_>>, AllocError>
+    ensures { IfOk result (λ found. option_map shown_line found ≡ line_of count line.now) }
 {
-    if begins_end(words) {
-        return Ok(end_of(words, count).map(Line::End));
+    let words = split_words(alloc, line)?;
+    Ok(line_by(line, &words, count))
+}
+
+fn line_by<'a>(line: &'a str, words: &[&'a str], count: usize) -> Option<Line<'a>>
+    ensures { option_map shown_line result ≡ line_by count line.now (texts words.now) }
+{
+    if let Some(end) = end_of(line, words, count) {
+        return Some(Line::End(end));
     }
-    if begins_object(words) {
-        let object = object_of(alloc, words)?;
-        return Ok(object.map(Line::Object));
+    if let Some(object) = object_of(line, words) {
+        return Some(Line::Object(object));
     }
-    Ok(act_of(words).map(Line::Act))
+    act_of(words).map(Line::Act)
 }
 
 /// Adds a line, which may stand behind those of its own part and of the parts before.
 fn add_line<'a>(reading: &mut Reading<'a>, line: Line<'a>) -> Result<(), What>
     ensures fits { OnOk result (with_line (so_far reading.old) (shown_line line.entry) ≡ Ok (so_far reading.new)) }
-    ensures few { OnOk result (length reading.new.acts.items + length reading.new.objects.items ≤ length reading.old.acts.items + length reading.old.objects.items + 1) }
+    ensures few { OnOk result (line_count reading.new ≤ line_count reading.old + 1) }
     ensures fault { IfErr result (λ what. (what ≡ Memory) ⊎ (with_line (so_far reading.old) (shown_line line.entry) ≡ Err what)) }
 {
+    if reading.end.is_some() {
+        return Err(What::OutOfPlace);
+    }
     match line {
-        Line::Act(act) => add_act(reading, act),
-        Line::Object(object) => add_object(reading, object),
-        Line::End(end) => add_end(reading, end),
+        Line::Act(_) if !reading.objects.is_empty() => return Err(What::OutOfPlace),
+        Line::Act(act) => reading.acts.push(act)?,
+        Line::Object(object) => reading.objects.push(object)?,
+        Line::End(end) => reading.end = Some(end),
     }
-}
-
-fn add_act<'a>(reading: &mut Reading<'a>, act: Act<'a>) -> Result<(), What>
-    ensures fits { OnOk result (with_line (so_far reading.old) (deed (shown_act act.entry)) ≡ Ok (so_far reading.new)) }
-    ensures few { OnOk result (length reading.new.acts.items + length reading.new.objects.items ≤ length reading.old.acts.items + length reading.old.objects.items + 1) }
-    ensures fault { IfErr result (λ what. (what ≡ Memory) ⊎ (with_line (so_far reading.old) (deed (shown_act act.entry)) ≡ Err what)) }
-{
-    if reading.end.is_some() || !reading.objects.is_empty() {
-        return Err(What::OutOfPlace);
-    }
-    reading.acts.push(act)?;
-    Ok(())
-}
-
-fn add_object<'a>(reading: &mut Reading<'a>, object: Object<'a>) -> Result<(), What>
-    ensures fits { OnOk result (with_line (so_far reading.old) (thing (shown_object object.entry)) ≡ Ok (so_far reading.new)) }
-    ensures few { OnOk result (length reading.new.acts.items + length reading.new.objects.items ≤ length reading.old.acts.items + length reading.old.objects.items + 1) }
-    ensures fault { IfErr result (λ what. (what ≡ Memory) ⊎ (with_line (so_far reading.old) (thing (shown_object object.entry)) ≡ Err what)) }
-{
-    if reading.end.is_some() {
-        return Err(What::OutOfPlace);
-    }
-    reading.objects.push(object)?;
-    Ok(())
-}
-
-fn add_end<'a>(reading: &mut Reading<'a>, end: End<'a>) -> Result<(), What>
-    ensures fits { OnOk result (with_line (so_far reading.old) (ended (shown_end end.entry)) ≡ Ok (so_far reading.new)) }
-    ensures few { OnOk result (length reading.new.acts.items + length reading.new.objects.items ≤ length reading.old.acts.items + length reading.old.objects.items + 1) }
-    ensures fault { IfErr result (λ what. (what ≡ Memory) ⊎ (with_line (so_far reading.old) (ended (shown_end end.entry)) ≡ Err what)) }
-{
-    if reading.end.is_some() {
-        return Err(What::OutOfPlace);
-    }
-    reading.end = Some(end);
     Ok(())
 }
 
 /// The report of the lines that were read, where nothing follows the last line end.
 fn finish<'a>(reading: Reading<'a>, number: u64, rest: &[u8]) -> Result<Report<'a>, Fault>
     ensures report { IfOk result (λ report. told_at_end (so_far reading.entry) number rest.now ≡ shown_report report) }
-    ensures few { IfOk result (λ report. length report.acts.items + length report.objects.items ≤ length reading.entry.acts.items + length reading.entry.objects.items) }
+    ensures few { IfOk result (λ report. length report.acts.items + length report.objects.items ≤ line_count reading.entry) }
     ensures fault { IfErr result (λ fault. told_at_end (so_far reading.entry) number rest.now ≡ wrong fault) }
 {
     if !rest.is_empty() {

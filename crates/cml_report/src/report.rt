@@ -29,6 +29,8 @@ pub enum Reply<'a> {
 pub struct Act<'a> {
     pub actor: Actor<'a>,
     pub verb: Verb,
+    /// The step's word.
+    pub word: &'a str,
     /// The object that is used, or the port that is made.
     pub object: &'a str,
     /// The message that is given; or what a port is made of.
@@ -36,24 +38,14 @@ pub struct Act<'a> {
     pub reply: Reply<'a>,
 }
 
-/// The kinds of objects.
-#[derive(Clone, Copy, Debug, PartialEq, Eq)]
-pub enum Kind {
-    Mailbox,
-    Channel,
-    Port,
-    IVar,
-    MVar,
-    Feed,
-}
-
 /// A line of the second part: an object, and how it was left.
-#[derive(Debug, Drop)]
+#[derive(Clone, Copy, Debug)]
 pub struct Object<'a> {
-    pub kind: Kind,
+    /// The kind's word.
+    pub kind: &'a str,
     pub name: &'a str,
-    /// The words behind the name.
-    pub closing: Vec<&'a str>,
+    /// The line as a whole.
+    pub line: &'a str,
 }
 
 /// How the run stopped.
@@ -69,14 +61,12 @@ pub enum Stop {
 #[derive(Clone, Copy, Debug)]
 pub struct End<'a> {
     pub stop: Stop,
-    /// How many lines the first part has.
-    pub performed: &'a str,
-    /// How many steps were not performed, where the line says it.
-    pub left: Option<&'a str>,
+    /// The line as a whole.
+    pub line: &'a str,
 }
 
 /// A line of a report.
-#[derive(Drop)]
+#[derive(Clone, Copy)]
 pub(crate) enum Line<'a> {
     Act(Act<'a>),
     Object(Object<'a>),
