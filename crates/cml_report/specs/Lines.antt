@@ -188,7 +188,7 @@ deed_in (doer, []) = None
 deed_in (doer, word ∷ rest) = deed_by doer word rest
 
 -- a line of the first part
-abbrev pub deed_of : Words → Option Deed
+unfoldable pub deed_of : Words → Option Deed
 deed_of words = option_and_then deed_in (doer_of words)
 
 -- Second part.
@@ -209,7 +209,7 @@ abbrev pub is_closing : List ℕ → Words → Bool
 is_closing kind closing = is_kind kind && (is_closing_made kind closing || fits (words_of (codes "not made")) closing)
 
 -- a line of the second part
-abbrev pub thing_of : List ℕ → Words → Option Thing
+unfoldable pub thing_of : List ℕ → Words → Option Thing
 thing_of line (kind ∷ name ∷ closing) =
     option_and_then (λ front. if is_name front && is_closing kind closing then Some (record { kind = kind; name = front; line = line }) else None) (before_colon name)
 thing_of line _ = None
@@ -229,7 +229,7 @@ stop_of words =
     else None
 
 -- the last line, behind so many lines of the first part
-abbrev pub ended_of : ℕ → List ℕ → Words → Option Ended
+unfoldable pub ended_of : ℕ → List ℕ → Words → Option Ended
 ended_of count line words = if is_counted count words then option_map (λ s. record { stop = s; line = line }) (stop_of words) else None
 
 pub data Line : Type 0 where
@@ -243,5 +243,5 @@ line_by count line words =
     option_or (option_map ended (ended_of count line words))
     (option_or (option_map thing (thing_of line words)) (option_map deed (deed_of words)))
 
-abbrev pub line_of : ℕ → List ℕ → Option Line
+unfoldable pub line_of : ℕ → List ℕ → Option Line
 line_of count line = line_by count line (words_of line)

@@ -1,5 +1,5 @@
 -- Which text is which report, and what is wrong with one that is none.
-use Rattle.std.specs.Prelude.{ℕ, suc, ◌≡◌, ◌⊎◌, not, ◌==◌, nat_lt, List, [], ◌∷◌, ◌++◌, length, Option, Some, None, is_some, Result, Ok, Err, if◌then◌else◌}
+use Rattle.std.specs.Prelude.{ℕ, ◌+◌, ◌≡◌, ◌⊎◌, not, ◌==◌, nat_lt, List, [], ◌∷◌, ◌++◌, length, Option, Some, None, is_some, Result, Ok, Err, if◌then◌else◌}
 use Rattle.std.specs.Option.{option_map_or}
 use Rattle.std.specs.List.{list_any}
 use Rattle.cml_grammar.specs.Words.{parts_of, is_bad_byte}
@@ -53,7 +53,7 @@ told_by later k (Err what) = wrong_at k what
 abbrev pub told_from : SoFar → ℕ → List (List ℕ) → Told
 told_from read k [] = wrong_at k NoEndLine
 told_from read k (rest ∷ []) = told_at_end read k rest
-told_from read k (line ∷ next ∷ more) = told_by (λ later. told_from later (suc k) (next ∷ more)) k (with_text read line)
+told_from read k (line ∷ next ∷ more) = told_by (λ later. told_from later (k + 1) (next ∷ more)) k (with_text read line)
 
 -- what a text is
 abbrev pub told : List ℕ → Told

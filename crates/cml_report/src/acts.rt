@@ -10,6 +10,7 @@ use cml_grammar::{Verb, is_name};
 use cml_text::is_text;
 
 /// The act that a line's words are, if they are one.
+#[tactic(auto, unfolding(crate::specs::Lines::deed_of))]
 pub(crate) fn act_of<'a>(words: &[&'a str]) -> Option<Act<'a>>
     ensures { option_map shown_act result ≡ deed_of (texts words.now) }
 {

@@ -9,6 +9,7 @@ use crate::words::fits;
 use cml_grammar::number_of;
 
 /// How the run ended by the last line, behind so many lines of the first part.
+#[tactic(auto, unfolding(crate::specs::Lines::ended_of))]
 pub(crate) fn end_of<'a>(line: &'a str, words: &[&str], count: usize) -> Option<End<'a>>
     ensures { option_map shown_end result ≡ ended_of count line.now (texts words.now) }
 {

@@ -9,18 +9,17 @@ use crate::words::{before_colon, fits};
 use cml_grammar::is_name;
 
 /// The object that a line tells of, if it does.
+#[tactic(auto, unfolding(crate::specs::Lines::thing_of))]
 pub(crate) fn object_of<'a>(line: &'a str, words: &[&'a str]) -> Option<Object<'a>>
     ensures { option_map shown_object result ≡ thing_of line.now (texts words.now) }
 {
     let (kind, rest) = words.split_first()?;
     let (name, closing) = rest.split_first()?;
     let name = before_colon(name)?;
-    let is_object = is_name(name) && is_closing(kind, closing);
-    is_object.then_some(Object {
-        kind: *kind,
-        name,
-        line,
-    })
+    if !is_name(name) || !is_closing(kind, closing) {
+        return None;
+    }
+    Some(Object { kind, name, line })
 }
 
 /// Whether a line may say this of an object of this kind.

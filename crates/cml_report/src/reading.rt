@@ -37,15 +37,6 @@ pub fn read_report(alloc: Global, text: &[u8]) -> Result<Report<'_>, Fault>
     if text.len() > MAX_BYTES {
         return Err(What::TooLong.at(0));
     }
-    read_lines(alloc, text)
-}
-
-fn read_lines(alloc: Global, text: &[u8]) -> Result<Report<'_>, Fault>
-    requires { length text.now ≤ 33554432 }
-    ensures report { IfOk result (λ report. told text.now ≡ shown_report report) }
-    ensures few { IfOk result (λ report. length report.acts.items + length report.objects.items ≤ 33554432) }
-    ensures fault { IfErr result (λ fault. IsFaultOf text.now fault) }
-{
     let mut reading = Reading {
         acts: Vec::new(alloc),
         objects: Vec::new(alloc),
@@ -81,6 +72,7 @@ fn read_line<'a>(alloc: Global, reading: &mut Reading<'a>, line: &'a [u8]) -> Re
 }
 
 /// The line that a text is behind so many lines of the first part.
+#[tactic(auto, unfolding(crate::specs::Lines::line_of))]
 fn line_of(alloc: Global, line: &str, count: usize) -> Result<Option<Line<'_>>, AllocError>
     ensures { IfOk result (λ found. option_map shown_line found ≡ line_of count line.now) }
 {

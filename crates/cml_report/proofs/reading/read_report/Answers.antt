@@ -1,14 +1,14 @@
 use Rattle.std.proofs.Common.{subst, sym, arith}
 use Rattle.cml_report.specs.ShownReading.{so_far}
 use Rattle.cml_report.specs.Reading.{IsFaultOf}
-use Rattle.cml_report.proofs.ReadingLemmas.{reads_on, fault_told}
-use Rattle.cml_report.proofs.reading.read_lines.Goals as goal
+use Rattle.cml_report.proofs.ReadingLemmas.{reads_on, stops}
+use Rattle.cml_report.proofs.reading.read_report.Goals as goal
 
 pub returns-in-Err-clause-fault : goal.returns-in-Err-clause-fault
 returns-in-Err-clause-fault c =
     let l = c.loop-line in
-    subst (IsFaultOf c.args.text.now) (sym c.at.ensures)
-    (fault_told c.args.text.now (so_far l.reading) c.in-Err.what l.number l.rest.now c.in-Some.line.now c.in-Some.later.now c.requires l.invariant.0 c.in-Some.ensures.0 c.in-Err.ensures.fault)
+    subst (IsFaultOf c.args.text.now) (sym c.at-in-Err.ensures)
+    (stops _ (so_far l.reading) c.in-Err.what l.number l.rest.now c.in-Some.line.now c.in-Some.later.now l.invariant.0 c.in-Some.ensures.0 c.in-Err.ensures.fault)
 
 pub loop-line-preserved : goal.loop-line-preserved
 loop-line-preserved c =
