@@ -1,5 +1,5 @@
 -- What the lines of a report are, by their words.
-use Rattle.std.specs.Prelude.{ℕ, Bool, true, false, not, ◌&&◌, ◌||◌, ◌==◌, ◌-◌, List, [], ◌∷◌, length, take, Option, Some, None, if◌then◌else◌, codes}
+use Rattle.std.specs.Prelude.{ℕ, Bool, true, false, not, ◌&&◌, ◌||◌, ◌==◌, List, [], ◌∷◌, length, Option, Some, None, if◌then◌else◌, codes}
 use Rattle.std.specs.Option.{option_map, option_and_then, option_or}
 use Rattle.std.specs.List.{list_any}
 use Rattle.std.specs.Str.{bytes_eq}
@@ -180,16 +180,14 @@ deed_with doer step word b =
     if not (may_do doer step b.2) then None
     else option_map (λ (o : List ℕ × Option (List ℕ)). record { doer = doer; verb = step; word = word; object = o.0; with = o.1; answer = b.2 }) (object_of doer step b.0 b.1)
 
-abbrev pub deed_by : Doer → List ℕ → Words → Option Deed
-deed_by doer word rest = option_and_then (λ (step : Verb). option_and_then (deed_with doer step word) (behind_step rest)) (verb_of word)
-
-abbrev pub deed_in : Doer × Words → Option Deed
-deed_in (doer, []) = None
-deed_in (doer, word ∷ rest) = deed_by doer word rest
+-- the words of a step
+abbrev pub deed_by : Doer → Words → Option Deed
+deed_by doer [] = None
+deed_by doer (word ∷ rest) = option_and_then (λ (step : Verb). option_and_then (deed_with doer step word) (behind_step rest)) (verb_of word)
 
 -- a line of the first part
 unfoldable pub deed_of : Words → Option Deed
-deed_of words = option_and_then deed_in (doer_of words)
+deed_of words = option_and_then (λ (d : Doer × Words). deed_by d.0 d.1) (doer_of words)
 
 -- Second part.
 
@@ -202,11 +200,10 @@ is_closing_made kind closing =
     else if bytes_eq kind (codes "feed") then fits (words_of (codes "start # got # owed # taken #")) closing
     else fits (words_of (codes "empty")) closing || fits (words_of (codes "full =")) closing
 
-abbrev pub is_kind : List ℕ → Bool
-is_kind word = list_any (λ kind. bytes_eq word kind) (words_of (codes "mailbox channel port feed ivar mvar"))
-
 abbrev pub is_closing : List ℕ → Words → Bool
-is_closing kind closing = is_kind kind && (is_closing_made kind closing || fits (words_of (codes "not made")) closing)
+is_closing kind closing =
+    list_any (bytes_eq kind) (words_of (codes "mailbox channel port feed ivar mvar"))
+    && (is_closing_made kind closing || fits (words_of (codes "not made")) closing)
 
 -- a line of the second part
 unfoldable pub thing_of : List ℕ → Words → Option Thing

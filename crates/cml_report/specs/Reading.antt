@@ -1,5 +1,5 @@
 -- Which text is which report, and what is wrong with one that is none.
-use Rattle.std.specs.Prelude.{ℕ, ◌+◌, ◌≡◌, ◌⊎◌, not, ◌==◌, nat_lt, List, [], ◌∷◌, ◌++◌, length, Option, Some, None, is_some, Result, Ok, Err, if◌then◌else◌}
+use Rattle.std.specs.Prelude.{ℕ, ◌+◌, ◌≡◌, ◌⊎◌, ◌||◌, not, ◌==◌, nat_lt, List, [], ◌∷◌, ◌++◌, length, Option, Some, None, is_some, Result, Ok, Err, if◌then◌else◌}
 use Rattle.std.specs.Option.{option_map_or}
 use Rattle.std.specs.List.{list_any}
 use Rattle.cml_grammar.specs.Words.{parts_of, is_bad_byte}
@@ -18,13 +18,10 @@ abbrev pub nothing_yet : SoFar
 nothing_yet = record { deeds = []; things = []; end = None }
 
 -- one line more, which may stand behind those of its own part and of the parts before
-abbrev pub with_next : SoFar → Line → Result SoFar What
-with_next read (deed d) = if length read.things == 0 then Ok (record read { deeds = read.deeds ++ d ∷ [] }) else Err OutOfPlace
-with_next read (thing t) = Ok (record read { things = read.things ++ t ∷ [] })
-with_next read (ended e) = Ok (record read { end = Some e })
-
 abbrev pub with_line : SoFar → Line → Result SoFar What
-with_line read line = if is_some read.end then Err OutOfPlace else with_next read line
+with_line read (deed d) = if is_some read.end || not (length read.things == 0) then Err OutOfPlace else Ok (record read { deeds = read.deeds ++ d ∷ [] })
+with_line read (thing t) = if is_some read.end then Err OutOfPlace else Ok (record read { things = read.things ++ t ∷ [] })
+with_line read (ended e) = if is_some read.end then Err OutOfPlace else Ok (record read { end = Some e })
 
 abbrev pub with_text : SoFar → List ℕ → Result SoFar What
 with_text read line =

@@ -15,8 +15,7 @@ pub(crate) fn act_of<'a>(words: &[&'a str]) -> Option<Act<'a>>
     ensures { option_map shown_act result ≡ deed_of (texts words.now) }
 {
     let (actor, rest) = actor_of(words)?;
-    let (word, rest) = rest.split_first()?;
-    act_by(actor, word, rest)
+    act_by(actor, rest)
 }
 
 fn actor_of<'a, 'w>(words: &'w [&'a str]) -> Option<(Actor<'a>, &'w [&'a str])>
@@ -34,10 +33,11 @@ fn actor_of<'a, 'w>(words: &'w [&'a str]) -> Option<(Actor<'a>, &'w [&'a str])>
     }
 }
 
-/// The act with a step's word and what stands behind it.
-fn act_by<'a>(actor: Actor<'a>, word: &'a str, rest: &[&'a str]) -> Option<Act<'a>>
-    ensures { option_map shown_act result ≡ deed_by (shown_actor actor.entry) word.now (texts rest.now) }
+/// The act that a step's words are.
+fn act_by<'a>(actor: Actor<'a>, words: &[&'a str]) -> Option<Act<'a>>
+    ensures { option_map shown_act result ≡ deed_by (shown_actor actor.entry) (texts words.now) }
 {
+    let (word, rest) = words.split_first()?;
     let verb = Verb::of_word(word)?;
     let (first, last, reply) = behind_step(rest)?;
     if !may_do(actor, verb, reply) {

@@ -1,7 +1,7 @@
 //! Lines of the second part.
 ghost use Rattle.std.specs.Prelude.{◌≡◌};
 ghost use Rattle.std.specs.Option.{option_map};
-ghost use Rattle.cml_report.specs.Lines.{is_kind, is_closing, thing_of};
+ghost use Rattle.cml_report.specs.Lines.{is_closing, thing_of};
 ghost use Rattle.cml_report.specs.Shown.{texts, shown_object};
 
 use crate::report::Object;

@@ -4,8 +4,7 @@ ghost use Rattle.std.specs.Option.{option_map};
 ghost use Rattle.cml_grammar.specs.Words.{words_of};
 ghost use Rattle.cml_report.specs.declared.faults.What.TheVariants.{Memory};
 ghost use Rattle.cml_report.specs.Lines.{line_by, line_of};
-ghost use Rattle.cml_report.specs.ShownReading.{shown_line, so_far, line_count};
-ghost use Rattle.cml_report.specs.Shown.{texts, shown_report};
+ghost use Rattle.cml_report.specs.Shown.{texts, shown_line, shown_report, so_far, line_count};
 ghost use Rattle.cml_report.specs.Reading.{told, told_at_end, with_line, with_text, wrong, IsFaultOf};
 
 use crate::acts::act_of;
@@ -54,6 +53,7 @@ pub fn read_report(alloc: Global, text: &[u8]) -> Result<Report<'_>, Fault>
     finish(reading, number, rest)
 }
 
+#[tactic(auto, using(cml_grammar::proofs::WordLemmas::text_from_bytes))]
 fn read_line<'a>(alloc: Global, reading: &mut Reading<'a>, line: &'a [u8]) -> Result<(), What>
     ensures fits { OnOk result (with_text (so_far reading.old) line.now ≡ Ok (so_far reading.new)) }
     ensures few { OnOk result (line_count reading.new ≤ line_count reading.old + 1) }

@@ -9,6 +9,7 @@ use cml_grammar::number_of;
 use cml_text::is_text;
 
 /// The word without the colon at its end, where it has one.
+#[tactic(auto, using(crate::proofs::WordLemmas::stripped))]
 pub(crate) fn before_colon(word: &str) -> Option<&str>
     ensures { option_map (λ front. front.now) result ≡ before_colon word.now }
 {

@@ -1,5 +1,5 @@
 use Rattle.std.proofs.Common.{subst, sym, arith}
-use Rattle.cml_report.specs.ShownReading.{so_far}
+use Rattle.cml_report.specs.Shown.{so_far}
 use Rattle.cml_report.specs.Reading.{IsFaultOf}
 use Rattle.cml_report.proofs.ReadingLemmas.{reads_on, stops}
 use Rattle.cml_report.proofs.reading.read_report.Goals as goal
