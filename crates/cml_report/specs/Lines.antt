@@ -78,17 +78,19 @@ pub record Ended : Type 0 where
 -- First part.
 
 -- the line begins with a thread's name, or with the number of a lane or a feed
-abbrev pub doer_by : List ℕ → Words → Option (Doer × Words)
-doer_by word [] = None
-doer_by word (number ∷ rest) =
-    if not (is_number number) then None
-    else if bytes_eq word (codes "lane") then Some (lane number, rest)
-    else if bytes_eq word (codes "feed") then Some (feed number, rest)
+abbrev pub ring_of : List ℕ → List ℕ → Option Doer
+ring_of word number =
+    if bytes_eq word (codes "lane") then (if is_number number then Some (lane number) else None)
+    else if bytes_eq word (codes "feed") then (if is_number number then Some (feed number) else None)
     else None
+
+abbrev pub ring_in : List ℕ → Words → Option (Doer × Words)
+ring_in word [] = None
+ring_in word (number ∷ rest) = option_map (λ doer. (doer, rest)) (ring_of word number)
 
 abbrev pub doer_of : Words → Option (Doer × Words)
 doer_of [] = None
-doer_of (word ∷ rest) = if is_name word then Some (thread word, rest) else doer_by word rest
+doer_of (word ∷ rest) = if is_name word then Some (thread word, rest) else ring_in word rest
 
 abbrev pub answer_of : List ℕ → Option Answer
 answer_of word =
@@ -98,10 +100,6 @@ answer_of word =
     else if bytes_eq word (codes "put") then Some put
     else if bytes_eq word (codes "closed") then Some closed
     else if is_message word then Some (message word) else None
-
-abbrev pub is_made : Answer → Bool
-is_made made = true
-is_made _ = false
 
 -- which replies a step may have
 abbrev pub may_answer : Verb → Answer → Bool
@@ -200,7 +198,7 @@ is_closing_made kind closing =
     else if bytes_eq kind (codes "feed") then fits (words_of (codes "start # got # owed # taken #")) closing
     else fits (words_of (codes "empty")) closing || fits (words_of (codes "full =")) closing
 
-abbrev pub is_closing : List ℕ → Words → Bool
+unfoldable pub is_closing : List ℕ → Words → Bool
 is_closing kind closing =
     list_any (bytes_eq kind) (words_of (codes "mailbox channel port feed ivar mvar"))
     && (is_closing_made kind closing || fits (words_of (codes "not made")) closing)

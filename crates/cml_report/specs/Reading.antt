@@ -18,7 +18,7 @@ abbrev pub nothing_yet : SoFar
 nothing_yet = record { deeds = []; things = []; end = None }
 
 -- one line more, which may stand behind those of its own part and of the parts before
-abbrev pub with_line : SoFar → Line → Result SoFar What
+unfoldable pub with_line : SoFar → Line → Result SoFar What
 with_line read (deed d) = if is_some read.end || not (length read.things == 0) then Err OutOfPlace else Ok (record read { deeds = read.deeds ++ d ∷ [] })
 with_line read (thing t) = if is_some read.end then Err OutOfPlace else Ok (record read { things = read.things ++ t ∷ [] })
 with_line read (ended e) = if is_some read.end then Err OutOfPlace else Ok (record read { end = Some e })

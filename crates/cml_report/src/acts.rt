@@ -1,7 +1,7 @@
 //! Lines of the first part.
 ghost use Rattle.std.specs.Prelude.{◌≡◌};
 ghost use Rattle.std.specs.Option.{option_map};
-ghost use Rattle.cml_report.specs.Lines.{doer_of, answer_of, may_answer, gives_message, makes_port, is_sent, may_do, is_given_by, before_reply, behind_step, object_of, deed_by, deed_of};
+ghost use Rattle.cml_report.specs.Lines.{ring_of, doer_of, answer_of, may_answer, gives_message, makes_port, is_sent, may_do, is_given_by, before_reply, behind_step, object_of, deed_by, deed_of};
 ghost use Rattle.cml_report.specs.Shown.{texts, shown_actor, shown_reply, shown_act};
 
 use crate::report::{Act, Actor, Reply};
@@ -26,9 +26,16 @@ fn actor_of<'a, 'w>(words: &'w [&'a str]) -> Option<(Actor<'a>, &'w [&'a str])>
         return Some((Actor::Thread(first), rest));
     }
     let (number, rest) = rest.split_first()?;
-    match *first {
-        "lane" if is_number(number) => Some((Actor::Lane(number), rest)),
-        "feed" if is_number(number) => Some((Actor::Feed(number), rest)),
+    let ring = ring_of(first, number)?;
+    Some((ring, rest))
+}
+
+fn ring_of<'a>(word: &str, number: &'a str) -> Option<Actor<'a>>
+    ensures { option_map shown_actor result ≡ ring_of word.now number.now }
+{
+    match word {
+        "lane" => is_number(number).then_some(Actor::Lane(number)),
+        "feed" => is_number(number).then_some(Actor::Feed(number)),
         _ => None,
     }
 }
@@ -166,8 +173,8 @@ pub fn makes_port(verb: Verb) -> bool
     matches!(verb, Verb::Port | Verb::Copy)
 }
 
-/// Whether a step sends or multicasts: it is what a lane's row may be.
-pub fn is_sent(verb: Verb) -> bool
+/// Whether a step sends or multicasts: it is what a lane's line may be.
+fn is_sent(verb: Verb) -> bool
     ensures { result ≡ is_sent verb }
 {
     matches!(verb, Verb::Send | Verb::Multicast)

@@ -23,6 +23,7 @@ pub(crate) fn object_of<'a>(line: &'a str, words: &[&'a str]) -> Option<Object<'
 }
 
 /// Whether a line may say this of an object of this kind.
+#[tactic(auto, unfolding(crate::specs::Lines::is_closing))]
 fn is_closing(kind: &str, closing: &[&str]) -> bool
     ensures { result ≡ is_closing kind.now (texts closing.now) }
 {

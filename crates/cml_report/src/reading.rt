@@ -89,10 +89,12 @@ fn line_by<'a>(line: &'a str, words: &[&'a str], count: usize) -> Option<Line<'a
     if let Some(object) = object_of(line, words) {
         return Some(Line::Object(object));
     }
-    act_of(words).map(Line::Act)
+    let act = act_of(words)?;
+    Some(Line::Act(act))
 }
 
 /// Adds a line, which may stand behind those of its own part and of the parts before.
+#[tactic(auto, unfolding(crate::specs::Reading::with_line))]
 fn add_line<'a>(reading: &mut Reading<'a>, line: Line<'a>) -> Result<(), What>
     ensures fits { OnOk result (with_line (so_far reading.old) (shown_line line.entry) ≡ Ok (so_far reading.new)) }
     ensures few { OnOk result (line_count reading.new ≤ line_count reading.old + 1) }

@@ -2,7 +2,7 @@
 use cml_grammar::Verb;
 
 /// Who acts in a line of the first part.
-#[derive(Clone, Copy, Debug, PartialEq, Eq)]
+#[derive(Clone, Copy)]
 pub enum Actor<'a> {
     /// A thread, by its name.
     Thread(&'a str),
@@ -13,7 +13,7 @@ pub enum Actor<'a> {
 }
 
 /// What came of an act.
-#[derive(Clone, Copy, Debug, PartialEq, Eq)]
+#[derive(Clone, Copy)]
 pub enum Reply<'a> {
     Done,
     Made,
@@ -25,7 +25,7 @@ pub enum Reply<'a> {
 }
 
 /// A line of the first part: what somebody did with an object, and what came of it.
-#[derive(Clone, Copy, Debug)]
+#[derive(Clone, Copy)]
 pub struct Act<'a> {
     pub actor: Actor<'a>,
     pub verb: Verb,
@@ -39,7 +39,7 @@ pub struct Act<'a> {
 }
 
 /// A line of the second part: an object, and how it was left.
-#[derive(Clone, Copy, Debug)]
+#[derive(Clone, Copy)]
 pub struct Object<'a> {
     /// The kind's word.
     pub kind: &'a str,
@@ -49,7 +49,7 @@ pub struct Object<'a> {
 }
 
 /// How the run stopped.
-#[derive(Clone, Copy, Debug, PartialEq, Eq)]
+#[derive(Clone, Copy)]
 pub enum Stop {
     Done,
     Stalled,
@@ -58,7 +58,7 @@ pub enum Stop {
 }
 
 /// The last line.
-#[derive(Clone, Copy, Debug)]
+#[derive(Clone, Copy)]
 pub struct End<'a> {
     pub stop: Stop,
     /// The line as a whole.
@@ -74,7 +74,7 @@ pub(crate) enum Line<'a> {
 }
 
 /// A report, whole.
-#[derive(Debug, Drop)]
+#[derive(Drop)]
 pub struct Report<'a> {
     pub acts: Vec<Act<'a>>,
     pub objects: Vec<Object<'a>>,
