@@ -1,1 +1,4 @@
 mod OptionLemmas
+mod NameLemmas
+mod FollowingLemmas
+mod DrawingLemmas

@@ -4,9 +4,7 @@ use Rattle.std.specs.Str.Parse.{IsNumeral, digits_value, without_leading_plus}
 use Rattle.clap.specs.Words.{App, Kinds, Row, Rule, Text, fault_of, first_of, matches_of, new_app, new_rule, one_of, with_rule}
 use Rattle.clap.specs.declared.builder.action.ArgAction.TheVariants.{SetTrue}
 use Rattle.clap.specs.declared.builder.value_parser.ValueParser.TheVariants as parser
-use Rattle.clap.specs.declared.error.kind.ErrorKind.{ErrorKind}
-use Rattle.clap.specs.declared.error.kind.ErrorKind.TheVariants as kind
-use Rattle.cml_chart.specs.declared.asked.Order.{Order}
+use Rattle.cml_chart.specs.declared.command_line.Order.{Order}
 
 -- `--text`, which takes no value
 abbrev pub text_rule : Rule
@@ -74,13 +72,7 @@ IsLast found to = ((found ≡ None) → to ≡ None)
 
 -- what is asked for is what was found of each option, under that option's name
 pub record IsAsked (options : List Row) (order : Order) : Type 0 where
-  pub text : IsFlag (one_of (codes "text") options) order.asked.text
-  pub from : IsFirst (one_of (codes "from") options) order.asked.from
-  pub to : IsLast (one_of (codes "to") options) order.asked.to
+  pub text : IsFlag (one_of (codes "text") options) order.text
+  pub from : IsFirst (one_of (codes "from") options) order.from
+  pub to : IsLast (one_of (codes "to") options) order.to
   pub script : option_map (λ path. path.now) order.script ≡ first_of (codes "script") options
-
--- the exit status for an error of this kind
-abbrev pub error_status : ErrorKind → ℕ
-error_status kind.OutOfMemory = 5
-error_status kind.DisplayHelp = 0
-error_status _ = 3

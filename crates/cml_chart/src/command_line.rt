@@ -1,12 +1,9 @@
 //! The words of the command line, by `clap`, which also writes the help.
 ghost use Rattle.std.specs.Prelude.{◌≡◌, map, codes, IfOk, false};
-ghost use Rattle.clap.specs.Words.{app_of, found_of, new_app, FailsBy, kind_of, rows_of, rule_of};
-ghost use Rattle.cml_chart.specs.CommandLine.{drawing_usage, usage, faults_of, options_in, error_status, text_rule, bare_rule, from_rule, to_rule, script_rule, IsAsked};
+ghost use Rattle.clap.specs.Words.{app_of, found_of, new_app, FailsBy, rows_of, rule_of};
+ghost use Rattle.cml_chart.specs.CommandLine.{drawing_usage, usage, faults_of, options_in, text_rule, bare_rule, from_rule, to_rule, script_rule, IsAsked};
 
-use crate::asked::Order;
-use clap::error::ErrorKind;
 use clap::{Arg, ArgAction, ArgMatches, Command, Error, value_parser};
-use cml_picture::Asked;
 use std::alloc::{AllocError, Global};
 use std::convert::AsStr;
 
@@ -45,8 +42,21 @@ Exit status:
   4  standard input or the script can't be read, or standard output can't be written
   5  no memory";
 
+/// How a report is to be drawn, and which of its rows.
+#[derive(Clone, Copy)]
+pub(crate) struct Order<'a> {
+    /// As lines of text, and not as SVG.
+    pub(crate) text: bool,
+    /// The first row, from 1.
+    pub(crate) from: u64,
+    /// The last row; where it is not told, 500 rows are drawn at the most.
+    pub(crate) to: Option<u64>,
+    /// The file with the script that the report is of.
+    pub(crate) script: Option<&'a str>,
+}
+
 /// What the program's words ask for. The first word is the program's own name.
-pub(crate) fn order<'a, S: AsStr>(alloc: Global, words: &'a [S]) -> Result<Order<'a>, Error>
+pub(crate) fn order_of<'a, S: AsStr>(alloc: Global, words: &'a [S]) -> Result<Order<'a>, Error>
     ensures fails { FailsBy (faults_of (map S.text words.now)) result }
     ensures asked { IfOk result (λ order. IsAsked (options_in (map S.text words.now)) order) }
 {
@@ -66,11 +76,9 @@ fn order_in<'a>(matches: &ArgMatches<'a>) -> Order<'a>
     ensures { IsAsked (rows_of (found_of matches.now)) result }
 {
     Order {
-        asked: Asked {
-            text: matches.get_flag("text"),
-            from: matches.get_one::<u64>("from").unwrap_or(1).max(1),
-            to: matches.get_one::<u64>("to"),
-        },
+        text: matches.get_flag("text"),
+        from: matches.get_one::<u64>("from").unwrap_or(1).max(1),
+        to: matches.get_one::<u64>("to"),
         script: matches.get_str("script"),
     }
 }
@@ -101,15 +109,6 @@ fn bare_command<'a>(alloc: Global) -> Command<'a>
         .after_help(AFTER_HELP)
 }
 
-fn text<'a>(alloc: Global) -> Arg<'a>
-    ensures { (rule_of result ≡ text_rule) × (result.global ≡ false) }
-{
-    Arg::new(alloc, "text")
-        .long("text")
-        .action(ArgAction::SetTrue)
-        .help(TEXT_HELP)
-}
-
 fn from<'a>(alloc: Global) -> Arg<'a>
     ensures { (rule_of result ≡ from_rule) × (result.global ≡ false) }
 {
@@ -120,6 +119,15 @@ fn to<'a>(alloc: Global) -> Arg<'a>
     ensures { (rule_of result ≡ to_rule) × (result.global ≡ false) }
 {
     numbered(alloc, "to").value_name("L").help(TO_HELP)
+}
+
+fn text<'a>(alloc: Global) -> Arg<'a>
+    ensures { (rule_of result ≡ text_rule) × (result.global ≡ false) }
+{
+    Arg::new(alloc, "text")
+        .long("text")
+        .action(ArgAction::SetTrue)
+        .help(TEXT_HELP)
 }
 
 /// An option whose value is the number of a row.
@@ -138,15 +146,4 @@ fn script<'a>(alloc: Global) -> Arg<'a>
         .long("script")
         .value_name("FILE")
         .help(SCRIPT_HELP)
-}
-
-/// The exit status for words that were not understood, or that ask for help.
-pub(crate) fn status_of_error(error: &Error) -> u8
-    ensures { result ≡ error_status (kind_of error.now) }
-{
-    match error.kind() {
-        ErrorKind::OutOfMemory => 5,
-        ErrorKind::DisplayHelp => 0,
-        _ => 3,
-    }
 }

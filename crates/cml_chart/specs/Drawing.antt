@@ -1,0 +1,79 @@
+-- What the drawing of a report reads and writes, by how it ends.
+use Rattle.std.specs.Prelude.{ℕ, ◌+◌, ◌-◌, ◌^◌, ◌⊎◌, min, List, ◌≡◌, Option, Some, unwrap_or, ⊤}
+use Rattle.std.specs.Io.KnownBytes.{Consumes, IsAtEnd, Appends, Keeps}
+use Rattle.cml_grammar.specs.Input.{IsReadUpTo}
+use Rattle.cml_grammar.specs.declared.fault.Fault.{Fault as ScriptFault}
+use Rattle.cml_grammar.specs.Faults.{fault_of}
+use Rattle.cml_grammar.specs.Script.{Lines, IsScript}
+use Rattle.cml_report.specs.declared.faults.Fault.{Fault}
+use Rattle.cml_report.specs.Lines.{Deed, Thing, Ended}
+use Rattle.cml_report.specs.Shown.{shown_report}
+use Rattle.cml_report.specs.Reading.{told, report, wrong}
+use Rattle.cml_chart.specs.declared.command_line.Order.{Order}
+use Rattle.cml_chart.specs.declared.course.Course.{Course}
+use Rattle.cml_chart.specs.declared.ending.Ending.{Ending}
+use Rattle.cml_chart.specs.declared.ending.Ending.TheVariants as ending
+use Rattle.cml_chart.specs.Following.{IsCourse, lines_fault}
+
+-- These were the reader's next bytes, and no byte is left; or there are too many for a report.
+abbrev pub IsRead : Option (List ℕ) → Option (List ℕ) → List ℕ → Type 0
+IsRead old new text = IsReadUpTo 33554433 old new text
+
+-- the last row that is asked for: 500 rows where it is not told
+abbrev pub last_of : Order → ℕ
+last_of order = unwrap_or order.to (min (order.from + 499) (2 ^ 64 - 1))
+
+-- the rows from the first to the last that are asked for, as far as there are such, stand between these of so many
+abbrev pub bounds_of : Order → ℕ → ℕ × ℕ
+bounds_of order count = let end = min count (last_of order) in (min end (order.from - 1), end)
+
+-- All of the reader's bytes were read, they are a report, of the script where there is one, and this is the course that was drawn.
+pub record IsDrawnOf (script : Option Lines) (old new : Option (List ℕ)) : Type 0 where
+  pub text : List ℕ
+  pub read : Consumes old new text
+  pub whole : IsAtEnd new
+  pub course : Course
+  pub says : told text ≡ shown_report course.report
+  pub is_course : IsCourse script course
+
+-- the lines are no report, or there is a fault in what they tell
+abbrev pub IsFaulty : Option Lines → List ℕ → Fault → Type 0
+IsFaulty script text fault = (told text ≡ wrong fault)
+    ⊎ ((deeds : List Deed) × (things : List Thing) × (end : Ended) × (told text ≡ report deeds things end) × (lines_fault script deeds things ≡ Some fault))
+
+-- how it ends where nothing was drawn
+abbrev pub EndsUndrawn : Option Lines → Option (List ℕ) → Option (List ℕ) → Ending → Type 0
+EndsUndrawn script old new (ending.Fault fault) = (text : List ℕ) × IsRead old new text × IsFaulty script text fault
+EndsUndrawn script old new ending.ReadFault = ⊤
+EndsUndrawn script old new ending.NoMemory = ⊤
+EndsUndrawn script old new _ = ⊥
+
+-- nothing but the picture was written, or a write failed, or nothing was drawn and nothing written
+abbrev pub Draws : Option Lines → Option (List ℕ) → Option (List ℕ) → Option (List ℕ) → Option (List ℕ) → Ending → Type 0
+Draws script old new held holds ending.Done = IsDrawnOf script old new × (picture : List ℕ) × Appends held holds picture
+Draws script old new held holds ending.WriteFault = ⊤
+Draws script old new held holds ended = EndsUndrawn script old new ended × Keeps held holds
+
+-- these were all of the reader's bytes, and are this script
+pub record IsGiven (old new : Option (List ℕ)) (script : Lines) : Type 0 where
+  pub text : List ℕ
+  pub read : Consumes old new text
+  pub whole : IsAtEnd new
+  pub is : IsScript text script
+
+-- the reader's bytes are no script
+abbrev pub IsWrongScript : Option (List ℕ) → Option (List ℕ) → ScriptFault → Type 0
+IsWrongScript old new fault = (text : List ℕ) × IsRead old new text × (fault_of text ≡ Some fault)
+
+-- how it ends where the script was not read, or there is no memory for it
+abbrev pub EndsUnread : Option (List ℕ) → Option (List ℕ) → Ending → Type 0
+EndsUnread old new (ending.ScriptFault fault) = IsWrongScript old new fault
+EndsUnread old new ending.ScriptReadFault = ⊤
+EndsUnread old new ending.NoMemory = ⊤
+EndsUnread old new _ = ⊥
+
+-- .. or the report was drawn, or not, by the script that was read
+abbrev pub DrawsGiven : Option (List ℕ) → Option (List ℕ) → Option (List ℕ) → Option (List ℕ) → Option (List ℕ) → Option (List ℕ) → Ending → Type 0
+DrawsGiven given left old new held holds ended =
+    (EndsUnread given left ended × Keeps held holds)
+    ⊎ ((script : Lines) × IsGiven given left script × Draws (Some script) old new held holds ended)

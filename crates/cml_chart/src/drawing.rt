@@ -1,0 +1,136 @@
+//! A report, from the reader's bytes to the chart's.
+ghost use Rattle.std.specs.Prelude.{◌≡◌, ◌⊎◌, ◌≤◌, IfOk, IfErr, OnOk};
+ghost use Rattle.cml_chart.specs.declared.ending.Ending.TheVariants as ending;
+ghost use Rattle.std.specs.Option.{option_map};
+ghost use Rattle.cml_chart.specs.Drawing.{bounds_of, Draws, DrawsGiven, IsDrawnOf, IsGiven, EndsUndrawn, EndsUnread, IsRead};
+
+use crate::command_line::Order;
+use crate::course::{Course, course_of};
+use crate::ending::Ending;
+use crate::marks::add_drawn;
+use crate::picture::Picture;
+use crate::plain::draw_plain;
+use crate::svg::draw_svg;
+use cml_grammar::{Script, Unread, read_script, read_up_to, write_whole};
+use cml_report::read_report;
+use std::alloc::{AllocError, Global};
+use std::io::{Read, Write};
+
+/// How many rows are drawn at the most where it is not told.
+const MOST_ROWS: u64 = 500;
+
+/// A report or a script has fewer bytes than this, so that no more is read.
+const MOST_BYTES: usize = 33_554_433;
+
+/// How often a reader is asked at the most.
+const MOST_CALLS: usize = 67_108_864;
+
+/// Draws a report of a script, which it reads whole before the report.
+pub(crate) fn draw_by_script<S: Read, R: Read, W: Write>(
+    alloc: Global,
+    script: &mut S,
+    reader: &mut R,
+    writer: &mut W,
+    order: &Order<'_>,
+) -> Ending
+    ensures { DrawsGiven (S.remaining script.old) (S.remaining script.new) (R.remaining reader.old) (R.remaining reader.new) (W.contents writer.old) (W.contents writer.new) result }
+{
+    match script_in(alloc, script) {
+        Ok(script) => draw(alloc, Some(&script), reader, writer, order),
+        Err(ending) => ending,
+    }
+}
+
+/// Reads a script.
+fn script_in<S: Read>(alloc: Global, reader: &mut S) -> Result<Script, Ending>
+    ensures given { IfOk result (λ script. IsGiven (S.remaining reader.old) (S.remaining reader.new) script) }
+    ensures unread { IfErr result (λ ending. EndsUnread (S.remaining reader.old) (S.remaining reader.new) ending) }
+{
+    let text = read_all(alloc, reader, Ending::ScriptReadFault)?;
+    let script = read_script(alloc, &text)?;
+    Ok(script)
+}
+
+/// Draws a report, of a script where there is one: it reads the whole report, and then writes the chart of the rows that are asked
+/// for.
+pub(crate) fn draw<R: Read, W: Write>(
+    alloc: Global,
+    script: Option<&Script>,
+    reader: &mut R,
+    writer: &mut W,
+    order: &Order<'_>,
+) -> Ending
+    ensures { Draws (option_map (λ s. s.now) script.entry) (R.remaining reader.old) (R.remaining reader.new) (W.contents writer.old) (W.contents writer.new) result }
+{
+    match picture(alloc, script, reader, order) {
+        Ok(picture) => match write_whole(writer, picture.as_bytes()) {
+            Ok(()) => Ending::Done,
+            Err(_) => Ending::WriteFault,
+        },
+        Err(ending) => ending,
+    }
+}
+
+/// Reads a report and draws it.
+fn picture<R: Read>(
+    alloc: Global,
+    script: Option<&Script>,
+    reader: &mut R,
+    order: &Order<'_>,
+) -> Result<String, Ending>
+    ensures drawn { OnOk result (IsDrawnOf (option_map (λ s. s.now) script.entry) (R.remaining reader.old) (R.remaining reader.new)) }
+    ensures undrawn { IfErr result (λ ending. EndsUndrawn (option_map (λ s. s.now) script.entry) (R.remaining reader.old) (R.remaining reader.new) ending) }
+{
+    let text = read_all(alloc, reader, Ending::ReadFault)?;
+    let report = read_report(alloc, &text)?;
+    let course = course_of(alloc, script, report)?;
+    let picture = draw_course(alloc, &course, order)?;
+    Ok(picture)
+}
+
+/// Reads all bytes, or the first 33,554,433 where there are more. Where that fails it ends so.
+fn read_all<R: Read>(alloc: Global, reader: &mut R, failed: Ending) -> Result<Vec<u8>, Ending>
+    ensures read { IfOk result (λ bytes. IsRead (R.remaining reader.old) (R.remaining reader.new) bytes.items) }
+    ensures unread { IfErr result (λ ended. (ended ≡ failed) ⊎ (ended ≡ ending.NoMemory)) }
+{
+    match read_up_to(alloc, reader, MOST_BYTES, MOST_CALLS) {
+        Ok(bytes) => Ok(bytes),
+        Err(Unread::Failed) => Err(failed),
+        Err(Unread::Memory) => Err(Ending::NoMemory),
+    }
+}
+
+/// The rows that are asked for as SVG or as lines of text.
+fn draw_course(
+    alloc: Global,
+    course: &Course<'_>,
+    order: &Order<'_>,
+) -> Result<String, AllocError> {
+    let bounds = bounds(order, course.chart.rows.len());
+    let mut open = Vec::from_slice(alloc, &course.open)?;
+    let mut rows = Vec::new(alloc);
+    add_drawn(alloc, &mut rows, &mut open, &course.chart, bounds)?;
+    let picture = Picture {
+        course,
+        rows: &rows,
+        before: bounds.0,
+    };
+    let mut out = String::new(alloc);
+    if order.text {
+        draw_plain(&mut out, &picture)?;
+    } else {
+        draw_svg(alloc, &mut out, &picture)?;
+    }
+    Ok(out)
+}
+
+/// Between which of so many rows those stand that are asked for, as far as there are such.
+fn bounds(order: &Order<'_>, count: usize) -> (usize, usize)
+    ensures bounds { result ≡ bounds_of order.now count }
+    ensures within { (result.0 ≤ result.1) × (result.1 ≤ count) }
+{
+    let to = order.to.unwrap_or(order.from.saturating_add(MOST_ROWS - 1));
+    let end = count.min(to as usize);
+    let start = end.min(order.from.saturating_sub(1) as usize);
+    (start, end)
+}

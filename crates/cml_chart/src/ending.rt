@@ -1,0 +1,91 @@
+//! How the drawing of a report ends.
+ghost use Rattle.std.specs.Prelude.{◌≡◌};
+ghost use Rattle.cml_chart.specs.declared.ending.Ending.TheVariants as ending;
+ghost use Rattle.cml_chart.specs.Endings.{ending_of_fault, ending_of_script_fault, is_shown, status};
+
+use cml_report::{Fault, What};
+use std::alloc::AllocError;
+use thiserror::Error;
+
+/// How the drawing of a report ends. It shows as the line for standard error.
+#[derive(Clone, Copy, Debug, PartialEq, Eq, Error)]
+pub(crate) enum Ending {
+    /// The chart was written.
+    #[error("cml_chart: done")]
+    Done,
+    /// What was read is no report.
+    #[error("{0}")]
+    Fault(Fault),
+    /// What was read as a script is none.
+    #[error("{0}")]
+    ScriptFault(cml_grammar::Fault),
+    /// The script could not be read, or its reader was asked too often.
+    #[error("cml_chart: script read failed")]
+    ScriptReadFault,
+    /// The report could not be read, or its reader was asked too often.
+    #[error("cml_chart: read failed")]
+    ReadFault,
+    /// The chart could not be written.
+    #[error("cml_chart: write failed")]
+    WriteFault,
+    /// There was no memory, and nothing was written.
+    #[error("cml_chart: no memory")]
+    NoMemory,
+}
+
+impl From<AllocError> for Ending {
+    ghost from_gives = { λ _ ended. ended ≡ ending.NoMemory };
+
+    fn from(_error: AllocError) -> Ending {
+        Ending::NoMemory
+    }
+}
+
+impl From<Fault> for Ending {
+    ghost from_gives = { λ fault ended. ended ≡ ending_of_fault fault };
+
+    fn from(fault: Fault) -> Ending {
+        match fault.what {
+            What::Memory => Ending::NoMemory,
+            _ => Ending::Fault(fault),
+        }
+    }
+}
+
+impl From<cml_grammar::Fault> for Ending {
+    ghost from_gives = { λ fault ended. ended ≡ ending_of_script_fault fault };
+
+    fn from(fault: cml_grammar::Fault) -> Ending {
+        match fault.what {
+            cml_grammar::What::Memory => Ending::NoMemory,
+            _ => Ending::ScriptFault(fault),
+        }
+    }
+}
+
+impl cml_shell::Ending for Ending {
+    ghost status = { status };
+
+    ghost is_shown = { is_shown };
+
+    fn no_memory() -> Ending {
+        Ending::NoMemory
+    }
+
+    fn write_fault() -> Ending {
+        Ending::WriteFault
+    }
+
+    fn status(&self) -> u8 {
+        match self {
+            Ending::Done => 0,
+            Ending::Fault(_) | Ending::ScriptFault(_) => 2,
+            Ending::ScriptReadFault | Ending::ReadFault | Ending::WriteFault => 4,
+            Ending::NoMemory => 5,
+        }
+    }
+
+    fn is_shown(&self) -> bool {
+        !matches!(self, Ending::Done)
+    }
+}

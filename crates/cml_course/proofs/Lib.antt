@@ -1,4 +1,0 @@
-mod ShapeLemmas
-mod FollowingLemmas
-mod PlanLemmas
-mod ListeningLemmas

@@ -1,4 +1,0 @@
-pub mod Plan
-pub mod Following
-pub mod Course
-pub mod ShownPlan

@@ -1,2 +1,0 @@
-mod DrawingLemmas
-mod EscapeLemmas

@@ -1,5 +1,0 @@
-pub mod Plain
-pub mod Escape
-pub mod Svg
-pub mod Drawing
-pub mod Endings

@@ -1,3 +1,0 @@
-mod NameLemmas
-mod ChartLemmas
-mod HeadLemmas

@@ -1,6 +1,0 @@
-use Rattle.std.proofs.Common.{◌∙◌}
-use Rattle.cml_sequence.proofs.NameLemmas.{column-texts}
-use Rattle.cml_sequence.proofs.columns.column_of.Goals as goal
-
-pub returns-clause-column : goal.returns-clause-column
-returns-clause-column c = c.get_index_of.ensures.index ∙ column-texts c.args.names.now.keys c.args.name.now

@@ -1,9 +1,0 @@
-pub mod Columns
-pub mod Shown
-pub mod Chart
-pub mod Listening
-pub mod Labels
-pub mod Closings
-pub mod Standing
-pub mod Notes
-pub mod Heads
