@@ -1,28 +1,37 @@
 //! Workloads on a switchboard. The clock runs from before their threads are started until they have left.
 ghost use Rattle.std.specs.Prelude.{◌≡◌, ◌^◌};
 
+mod crew;
 mod feeds;
+mod filling;
 mod lanes;
-mod parts;
+mod rounds;
 mod soak;
 mod watched;
 
-use crate::LIMIT;
-use cml_board::Call;
-use cml_threads::{Left, PARTS, Seat};
-use parts::{
-    Adding, FIRST, Part, Shared, answer_all, ask_all, receive_all, send_all, send_and_receive,
-};
+use crate::{LIMIT, Tally};
+use cml_board::BoardLog;
+use cml_threads::{Left, PARTS, Switchboard};
+use crew::{Job, run};
+use filling::{fill, make_objects};
 use std::alloc::Global;
+use std::io;
 use std::marker::Brand;
 use std::rt::Clock;
 use std::sync::Wait;
 use std::sync::ledger::{Blank, Ledger};
 use std::thread::Threads;
-use std::time::{Duration, Instant};
-use std::{io, thread};
+use std::time::Instant;
 
 const SENDERS: u64 = 4;
+
+const READERS: u64 = 8;
+
+/// How often a thread tries at most.
+const TURNS: u64 = 100_000_000_000;
+
+/// What the threads share.
+type Shared<Led> = Switchboard<u64, BoardLog<u64>, Led>;
 
 #[derive(Clone, Copy)]
 pub enum Workload {
@@ -38,26 +47,18 @@ pub enum Workload {
     WatchedFanIn,
 }
 
-pub const WORKLOADS: [Workload; 10] = [
-    Workload::Pairs,
-    Workload::Pipe,
-    Workload::FanIn,
-    Workload::Lanes,
-    Workload::Ports,
-    Workload::Feeds,
-    Workload::Variables,
-    Workload::Soak,
-    Workload::WatchedVariables,
-    Workload::WatchedFanIn,
+pub const WORKLOADS: &[(&str, Workload)] = &[
+    ("pairs1", Workload::Pairs),
+    ("pipe2", Workload::Pipe),
+    ("fanin4", Workload::FanIn),
+    ("fanin4_lanes", Workload::Lanes),
+    ("cast8", Workload::Ports),
+    ("feed8", Workload::Feeds),
+    ("var2", Workload::Variables),
+    ("soak2", Workload::Soak),
+    ("var2_watched", Workload::WatchedVariables),
+    ("fanin4_watched", Workload::WatchedFanIn),
 ];
-
-/// What a workload came to.
-#[derive(Clone, Copy)]
-pub struct Tally {
-    pub sum: u64,
-    pub entries: u64,
-    pub time: Duration,
-}
 
 /// Does a workload so many times, on a switchboard of its own.
 pub fn performed<R: Clock + Threads + Wait + Sync>(
@@ -80,44 +81,40 @@ fn perform<Led: Ledger + Send + Sync, R: Clock + Threads + Wait + Sync>(
     requires parts { blank.parts ≡ Led.parts }
     requires enough { blank.parts ≡ 2 ^ 63 }
 {
-    let shared: Shared<Led> = Shared::<Led>::new(alloc, LIMIT, blank)?;
+    let shared = Shared::<Led>::new(alloc, LIMIT, blank)?;
     let mut lefts = Vec::new(alloc);
-    let start = Instant::now(rt)?;
-    let sum = workload.run(rt, alloc, &shared, &mut lefts, count)?;
-    let time = start.elapsed(rt)?;
+    let tally = work(rt, alloc, &shared, &mut lefts, workload, count)?;
     let Ok(settled) = shared.settle(lefts) else {
         return Err(io::ErrorKind::InvalidData.into());
     };
-    let entries = settled.count().total;
-    if entries != workload.entries(count) {
+    if settled.count().total != tally.calls {
         return Err(io::ErrorKind::InvalidData.into());
     }
-    Ok(Tally { sum, entries, time })
+    Ok(tally)
+}
+
+/// What a workload comes to, if it makes as many calls as it is to make.
+fn work<Led: Ledger + Send + Sync, R: Clock + Threads + Wait + Sync>(
+    rt: &R,
+    alloc: Global,
+    shared: &Shared<Led>,
+    lefts: &mut Vec<Left<Led>>,
+    workload: Workload,
+    count: u64,
+) -> io::Result<Tally> {
+    let start = Instant::now(rt)?;
+    lefts.push(make_objects(rt, shared, workload)?)?;
+    let mut jobs = Vec::new(alloc);
+    fill(rt, shared, workload, count, &mut jobs)?;
+    let sum = run(rt, shared, workload, jobs, lefts, count)?;
+    Ok(Tally {
+        sum,
+        calls: workload.entries(count),
+        time: start.elapsed(rt)?,
+    })
 }
 
 impl Workload {
-    pub fn name(self) -> &'static str {
-        match self {
-            Workload::Pairs => "pairs1",
-            Workload::Pipe => "pipe2",
-            Workload::FanIn => "fanin4",
-            Workload::Lanes => "fanin4_lanes",
-            Workload::Ports => "cast8",
-            Workload::Feeds => "feed8",
-            Workload::Variables => "var2",
-            Workload::Soak => "soak2",
-            Workload::WatchedVariables => "var2_watched",
-            Workload::WatchedFanIn => "fanin4_watched",
-        }
-    }
-
-    pub fn of_name(name: &str) -> Option<Workload> {
-        WORKLOADS
-            .iter()
-            .copied()
-            .find(|workload| workload.name() == name)
-    }
-
     /// How many calls it makes, those included that make its objects.
     fn entries(self, count: u64) -> u64 {
         match self {
@@ -127,7 +124,7 @@ impl Workload {
                 .saturating_add(1),
             Workload::Ports | Workload::Feeds => count
                 .saturating_add(1)
-                .saturating_mul(feeds::READERS + 1),
+                .saturating_mul(READERS + 1),
             Workload::Variables | Workload::WatchedVariables => count
                 .saturating_mul(4)
                 .saturating_add(2),
@@ -135,156 +132,15 @@ impl Workload {
         }
     }
 
-    fn run<Led: Ledger + Send + Sync, R: Clock + Threads + Wait + Sync>(
-        self,
-        rt: &R,
-        alloc: Global,
-        shared: &Shared<Led>,
-        lefts: &mut Vec<Left<Led>>,
-        count: u64,
-    ) -> io::Result<u64> {
-        match self {
-            Workload::Pairs => pairs(rt, shared, lefts, count),
-            Workload::Pipe => pipe(rt, shared, lefts, count),
-            Workload::FanIn => fan_in(rt, shared, lefts, count / SENDERS),
-            Workload::Lanes => lanes::fan_in(rt, shared, lefts, count / SENDERS),
-            Workload::Ports => feeds::ports(rt, alloc, shared, lefts, count),
-            Workload::Feeds => feeds::feeds(rt, alloc, shared, lefts, count),
-            Workload::Variables => variables(rt, shared, lefts, count),
-            Workload::Soak => soak::soak(rt, shared, lefts, count),
-            Workload::WatchedVariables => watched::variables(rt, shared, lefts, count),
-            Workload::WatchedFanIn => watched::fan_in(rt, shared, lefts, count / SENDERS),
-        }
+    fn is_watched(self) -> bool {
+        matches!(self, Workload::WatchedVariables | Workload::WatchedFanIn)
     }
-}
 
-/// One thread and one mailbox: a send and a receive in turn.
-fn pairs<Led: Ledger, R: Wait>(
-    rt: &R,
-    shared: &Shared<Led>,
-    lefts: &mut Vec<Left<Led>>,
-    count: u64,
-) -> io::Result<u64> {
-    let seat = seat_with_mailbox(rt, shared)?;
-    let Part { left, sum } = send_and_receive(rt, shared, seat, count);
-    lefts.push(left)?;
-    Ok(sum)
-}
-
-/// A thread that receives and waits, and one that sends. Where no thread can be made, `join` sends first.
-fn pipe<Led: Ledger + Send + Sync, R: Threads + Wait + Sync>(
-    rt: &R,
-    shared: &Shared<Led>,
-    lefts: &mut Vec<Left<Led>>,
-    count: u64,
-) -> io::Result<u64> {
-    let receiver = seat_with_mailbox(rt, shared)?;
-    let sender = new_seat(rt, shared)?;
-    let (received, sent) = thread::join(
-        rt,
-        move || receive_all(rt, shared, receiver, FIRST, count, Adding::InOrder),
-        move || send_all(rt, shared, sender, 0, count),
-    );
-    lefts.push(received.left)?;
-    lefts.push(sent)?;
-    Ok(received.sum)
-}
-
-/// A thread that receives and waits, and four that send.
-fn fan_in<Led: Ledger + Send + Sync, R: Threads + Wait + Sync>(
-    rt: &R,
-    shared: &Shared<Led>,
-    lefts: &mut Vec<Left<Led>>,
-    each: u64,
-) -> io::Result<u64> {
-    let receiver = seat_with_mailbox(rt, shared)?;
-    let (one, two) = (new_seat(rt, shared)?, new_seat(rt, shared)?);
-    let (three, four) = (new_seat(rt, shared)?, new_seat(rt, shared)?);
-    let count = each.saturating_mul(SENDERS);
-    let half = each.saturating_mul(SENDERS / 2);
-    let (received, ((one, two), (three, four))) = thread::join(
-        rt,
-        move || receive_all(rt, shared, receiver, FIRST, count, Adding::InAnyOrder),
-        move || {
-            thread::join(
-                rt,
-                move || send_by_two(rt, shared, one, two, 0, each),
-                move || send_by_two(rt, shared, three, four, half, each),
-            )
-        },
-    );
-    let Part { left, sum } = received;
-    for left in [left, one, two, three, four] {
-        lefts.push(left)?;
-    }
-    Ok(sum)
-}
-
-/// Two threads that send so many messages each, from this one on.
-fn send_by_two<Led: Ledger + Send + Sync, R: Threads + Wait + Sync>(
-    rt: &R,
-    shared: &Shared<Led>,
-    one: Seat<Led>,
-    two: Seat<Led>,
-    start: u64,
-    each: u64,
-) -> (Left<Led>, Left<Led>) {
-    let middle = start.saturating_add(each);
-    let end = middle.saturating_add(each);
-    thread::join(
-        rt,
-        move || send_all(rt, shared, one, start, middle),
-        move || send_all(rt, shared, two, middle, end),
-    )
-}
-
-/// Two threads to and fro over two m-variables. Each waits for the other, so there is no doing it with one thread.
-fn variables<Led: Ledger + Send + Sync, R: Threads + Wait + Sync>(
-    rt: &R,
-    shared: &Shared<Led>,
-    lefts: &mut Vec<Left<Led>>,
-    count: u64,
-) -> io::Result<u64> {
-    let mut asking = new_seat(rt, shared)?;
-    make(rt, shared, &mut asking, Call::NewMVar)?;
-    make(rt, shared, &mut asking, Call::NewMVar)?;
-    let answering = new_seat(rt, shared)?;
-    let (asked, answered) = thread::scope(
-        thread::scope_env(),
-        rt,
-        move |scope| -> io::Result<(Part<Led>, Left<Led>)> {
-            let thread = scope.spawn(move || answer_all(rt, shared, answering, count))?;
-            let asked = ask_all(rt, shared, asking, count);
-            Ok((asked, thread.join(rt)))
-        },
-    )?;
-    lefts.push(answered)?;
-    lefts.push(asked.left)?;
-    Ok(asked.sum)
-}
-
-/// A new seat, which made the mailbox.
-fn seat_with_mailbox<Led: Ledger, R: Wait>(rt: &R, shared: &Shared<Led>) -> io::Result<Seat<Led>> {
-    let mut seat = new_seat(rt, shared)?;
-    make(rt, shared, &mut seat, Call::NewMailbox)?;
-    Ok(seat)
-}
-
-fn new_seat<Led: Ledger, R: Wait>(rt: &R, shared: &Shared<Led>) -> io::Result<Seat<Led>> {
-    shared
-        .seat(rt)
-        .map_err(|_| io::ErrorKind::OutOfMemory.into())
-}
-
-/// Makes a call that is to be answered.
-fn make<Led: Ledger, R: Wait>(
-    rt: &R,
-    shared: &Shared<Led>,
-    seat: &mut Seat<Led>,
-    call: Call<u64>,
-) -> io::Result<()> {
-    match shared.call(rt, seat, call) {
-        Ok(_) => Ok(()),
-        Err(_) => Err(io::ErrorKind::OutOfMemory.into()),
+    /// Whether two of its threads wait for each other, so that there is no doing it with one.
+    fn is_to_and_fro(self) -> bool {
+        matches!(
+            self,
+            Workload::Variables | Workload::WatchedVariables | Workload::Soak
+        )
     }
 }

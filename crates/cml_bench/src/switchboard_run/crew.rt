@@ -1,0 +1,177 @@
+//! The threads of a workload: what each is to do, what it hands back, and how they are started.
+use super::feeds::{take, tell_and_pump};
+use super::lanes::{drain_all, send_on};
+use super::rounds::Rounds;
+use super::soak::{receive_and_take, send_windows};
+use super::watched::{Progress, watch};
+use super::{Shared, Workload};
+use cml_lanes::{Feed, Lane, LaneEnd};
+use cml_threads::{Left, Seat};
+use std::rt::Clock;
+use std::sync::Wait;
+use std::sync::ledger::Ledger;
+use std::thread::Threads;
+use std::{io, thread};
+
+/// What a thread is to do.
+#[derive(Drop)]
+pub enum Job<Led: Ledger> {
+    BySeat(Seat<Led>, Part),
+    /// It sends the messages from the first number until before the second.
+    ByLane(Lane<u64>, u64, u64),
+    ByFeed(Feed<u64>, u64),
+}
+
+/// What a thread with a seat does.
+#[derive(Clone, Copy)]
+pub enum Part {
+    /// Whether they are watched.
+    Rounds(Rounds, bool),
+    DrainAll,
+    TellAndPump,
+    SendWindows,
+    ReceiveAndTake,
+    Watch,
+}
+
+/// What a thread hands back.
+#[derive(Drop)]
+enum Done<Led: Ledger> {
+    Left(Left<Led>, u64),
+    Sent(Option<LaneEnd<u64>>),
+    /// Of the feed with this number.
+    Taken(u64, u64),
+}
+
+/// A thread for each job: the sum of what they have received.
+pub fn run<Led: Ledger + Send + Sync, R: Clock + Threads + Wait + Sync>(
+    rt: &R,
+    shared: &Shared<Led>,
+    workload: Workload,
+    jobs: Vec<Job<Led>>,
+    lefts: &mut Vec<Left<Led>>,
+    count: u64,
+) -> io::Result<u64> {
+    let mut sum = 0u64;
+    for done in work_all(rt, shared, workload, jobs, count)? {
+        sum = sum.wrapping_add(finish(rt, shared, done, lefts)?);
+    }
+    Ok(sum)
+}
+
+/// What was received by this thread. Its lane or its feed is closed.
+fn finish<Led: Ledger, R: Wait>(
+    rt: &R,
+    shared: &Shared<Led>,
+    done: Done<Led>,
+    lefts: &mut Vec<Left<Led>>,
+) -> Result<u64, io::ErrorKind> {
+    let (is_finished, sum) = match done {
+        Done::Left(left, sum) => (lefts.push(left).is_ok(), sum),
+        Done::Sent(Some(end)) => (shared.close_lane(rt, end).is_ok(), 0),
+        Done::Sent(None) => (false, 0),
+        Done::Taken(feed, sum) => (shared.end_feed(rt, feed).is_ok(), sum),
+    };
+    if is_finished {
+        Ok(sum)
+    } else {
+        Err(io::ErrorKind::InvalidData)
+    }
+}
+
+fn work_all<Led: Ledger + Send + Sync, R: Clock + Threads + Wait + Sync>(
+    rt: &R,
+    shared: &Shared<Led>,
+    workload: Workload,
+    jobs: Vec<Job<Led>>,
+    count: u64,
+) -> io::Result<Vec<Done<Led>>> {
+    let progress = Progress::new();
+    if workload.is_to_and_fro() {
+        work_beside_last(rt, shared, jobs, count, &progress)
+    } else {
+        work_each(rt, shared, jobs, count, &progress)
+    }
+}
+
+/// A thread for each job, but that the last is done here. Where no thread can be made they are done one behind the other,
+/// the last first.
+fn work_each<Led: Ledger + Send + Sync, R: Clock + Threads + Wait + Sync>(
+    rt: &R,
+    shared: &Shared<Led>,
+    jobs: Vec<Job<Led>>,
+    count: u64,
+    progress: &Progress,
+) -> io::Result<Vec<Done<Led>>> {
+    let done = thread::map_vec(
+        rt,
+        jobs,
+        &|job: Job<Led>| { work(rt, shared, job, count, progress) },
+    )?;
+    Ok(done)
+}
+
+/// The last job is done in a thread that has to be made, since the others wait for it.
+fn work_beside_last<Led: Ledger + Send + Sync, R: Clock + Threads + Wait + Sync>(
+    rt: &R,
+    shared: &Shared<Led>,
+    jobs: Vec<Job<Led>>,
+    count: u64,
+    progress: &Progress,
+) -> io::Result<Vec<Done<Led>>> {
+    let mut jobs = jobs;
+    let Some(last) = jobs.pop() else {
+        return Err(io::ErrorKind::InvalidInput.into());
+    };
+    thread::scope(
+        thread::scope_env(),
+        rt,
+        move |scope| -> io::Result<Vec<Done<Led>>> {
+            let thread = scope.spawn(move || work(rt, shared, last, count, progress))?;
+            let mut done = work_each(rt, shared, jobs, count, progress)?;
+            done.push(thread.join(rt))?;
+            Ok(done)
+        },
+    )
+}
+
+fn work<Led: Ledger, R: Clock + Wait>(
+    rt: &R,
+    shared: &Shared<Led>,
+    job: Job<Led>,
+    count: u64,
+    progress: &Progress,
+) -> Done<Led> {
+    match job {
+        Job::BySeat(seat, part) => {
+            let mut seat = seat;
+            let sum = part.perform(rt, shared, &mut seat, count, progress);
+            Done::Left(shared.leave(rt, seat), sum)
+        }
+        Job::ByLane(lane, start, end) => Done::Sent(send_on(rt, lane, start, end)),
+        Job::ByFeed(feed, number) => Done::Taken(number, take(rt, feed, count)),
+    }
+}
+
+impl Part {
+    /// A sum over the messages that were received, if it is this thread's to tell.
+    fn perform<Led: Ledger, R: Clock + Wait>(
+        self,
+        rt: &R,
+        shared: &Shared<Led>,
+        seat: &mut Seat<Led>,
+        count: u64,
+        progress: &Progress,
+    ) -> u64 {
+        match self {
+            Part::Rounds(rounds, is_watched) => {
+                rounds.perform(rt, shared, seat, is_watched.then_some(progress))
+            }
+            Part::DrainAll => drain_all(rt, shared, seat, count),
+            Part::TellAndPump => tell_and_pump(rt, shared, seat, count),
+            Part::SendWindows => send_windows(rt, shared, seat, count),
+            Part::ReceiveAndTake => receive_and_take(rt, shared, seat, count),
+            Part::Watch => watch(rt, shared, seat, progress),
+        }
+    }
+}

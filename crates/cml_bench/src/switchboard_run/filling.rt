@@ -1,0 +1,207 @@
+//! What a workload needs before its threads are started: its objects, and a job for each thread with its seat, lane or feed.
+use super::crew::{Job, Part};
+use super::rounds::{Adding, FIRST, Rounds, SECOND, Verb};
+use super::{READERS, SENDERS, Shared, Workload};
+use cml_board::Name;
+use cml_threads::Left;
+use std::io;
+use std::sync::Wait;
+use std::sync::ledger::Ledger;
+
+/// For how many messages a lane or a feed has room.
+const ROOM: usize = 1_024;
+
+type Added = Result<(), io::ErrorKind>;
+
+/// Makes the objects by a seat of its own. Where one is refused there are too few entries at the end.
+pub fn make_objects<Led: Ledger, R: Wait>(
+    rt: &R,
+    shared: &Shared<Led>,
+    workload: Workload,
+) -> Result<Left<Led>, io::ErrorKind> {
+    let Ok(seat) = shared.seat(rt) else {
+        return Err(io::ErrorKind::OutOfMemory);
+    };
+    let mut seat = seat;
+    let (first, other, others) = objects(workload);
+    first.make(rt, shared, &mut seat, 0);
+    for _ in 0..others {
+        other.make(rt, shared, &mut seat, 0);
+    }
+    Ok(shared.leave(rt, seat))
+}
+
+/// The first object, and how many others there are.
+fn objects(workload: Workload) -> (Verb, Verb, u64) {
+    match workload {
+        Workload::Ports => (Verb::NewChannel, Verb::NewPort(FIRST), READERS),
+        Workload::Feeds => (Verb::NewChannel, Verb::NewPort(FIRST), 0),
+        Workload::Variables | Workload::WatchedVariables => (Verb::NewMVar, Verb::NewMVar, 1),
+        Workload::Soak => (Verb::NewMailbox, Verb::NewMailbox, 1),
+        _ => (Verb::NewMailbox, Verb::NewMailbox, 0),
+    }
+}
+
+/// Adds a job for each thread. Those who receive stand before those for whom they wait.
+pub fn fill<Led: Ledger, R: Wait>(
+    rt: &R,
+    shared: &Shared<Led>,
+    workload: Workload,
+    count: u64,
+    jobs: &mut Vec<Job<Led>>,
+) -> Added {
+    if workload.is_watched() {
+        add(rt, shared, jobs, Part::Watch)?;
+    }
+    match workload {
+        Workload::Feeds => add_feeds(rt, shared, jobs)?,
+        Workload::Ports => add_readers(rt, shared, jobs, count)?,
+        _ => add(rt, shared, jobs, receiver(workload, count))?,
+    }
+    match workload {
+        Workload::Pairs => Ok(()),
+        Workload::Lanes => add_lanes(rt, shared, jobs, count / SENDERS),
+        Workload::Pipe => add_senders(rt, shared, jobs, 1, count),
+        Workload::FanIn | Workload::WatchedFanIn => {
+            add_senders(rt, shared, jobs, SENDERS, count / SENDERS)
+        }
+        _ => add(rt, shared, jobs, partner(workload, count)),
+    }
+}
+
+/// What the one thread does that receives.
+fn receiver(workload: Workload, count: u64) -> Part {
+    let is_watched = workload.is_watched();
+    let all = (count / SENDERS).saturating_mul(SENDERS);
+    match workload {
+        Workload::Lanes => Part::DrainAll,
+        Workload::Soak => Part::ReceiveAndTake,
+        Workload::Pairs => {
+            let (first, second) = (Verb::Send(FIRST), Some(Verb::Recv(FIRST)));
+            Part::Rounds(Rounds::new(first, second, Adding::InOrder, count), false)
+        }
+        Workload::Variables | Workload::WatchedVariables => {
+            let (first, second) = (Verb::Put(FIRST), Some(Verb::Take(SECOND)));
+            Part::Rounds(
+                Rounds::new(first, second, Adding::InOrder, count),
+                is_watched,
+            )
+        }
+        Workload::FanIn | Workload::WatchedFanIn => {
+            Part::Rounds(
+                Rounds::new(Verb::Recv(FIRST), None, Adding::InAnyOrder, all),
+                is_watched,
+            )
+        }
+        _ => Part::Rounds(
+            Rounds::new(Verb::Recv(FIRST), None, Adding::InOrder, count),
+            false,
+        ),
+    }
+}
+
+/// What the other thread does, for whom it waits.
+fn partner(workload: Workload, count: u64) -> Part {
+    match workload {
+        Workload::Feeds => Part::TellAndPump,
+        Workload::Soak => Part::SendWindows,
+        Workload::Ports => {
+            Part::Rounds(
+                Rounds::new(Verb::Cast(FIRST), None, Adding::Nothing, count),
+                false,
+            )
+        }
+        _ => {
+            let (first, second) = (Verb::Take(FIRST), Some(Verb::Put(SECOND)));
+            Part::Rounds(Rounds::new(first, second, Adding::Nothing, count), false)
+        }
+    }
+}
+
+/// A job for a thread with a new seat.
+fn add<Led: Ledger, R: Wait>(
+    rt: &R,
+    shared: &Shared<Led>,
+    jobs: &mut Vec<Job<Led>>,
+    part: Part,
+) -> Added {
+    match shared.seat(rt) {
+        Ok(seat) => push(jobs, Job::BySeat(seat, part)),
+        Err(_) => Err(io::ErrorKind::OutOfMemory),
+    }
+}
+
+fn push<Led: Ledger>(jobs: &mut Vec<Job<Led>>, job: Job<Led>) -> Added {
+    match jobs.push(job) {
+        Ok(()) => Ok(()),
+        Err(_) => Err(io::ErrorKind::OutOfMemory),
+    }
+}
+
+/// So many threads that send so many messages each.
+fn add_senders<Led: Ledger, R: Wait>(
+    rt: &R,
+    shared: &Shared<Led>,
+    jobs: &mut Vec<Job<Led>>,
+    senders: u64,
+    each: u64,
+) -> Added {
+    for sender in 0..senders {
+        let rounds = Rounds {
+            start: sender.saturating_mul(each),
+            end: sender.saturating_add(1).saturating_mul(each),
+            ..Rounds::new(Verb::Send(FIRST), None, Adding::Nothing, each)
+        };
+        add(rt, shared, jobs, Part::Rounds(rounds, false))?;
+    }
+    Ok(())
+}
+
+/// Threads that send so many messages each, on lanes.
+fn add_lanes<Led: Ledger, R: Wait>(
+    rt: &R,
+    shared: &Shared<Led>,
+    jobs: &mut Vec<Job<Led>>,
+    each: u64,
+) -> Added {
+    for sender in 0..SENDERS {
+        let Ok((lane, _)) = shared.open_lane(rt, FIRST, ROOM) else {
+            return Err(io::ErrorKind::OutOfMemory);
+        };
+        let (start, end) = (
+            sender.saturating_mul(each),
+            (sender + 1).saturating_mul(each),
+        );
+        push(jobs, Job::ByLane(lane, start, end))?;
+    }
+    Ok(())
+}
+
+/// Threads that receive so many messages each, by ports.
+fn add_readers<Led: Ledger, R: Wait>(
+    rt: &R,
+    shared: &Shared<Led>,
+    jobs: &mut Vec<Job<Led>>,
+    count: u64,
+) -> Added {
+    for port in 1..=READERS {
+        let rounds = Rounds::new(Verb::Recv(Name(port)), None, Adding::InAnyOrder, count);
+        add(rt, shared, jobs, Part::Rounds(rounds, false))?;
+    }
+    Ok(())
+}
+
+/// Threads that take from feeds.
+fn add_feeds<Led: Ledger, R: Wait>(
+    rt: &R,
+    shared: &Shared<Led>,
+    jobs: &mut Vec<Job<Led>>,
+) -> Added {
+    for _ in 0..READERS {
+        let Ok((feed, number)) = shared.open_feed(rt, FIRST, ROOM) else {
+            return Err(io::ErrorKind::OutOfMemory);
+        };
+        push(jobs, Job::ByFeed(feed, number))?;
+    }
+    Ok(())
+}

@@ -1,0 +1,142 @@
+//! What most threads of a workload do: the same calls in turn, round after round. A call that is refused ends them, and then
+//! whoever waits for it is told that all are stalled.
+use super::Shared;
+use super::watched::Progress;
+use cml_board::{Call, Name, Reply};
+use cml_threads::Seat;
+use std::sync::Wait;
+use std::sync::ledger::Ledger;
+
+/// The mailbox or the channel, or the variable that the asking thread puts into.
+pub const FIRST: Name = Name(0);
+
+/// The variable that the asking thread takes from, or the mailbox by which the sender is told to go on.
+pub const SECOND: Name = Name(1);
+
+/// A call that makes an object, or one on an object.
+#[derive(Clone, Copy)]
+pub enum Verb {
+    NewMailbox,
+    NewChannel,
+    NewPort(Name),
+    NewMVar,
+    Send(Name),
+    Cast(Name),
+    Recv(Name),
+    Put(Name),
+    Take(Name),
+}
+
+/// How the messages that were received are added up.
+#[derive(Clone, Copy)]
+pub enum Adding {
+    /// A sum that their order changes.
+    InOrder,
+    InAnyOrder,
+    Nothing,
+}
+
+/// A round for each number from `start` until before `end`. The first call gives the number, where it gives a message, and
+/// the second what the first got.
+#[derive(Clone, Copy)]
+pub struct Rounds {
+    pub first: Verb,
+    pub second: Option<Verb>,
+    pub start: u64,
+    pub end: u64,
+    pub adding: Adding,
+}
+
+impl Verb {
+    fn call(self, message: u64) -> Call<u64> {
+        match self {
+            Verb::NewMailbox => Call::NewMailbox,
+            Verb::NewChannel => Call::NewChannel,
+            Verb::NewPort(name) => Call::NewPort(name),
+            Verb::NewMVar => Call::NewMVar,
+            Verb::Send(name) => Call::Send(name, message),
+            Verb::Cast(name) => Call::Cast(name, message),
+            Verb::Recv(name) => Call::Recv(name),
+            Verb::Put(name) => Call::Put(name, message),
+            Verb::Take(name) => Call::Take(name),
+        }
+    }
+
+    /// The message that was got, or else the one that was given.
+    pub fn make<Led: Ledger, R: Wait>(
+        self,
+        rt: &R,
+        shared: &Shared<Led>,
+        seat: &mut Seat<Led>,
+        message: u64,
+    ) -> Option<u64> {
+        match shared.call(rt, seat, self.call(message)) {
+            Ok(answer) => match answer.reply() {
+                Reply::Got(got) => Some(*got),
+                _ => Some(message),
+            },
+            Err(_) => None,
+        }
+    }
+}
+
+impl Adding {
+    pub fn add(self, sum: u64, message: u64) -> u64 {
+        match self {
+            Adding::InOrder => sum.wrapping_mul(31).wrapping_add(message),
+            Adding::InAnyOrder => sum.wrapping_add(message),
+            Adding::Nothing => sum,
+        }
+    }
+}
+
+impl Rounds {
+    /// So many rounds of one call or two.
+    pub fn new(first: Verb, second: Option<Verb>, adding: Adding, count: u64) -> Rounds {
+        Rounds {
+            first,
+            second,
+            start: 0,
+            end: count,
+            adding,
+        }
+    }
+
+    /// A sum over the messages. Where these rounds are watched, each is noted, and their end.
+    pub fn perform<Led: Ledger, R: Wait>(
+        self,
+        rt: &R,
+        shared: &Shared<Led>,
+        seat: &mut Seat<Led>,
+        progress: Option<&Progress>,
+    ) -> u64 {
+        let mut sum = 0u64;
+        for number in self.start..self.end {
+            let Some(message) = self.turn(rt, shared, seat, number) else {
+                break;
+            };
+            sum = self.adding.add(sum, message);
+            if let Some(progress) = progress {
+                progress.raise();
+            }
+        }
+        if let Some(progress) = progress {
+            progress.end();
+        }
+        sum
+    }
+
+    fn turn<Led: Ledger, R: Wait>(
+        self,
+        rt: &R,
+        shared: &Shared<Led>,
+        seat: &mut Seat<Led>,
+        number: u64,
+    ) -> Option<u64> {
+        let message = self.first.make(rt, shared, seat, number)?;
+        match self.second {
+            Some(verb) => verb.make(rt, shared, seat, message),
+            None => Some(message),
+        }
+    }
+}
