@@ -2,13 +2,13 @@
 # The tables of calls on a board, a floor and a hall, performed by the built program: `sh tests/calls.sh PROGRAM`. The
 # program writes each line again with what it comes to, so what it writes is to be the table. A case begins with a line
 # `== its name`. Then they are performed with texts for messages, the digits of their numbers, but for the tables on a message
-# that is always refused: each comes to the same.
+# that is always refused and on how many messages live: each comes to the same.
 # The last line is `N passed, M failed`.
 program=$(cd "$(dirname "$1")" && pwd)/$(basename "$1")
 cd "$(dirname "$0")" || exit 1
 
-# compare TABLE WORDS..: what the program writes with these words, held against the table case by case. An entry is told
-# with its text in quotes.
+# compare TABLE WORDS..: what the program writes with these words, held against the table case by case. A text is told in
+# quotes.
 compare() {
     table=$1
     shift
@@ -35,7 +35,7 @@ compare() {
 for table in board/*.rows floors/*.rows halls/*.rows; do
     compare "$table"
     case $table in
-        */fussy.rows) ;;
+        */fussy.rows | */living.rows) ;;
         *) compare "$table" texts ;;
     esac
 done | awk '

@@ -15,6 +15,7 @@
 #                          looked into too, and the cuts of the table itself find nothing left to drop
 #
 # By `take` each case ends with a line `pieces`: all that was handed over, fed to a checker piece by piece, is lawful.
+# The table of how many messages live is left out, since each cut drops some, or keeps some longer.
 #
 # Then tables of random calls (tests/some_calls.awk) are performed with the cuts that are strewn in, without them, and with
 # a cut behind each line: all other lines are to come to the same.
@@ -113,7 +114,10 @@ random() {
 {
     for way in cut take; do
         for table in board/*.rows floors/*.rows halls/*.rows; do
-            compare "$way" "$table"
+            case $table in
+                */living.rows) ;;
+                *) compare "$way" "$table" ;;
+            esac
         done
     done
     for seed in 1 2 3 4 5; do

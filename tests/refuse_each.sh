@@ -5,7 +5,7 @@
 #
 #   table    calls on a board, a floor or a hall: each line comes to what it comes to with memory, and tells where a call was
 #            refused, made again and answered; a run whose own memory was refused ends there with status 1
-#   texts    the same where the messages are texts; an entry is told with its text in quotes
+#   texts    the same where the messages are texts, each told in quotes
 #   replay   a script by `cml replay`: its report, or status 5, nothing written and `cml: no memory`
 #   run      a script by `cml run`: a report of some order of its threads, or the same
 #   threads  the same where threads are refused, and not memory: with no report

@@ -1,10 +1,7 @@
 mod across;
 mod closing;
-mod counted;
 mod ending;
 mod floors;
-mod living;
-mod scene;
 
 use std::process::Abort;
 use std::test::Fail;
@@ -15,13 +12,16 @@ fn is_so(rt: &impl Abort, told: bool, what: &str) {
 
 #[test]
 fn closes_a_lane_by_its_end(rt: HostRuntime) -> Result<(), Fail> {
-    for row in closing::ROWS.iter() {
-        is_so(
-            &rt,
-            closing::is_closed_so(rt.alloc(), row)?,
-            "closed otherwise",
-        );
-    }
+    is_so(
+        &rt,
+        closing::is_closed_by_its_end(rt.alloc())?,
+        "not closed",
+    );
+    is_so(
+        &rt,
+        closing::stays_open_where_the_journal_is_full(rt.alloc())?,
+        "closed",
+    );
     Ok(())
 }
 
@@ -62,17 +62,5 @@ fn takes_what_another_thread_pumps(rt: HostRuntime) -> Result<(), Fail> {
         across::all_are_taken(&rt, rt.alloc())?,
         "taken otherwise",
     );
-    Ok(())
-}
-
-#[test]
-fn drops_each_message_once(rt: HostRuntime) -> Result<(), Fail> {
-    for rows in living::SCENES.iter() {
-        is_so(
-            &rt,
-            living::all_are_counted(rt.alloc(), rows)?,
-            "counted otherwise",
-        );
-    }
     Ok(())
 }

@@ -40,7 +40,7 @@ pub fn last_look(way: Option<Way>) -> Option<&'static str> {
 pub fn is_of_journal(word: &str) -> bool {
     matches!(
         word,
-        "cut" | "take" | "cut_at" | "journal" | "noted" | "check" | "pieces"
+        "cut" | "take" | "cut_at" | "journal" | "noted" | "check" | "pieces" | "forget"
     )
 }
 
@@ -135,6 +135,10 @@ impl<M: Numbered> Pieces<M> {
             }
             "check" => self.tell_checked(text, ground.board()),
             "pieces" => self.tell_fed(text, ground.board()),
+            "forget" => {
+                self.pieces.clear();
+                text.push_str("done")
+            }
             _ => text.push_str("not understood"),
         }
     }

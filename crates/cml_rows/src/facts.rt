@@ -25,7 +25,7 @@ pub fn tell_object<M: Numbered>(
     tell_port(text, board, name)?;
     tell_counts(text, board, name)?;
     match board.held(name) {
-        Some(Some(message)) => write!(text, " full {message}"),
+        Some(Some(message)) => write!(text, " full {message:?}"),
         Some(None) => text.push_str(" empty"),
         None => Ok(()),
     }

@@ -1,26 +1,26 @@
 //! A floor as what calls are made on.
 use crate::cutting::{Journaled, Way};
 use crate::ground::Ground;
-use crate::ground_table::retell;
+use crate::ground_table::perform_on;
 use crate::moving::Moves;
-use crate::numbered::Numbered;
+use crate::numbered::{Maker, Numbered};
 use crate::outcome::Numbers;
 use crate::words::limit_in;
 use cml_board::{BoardLog, Call, Entry, Name, Outcome, Refusal};
 use cml_lanes::{Feed, Floor, Lane, LaneEnd, MAX_CAPACITY};
 use cml_threads::Asked;
-use std::alloc::{AllocError, Global};
+use std::alloc::AllocError;
 use std::io;
 
 /// Performs the lines of a case on a floor.
 pub fn perform<M: Numbered, R: Print>(
     rt: &R,
-    alloc: Global,
+    maker: &Maker<M>,
     lines: &[String],
     way: Option<Way>,
 ) -> io::Result<()> {
-    let board = Numbers::<M>::new(alloc, limit_in(lines))?;
-    retell(rt, alloc, Floor::new(alloc, board), lines, way)
+    let board = Numbers::<M>::new(maker.alloc, limit_in(lines))?;
+    perform_on(rt, maker, Floor::new(maker.alloc, board), lines, way)
 }
 
 impl<M: Numbered> Journaled<M> for Floor<M, BoardLog<M>> {

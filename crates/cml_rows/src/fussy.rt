@@ -1,63 +1,75 @@
-//! Messages whose share may be refused.
+//! Messages that count how many of their like live, and whose share may be refused.
 ghost use Rattle.std.specs.Prelude.{◌≡◌, ℕ, false, IfOk};
 
 use cml_board::Message;
 use std::alloc::{AllocError, Global};
 use std::fmt;
 use std::marker::Model;
+use std::sync::atomic::AtomicU64;
+use std::sync::atomic::Ordering::SeqCst;
 
 /// The number that is never shared.
 const UNLUCKY: u64 = 13;
 
-/// A number in a block of its own, so that each share takes memory; that of 13 is refused always.
-#[derive(Drop)]
-pub struct Fussy(Box<u64>);
+/// A number in a block of its own, so that each share takes memory; that of 13 is refused always. A share is one message more
+/// that lives, and its end one less.
+pub struct Fussy<'a> {
+    live: &'a AtomicU64,
+    number: Box<u64>,
+}
 
-impl Model for Fussy {
+impl<'a> Model for Fussy<'a> {
     ghost Value = { ℕ };
 
-    ghost view = { λ fussy. fussy.0.value };
+    ghost view = { λ fussy. fussy.number.value };
 }
 
-impl Fussy {
-    pub fn new(alloc: Global, value: u64) -> Result<Fussy, AllocError>
-        ensures { IfOk result (λ fussy. fussy ≡ value) }
+impl Drop for Fussy<'_> {
+    fn drop(self) {
+        let Fussy { live, number: _ } = self;
+        live.fetch_sub(1, SeqCst);
+    }
+}
+
+impl<'a> Fussy<'a> {
+    pub fn new(alloc: Global, live: &'a AtomicU64, number: u64) -> Result<Fussy<'a>, AllocError>
+        ensures { IfOk result (λ fussy. fussy ≡ number) }
     {
-        Ok(Fussy(Box::new(alloc, value)?))
+        let number = Box::new(alloc, number)?;
+        live.fetch_add(1, SeqCst);
+        Ok(Fussy { live, number })
     }
 
-    pub fn value(&self) -> u64
+    pub fn number(&self) -> u64
         ensures { result ≡ self.now }
     {
-        *self.0
+        *self.number
+    }
+
+    /// Where it and its like are counted.
+    pub fn counter(&self) -> &'a AtomicU64 {
+        self.live
     }
 }
 
-impl Message for Fussy {
+impl<'a> Message for Fussy<'a> {
     ghost SURE = { false };
 
-    fn share(&self, alloc: Global) -> Result<Fussy, AllocError> {
-        if self.value() == UNLUCKY {
+    fn share(&self, alloc: Global) -> Result<Fussy<'a>, AllocError> {
+        if self.number() == UNLUCKY {
             return Err(AllocError);
         }
-        Fussy::new(alloc, self.value())
+        Fussy::new(alloc, self.live, self.number())
     }
 
-    fn same(&self, other: &Fussy) -> bool {
-        self.value() == other.value()
-    }
-}
-
-impl fmt::Display for Fussy {
-    fn fmt<W: fmt::Write>(&self, f: &mut fmt::Formatter<W>) -> fmt::Result {
-        let value = self.value();
-        write!(f, "{value}")
+    fn same(&self, other: &Fussy<'a>) -> bool {
+        self.number() == other.number()
     }
 }
 
-impl fmt::Debug for Fussy {
+impl fmt::Debug for Fussy<'_> {
     fn fmt<W: fmt::Write>(&self, f: &mut fmt::Formatter<W>) -> fmt::Result {
-        let value = self.value();
-        write!(f, "{value}")
+        let number = self.number();
+        write!(f, "{number}")
     }
 }

@@ -1,33 +1,47 @@
 //! A table of calls on a floor or a hall under way.
-use crate::cutting::{Pieces, Way, is_of_journal, last_look};
+use crate::cutting::{Pieces, Way, is_of_journal};
 use crate::facts::{tell_board, tell_object};
 use crate::ground::Ground;
-use crate::numbered::Numbered;
+use crate::numbered::{Maker, Numbered};
 use crate::outcome::{NO_MEMORY, REFUSED_ONCE, note, refusal_word, write_answer};
+use crate::performing::{Performs, is_over, retell};
 use crate::rings::{Rings, tell_done};
-use crate::words::{call_of, is_note, number, object};
+use crate::words::{call_and_copy, is_note, number, object};
 use cml_board::Call;
 use cml_threads::Asked;
-use std::alloc::{AllocError, Global};
+use std::alloc::AllocError;
 use std::io;
 
 /// Writes each line of a case again, with what it comes to on this ground, whose journal is cut behind each.
-pub fn retell<M: Numbered, R: Print, G: Ground<M> + Drop>(
+pub fn perform_on<M: Numbered, R: Print, G: Ground<M> + Drop>(
     rt: &R,
-    alloc: Global,
+    maker: &Maker<M>,
     ground: G,
     lines: &[String],
     way: Option<Way>,
 ) -> io::Result<()> {
-    let mut table = GroundTable::new(alloc, ground);
+    let mut table = GroundTable::new(maker, ground);
+    retell(rt, &mut table, lines, way)?;
+    let _left = table.into_left();
+    retell_over(rt, maker, lines)
+}
+
+/// Writes the line that says it is over, with how many messages live where the ground is dropped, and threads have their
+/// sides of its lanes and feeds still.
+fn retell_over<M: Numbered, R: Print>(
+    rt: &R,
+    maker: &Maker<M>,
+    lines: &[String],
+) -> io::Result<()> {
+    let mut was_over = false;
     for line in lines.iter() {
-        let told = table.perform(line.as_str())?;
-        println!(rt; "{told}")?;
-        table.cut_by(way)?;
-    }
-    if let Some(line) = last_look(way) {
-        let told = table.perform(line)?;
-        println!(rt; "{told}")?;
+        let line = line.as_str();
+        was_over = was_over || is_over(line);
+        if was_over && is_note(line) {
+            println!(rt; "{line}")?;
+        } else if was_over {
+            println!(rt; "over: live {}", maker.live())?;
+        }
     }
     Ok(())
 }
@@ -38,10 +52,10 @@ fn moves(words: &[&str]) -> bool {
 }
 
 #[derive(Drop)]
-struct GroundTable<M: Numbered, G: Ground<M>> {
-    alloc: Global,
+struct GroundTable<'a, M: Numbered, G: Ground<M>> {
+    maker: &'a Maker<M>,
     ground: G,
-    rings: Rings<M>,
+    rings: Rings<'a, M>,
     // What the board's journal handed over.
     pieces: Pieces<M>,
 }
@@ -54,33 +68,19 @@ enum Turn {
     Second,
 }
 
-impl<M: Numbered, G: Ground<M>> GroundTable<M, G> {
-    fn new(alloc: Global, ground: G) -> GroundTable<M, G> {
+impl<'a, M: Numbered, G: Ground<M> + Drop> GroundTable<'a, M, G> {
+    fn new(maker: &'a Maker<M>, ground: G) -> GroundTable<'a, M, G> {
         GroundTable {
-            alloc,
+            maker,
             ground,
-            rings: Rings::new(alloc),
-            pieces: Pieces::new(alloc),
+            rings: Rings::new(maker),
+            pieces: Pieces::new(maker.alloc),
         }
     }
 
-    /// Cuts the journal this way, if in any.
-    fn cut_by(&mut self, way: Option<Way>) -> Result<(), AllocError> {
-        self.pieces.cut_by(&mut self.ground, way)
-    }
-
-    /// A line, with what it comes to now.
-    fn perform(&mut self, line: &str) -> Result<String, AllocError> {
-        let mut text = String::new(self.alloc);
-        if is_note(line) {
-            text.push_str(line)?;
-            return Ok(text);
-        }
-        let (asked, _) = line.split_once(": ").unwrap_or((line, ""));
-        let words: Vec<&str> = asked.split(' ').collect(self.alloc)?;
-        let told = self.tell(words.as_slice())?;
-        write!(text, "{asked}: {told}")?;
-        Ok(text)
+    /// Drops the ground, and hands over what threads have of its lanes and feeds, and what its journal handed over.
+    fn into_left(self) -> (Rings<'a, M>, Pieces<M>) {
+        (self.rings, self.pieces)
     }
 
     /// What a line's words come to. What memory was refused is done once more, and then tells whether all was as before.
@@ -99,7 +99,7 @@ impl<M: Numbered, G: Ground<M>> GroundTable<M, G> {
 
     /// All that the readers tell.
     fn reading(&self) -> Result<String, AllocError> {
-        let mut text = String::new(self.alloc);
+        let mut text = String::new(self.maker.alloc);
         let (lanes, feeds) = self.ground.open_rings();
         write!(text, "{lanes} lanes, {feeds} feeds, ")?;
         tell_board(&mut text, self.ground.board())?;
@@ -107,7 +107,7 @@ impl<M: Numbered, G: Ground<M>> GroundTable<M, G> {
     }
 
     fn obey(&mut self, words: &[&str], turn: Turn) -> Result<String, AllocError> {
-        let mut text = String::new(self.alloc);
+        let mut text = String::new(self.maker.alloc);
         match number(words, 0) {
             Some(seat) => self.call(&mut text, seat as usize, words, turn)?,
             None => self.look(&mut text, words)?,
@@ -129,8 +129,7 @@ impl<M: Numbered, G: Ground<M>> GroundTable<M, G> {
         }
         let from = if is_again { 2 } else { 1 };
         let words = words.get(from..).unwrap_or(&[]);
-        let (Some(call), Some(asked)) = (call_of(self.alloc, words)?, call_of(self.alloc, words)?)
-        else {
+        let Some((call, asked)) = call_and_copy(self.maker, words)? else {
             return text.push_str("not understood");
         };
         let told = if is_again && turn == Turn::First {
@@ -179,6 +178,7 @@ impl<M: Numbered, G: Ground<M>> GroundTable<M, G> {
                 Some(name) => tell_object(text, self.ground.board(), name),
                 None => text.push_str("no object is named"),
             },
+            Some(&"live") => write!(text, "{}", self.maker.live()),
             Some(&"open") => {
                 let (lanes, feeds) = self.ground.open_rings();
                 write!(text, "lanes {lanes} feeds {feeds}")
@@ -186,5 +186,24 @@ impl<M: Numbered, G: Ground<M>> GroundTable<M, G> {
             Some(word) if is_of_journal(word) => self.pieces.tell(text, &mut self.ground, words),
             _ => self.rings.obey(text, &mut self.ground, words),
         }
+    }
+}
+
+impl<M: Numbered, G: Ground<M> + Drop> Performs for GroundTable<'_, M, G> {
+    fn perform(&mut self, line: &str) -> Result<String, AllocError> {
+        let mut text = String::new(self.maker.alloc);
+        if is_note(line) {
+            text.push_str(line)?;
+            return Ok(text);
+        }
+        let (asked, _) = line.split_once(": ").unwrap_or((line, ""));
+        let words: Vec<&str> = asked.split(' ').collect(self.maker.alloc)?;
+        let told = self.tell(words.as_slice())?;
+        write!(text, "{asked}: {told}")?;
+        Ok(text)
+    }
+
+    fn cut_by(&mut self, way: Option<Way>) -> Result<(), AllocError> {
+        self.pieces.cut_by(&mut self.ground, way)
     }
 }

@@ -3,15 +3,15 @@ ghost use Rattle.std.specs.Prelude.{◌≡◌, ◌^◌};
 
 use crate::cutting::{Journaled, Way};
 use crate::ground::Ground;
-use crate::ground_table::retell;
+use crate::ground_table::perform_on;
 use crate::moving::Moves;
-use crate::numbered::Numbered;
+use crate::numbered::{Maker, Numbered};
 use crate::outcome::Numbers;
 use crate::words::limit_in;
 use cml_board::{BoardLog, Call, Entry, Name, Refusal};
 use cml_lanes::{Feed, Lane, LaneEnd, MAX_CAPACITY};
 use cml_threads::{Asked, Hall, PARTS, Seat};
-use std::alloc::{AllocError, Global};
+use std::alloc::AllocError;
 use std::io;
 use std::marker::Brand;
 use std::sync::ledger::{Blank, Ledger};
@@ -19,16 +19,16 @@ use std::sync::ledger::{Blank, Ledger};
 /// Performs the lines of a case on a hall of its own, and so by a ledger of its own.
 pub fn perform<M: Numbered, R: Print>(
     rt: &R,
-    alloc: Global,
+    maker: &Maker<M>,
     lines: &[String],
     way: Option<Way>,
 ) -> io::Result<()> {
-    perform_by::<M, Brand, R>(rt, alloc, lines, way, Blank::new(PARTS))
+    perform_by::<M, Brand, R>(rt, maker, lines, way, Blank::new(PARTS))
 }
 
 fn perform_by<M: Numbered, Led: Ledger, R: Print>(
     rt: &R,
-    alloc: Global,
+    maker: &Maker<M>,
     lines: &[String],
     way: Option<Way>,
     blank: Blank,
@@ -37,9 +37,9 @@ fn perform_by<M: Numbered, Led: Ledger, R: Print>(
     requires parts { blank.parts ≡ Led.parts }
     requires enough { blank.parts ≡ 2 ^ 63 }
 {
-    let hall: Hall<M, BoardLog<M>, Led> = Hall::new(alloc, limit_in(lines), blank)?;
-    let seats = Vec::new(alloc);
-    retell(rt, alloc, Seated { hall, seats }, lines, way)
+    let hall: Hall<M, BoardLog<M>, Led> = Hall::new(maker.alloc, limit_in(lines), blank)?;
+    let seats = Vec::new(maker.alloc);
+    perform_on(rt, maker, Seated { hall, seats }, lines, way)
 }
 
 /// A hall, and the seats that it gave, each at its number.

@@ -15,16 +15,18 @@ mod halls;
 mod moving;
 mod numbered;
 mod outcome;
+mod performing;
 mod rings;
 mod table;
 mod words;
 
 use cml_board::Text;
-use cutting::{Way, last_look};
+use cutting::Way;
 use fussy::Fussy;
-use numbered::Numbered;
-use std::alloc::Global;
+use numbered::{Maker, Numbered};
+use performing::retell;
 use std::process::ExitCode;
+use std::sync::atomic::AtomicU64;
 use std::{env, io};
 use table::Table;
 
@@ -45,8 +47,8 @@ enum Messages {
 
 fn main(rt: HostRuntime) -> io::Result<ExitCode> {
     match asked(&rt)? {
-        Order::Perform(Messages::Blocks, way) => perform::<Fussy>(&rt, way)?,
-        Order::Perform(Messages::Texts, way) => perform::<Text>(&rt, way)?,
+        Order::Perform(Messages::Blocks, way) => perform_blocks(&rt, way)?,
+        Order::Perform(Messages::Texts, way) => perform_texts(&rt, way)?,
         Order::Usage => {
             eprintln!(rt; "usage: cml_rows [texts] [cut | take]")?;
             return Ok(ExitCode::from(2));
@@ -75,31 +77,56 @@ fn with_cuts(messages: Messages, words: &[String]) -> Order {
     }
 }
 
+fn perform_blocks(rt: &HostRuntime, way: Option<Way>) -> io::Result<()> {
+    let live = AtomicU64::new(0);
+    let first = Fussy::new(rt.alloc(), &live, 0)?;
+    perform(rt, &Maker::new(rt.alloc(), first), way)
+}
+
+fn perform_texts(rt: &HostRuntime, way: Option<Way>) -> io::Result<()> {
+    let first = Text::of_number(rt.alloc(), 0)?;
+    perform(rt, &Maker::new(rt.alloc(), first), way)
+}
+
 /// Performs all cases of standard input.
-fn perform<M: Numbered>(rt: &HostRuntime, way: Option<Way>) -> io::Result<()> {
+fn perform<M: Numbered>(rt: &HostRuntime, maker: &Maker<M>, way: Option<Way>) -> io::Result<()> {
     let mut case = Vec::new(rt.alloc());
     for line in rt.lines(rt.alloc()) {
         let line = line?;
         if line.starts_with("==") {
-            perform_case::<M, HostRuntime>(rt, rt.alloc(), case.as_slice(), way)?;
+            perform_case(rt, maker, case.as_slice(), way)?;
             case.clear();
         }
         case.push(line)?;
     }
-    perform_case::<M, HostRuntime>(rt, rt.alloc(), case.as_slice(), way)
+    perform_case(rt, maker, case.as_slice(), way)
 }
 
-/// Performs the lines of one case, on what its first call begins.
+/// Performs the lines of one case, and tells of messages that live still when all is dropped.
 fn perform_case<M: Numbered, R: Print>(
     rt: &R,
-    alloc: Global,
+    maker: &Maker<M>,
+    lines: &[String],
+    way: Option<Way>,
+) -> io::Result<()> {
+    perform_begun(rt, maker, lines, way)?;
+    match maker.live() {
+        0 => Ok(()),
+        live => println!(rt; "live in the end: {live}"),
+    }
+}
+
+/// Performs the lines of one case on what its first call begins.
+fn perform_begun<M: Numbered, R: Print>(
+    rt: &R,
+    maker: &Maker<M>,
     lines: &[String],
     way: Option<Way>,
 ) -> io::Result<()> {
     match beginning(lines) {
-        Some("floor") => floors::perform::<M, R>(rt, alloc, lines, way),
-        Some("hall") => halls::perform::<M, R>(rt, alloc, lines, way),
-        _ => perform_on_board::<M, R>(rt, alloc, lines, way),
+        Some("floor") => floors::perform(rt, maker, lines, way),
+        Some("hall") => halls::perform(rt, maker, lines, way),
+        _ => retell(rt, &mut Table::new(maker)?, lines, way),
     }
 }
 
@@ -109,23 +136,4 @@ fn beginning(lines: &[String]) -> Option<&str> {
     let (line, _) = line.split_once(':').unwrap_or((line, ""));
     let (word, _) = line.split_once(' ').unwrap_or((line, ""));
     Some(word)
-}
-
-fn perform_on_board<M: Numbered, R: Print>(
-    rt: &R,
-    alloc: Global,
-    lines: &[String],
-    way: Option<Way>,
-) -> io::Result<()> {
-    let mut table = Table::<M>::new(alloc)?;
-    for line in lines.iter() {
-        let told = table.perform(line.as_str())?;
-        println!(rt; "{told}")?;
-        table.cut_by(way)?;
-    }
-    if let Some(line) = last_look(way) {
-        let told = table.perform(line)?;
-        println!(rt; "{told}")?;
-    }
-    Ok(())
 }

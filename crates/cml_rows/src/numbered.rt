@@ -1,23 +1,58 @@
-//! What the messages of tables can be.
+//! What the messages of tables can be, and what makes them.
 use crate::fussy::Fussy;
 use cml_board::{Message, Text};
 use std::alloc::{AllocError, Global};
 use std::fmt;
+use std::sync::atomic::Ordering::SeqCst;
 
 /// A message for each number of a table, which prints as the number's digits.
-pub trait Numbered: Message + fmt::Display + fmt::Debug {
-    fn of_number(alloc: Global, number: u64) -> Result<Self, AllocError>;
+pub trait Numbered: Message + fmt::Debug {
+    /// Another message, for this number.
+    fn another(&self, alloc: Global, number: u64) -> Result<Self, AllocError>;
+
+    /// How many messages of its kind live, if they are counted.
+    fn live(&self) -> u64;
 }
 
-impl Numbered for Fussy {
-    fn of_number(alloc: Global, number: u64) -> Result<Fussy, AllocError> {
-        Fussy::new(alloc, number)
+impl Numbered for Fussy<'_> {
+    fn another(&self, alloc: Global, number: u64) -> Result<Self, AllocError> {
+        Fussy::new(alloc, self.counter(), number)
+    }
+
+    fn live(&self) -> u64 {
+        self.counter().load(SeqCst)
     }
 }
 
-/// Its `Debug` puts the digits in quotes.
+/// Its `Debug` puts the digits in quotes, and it counts none.
 impl Numbered for Text {
-    fn of_number(alloc: Global, number: u64) -> Result<Text, AllocError> {
+    fn another(&self, alloc: Global, number: u64) -> Result<Text, AllocError> {
         Text::of_number(alloc, number)
+    }
+
+    fn live(&self) -> u64 {
+        1
+    }
+}
+
+/// Makes the messages of a table, all like its first.
+#[derive(Drop)]
+pub struct Maker<M: Numbered> {
+    pub alloc: Global,
+    first: M,
+}
+
+impl<M: Numbered> Maker<M> {
+    pub fn new(alloc: Global, first: M) -> Maker<M> {
+        Maker { alloc, first }
+    }
+
+    pub fn make(&self, number: u64) -> Result<M, AllocError> {
+        self.first.another(self.alloc, number)
+    }
+
+    /// How many messages live, besides its first.
+    pub fn live(&self) -> u64 {
+        self.first.live().saturating_sub(1)
     }
 }

@@ -116,7 +116,7 @@ fn write_reply<M: Numbered>(text: &mut String, reply: &Reply<M>) -> Result<(), A
     match reply {
         Reply::Done => text.push_str("done"),
         Reply::Made(name) => write!(text, "made {}", name.0),
-        Reply::Got(message) => write!(text, "{message}"),
+        Reply::Got(message) => write!(text, "{message:?}"),
         Reply::Nothing => text.push_str("none"),
         Reply::Put => text.push_str("put"),
         Reply::Closed => text.push_str("closed"),

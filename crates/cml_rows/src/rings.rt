@@ -1,12 +1,12 @@
 //! The threads' sides of lanes and feeds, by their numbers.
 use crate::ground::Ground;
 use crate::moving::{Moves, tell_moves};
-use crate::numbered::Numbered;
+use crate::numbered::{Maker, Numbered};
 use crate::outcome::{note, refusal_word};
 use crate::words::{number, object};
 use cml_board::Refusal;
 use cml_lanes::{Feed, Lane, LaneEnd};
-use std::alloc::{AllocError, Global};
+use std::alloc::AllocError;
 
 /// A lane's side: its sender, its end, or nothing any more.
 #[derive(Drop)]
@@ -17,18 +17,18 @@ enum Side<M: Numbered> {
 }
 
 #[derive(Drop)]
-pub struct Rings<M: Numbered> {
-    alloc: Global,
+pub struct Rings<'a, M: Numbered> {
+    maker: &'a Maker<M>,
     lanes: Vec<Side<M>>,
     feeds: Vec<Option<Feed<M>>>,
 }
 
-impl<M: Numbered> Rings<M> {
-    pub fn new(alloc: Global) -> Rings<M> {
+impl<'a, M: Numbered> Rings<'a, M> {
+    pub fn new(maker: &'a Maker<M>) -> Rings<'a, M> {
         Rings {
-            alloc,
-            lanes: Vec::new(alloc),
-            feeds: Vec::new(alloc),
+            maker,
+            lanes: Vec::new(maker.alloc),
+            feeds: Vec::new(maker.alloc),
         }
     }
 
@@ -101,14 +101,14 @@ impl<M: Numbered> Rings<M> {
     }
 
     fn push(&mut self, text: &mut String, at: u64, value: u64) -> Result<(), AllocError> {
-        let message = M::of_number(self.alloc, value)?;
+        let message = self.maker.make(value)?;
         let Some(Side::Sends(lane)) = self.lanes.get_mut(at as usize) else {
             return text.push_str("no lane");
         };
         match lane.send(message) {
             Ok(()) => text.push_str("done"),
             Err(full) => {
-                let sent = M::of_number(self.alloc, value)?;
+                let sent = self.maker.make(value)?;
                 text.push_str("full")?;
                 note(text, full.0.same(&sent), "another message back")
             }
@@ -120,7 +120,7 @@ impl<M: Numbered> Rings<M> {
             return text.push_str("no feed");
         };
         match feed.recv() {
-            Some(message) => write!(text, "{message}"),
+            Some(message) => write!(text, "{message:?}"),
             None => text.push_str("none"),
         }
     }

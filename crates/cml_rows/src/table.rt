@@ -1,18 +1,19 @@
 //! A table of calls under way: a board, and a journal that the table makes up.
 use crate::cutting::{Pieces, Way};
 use crate::facts::{tell_call, tell_check, tell_object};
-use crate::numbered::Numbered;
+use crate::numbered::{Maker, Numbered};
 use crate::outcome::{NO_MEMORY, Numbers, REFUSED_ONCE, tell};
-use crate::words::{call_of, is_note, number, object, reply_of};
+use crate::performing::Performs;
+use crate::words::{call_and_copy, call_of, is_note, number, object, reply_of};
 use cml_board::{Answer, Call, Entry, Outcome, Refusal, Who};
-use std::alloc::{AllocError, Global};
+use std::alloc::AllocError;
 
 /// How many entries a board takes where its table doesn't say.
 const LIMIT: u64 = 100;
 
 #[derive(Drop)]
-pub struct Table<M: Numbered> {
-    alloc: Global,
+pub struct Table<'a, M: Numbered> {
+    maker: &'a Maker<M>,
     board: Numbers<M>,
     // What the board's journal handed over.
     pieces: Pieces<M>,
@@ -23,14 +24,15 @@ pub struct Table<M: Numbered> {
     kept: Option<Answer<M>>,
 }
 
-impl<M: Numbered> Table<M> {
-    pub fn new(alloc: Global) -> Result<Table<M>, AllocError> {
-        Table::with_limit(alloc, LIMIT)
+impl<'a, M: Numbered> Table<'a, M> {
+    pub fn new(maker: &'a Maker<M>) -> Result<Table<'a, M>, AllocError> {
+        Table::with_limit(maker, LIMIT)
     }
 
-    fn with_limit(alloc: Global, limit: u64) -> Result<Table<M>, AllocError> {
+    fn with_limit(maker: &'a Maker<M>, limit: u64) -> Result<Table<'a, M>, AllocError> {
+        let alloc = maker.alloc;
         Ok(Table {
-            alloc,
+            maker,
             board: Numbers::<M>::new(alloc, limit.max(1).min(4_294_967_296))?,
             pieces: Pieces::new(alloc),
             who: Who::Seat(0),
@@ -39,31 +41,11 @@ impl<M: Numbered> Table<M> {
         })
     }
 
-    /// A line, with what it comes to now.
-    pub fn perform(&mut self, line: &str) -> Result<String, AllocError> {
-        let mut text = String::new(self.alloc);
-        if is_note(line) {
-            text.push_str(line)?;
-            return Ok(text);
-        }
-        let (asked, told) = line.split_once(": ").unwrap_or((line, ""));
-        text.push_str(asked)?;
-        text.push_str(": ")?;
-        let words: Vec<&str> = asked.split(' ').collect(self.alloc)?;
-        self.obey(&mut text, words.as_slice(), told)?;
-        Ok(text)
-    }
-
-    /// Cuts the board's journal this way, if in any.
-    pub fn cut_by(&mut self, way: Option<Way>) -> Result<(), AllocError> {
-        self.pieces.cut_by(&mut self.board, way)
-    }
-
     fn obey(&mut self, text: &mut String, words: &[&str], told: &str) -> Result<(), AllocError> {
         let Some((word, rest)) = words.split_first() else {
             return text.push_str("nothing is asked");
         };
-        match (*word, call_of(self.alloc, rest)?) {
+        match (*word, call_of(self.maker, rest)?) {
             ("takes", Some(call)) => tell_call(text, &call),
             ("keep", Some(call)) => self.keep(text, call),
             ("entry", Some(call)) => self.make_up(text, told, call),
@@ -73,17 +55,24 @@ impl<M: Numbered> Table<M> {
 
     /// Makes the call that the words ask for, or looks at the board.
     fn call(&mut self, text: &mut String, words: &[&str]) -> Result<(), AllocError> {
-        match (call_of(self.alloc, words)?, call_of(self.alloc, words)?) {
-            (Some(call), Some(asked)) => {
-                tell(text, self.alloc, &mut self.board, self.who, call, &asked)
+        match call_and_copy(self.maker, words)? {
+            Some((call, asked)) => {
+                tell(
+                    text,
+                    self.maker.alloc,
+                    &mut self.board,
+                    self.who,
+                    call,
+                    &asked,
+                )
             }
-            _ => self.look(text, words),
+            None => self.look(text, words),
         }
     }
 
     /// Adds an entry with this call, and the reply that is told, to the journal that the table makes up.
     fn make_up(&mut self, text: &mut String, told: &str, call: Call<M>) -> Result<(), AllocError> {
-        let Some(reply) = reply_of(self.alloc, told)? else {
+        let Some(reply) = reply_of(self.maker, told)? else {
             return text.push_str("no reply is told");
         };
         let who = self.who;
@@ -141,7 +130,7 @@ impl<M: Numbered> Table<M> {
         match *words.first().unwrap_or(&"") {
             "board" => {
                 let kept = self.kept.take();
-                *self = Table::with_limit(self.alloc, number(rest, 0).unwrap_or(LIMIT))?;
+                *self = Table::with_limit(self.maker, number(rest, 0).unwrap_or(LIMIT))?;
                 self.kept = kept;
                 write!(text, "limit {}", self.board.limit())
             }
@@ -155,8 +144,28 @@ impl<M: Numbered> Table<M> {
                 None => text.push_str("no object is named"),
             },
             "confirm" => self.confirm(text),
-            "entries" => tell_check(text, self.alloc, self.entries.as_slice()),
+            "entries" => tell_check(text, self.maker.alloc, self.entries.as_slice()),
             _ => self.pieces.tell(text, &mut self.board, words),
         }
+    }
+}
+
+impl<M: Numbered> Performs for Table<'_, M> {
+    fn perform(&mut self, line: &str) -> Result<String, AllocError> {
+        let mut text = String::new(self.maker.alloc);
+        if is_note(line) {
+            text.push_str(line)?;
+            return Ok(text);
+        }
+        let (asked, told) = line.split_once(": ").unwrap_or((line, ""));
+        text.push_str(asked)?;
+        text.push_str(": ")?;
+        let words: Vec<&str> = asked.split(' ').collect(self.maker.alloc)?;
+        self.obey(&mut text, words.as_slice(), told)?;
+        Ok(text)
+    }
+
+    fn cut_by(&mut self, way: Option<Way>) -> Result<(), AllocError> {
+        self.pieces.cut_by(&mut self.board, way)
     }
 }

@@ -1,9 +1,9 @@
 //! What the words of a line say.
 ghost use Rattle.std.specs.Prelude.{◌^◌, ◌≤◌};
 
-use crate::numbered::Numbered;
+use crate::numbered::{Maker, Numbered};
 use cml_board::{Call, Name, Reply};
-use std::alloc::{AllocError, Global};
+use std::alloc::AllocError;
 
 /// Whether a line asks for nothing: it is empty, a note, or a case's name.
 pub fn is_note(line: &str) -> bool {
@@ -32,22 +32,36 @@ pub fn limit_in(lines: &[String]) -> u64
 }
 
 /// The call that these words ask for. An object goes by its number.
-pub fn call_of<M: Numbered>(alloc: Global, words: &[&str]) -> Result<Option<Call<M>>, AllocError> {
+pub fn call_of<M: Numbered>(
+    maker: &Maker<M>,
+    words: &[&str],
+) -> Result<Option<Call<M>>, AllocError> {
     let Some((word, rest)) = words.split_first() else {
         return Ok(None);
     };
     if let ("mvar", Some(value)) = (*word, number(rest, 0)) {
-        return Ok(Some(Call::MVarInit(M::of_number(alloc, value)?)));
+        return Ok(Some(Call::MVarInit(maker.make(value)?)));
     }
     let (Some(name), Some(value)) = (object(rest), number(rest, 1)) else {
         return Ok(bare_call_of(word, rest));
     };
-    let message = M::of_number(alloc, value)?;
+    let message = maker.make(value)?;
     match *word {
         "send" => Ok(Some(Call::Send(name, message))),
         "multicast" => Ok(Some(Call::Cast(name, message))),
         "put" => Ok(Some(Call::Put(name, message))),
         "swap" => Ok(Some(Call::Swap(name, message))),
+        _ => Ok(None),
+    }
+}
+
+/// The call that these words ask for, and the same call once more.
+pub fn call_and_copy<M: Numbered>(
+    maker: &Maker<M>,
+    words: &[&str],
+) -> Result<Option<(Call<M>, Call<M>)>, AllocError> {
+    match (call_of(maker, words)?, call_of(maker, words)?) {
+        (Some(call), Some(copy)) => Ok(Some((call, copy))),
         _ => Ok(None),
     }
 }
@@ -73,7 +87,7 @@ fn bare_call_of<M: Numbered>(word: &str, rest: &[&str]) -> Option<Call<M>> {
 }
 
 /// The reply that this text tells, as a table writes it.
-pub fn reply_of<M: Numbered>(alloc: Global, text: &str) -> Result<Option<Reply<M>>, AllocError> {
+pub fn reply_of<M: Numbered>(maker: &Maker<M>, text: &str) -> Result<Option<Reply<M>>, AllocError> {
     match text {
         "done" => Ok(Some(Reply::Done)),
         "none" => Ok(Some(Reply::Nothing)),
@@ -81,7 +95,7 @@ pub fn reply_of<M: Numbered>(alloc: Global, text: &str) -> Result<Option<Reply<M
         "closed" => Ok(Some(Reply::Closed)),
         _ => match (text.strip_prefix("made "), text.parse()) {
             (Some(name), _) => Ok(name.parse().ok().map(|name| Reply::Made(Name(name)))),
-            (None, Ok(value)) => Ok(Some(Reply::Got(M::of_number(alloc, value)?))),
+            (None, Ok(value)) => Ok(Some(Reply::Got(maker.make(value)?))),
             (None, Err(_)) => Ok(None),
         },
     }

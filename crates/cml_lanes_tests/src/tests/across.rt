@@ -1,5 +1,5 @@
 //! A lane, and a feed, between two threads.
-ghost use Rattle.std.specs.Prelude.{◌≡◌, IfSome};
+ghost use Rattle.std.specs.Prelude.{◌≡◌, [], IfSome};
 ghost use Rattle.cml_lanes.specs.Floor.{SameRing};
 
 use super::floors::{Numbers, SEAT, floor};
@@ -23,8 +23,15 @@ const CHANNEL: Name = Name(0);
 pub fn all_go_across<R: Threads + Sync>(rt: &R, alloc: Global) -> Result<bool, AllocError> {
     let mut floor = floor(alloc, 2_000)?;
     floor.apply(SEAT, Call::NewMailbox);
+    Ok(go_across(rt, floor) == Some(true))
+}
+
+fn go_across<R: Threads + Sync>(rt: &R, floor: Numbers) -> Option<bool>
+    requires { floor.lanes ≡ [] }
+{
+    let mut floor = floor;
     let Ok((lane, number)) = floor.open_lane(MAILBOX, 2) else {
-        return Ok(false);
+        return None;
     };
     let (end, mut floor) = thread::join(
         rt,
@@ -35,11 +42,11 @@ pub fn all_go_across<R: Threads + Sync>(rt: &R, alloc: Global) -> Result<bool, A
             ensures { SameRing number floor result }
         { drain_all(floor, number) },
     );
-    let Some(end) = end else {
-        return Ok(false);
+    let is_closed = match end {
+        Some(end) => floor.close_lane(end).is_ok(),
+        None => false,
     };
-    let closed = floor.close_lane(end).is_ok();
-    Ok(closed && are_all_sent(floor.board().journal()))
+    Some(is_closed && are_all_sent(floor.board().journal()))
 }
 
 fn send_all(lane: Lane<u64>) -> Option<LaneEnd<u64>>
@@ -89,19 +96,25 @@ fn are_all_sent(journal: &[Entry<u64>]) -> bool {
 /// One thread takes numbers from a feed of capacity 2 while another pumps them: those that were multicast, in order.
 pub fn all_are_taken<R: Threads + Sync>(rt: &R, alloc: Global) -> Result<bool, AllocError> {
     let mut floor = floor(alloc, 3_000)?;
-    floor.apply(SEAT, Call::NewChannel);
-    let Ok((feed, number)) = floor.open_feed(CHANNEL, 2) else {
+    let Some((feed, number)) = fed(&mut floor) else {
         return Ok(false);
     };
-    for message in 0..COUNT {
-        floor.apply(SEAT, Call::Cast(CHANNEL, message));
-    }
-    let (taken, pumped) = thread::join(
+    let counts = thread::join(
         rt,
         move || -> u64 { take_all(feed) },
         move || -> u64 { pump_all(floor, number) },
     );
-    Ok(taken == COUNT && pumped == COUNT)
+    Ok(counts == (COUNT, COUNT))
+}
+
+/// A feed of a new channel, and its number, with all numbers multicast behind it.
+fn fed(floor: &mut Numbers) -> Option<(Feed<u64>, u64)> {
+    floor.apply(SEAT, Call::NewChannel);
+    let opened = floor.open_feed(CHANNEL, 2).ok()?;
+    for message in 0..COUNT {
+        floor.apply(SEAT, Call::Cast(CHANNEL, message));
+    }
+    Some(opened)
 }
 
 /// How many numbers were taken before the first that was out of order.

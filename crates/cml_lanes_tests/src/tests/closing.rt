@@ -1,36 +1,11 @@
 //! Lanes that are closed by their own ends, or by the count of another's.
+ghost use Rattle.std.specs.Prelude.{◌≤◌, IfSome};
+ghost use Rattle.cml_lanes.specs.Floor.{IsOfItsRing};
+
 use super::floors::{Numbers, SEAT, floor, is_journal};
 use cml_board::{Call, Name, Refusal, Reply, Who};
-use cml_lanes::LaneEnd;
+use cml_lanes::{LaneEnd, MAX_CAPACITY};
 use std::alloc::{AllocError, Global};
-
-/// A floor and a lane onto it, on which 5, 6 and 7 are sent.
-pub struct Closing {
-    /// How many entries the journal takes.
-    limit: u64,
-    /// How many messages the lane has room for.
-    capacity: usize,
-    /// How many of the three it takes.
-    taken: u64,
-    /// Why it can't be closed by its end. It is abandoned then, and its end closes nothing more.
-    refusal: Option<Refusal>,
-}
-
-/// Each lane moves 5 and 6: one takes no more, and one has no more room in the journal.
-pub const ROWS: &[Closing] = &[
-    Closing {
-        limit: 100,
-        capacity: 2,
-        taken: 2,
-        refusal: None,
-    },
-    Closing {
-        limit: 3,
-        capacity: 4,
-        taken: 3,
-        refusal: Some(Refusal::JournalFull),
-    },
-];
 
 const MAILBOX: Name = Name(0);
 
@@ -40,39 +15,64 @@ const FIVE_AND_SIX: &[(Who, Call<u64>, Reply<u64>)] = &[
     (Who::Lane(0), Call::Send(MAILBOX, 6), Reply::Done),
 ];
 
-/// Whether it comes so.
-pub fn is_closed_so(alloc: Global, row: &Closing) -> Result<bool, AllocError> {
-    let mut floor = floor(alloc, row.limit.clamp(1, 100))?;
+/// Whether a lane with room for two of three messages is closed by its end, with both in the journal.
+pub fn is_closed_by_its_end(alloc: Global) -> Result<bool, AllocError> {
+    let mut floor = floor(alloc, 100)?;
+    let told = closed(&mut floor);
+    Ok(told == Some((2, true, 0)) && is_journal(floor.board().journal(), FIVE_AND_SIX))
+}
+
+/// How many messages a lane took, whether its end closes it, and how many lanes are open then.
+fn closed(floor: &mut Numbers) -> Option<(u64, bool, u64)> {
+    let Some(end) = ended(floor, 2) else {
+        return None;
+    };
+    let taken = end.count();
+    let is_closed = floor.close_lane(end).is_ok();
+    Some((taken, is_closed, floor.open_lanes()))
+}
+
+/// Whether a lane stays open where the journal has no room for its third message, and whether its end closes nothing more
+/// once it is abandoned.
+pub fn stays_open_where_the_journal_is_full(alloc: Global) -> Result<bool, AllocError> {
+    let mut floor = floor(alloc, 3)?;
+    let told = refused(&mut floor);
+    let is_held = told == Some((3, 1, Refusal::JournalFull, Refusal::NoSuch));
+    Ok(is_held && floor.open_lanes() == 0 && is_journal(floor.board().journal(), FIVE_AND_SIX))
+}
+
+/// How many messages a lane took, how many lanes are open behind the first try to close it by its end, and what refuses that
+/// and the try behind its abandonment.
+fn refused(floor: &mut Numbers) -> Option<(u64, u64, Refusal, Refusal)> {
+    let Some(end) = ended(floor, 4) else {
+        return None;
+    };
+    let taken = end.count();
+    let Err((end, first)) = floor.close_lane(end) else {
+        return None;
+    };
+    let open = floor.open_lanes();
+    floor.abandon_lane(end.number()).is_ok();
+    let Err((_, second)) = floor.close_lane(end) else {
+        return None;
+    };
+    Some((taken, open, first, second))
+}
+
+/// The end of a lane onto a new mailbox, on which 5, 6 and 7 are sent.
+fn ended(floor: &mut Numbers, capacity: usize) -> Option<LaneEnd<u64>>
+    requires least { 1 ≤ capacity }
+    requires most { capacity ≤ MAX_CAPACITY }
+    ensures { IfSome result (λ end. IsOfItsRing floor.new end) }
+{
     floor.apply(SEAT, Call::NewMailbox);
-    let Ok((mut lane, number)) = floor.open_lane(MAILBOX, row.capacity.clamp(1, 1024)) else {
-        return Ok(false);
+    let Ok((mut lane, _)) = floor.open_lane(MAILBOX, capacity) else {
+        return None;
     };
     lane.send(5).is_ok();
     lane.send(6).is_ok();
     lane.send(7).is_ok();
-    let Some(end) = lane.finish() else {
-        return Ok(false);
-    };
-    let taken = end.count();
-    if let Err((end, refusal)) = floor.close_lane(end) {
-        let held = row.refusal == Some(refusal) && floor.open_lanes() == 1;
-        let abandoned = floor.abandon_lane(number).is_ok() && floor.open_lanes() == 0;
-        let Err((_, unknown)) = floor.close_lane(end) else {
-            return Ok(false);
-        };
-        return Ok(
-            held && abandoned
-                && unknown == Refusal::NoSuch
-                && taken == row.taken
-                && is_journal(floor.board().journal(), FIVE_AND_SIX),
-        );
-    }
-    Ok(
-        row.refusal.is_none()
-            && floor.open_lanes() == 0
-            && taken == row.taken
-            && is_journal(floor.board().journal(), FIVE_AND_SIX),
-    )
+    lane.finish()
 }
 
 /// Whether the end of another floor's lane of the same number, of which as many were sent as this one has not, closes
@@ -80,36 +80,26 @@ pub fn is_closed_so(alloc: Global, row: &Closing) -> Result<bool, AllocError> {
 pub fn is_closed_by_its_own_count(alloc: Global) -> Result<bool, AllocError> {
     let mut first = floor(alloc, 100)?;
     let mut second = floor(alloc, 100)?;
-    let Some(other) = end_of(&mut second, &[7, 8]) else {
-        return Ok(false);
-    };
-    first.apply(SEAT, Call::NewMailbox);
-    let Ok((mut lane, number)) = first.open_lane(MAILBOX, 2) else {
-        return Ok(false);
-    };
-    lane.send(5).is_ok();
-    let Err((_, refusal)) = first.close_counted(other) else {
-        return Ok(false);
-    };
-    let is_unseen = refusal == Refusal::Unseen && first.drain(number) == Ok(0);
-    lane.send(6).is_ok();
-    let Some(own) = lane.finish() else {
-        return Ok(false);
-    };
-    Ok(
-        is_unseen
-            && first.close_counted(own).is_ok()
+    Ok(are_told_apart(&mut first, &mut second) == Some(true))
+}
+
+fn are_told_apart(first: &mut Numbers, second: &mut Numbers) -> Option<bool> {
+    let other = ended(second, 2)?;
+    let is_own = tells_its_own(first, other)?;
+    Some(
+        is_own
             && is_journal(first.board().journal(), FIVE_AND_SIX)
-            && second.drop_lane(number) == Ok((2, true)),
+            && second.drop_lane(0) == Ok((2, true)),
     )
 }
 
-/// The end of a lane onto a new mailbox, on which these are sent.
-fn end_of(floor: &mut Numbers, messages: &[u64]) -> Option<LaneEnd<u64>> {
+fn tells_its_own(floor: &mut Numbers, other: LaneEnd<u64>) -> Option<bool> {
     floor.apply(SEAT, Call::NewMailbox);
-    let (mut lane, _) = floor.open_lane(MAILBOX, 2).ok()?;
-    for message in messages.iter() {
-        lane.send(*message).is_ok();
-    }
-    lane.finish()
+    let (mut lane, number) = floor.open_lane(MAILBOX, 2).ok()?;
+    lane.send(5).is_ok();
+    let is_unseen = matches!(floor.close_counted(other), Err((_, Refusal::Unseen)));
+    let drained = floor.drain(number);
+    lane.send(6).is_ok();
+    let own = lane.finish()?;
+    Some(is_unseen && drained == Ok(0) && floor.close_counted(own).is_ok())
 }

@@ -14,17 +14,21 @@ const CHANNEL: Name = Name(0);
 pub fn gives_what_was_pumped(alloc: Global) -> Result<bool, AllocError> {
     let mut floor = floor(alloc, 100)?;
     floor.apply(SEAT, Call::NewChannel);
+    Ok(gives(&mut floor) == Some(true))
+}
+
+fn gives(floor: &mut Numbers) -> Option<bool> {
     let Ok((mut feed, number)) = floor.open_feed(CHANNEL, 1) else {
-        return Ok(false);
+        return None;
     };
-    let taken = takes_one_of_two(&mut floor, &mut feed, number);
+    let taken = takes_one_of_two(floor, &mut feed, number);
     let Ok(Some(end)) = floor.end_feed(number) else {
-        return Ok(false);
+        return None;
     };
     let port = feed.port();
     let left = leaves_two(feed, end);
-    let owed = floor.board().owed_count(port) == Some(1);
-    Ok(taken && left && owed && floor.board().got_count(port) == Some(2))
+    let board = floor.board();
+    Some(taken && left && board.owed_count(port) == Some(1) && board.got_count(port) == Some(2))
 }
 
 /// Three are multicast; one is pumped and taken, and a second one pumped.
