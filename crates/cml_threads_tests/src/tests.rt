@@ -6,25 +6,28 @@ mod rings;
 mod scene;
 mod senders;
 mod settling;
-mod trouble;
 mod verdict;
 
 use cml_threads::Count;
-use scene::{Scene, performed};
+use crew::Crew;
+use scene::{Part, Scene, performed};
 use std::process::Abort;
 use std::test::Fail;
 
 const SCENES: &[(Scene, &str)] = &[
-    (Scene::Rings, "as in the journal"),
-    (Scene::Callers, "all confirmed"),
-    (Scene::Crowd, "each once, and lawful"),
-    (Scene::Stall, "each is told"),
-    (Scene::Forms, "as in the journal"),
-    (Scene::Refused, "each by its own refusal"),
-    (Scene::Cut, "cut, and gone on"),
+    (Scene::Alone(Part::Rings), "as told"),
+    (Scene::Threads(Crew::Callers), "all confirmed"),
+    (Scene::Threads(Crew::Crowd), "each once, and lawful"),
+    (Scene::Threads(Crew::Stalled), "each is told"),
+    (Scene::Alone(Part::Forms), "as told"),
+    (Scene::Alone(Part::Refused), "as told"),
+    (Scene::Alone(Part::Cut), "as told"),
     (Scene::OneLeft, "handed back, and settled"),
     (Scene::Dropped, "handed back"),
-    (Scene::Senders, "each once, in its lane's order"),
+    (
+        Scene::Threads(Crew::Senders),
+        "each once, in its lane's order",
+    ),
 ];
 
 fn is_counted(rt: &impl Abort, count: Option<Count>, expected: Count) {
@@ -42,7 +45,7 @@ fn counts_entries_of_lanes_for_no_seat(rt: HostRuntime) -> Result<(), Fail> {
         rings: 2,
         total: 4,
     };
-    is_counted(&rt, settling::count_with_lane(rt.alloc())?, expected);
+    is_counted(&rt, settling::count_with_lane(rt.alloc()), expected);
     Ok(())
 }
 

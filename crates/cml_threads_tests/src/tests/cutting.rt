@@ -1,10 +1,8 @@
 //! A switchboard's journal that is cut: refused while a lane is open, and else dropped or handed over. What waits is received
 //! after it, and there is room for as many entries again.
-use super::scene::{Numbers, alone, settled};
-use super::trouble::Trouble;
+use super::scene::{Final, Numbers};
 use cml_board::{Name, Refusal, Reply};
 use cml_threads::Seat;
-use std::alloc::Global;
 use std::sync::Wait;
 use std::sync::ledger::Ledger;
 
@@ -13,29 +11,15 @@ const MAILBOX: Name = Name(0);
 /// The mailbox and one message: then the journal is full.
 pub const ENTRIES: u64 = 2;
 
-pub fn cut_twice<Led: Ledger, R: Wait>(
-    rt: &R,
-    alloc: Global,
-    board: Numbers<Led>,
-) -> Result<&'static str, Trouble> {
-    let Ok(mut seat) = board.seat(rt) else {
-        return Err(Trouble::Refused);
-    };
-    let is_as_told = goes_on(rt, &board, &mut seat);
-    let lefts = alone(alloc, board.leave(rt, seat));
-    let settled = settled(board, lefts)?;
-    let left = (
-        settled.board().cut_at(),
-        settled.board().journal().len(),
-        settled.count().total,
-    );
-    if is_as_told && left == (4, 1, 5) {
-        return Ok("cut, and gone on");
-    }
-    Ok("otherwise")
+/// Whether the journal has the last receive alone, behind the four entries that were cut away.
+pub fn is_left(settled: &Final) -> bool {
+    let board = settled.board();
+    let left = (board.cut_at(), board.journal().len(), settled.count().total);
+    left == (4, 1, 5)
 }
 
-fn goes_on<Led: Ledger, R: Wait>(rt: &R, board: &Numbers<Led>, seat: &mut Seat<Led>) -> bool {
+/// Whether the seat goes on behind each cut.
+pub fn goes_on<Led: Ledger, R: Wait>(rt: &R, board: &Numbers<Led>, seat: &mut Seat<Led>) -> bool {
     board.mailbox(rt, seat).is_ok()
         && board.send(rt, seat, MAILBOX, 5).is_ok()
         && is_busy(rt, board)

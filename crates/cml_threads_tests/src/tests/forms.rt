@@ -1,9 +1,7 @@
 //! All named forms, from one seat, against that seat's entries.
-use super::scene::{Numbers, alone, settled};
-use super::trouble::Trouble;
+use super::scene::Numbers;
 use cml_board::{Call, Entry, Name, Refusal, Reply, Who};
 use cml_threads::Seat;
-use std::alloc::Global;
 use std::sync::Wait;
 use std::sync::ledger::Ledger;
 
@@ -65,32 +63,21 @@ impl Replies {
     }
 }
 
-pub fn call_all<Led: Ledger, R: Wait>(
-    rt: &R,
-    alloc: Global,
-    board: Numbers<Led>,
-) -> Result<&'static str, Trouble> {
-    let Ok(mut seat) = board.seat(rt) else {
-        return Err(Trouble::Refused);
-    };
+/// Whether each form gives the table's reply.
+pub fn reply<Led: Ledger, R: Wait>(rt: &R, board: &Numbers<Led>, seat: &mut Seat<Led>) -> bool {
     let mut replies = Replies {
         count: 0,
         are_as_told: true,
     };
-    mailboxes(rt, &board, &mut seat, &mut replies);
-    channels(rt, &board, &mut seat, &mut replies);
-    i_variables(rt, &board, &mut seat, &mut replies);
-    m_variables(rt, &board, &mut seat, &mut replies);
-    let lefts = alone(alloc, board.leave(rt, seat));
-    let settled = settled(board, lefts)?;
-    if replies.are_as_told && is_table(settled.board().journal()) {
-        return Ok("as in the journal");
-    }
-    Ok("otherwise")
+    mailboxes(rt, board, seat, &mut replies);
+    channels(rt, board, seat, &mut replies);
+    i_variables(rt, board, seat, &mut replies);
+    m_variables(rt, board, seat, &mut replies);
+    replies.are_as_told && replies.count == TABLE.len()
 }
 
 /// Whether the journal is the table.
-fn is_table(journal: &[Entry<u64>]) -> bool {
+pub fn is_table(journal: &[Entry<u64>]) -> bool {
     for (at, (call, reply)) in TABLE.iter().enumerate() {
         match journal.get(at) {
             Some(entry) if is_entry(entry, call, reply) => {}

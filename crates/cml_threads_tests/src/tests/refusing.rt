@@ -1,10 +1,8 @@
 //! Calls that a switchboard refuses: by `call` and by a named form each is told its own refusal, and costs no entry. Nor
 //! does what is reserved.
-use super::scene::{Numbers, alone, settled};
-use super::trouble::Trouble;
+use super::scene::Numbers;
 use cml_board::{Call, Name, Refusal, Reply};
 use cml_threads::Seat;
-use std::alloc::Global;
 use std::sync::Wait;
 use std::sync::ledger::Ledger;
 
@@ -13,24 +11,8 @@ const MAILBOX: Name = Name(0);
 /// The mailbox and one message, after which the journal is full.
 pub const ENTRIES: u64 = 2;
 
-pub fn refuse_each<Led: Ledger, R: Wait>(
-    rt: &R,
-    alloc: Global,
-    board: Numbers<Led>,
-) -> Result<&'static str, Trouble> {
-    let Ok(mut seat) = board.seat(rt) else {
-        return Err(Trouble::Refused);
-    };
-    let is_as_told = are_told_apart(rt, &board, &mut seat);
-    let lefts = alone(alloc, board.leave(rt, seat));
-    let settled = settled(board, lefts)?;
-    if is_as_told && settled.count().total == ENTRIES {
-        return Ok("each by its own refusal");
-    }
-    Ok("otherwise")
-}
-
-fn are_told_apart<Led: Ledger, R: Wait>(
+/// Whether each call is refused as it is to be.
+pub fn are_told_apart<Led: Ledger, R: Wait>(
     rt: &R,
     board: &Numbers<Led>,
     seat: &mut Seat<Led>,

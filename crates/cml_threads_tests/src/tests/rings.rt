@@ -1,9 +1,8 @@
 //! What one thread sees of a lane and of a feed, each on the second object of its kind.
-use super::scene::Numbers;
-use super::trouble::Trouble;
+use super::scene::{Final, Numbers};
 use cml_board::{Name, Refusal, Reply};
 use cml_lanes::Feed;
-use cml_threads::Seat;
+use cml_threads::{Count, Seat};
 use std::sync::Wait;
 use std::sync::ledger::Ledger;
 
@@ -16,26 +15,26 @@ const PORT: Name = Name(4);
 /// The number of the first feed, and of the first lane.
 const FIRST: u64 = 0;
 
-pub fn try_rings<Led: Ledger, R: Wait>(
-    rt: &R,
-    board: Numbers<Led>,
-) -> Result<&'static str, Trouble> {
-    let mut seat = board.seat(rt)?;
-    board.mailbox(rt, &mut seat)?;
-    board.mailbox(rt, &mut seat)?;
-    board.m_channel(rt, &mut seat)?;
-    board.m_channel(rt, &mut seat)?;
-    if !lane_carries(rt, &board, &mut seat)? {
-        return Ok("a lane doesn't carry");
-    }
-    let (mut feed, number) = board.open_feed(rt, CHANNEL, 2)?;
-    if number != FIRST || feed.port() != PORT || !feed_carries(rt, &board, &mut seat, &mut feed)? {
-        return Ok("a feed doesn't carry");
-    }
-    if !ended_for_good(rt, &board, &mut seat, feed)? {
-        return Ok("a feed doesn't end");
-    }
-    Ok("as in the journal")
+/// The four objects, two polls, four multicasts and the last poll are the seat's; the others the lane's send, and the feed's
+/// port and three receives.
+const COUNT: Count = Count {
+    seats: 11,
+    rings: 5,
+    total: 16,
+};
+
+pub fn are_counted(settled: &Final) -> bool {
+    settled.count() == COUNT
+}
+
+/// Whether both carry.
+pub fn carry<Led: Ledger, R: Wait>(rt: &R, board: &Numbers<Led>, seat: &mut Seat<Led>) -> bool {
+    board.mailbox(rt, seat).is_ok()
+        && board.mailbox(rt, seat).is_ok()
+        && board.m_channel(rt, seat).is_ok()
+        && board.m_channel(rt, seat).is_ok()
+        && lane_carries(rt, board, seat) == Some(true)
+        && feed_goes(rt, board, seat) == Some(true)
 }
 
 /// Whether what is sent on a lane comes to its mailbox alone, once the lane is closed.
@@ -43,34 +42,75 @@ fn lane_carries<Led: Ledger, R: Wait>(
     rt: &R,
     board: &Numbers<Led>,
     seat: &mut Seat<Led>,
-) -> Result<bool, Trouble> {
-    let (mut lane, _) = board.open_lane(rt, MAILBOX, 1)?;
+) -> Option<bool> {
+    let (mut lane, _) = board.open_lane(rt, MAILBOX, 1).ok()?;
     let sent = lane.send(5).is_ok();
-    let Some(end) = lane.finish() else {
-        return Ok(false);
-    };
-    let closed = board.close_lane(rt, end).is_ok();
-    let first = board.recv_poll(rt, seat, Name(0))?;
-    let second = board.recv_poll(rt, seat, MAILBOX)?;
-    Ok(sent && closed && first.same(&Reply::Nothing) && second.same(&Reply::Got(5)))
+    let closed = board.close_lane(rt, lane.finish()?).is_ok();
+    Some(
+        sent && closed
+            && polls(rt, board, seat, Name(0), Reply::Nothing)
+            && polls(rt, board, seat, MAILBOX, Reply::Got(5)),
+    )
 }
 
-/// Whether a feed of room for two gets what is multicast on its channel, as much as it has room for.
+/// Whether a poll of this object gives this reply.
+fn polls<Led: Ledger, R: Wait>(
+    rt: &R,
+    board: &Numbers<Led>,
+    seat: &mut Seat<Led>,
+    name: Name,
+    expected: Reply<u64>,
+) -> bool {
+    match board.recv_poll(rt, seat, name) {
+        Ok(reply) => reply.same(&expected),
+        Err(_) => false,
+    }
+}
+
+/// Whether the first feed, of room for two, carries, and ends for good.
+fn feed_goes<Led: Ledger, R: Wait>(
+    rt: &R,
+    board: &Numbers<Led>,
+    seat: &mut Seat<Led>,
+) -> Option<bool> {
+    let (mut feed, number) = board.open_feed(rt, CHANNEL, 2).ok()?;
+    Some(
+        number == FIRST
+            && feed.port() == PORT
+            && feed_carries(rt, board, seat, &mut feed)
+            && ended_for_good(rt, board, seat, &mut feed),
+    )
+}
+
+/// Whether the feed gets what is multicast on its channel, as much as it has room for.
 fn feed_carries<Led: Ledger, R: Wait>(
     rt: &R,
     board: &Numbers<Led>,
     seat: &mut Seat<Led>,
     feed: &mut Feed<u64>,
-) -> Result<bool, Trouble> {
-    let nothing = board.pump(rt, FIRST)?;
-    for message in 6..9 {
-        board.multicast(rt, seat, CHANNEL, message)?;
-    }
+) -> bool {
+    let nothing = pumped(rt, board);
+    let sent = multicast(rt, board, seat, 6)
+        && multicast(rt, board, seat, 7)
+        && multicast(rt, board, seat, 8);
     let barred = board.recv_poll(rt, seat, PORT).is_err();
-    let two = board.pump(rt, FIRST)?;
+    let two = pumped(rt, board);
     let taken = [feed.recv(), feed.recv(), feed.recv()];
-    let one = board.pump(rt, FIRST)?;
-    Ok(barred && [nothing, two, one] == [0, 2, 1] && taken == [Some(6), Some(7), None])
+    let counts = [nothing, two, pumped(rt, board)];
+    sent && barred && counts == [Some(0), Some(2), Some(1)] && taken == [Some(6), Some(7), None]
+}
+
+fn pumped<Led: Ledger, R: Wait>(rt: &R, board: &Numbers<Led>) -> Option<usize> {
+    board.pump(rt, FIRST).ok()
+}
+
+fn multicast<Led: Ledger, R: Wait>(
+    rt: &R,
+    board: &Numbers<Led>,
+    seat: &mut Seat<Led>,
+    message: u64,
+) -> bool {
+    board.multicast(rt, seat, CHANNEL, message).is_ok()
 }
 
 /// Whether an ended feed gives what is left in its ring and is pumped no more, and its port is an ordinary one.
@@ -78,14 +118,14 @@ fn ended_for_good<Led: Ledger, R: Wait>(
     rt: &R,
     board: &Numbers<Led>,
     seat: &mut Seat<Led>,
-    feed: Feed<u64>,
-) -> Result<bool, Trouble> {
-    let mut feed = feed;
-    let ended = board.end_feed(rt, FIRST)?.is_some();
+    feed: &mut Feed<u64>,
+) -> bool {
+    let ended = matches!(board.end_feed(rt, FIRST), Ok(Some(_)));
     let rest = [feed.recv(), feed.recv()];
-    board.multicast(rt, seat, CHANNEL, 9)?;
-    let owed = board.recv_poll(rt, seat, PORT)?;
-    let again = matches!(board.end_feed(rt, FIRST), Err(Refusal::NoSuch));
-    let pumped = board.pump(rt, FIRST) == Err(Refusal::NoSuch);
-    Ok(ended && again && pumped && rest == [Some(8), None] && owed.same(&Reply::Got(9)))
+    ended
+        && rest == [Some(8), None]
+        && multicast(rt, board, seat, 9)
+        && polls(rt, board, seat, PORT, Reply::Got(9))
+        && matches!(board.end_feed(rt, FIRST), Err(Refusal::NoSuch))
+        && board.pump(rt, FIRST) == Err(Refusal::NoSuch)
 }

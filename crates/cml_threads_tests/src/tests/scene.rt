@@ -1,11 +1,10 @@
 //! Scenes on a switchboard, and the one place that names a ledger for them.
 ghost use Rattle.std.specs.Prelude.{◌≡◌, ◌≤◌, ◌^◌};
 
-use super::crew::{Crew, at_work};
-use super::trouble::Trouble;
-use super::{cutting, forms, refusing, rings, senders, settling, verdict};
+use super::crew::{self, Crew};
+use super::{cutting, forms, refusing, rings, settling};
 use cml_board::BoardLog;
-use cml_threads::{Left, PARTS, Settled, Switchboard};
+use cml_threads::{Left, PARTS, Seat, Settled, Switchboard};
 use std::alloc::{AllocError, Global};
 use std::marker::Brand;
 use std::sync::Wait;
@@ -22,26 +21,27 @@ const LIMIT: u64 = 65_536;
 
 #[derive(Clone, Copy)]
 pub enum Scene {
+    /// Several threads.
+    Threads(Crew),
+    /// One seat, alone.
+    Alone(Part),
+    /// Two seats, settled first with the left of one.
+    OneLeft,
+    /// A seat that is dropped.
+    Dropped,
+}
+
+/// What a seat does alone.
+#[derive(Clone, Copy)]
+pub enum Part {
     /// A lane and a feed, each on the second object of its kind.
     Rings,
-    /// Two threads, each of which needs what the other sends.
-    Callers,
     /// All named forms in turn.
     Forms,
     /// Calls that are refused, the last in a full journal.
     Refused,
     /// A journal that is full, and cut.
     Cut,
-    /// Eight threads on one mailbox.
-    Crowd,
-    /// Eight seats of which each is told that all are stalled.
-    Stall,
-    /// Two seats, settled first with the left of one.
-    OneLeft,
-    /// A seat that is dropped.
-    Dropped,
-    /// Four lanes, one thread that drains them, and two seats that receive.
-    Senders,
 }
 
 impl Scene {
@@ -51,8 +51,8 @@ impl Scene {
         ensures most { result ≤ 2 ^ 32 }
     {
         match self {
-            Scene::Refused => refusing::ENTRIES,
-            Scene::Cut => cutting::ENTRIES,
+            Scene::Alone(Part::Refused) => refusing::ENTRIES,
+            Scene::Alone(Part::Cut) => cutting::ENTRIES,
             _ => LIMIT,
         }
     }
@@ -60,10 +60,7 @@ impl Scene {
 
 /// What the scene comes to.
 pub fn performed<R: Threads + Wait + Sync>(rt: &R, alloc: Global, scene: Scene) -> &'static str {
-    match performed_in::<Brand, R>(rt, alloc, scene, Blank::new(PARTS)) {
-        Ok(word) => word,
-        Err(trouble) => trouble.word(),
-    }
+    performed_in::<Brand, R>(rt, alloc, scene, Blank::new(PARTS)).unwrap_or("trouble")
 }
 
 fn performed_in<Led: Ledger + Send + Sync, R: Threads + Wait + Sync>(
@@ -71,37 +68,66 @@ fn performed_in<Led: Ledger + Send + Sync, R: Threads + Wait + Sync>(
     alloc: Global,
     scene: Scene,
     blank: Blank,
-) -> Result<&'static str, Trouble>
+) -> Option<&'static str>
     requires name { blank.name ≡ Led.name }
     requires parts { blank.parts ≡ Led.parts }
     requires enough { blank.parts ≡ 2 ^ 63 }
 {
-    let board: Numbers<Led> = Switchboard::new(alloc, scene.limit(), blank)?;
+    let board: Numbers<Led> = Switchboard::new(alloc, scene.limit(), blank).ok()?;
     match scene {
-        Scene::Rings => rings::try_rings(rt, board),
-        Scene::Callers => judged(rt, alloc, board, Crew::Callers),
-        Scene::Crowd => judged(rt, alloc, board, Crew::Crowd),
-        Scene::Stall => judged(rt, alloc, board, Crew::Stalled),
-        Scene::Forms => forms::call_all(rt, alloc, board),
-        Scene::Refused => refusing::refuse_each(rt, alloc, board),
-        Scene::Cut => cutting::cut_twice(rt, alloc, board),
+        Scene::Threads(crew) => crew::come_to(rt, alloc, board, crew),
+        Scene::Alone(part) => plays(rt, alloc, board, part),
         Scene::OneLeft => settling::settle_late(rt, alloc, board),
         Scene::Dropped => settling::settle_without(rt, alloc, board),
-        Scene::Senders => senders::send_all(rt, alloc, board),
     }
 }
 
-fn judged<Led: Ledger + Send + Sync, R: Threads + Wait + Sync>(
+/// What a seat does alone, and what is settled behind it.
+fn plays<Led: Ledger, R: Wait>(
     rt: &R,
     alloc: Global,
     board: Numbers<Led>,
-    crew: Crew,
-) -> Result<&'static str, Trouble> {
-    let (settled, all) = at_work(rt, alloc, board, crew)?;
-    match crew {
-        Crew::Callers => Ok(verdict::of_callers(&settled, &all)),
-        Crew::Crowd => verdict::of_crowd(alloc, &settled, &all),
-        Crew::Stalled => Ok(verdict::of_stalled(&all)),
+    part: Part,
+) -> Option<&'static str> {
+    let (is_as_told, left) = played(rt, &board, part)?;
+    let settled = settled(board, alone(alloc, left))?;
+    if is_as_told && is_left(part, &settled) {
+        return Some("as told");
+    }
+    Some("otherwise")
+}
+
+fn played<Led: Ledger, R: Wait>(
+    rt: &R,
+    board: &Numbers<Led>,
+    part: Part,
+) -> Option<(bool, Left<Led>)> {
+    let mut seat = board.seat(rt).ok()?;
+    let is_as_told = is_played(rt, board, &mut seat, part);
+    Some((is_as_told, board.leave(rt, seat)))
+}
+
+fn is_played<Led: Ledger, R: Wait>(
+    rt: &R,
+    board: &Numbers<Led>,
+    seat: &mut Seat<Led>,
+    part: Part,
+) -> bool {
+    match part {
+        Part::Rings => rings::carry(rt, board, seat),
+        Part::Forms => forms::reply(rt, board, seat),
+        Part::Refused => refusing::are_told_apart(rt, board, seat),
+        Part::Cut => cutting::goes_on(rt, board, seat),
+    }
+}
+
+/// Whether that is left of the seat's board.
+fn is_left(part: Part, settled: &Final) -> bool {
+    match part {
+        Part::Rings => rings::are_counted(settled),
+        Part::Forms => forms::is_table(settled.board().journal()),
+        Part::Refused => settled.count().total == refusing::ENTRIES,
+        Part::Cut => cutting::is_left(settled),
     }
 }
 
@@ -109,13 +135,13 @@ fn judged<Led: Ledger + Send + Sync, R: Threads + Wait + Sync>(
 pub fn settled<Led: Ledger>(
     board: Numbers<Led>,
     lefts: Result<Vec<Left<Led>>, AllocError>,
-) -> Result<Final, Trouble> {
+) -> Option<Final> {
     let Ok(lefts) = lefts else {
-        return Err(Trouble::NoMemory);
+        return None;
     };
     match board.settle(lefts) {
-        Ok(settled) => Ok(settled),
-        Err(_) => Err(Trouble::NotSettled),
+        Ok(settled) => Some(settled),
+        Err(_) => None,
     }
 }
 

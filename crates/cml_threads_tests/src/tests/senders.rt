@@ -1,13 +1,13 @@
 //! Threads that send on lanes of their own, one that drains them, and two that receive.
-use super::scene::{Numbers, settled};
-use super::trouble::Trouble;
+use super::crew::{Crew, Job};
+use super::scene::{Final, Numbers};
 use cml_board::{Call, Entry, Name, Refusal, Reply, Who};
 use cml_lanes::{Lane, LaneEnd};
-use cml_threads::{Count, Left, Seat};
-use std::alloc::{AllocError, Global};
+use cml_threads::{Count, Seat};
+use std::alloc::Global;
 use std::sync::Wait;
 use std::sync::ledger::Ledger;
-use std::thread::{self, Threads};
+use std::thread;
 
 /// How many lanes there are.
 const LANES: u64 = 4;
@@ -33,108 +33,35 @@ const TURNS: u32 = 100_000_000;
 /// The second mailbox: a lane that went to the first object would miss it.
 const MAILBOX: Name = Name(1);
 
-/// What a thread is to do.
-#[derive(Drop)]
-enum Job<Led: Ledger> {
-    Send(Lane<u64>),
-    Drain,
-    Receive(Seat<Led>),
-}
-
-/// What it hands back.
-#[derive(Drop)]
-enum Done<Led: Ledger> {
-    Sent(Option<LaneEnd<u64>>),
-    Drained,
-    Received(Left<Led>, Vec<u64>),
-}
-
-/// What all of them handed back.
-#[derive(Drop)]
-struct All<Led: Ledger> {
-    ends: Vec<LaneEnd<u64>>,
-    lefts: Vec<Left<Led>>,
-    received: Vec<u64>,
-}
-
-pub fn send_all<Led: Ledger + Send + Sync, R: Threads + Wait + Sync>(
+/// A job for each lane, and one that drains them.
+pub fn add_jobs<Led: Ledger, R: Wait>(
     rt: &R,
-    alloc: Global,
-    board: Numbers<Led>,
-) -> Result<&'static str, Trouble> {
-    let jobs = jobs(rt, alloc, &board)?;
-    let shared = &board;
-    let done = thread::map_vec(rt, jobs, &|job: Job<Led>| { work(rt, alloc, shared, job) })?;
-    let All {
-        ends,
-        lefts,
-        received,
-    } = gathered(alloc, done)?;
-    for end in ends {
-        if board.close_lane(rt, end).is_err() {
-            return Ok("a lane isn't closed");
-        }
+    board: &Numbers<Led>,
+    jobs: &mut Vec<Job<Led>>,
+) -> Option<()> {
+    for _ in 0..LANES {
+        jobs.push(Job::Send(board.open_lane(rt, MAILBOX, 8).ok()?.0))
+            .ok()?;
     }
-    if !lets_go(rt, &board) || !are_closed(rt, &board) {
-        return Ok("a lane is still open");
-    }
-    let settled = settled(board, Ok(lefts))?;
-    let mut received = received;
-    received.sort()?;
-    if !is_each_once(&received) || settled.count() != COUNT {
-        return Ok("not each once");
+    jobs.push(Job::Drain).ok()
+}
+
+/// What the settled board and all that was received come to.
+pub fn verdict(settled: &Final, received: Vec<u64>) -> &'static str {
+    if !is_each_once(received) || settled.count() != COUNT {
+        return "not each once";
     }
     let journal = settled.board().journal();
     for lane in 0..LANES {
         if !is_in_order(journal, lane) {
-            return Ok("not in a lane's order");
+            return "not in a lane's order";
         }
     }
-    Ok("each once, in its lane's order")
-}
-
-/// A job for each lane, one that drains them, and two that receive.
-fn jobs<Led: Ledger, R: Wait>(
-    rt: &R,
-    alloc: Global,
-    board: &Numbers<Led>,
-) -> Result<Vec<Job<Led>>, Trouble> {
-    let mut one = board.seat(rt)?;
-    let two = board.seat(rt)?;
-    board.mailbox(rt, &mut one)?;
-    board.mailbox(rt, &mut one)?;
-    let mut jobs = Vec::new(alloc);
-    for _ in 0..LANES {
-        jobs.push(Job::Send(board.open_lane(rt, MAILBOX, 8)?.0))?;
-    }
-    jobs.push(Job::Drain)?;
-    jobs.push(Job::Receive(one))?;
-    jobs.push(Job::Receive(two))?;
-    Ok(jobs)
-}
-
-fn work<Led: Ledger, R: Wait>(
-    rt: &R,
-    alloc: Global,
-    board: &Numbers<Led>,
-    job: Job<Led>,
-) -> Done<Led> {
-    match job {
-        Job::Send(lane) => Done::Sent(send(lane)),
-        Job::Drain => {
-            drain(rt, board);
-            Done::Drained
-        }
-        Job::Receive(seat) => {
-            let mut seat = seat;
-            let received = receive(rt, alloc, board, &mut seat);
-            Done::Received(board.leave(rt, seat), received)
-        }
-    }
+    "each once, in its lane's order"
 }
 
 /// Sends numbers of the lane's own, each again until it is taken.
-fn send(lane: Lane<u64>) -> Option<LaneEnd<u64>> {
+pub fn send(lane: Lane<u64>) -> Option<LaneEnd<u64>> {
     let mut lane = lane;
     let first = lane.number().saturating_mul(EACH);
     let mut sent = 0u64;
@@ -151,7 +78,7 @@ fn send(lane: Lane<u64>) -> Option<LaneEnd<u64>> {
 }
 
 /// Drains all lanes until all numbers are moved.
-fn drain<Led: Ledger, R: Wait>(rt: &R, board: &Numbers<Led>) {
+pub fn drain<Led: Ledger, R: Wait>(rt: &R, board: &Numbers<Led>) {
     let mut moved = 0usize;
     for turn in 0..TURNS {
         if moved as u64 >= ALL {
@@ -164,7 +91,7 @@ fn drain<Led: Ledger, R: Wait>(rt: &R, board: &Numbers<Led>) {
     }
 }
 
-fn receive<Led: Ledger, R: Wait>(
+pub fn receive<Led: Ledger, R: Wait>(
     rt: &R,
     alloc: Global,
     board: &Numbers<Led>,
@@ -179,27 +106,21 @@ fn receive<Led: Ledger, R: Wait>(
     received
 }
 
-fn gathered<Led: Ledger>(alloc: Global, done: Vec<Done<Led>>) -> Result<All<Led>, AllocError> {
-    let mut ends = Vec::new(alloc);
-    let mut lefts = Vec::new(alloc);
-    let mut all = Vec::new(alloc);
-    for one in done {
-        match one {
-            Done::Sent(Some(end)) => ends.push(end)?,
-            Done::Sent(None) | Done::Drained => {}
-            Done::Received(left, received) => {
-                lefts.push(left)?;
-                for message in received {
-                    all.push(message)?;
-                }
-            }
+/// Whether the ends of a crew's lanes close them, and none of them takes a drain then.
+pub fn are_closed<Led: Ledger, R: Wait>(
+    rt: &R,
+    board: &Numbers<Led>,
+    ends: Vec<LaneEnd<u64>>,
+    crew: Crew,
+) -> bool {
+    let count = ends.len() as u64;
+    for end in ends {
+        if board.close_lane(rt, end).is_err() {
+            return false;
         }
     }
-    Ok(All {
-        ends,
-        lefts,
-        received: all,
-    })
+    !matches!(crew, Crew::Senders)
+        || count == LANES && lets_go(rt, board) && take_no_drain(rt, board)
 }
 
 /// A lane is dropped and one abandoned, both with nothing in them.
@@ -214,7 +135,7 @@ fn lets_go<Led: Ledger, R: Wait>(rt: &R, board: &Numbers<Led>) -> bool {
 }
 
 /// Whether none of all these lanes is open.
-fn are_closed<Led: Ledger, R: Wait>(rt: &R, board: &Numbers<Led>) -> bool {
+fn take_no_drain<Led: Ledger, R: Wait>(rt: &R, board: &Numbers<Led>) -> bool {
     for lane in 0..LANES + 2 {
         if board.drain(rt, lane) != Err(Refusal::NoSuch) {
             return false;
@@ -223,8 +144,12 @@ fn are_closed<Led: Ledger, R: Wait>(rt: &R, board: &Numbers<Led>) -> bool {
     true
 }
 
-/// Whether that is each number that was sent, in order.
-fn is_each_once(received: &[u64]) -> bool {
+/// Whether that is each number that was sent.
+fn is_each_once(received: Vec<u64>) -> bool {
+    let mut received = received;
+    if received.sort().is_err() {
+        return false;
+    }
     for (at, message) in received.iter().enumerate() {
         if *message != at as u64 {
             return false;

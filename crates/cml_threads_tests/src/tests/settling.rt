@@ -2,10 +2,9 @@
 ghost use Rattle.std.specs.Prelude.{◌≡◌, ◌^◌};
 
 use super::scene::{Final, Numbers, alone};
-use super::trouble::Trouble;
 use cml_board::{BoardLog, Call, Name, Refusal, Reply};
-use cml_threads::{Count, Hall, PARTS, Seat};
-use std::alloc::{AllocError, Global};
+use cml_threads::{Count, Hall, Left, PARTS, Seat};
+use std::alloc::Global;
 use std::marker::Brand;
 use std::sync::Wait;
 use std::sync::ledger::{Blank, Ledger};
@@ -17,24 +16,26 @@ pub fn settle_late<Led: Ledger, R: Wait>(
     rt: &R,
     alloc: Global,
     board: Numbers<Led>,
-) -> Result<&'static str, Trouble> {
-    let (Ok(one), Ok(two)) = (board.seat(rt), board.seat(rt)) else {
-        return Err(Trouble::Refused);
+) -> Option<&'static str> {
+    let (one, two) = two_left(rt, &board)?;
+    let Err((board, mut lefts)) = board.settle(alone(alloc, one).ok()?) else {
+        return Some("settled with one left");
     };
-    let (mut one, mut two) = (one, two);
-    if !are_as_told(rt, &board, &mut one, &mut two) {
-        return Err(Trouble::OtherReply);
-    }
-    let lefts = alone(alloc, board.leave(rt, one))?;
-    let two = board.leave(rt, two);
-    let Err((board, mut lefts)) = board.settle(lefts) else {
-        return Ok("settled with one left");
-    };
-    lefts.push(two)?;
+    lefts.push(two).ok()?;
     match board.settle(lefts) {
-        Ok(settled) => Ok(told(&settled)),
-        Err(_) => Err(Trouble::NotSettled),
+        Ok(settled) => Some(told(&settled)),
+        Err(_) => None,
     }
+}
+
+/// What two seats leave behind their calls, where each was answered as it is to be.
+fn two_left<Led: Ledger, R: Wait>(rt: &R, board: &Numbers<Led>) -> Option<(Left<Led>, Left<Led>)> {
+    let mut one = board.seat(rt).ok()?;
+    let mut two = board.seat(rt).ok()?;
+    if !are_as_told(rt, board, &mut one, &mut two) {
+        return None;
+    }
+    Some((board.leave(rt, one), board.leave(rt, two)))
 }
 
 fn are_as_told<Led: Ledger, R: Wait>(
@@ -71,56 +72,56 @@ pub fn settle_without<Led: Ledger, R: Wait>(
     rt: &R,
     alloc: Global,
     board: Numbers<Led>,
-) -> Result<&'static str, Trouble> {
-    let (Ok(one), Ok(_)) = (board.seat(rt), board.seat(rt)) else {
-        return Err(Trouble::Refused);
-    };
-    let mut one = one;
-    if !is_reply(board.mailbox(rt, &mut one), &Reply::Made(MAILBOX)) {
-        return Err(Trouble::OtherReply);
-    }
-    let lefts = alone(alloc, board.leave(rt, one))?;
-    let Err((board, lefts)) = board.settle(lefts) else {
-        return Err(Trouble::NotSettled);
+) -> Option<&'static str> {
+    let left = one_left(rt, &board)?;
+    let Err((board, lefts)) = board.settle(alone(alloc, left).ok()?) else {
+        return Some("settled");
     };
     let hall = board.into_hall();
     if lefts.len() == 1 && hall.board().journal().len() == 1 {
-        return Ok("handed back");
+        return Some("handed back");
     }
-    Ok("not all handed back")
+    Some("not all handed back")
+}
+
+/// What one of two seats leaves that made a mailbox, where the other is dropped.
+fn one_left<Led: Ledger, R: Wait>(rt: &R, board: &Numbers<Led>) -> Option<Left<Led>> {
+    let mut one = board.seat(rt).ok()?;
+    let is_made = is_reply(board.mailbox(rt, &mut one), &Reply::Made(MAILBOX));
+    if is_made && board.seat(rt).is_ok() {
+        return Some(board.leave(rt, one));
+    }
+    None
 }
 
 /// Two calls of a seat, and two messages of a lane that is closed by its end: how they are counted in the end.
-pub fn count_with_lane(alloc: Global) -> Result<Option<Count>, AllocError> {
+pub fn count_with_lane(alloc: Global) -> Option<Count> {
     count_in::<Brand>(alloc, Blank::new(PARTS))
 }
 
-fn count_in<Led: Ledger>(alloc: Global, blank: Blank) -> Result<Option<Count>, AllocError>
+fn count_in<Led: Ledger>(alloc: Global, blank: Blank) -> Option<Count>
     requires name { blank.name ≡ Led.name }
     requires parts { blank.parts ≡ Led.parts }
     requires enough { blank.parts ≡ 2 ^ 63 }
 {
-    let mut hall: Hall<u64, BoardLog<u64>, Led> = Hall::new(alloc, 10, blank)?;
-    let Ok(mut seat) = hall.new_seat() else {
-        return Ok(None);
-    };
-    if !is_used(&mut hall, &mut seat) {
-        return Ok(None);
-    }
-    let mut lefts = Vec::new(alloc);
-    lefts.push(seat.into_left())?;
-    match hall.settle(lefts) {
-        Ok(settled) => Ok(Some(settled.count())),
-        Err(_) => Ok(None),
+    let mut hall: Hall<u64, BoardLog<u64>, Led> = Hall::new(alloc, 10, blank).ok()?;
+    let left = used(&mut hall)?;
+    match hall.settle(alone(alloc, left).ok()?) {
+        Ok(settled) => Some(settled.count()),
+        Err(_) => None,
     }
 }
 
-/// The seat makes a mailbox, and receives what a lane brought there.
-fn is_used<Led: Ledger>(hall: &mut Hall<u64, BoardLog<u64>, Led>, seat: &mut Seat<Led>) -> bool {
-    hall.ask(seat, Call::NewMailbox);
+/// A seat makes a mailbox, and receives what a lane brought there: what it leaves.
+fn used<Led: Ledger>(hall: &mut Hall<u64, BoardLog<u64>, Led>) -> Option<Left<Led>> {
+    let mut seat = hall.new_seat().ok()?;
+    hall.ask(&mut seat, Call::NewMailbox);
     let is_closed = brings_two(hall);
-    hall.ask(seat, Call::Recv(MAILBOX));
-    is_closed
+    hall.ask(&mut seat, Call::Recv(MAILBOX));
+    if is_closed {
+        return Some(seat.into_left());
+    }
+    None
 }
 
 /// Whether a lane brought two messages to the mailbox, and was closed by its end.

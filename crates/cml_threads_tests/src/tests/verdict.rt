@@ -1,7 +1,6 @@
 //! What a crew's answers and the settled board come to.
 use super::crew::{CALLS, MESSAGES, Made, RECEIVERS};
 use super::scene::Final;
-use super::trouble::Trouble;
 use cml_board::{Answer, Refusal, Reply, check};
 use std::alloc::{AllocError, Global};
 
@@ -26,7 +25,7 @@ pub fn of_stalled(all: &[Made]) -> &'static str {
     "each is told"
 }
 
-pub fn of_crowd(alloc: Global, settled: &Final, all: &[Made]) -> Result<&'static str, Trouble> {
+pub fn of_crowd(alloc: Global, settled: &Final, all: &[Made]) -> Result<&'static str, AllocError> {
     let received = received_by(alloc, settled, all)?;
     if !is_each_once(&received) || settled.count().total != ENTRIES {
         return Ok("not each once");
@@ -34,7 +33,7 @@ pub fn of_crowd(alloc: Global, settled: &Final, all: &[Made]) -> Result<&'static
     is_lawful(alloc, settled)
 }
 
-fn is_lawful(alloc: Global, settled: &Final) -> Result<&'static str, Trouble> {
+fn is_lawful(alloc: Global, settled: &Final) -> Result<&'static str, AllocError> {
     let journal = settled.board().journal();
     if journal.len() as u64 > ENTRIES {
         return Ok("too long");
