@@ -2,9 +2,9 @@
 ghost use Rattle.std.specs.Prelude.{◌≤◌, ◌^◌};
 
 use super::{Performed, perform};
-use cml_board::{Call, Entry, Name, Reply, Text, Who};
-use cml_script::{Fault, Stop, read_script};
-use std::alloc::{AllocError, AllocFailed, Global};
+use cml_board::{Entry, Text};
+use cml_script::{Stop, read_script};
+use std::alloc::{AllocError, Global};
 use std::process::Abort;
 
 /// A thread that sends more by a lane than that has room for, and receives one message; and that polls a feed with room for
@@ -17,189 +17,88 @@ const NUMBERS: &str = "cml 1\nmailbox m\nchannel c\nthread A\nthread B\nfeed A f
 const WORDS: &str = "cml 2\nmailbox m\nmvar v 05\nthread A\nlane A m 1\n\
     A send m =\nA send m done\nA swap v A\nA recv m\nA get v\n";
 
-/// Why there is nothing to look at.
-#[derive(Drop)]
-struct Trouble;
-
-impl From<AllocError> for Trouble {
-    fn from(_error: AllocError) -> Trouble {
-        Trouble
-    }
-}
-
-impl<T: Drop> From<AllocFailed<T>> for Trouble {
-    fn from(_error: AllocFailed<T>) -> Trouble {
-        Trouble
-    }
-}
-
-impl From<Fault> for Trouble {
-    fn from(_fault: Fault) -> Trouble {
-        Trouble
-    }
-}
-
-fn made(who: Who, call: Call<Text>, name: u64) -> Entry<Text> {
-    let reply = Reply::Made(Name(name));
-    Entry { who, call, reply }
-}
-
-fn text(alloc: Global, word: &str) -> Result<Text, Trouble> {
-    match Text::from_bytes(alloc, word.as_bytes())? {
-        Ok(text) => Ok(text),
-        Err(_) => Err(Trouble),
-    }
-}
-
-fn got(alloc: Global, who: Who, call: Call<Text>, word: &str) -> Result<Entry<Text>, Trouble> {
-    let reply = Reply::Got(text(alloc, word)?);
-    Ok(Entry { who, call, reply })
-}
-
-/// Adds what was sent to the mailbox by a lane.
-fn add_sent(alloc: Global, entries: &mut Vec<Entry<Text>>, words: &[&str]) -> Result<(), Trouble> {
-    for word in words {
-        entries.push(Entry {
-            who: Who::Lane(0),
-            call: Call::Send(Name(0), text(alloc, word)?),
-            reply: Reply::Done,
-        })?;
-    }
-    Ok(())
-}
-
-/// Adds what was multicast on the channel.
-fn add_multicast(
-    alloc: Global,
-    entries: &mut Vec<Entry<Text>>,
-    words: &[&str],
-) -> Result<(), Trouble> {
-    for word in words {
-        entries.push(Entry {
-            who: Who::Seat(1),
-            call: Call::Cast(Name(1), text(alloc, word)?),
-            reply: Reply::Done,
-        })?;
-    }
-    Ok(())
-}
-
-/// Adds what was received from a mailbox or a port.
-fn add_received(
-    alloc: Global,
-    entries: &mut Vec<Entry<Text>>,
-    who: Who,
-    from: Name,
-    words: &[&str],
-) -> Result<(), Trouble> {
-    for word in words {
-        entries.push(got(alloc, who, Call::Recv(from), word)?)?;
-    }
-    Ok(())
-}
-
-/// What the journal of the script of numbers has.
-fn journal_of_numbers(alloc: Global) -> Result<Vec<Entry<Text>>, Trouble> {
-    let mut entries = vec![in alloc;
-        made(Who::Seat(0), Call::NewMailbox, 0),
-        made(Who::Seat(0), Call::NewChannel, 1),
-        made(Who::Feed(0), Call::NewPort(Name(1)), 2),
-    ]?;
-    add_sent(alloc, &mut entries, &["5", "6", "7"])?;
-    add_received(alloc, &mut entries, Who::Seat(1), Name(0), &["5"])?;
-    add_multicast(alloc, &mut entries, &["8", "9"])?;
-    add_received(alloc, &mut entries, Who::Feed(0), Name(2), &["8", "9"])?;
-    Ok(entries)
-}
+/// The journal of the script of numbers: what the lane and the feed moved stands behind the step for which they did.
+const JOURNAL_OF_NUMBERS: &str = "done
+Seat(0) NewMailbox Made(Name(0))
+Seat(0) NewChannel Made(Name(1))
+Feed(0) NewPort(Name(1)) Made(Name(2))
+Lane(0) Send(Name(0), \"5\") Done
+Lane(0) Send(Name(0), \"6\") Done
+Lane(0) Send(Name(0), \"7\") Done
+Seat(1) Recv(Name(0)) Got(\"5\")
+Seat(1) Cast(Name(1), \"8\") Done
+Seat(1) Cast(Name(1), \"9\") Done
+Feed(0) Recv(Name(2)) Got(\"8\")
+Feed(0) Recv(Name(2)) Got(\"9\")
+";
 
 /// And that of the script of words.
-fn journal_of_words(alloc: Global) -> Result<Vec<Entry<Text>>, Trouble> {
-    let mut entries = vec![in alloc; made(Who::Seat(0), Call::NewMailbox, 0)]?;
-    let first = Call::MVarInit(text(alloc, "05")?);
-    entries.push(made(Who::Seat(0), first, 1))?;
-    add_sent(alloc, &mut entries, &["=", "done"])?;
-    let swap = Call::Swap(Name(1), text(alloc, "A")?);
-    entries.push(got(alloc, Who::Seat(1), swap, "05")?)?;
-    add_received(alloc, &mut entries, Who::Seat(1), Name(0), &["="])?;
-    entries.push(got(alloc, Who::Seat(1), Call::Get(Name(1)), "A")?)?;
-    Ok(entries)
-}
+const JOURNAL_OF_WORDS: &str = "done
+Seat(0) NewMailbox Made(Name(0))
+Seat(0) MVarInit(\"05\") Made(Name(1))
+Lane(0) Send(Name(0), \"=\") Done
+Lane(0) Send(Name(0), \"done\") Done
+Seat(1) Swap(Name(1), \"A\") Got(\"05\")
+Seat(1) Recv(Name(0)) Got(\"=\")
+Seat(1) Get(Name(1)) Got(\"A\")
+";
 
-/// Whether the journal has just these entries.
-fn is_journal(journal: &[Entry<Text>], expected: &[Entry<Text>]) -> bool {
-    for (entry, told) in journal.iter().zip(expected) {
-        if entry.who != told.who || !entry.call.same(&told.call) || !entry.reply.same(&told.reply) {
-            return false;
-        }
+/// Writes each entry of a journal.
+fn write_journal(text: &mut String, journal: &[Entry<Text>]) -> Result<(), AllocError> {
+    for entry in journal.iter() {
+        write!(text, "{:?} {:?} {:?}\n", entry.who, entry.call, entry.reply)?;
     }
-    journal.len() == expected.len()
+    Ok(())
 }
 
-fn performed(
-    alloc: Global,
-    script: &str,
-    journal: Result<Vec<Entry<Text>>, Trouble>,
-    limit: u64,
-) -> Result<&'static str, Trouble>
-    requires least { 1 ≤ limit }
-    requires most { limit ≤ 2 ^ 32 }
-{
-    let journal = journal?;
-    let script = read_script(alloc, script.as_bytes())?;
-    match perform(alloc, &script, limit)? {
-        Performed::Undeclared(_, _) => Ok("undeclared"),
+/// Tells what was performed: how it ended, and where all was done its journal.
+fn write_performed(text: &mut String, performed: &Performed) -> Result<(), AllocError> {
+    match performed {
         Performed::Stopped(teller, Ok(Stop::Done)) => {
-            if is_journal(teller.board().journal(), &journal) {
-                Ok("done")
-            } else {
-                Ok("another journal")
-            }
+            text.push_str("done\n")?;
+            write_journal(text, teller.board().journal())
         }
-        Performed::Stopped(_, Ok(Stop::Full)) => Ok("full"),
-        Performed::Stopped(_, Err(AllocError)) => Err(Trouble),
-        Performed::Stopped(_, _) => Ok("another stop"),
+        Performed::Undeclared(_, _) => text.push_str("undeclared"),
+        Performed::Stopped(_, Ok(Stop::Full)) => text.push_str("full"),
+        Performed::Stopped(_, _) => text.push_str("another stop"),
     }
 }
 
-fn word(
-    alloc: Global,
-    script: &str,
-    journal: Result<Vec<Entry<Text>>, Trouble>,
-    limit: u64,
-) -> &'static str
+/// What is told of a script's first thread, unless memory or the script is at fault.
+fn told(alloc: Global, script: &str, limit: u64) -> Option<String>
     requires least { 1 ≤ limit }
     requires most { limit ≤ 2 ^ 32 }
 {
-    match performed(alloc, script, journal, limit) {
-        Ok(word) => word,
-        Err(Trouble) => "trouble",
-    }
+    let mut text = String::new(alloc);
+    let script = read_script(alloc, script.as_bytes()).ok()?;
+    let performed = perform(alloc, &script, limit).ok()?;
+    write_performed(&mut text, &performed).ok()?;
+    Some(text)
 }
 
-/// What comes of the script of numbers, within this limit.
-fn word_of_numbers(alloc: Global, limit: u64) -> &'static str
+fn is_told(rt: &(impl Abort + AllocGlobal), script: &str, limit: u64, expected: &str)
     requires least { 1 ≤ limit }
     requires most { limit ≤ 2 ^ 32 }
 {
-    word(alloc, NUMBERS, journal_of_numbers(alloc), limit)
-}
-
-fn is_same(rt: &impl Abort, word: &str, expected: &str) {
-    assert_eq!(rt; word, expected);
+    let text = told(rt.alloc(), script, limit);
+    let text = match &text {
+        Some(text) => text.as_str(),
+        None => "nothing",
+    };
+    assert_eq!(rt; text, expected);
 }
 
 #[test]
 fn performs_the_first_thread_of_a_script(rt: HostRuntime) {
-    is_same(&rt, word_of_numbers(rt.alloc(), 100), "done");
-    is_same(&rt, word_of_numbers(rt.alloc(), 2), "undeclared");
+    is_told(&rt, NUMBERS, 100, JOURNAL_OF_NUMBERS);
+    is_told(&rt, NUMBERS, 2, "undeclared");
 
     // The drain of the full lane is refused, and then the pump for the last poll.
-    is_same(&rt, word_of_numbers(rt.alloc(), 3), "full");
-    is_same(&rt, word_of_numbers(rt.alloc(), 10), "full");
+    is_told(&rt, NUMBERS, 3, "full");
+    is_told(&rt, NUMBERS, 10, "full");
 }
 
 #[test]
 fn performs_a_thread_that_sends_words(rt: HostRuntime) {
-    let journal = journal_of_words(rt.alloc());
-    is_same(&rt, word(rt.alloc(), WORDS, journal, 100), "done");
+    is_told(&rt, WORDS, 100, JOURNAL_OF_WORDS);
 }
