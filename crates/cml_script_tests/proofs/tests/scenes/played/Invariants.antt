@@ -1,4 +1,4 @@
-use Rattle.cml_run_tests.proofs.tests.scenes.played.Given as goal
+use Rattle.cml_script_tests.proofs.tests.scenes.played.Given as goal
 
 -- which ledger the switchboard has: the blank's
 abbrev pub ghosts-played_in : goal.ghosts-played_in

@@ -2,14 +2,14 @@
 ghost use Rattle.std.specs.Prelude.{◌≡◌, ◌^◌};
 
 use super::hold::Hold;
-use super::{LIMIT, TWO_SEND};
-use cml_board::{Board, BoardLog, Call, Entry, Name, Refusal, Text, Who};
+use super::runs::{LIMIT, TWO_SEND};
+use cml_board::{Board, BoardLog, Call, Entry, Name, Text, Who};
 use cml_script::{
-    Ended, Ending, Fault, OpenGate, Plan, Script, Seated, Stop, Tally, conclude, declare,
-    perform_in_threads, read_script, work,
+    Ending, OpenGate, Plan, Script, Seated, Stop, Tally, conclude, declare, perform_in_threads,
+    read_script, work,
 };
 use cml_threads::{Left, PARTS, Seat, Switchboard};
-use std::alloc::{AllocError, AllocFailed, Global};
+use std::alloc::{AllocError, Global};
 use std::marker::Brand;
 use std::sync::Wait;
 use std::sync::ledger::{Blank, Ledger};
@@ -28,39 +28,9 @@ pub enum Scene {
     Foreign,
 }
 
-/// Why a scene doesn't come to anything.
-struct Trouble;
-
-impl From<AllocError> for Trouble {
-    fn from(_error: AllocError) -> Trouble {
-        Trouble
-    }
-}
-
-impl<T: Drop> From<AllocFailed<T>> for Trouble {
-    fn from(_failed: AllocFailed<T>) -> Trouble {
-        Trouble
-    }
-}
-
-impl From<Refusal> for Trouble {
-    fn from(_refusal: Refusal) -> Trouble {
-        Trouble
-    }
-}
-
-impl From<Fault> for Trouble {
-    fn from(_fault: Fault) -> Trouble {
-        Trouble
-    }
-}
-
 /// What the scene comes to.
 pub fn played<R: Threads + Wait + Sync>(rt: &R, alloc: Global, scene: Scene) -> &'static str {
-    match played_in::<Brand, R>(rt, alloc, scene, Blank::new(PARTS)) {
-        Ok(word) => word,
-        Err(Trouble) => "trouble",
-    }
+    played_in::<Brand, R>(rt, alloc, scene, Blank::new(PARTS)).unwrap_or("trouble")
 }
 
 fn played_in<Led: Ledger + Send + Sync, R: Threads + Wait + Sync>(
@@ -68,13 +38,13 @@ fn played_in<Led: Ledger + Send + Sync, R: Threads + Wait + Sync>(
     alloc: Global,
     scene: Scene,
     blank: Blank,
-) -> Result<&'static str, Trouble>
+) -> Option<&'static str>
     requires name { blank.name ≡ Led.name }
     requires parts { blank.parts ≡ Led.parts }
     requires enough { blank.parts ≡ 2 ^ 63 }
 {
-    let script = read_script(alloc, TWO_SEND.as_bytes())?;
-    let board: Texts<Led> = Switchboard::new(alloc, LIMIT, blank)?;
+    let script = read_script(alloc, TWO_SEND.as_bytes()).ok()?;
+    let board: Texts<Led> = Switchboard::new(alloc, LIMIT, blank).ok()?;
     match scene {
         Scene::OneAfterTheOther => one_after_the_other(rt, alloc, &script, &board),
         Scene::Answers => answers(rt, alloc, &script, board),
@@ -88,18 +58,29 @@ fn one_after_the_other<Led: Ledger, R: Wait>(
     alloc: Global,
     script: &Script,
     board: &Texts<Led>,
-) -> Result<&'static str, Trouble> {
-    let plan = Plan::new(alloc, script)?;
-    let gate = Hold::new(Some(0));
-    let mut maker = Seated::new(alloc, rt, board, board.seat(rt)?);
-    declare(&plan, &mut maker)?;
-    let mut first = Seated::new(alloc, rt, board, board.seat(rt)?);
-    let stop = work(alloc, &plan, 0, &gate, &mut first)?;
-    if stop == Stop::Held {
-        Ok("held")
-    } else {
-        Ok("not held")
+) -> Option<&'static str> {
+    let plan = Plan::new(alloc, script).ok()?;
+    if !is_declared(rt, alloc, &plan, board) {
+        return None;
     }
+    let mut first = Seated::new(alloc, rt, board, board.seat(rt).ok()?);
+    match work(alloc, &plan, 0, &Hold::new(Some(0)), &mut first) {
+        Ok(Stop::Held) => Some("held"),
+        _ => Some("not held"),
+    }
+}
+
+/// Whether a seat makes the declared objects.
+fn is_declared<Led: Ledger, R: Wait>(
+    rt: &R,
+    alloc: Global,
+    plan: &Plan<'_>,
+    board: &Texts<Led>,
+) -> bool {
+    let Ok(seat) = board.seat(rt) else {
+        return false;
+    };
+    declare(plan, &mut Seated::new(alloc, rt, board, seat)).is_ok()
 }
 
 /// Whether each seat was answered as often as the journal has entries of it.
@@ -108,19 +89,26 @@ fn answers<Led: Ledger + Send + Sync, R: Threads + Wait + Sync>(
     alloc: Global,
     script: &Script,
     board: Texts<Led>,
-) -> Result<&'static str, Trouble> {
-    let ended = perform_in_threads(rt, alloc, script, &board, &OpenGate)?;
-    let told = answers_of(alloc, &ended.lefts)?;
+) -> Option<&'static str> {
+    let ended = perform_in_threads(rt, alloc, script, &board, &OpenGate).ok()?;
+    let told = answers_of(alloc, &ended.lefts).ok()?;
     let Ok(settled) = board.settle(ended.lefts) else {
-        return Ok("not settled");
+        return Some("not settled");
     };
-    let journal = settled.board().journal();
+    if are_as_many(settled.board().journal(), &told) {
+        return Some("as many as steps");
+    }
+    Some("otherwise")
+}
+
+/// Whether each seat was answered once, and the journal has one entry of it.
+fn are_as_many(journal: &[Entry<Text>], told: &[(u64, u64)]) -> bool {
     for (seat, answers) in told.iter() {
         if *answers != entries_of(journal, *seat) || *answers != 1 {
-            return Ok("otherwise");
+            return false;
         }
     }
-    Ok("as many as steps")
+    true
 }
 
 /// The number of each seat, and how often it was answered.
@@ -143,19 +131,28 @@ fn entries_of(journal: &[Entry<Text>], seat: u64) -> u64 {
     count
 }
 
-fn foreign(alloc: Global, script: &Script) -> Result<&'static str, Trouble> {
-    let mut board: Board<Text, BoardLog<Text>> = Board::new(alloc, LIMIT)?;
-    board.apply(Who::Seat(0), Call::NewMailbox);
-    let (first, again) = (Text::of_number(alloc, 5)?, Text::of_number(alloc, 5)?);
-    board.apply(Who::Seat(1), Call::Send(Name(0), first));
-    board.apply(Who::Seat(1), Call::Send(Name(0), again));
+fn foreign(alloc: Global, script: &Script) -> Option<&'static str> {
+    let mut board: Board<Text, BoardLog<Text>> = Board::new(alloc, LIMIT).ok()?;
+    sends_twice(alloc, &mut board)?;
     // What is concluded is a board's whole history, and nothing tells it of a board but this.
     if board.cut_at() != 0 {
-        return Ok("cut");
+        return Some("cut");
     }
     match conclude(alloc, script, &board, &Tally::no_rings(alloc), Stop::Done) {
-        Err(Ending::NotLawful(2)) => Ok("not lawful at 2"),
-        Err(_) => Ok("another ending"),
-        Ok(_) => Ok("told"),
+        Err(Ending::NotLawful(2)) => Some("not lawful at 2"),
+        Err(_) => Some("another ending"),
+        Ok(_) => Some("told"),
     }
+}
+
+/// Seat 1 sends twice, where its script has it send once.
+fn sends_twice(alloc: Global, board: &mut Board<Text, BoardLog<Text>>) -> Option<()> {
+    let (first, again) = (
+        Text::of_number(alloc, 5).ok()?,
+        Text::of_number(alloc, 5).ok()?,
+    );
+    board.apply(Who::Seat(0), Call::NewMailbox);
+    board.apply(Who::Seat(1), Call::Send(Name(0), first));
+    board.apply(Who::Seat(1), Call::Send(Name(0), again));
+    Some(())
 }

@@ -1,16 +1,14 @@
-mod hold;
-mod scenes;
-
+//! Scripts that are run by threads, in the order that a gate leaves, and scenes of a run's parts.
+use super::hold::Hold;
+use super::scenes::{Scene, played};
 use cml_script::{Ending, run};
-use hold::Hold;
-use scenes::{Scene, played};
 use std::alloc::Global;
 use std::process::Abort;
 use std::sync::Wait;
 use std::test::Fail;
 use std::thread::Threads;
 
-const LIMIT: u64 = 65_536;
+pub const LIMIT: u64 = 65_536;
 
 /// How often each script is run.
 const ROUNDS: usize = 20;
@@ -23,7 +21,7 @@ struct Run {
     report: &'static str,
 }
 
-const TWO_SEND: &str = "cml 1\nmailbox m\nthread A\nthread B\nA send m 5\nB send m 6\n";
+pub const TWO_SEND: &str = "cml 1\nmailbox m\nthread A\nthread B\nA send m 5\nB send m 6\n";
 
 const RUNS: &[Run] = &[
     Run {
