@@ -1,5 +1,5 @@
 -- How many rows threads have behind one row more, and their next steps.
-use Rattle.std.proofs.Common.{◌≡◌, ◌≢◌, ℕ, zero, suc, ◌+◌, ◌<◌, ◌≤◌, Bool, true, false, cond, List, [], ◌∷◌, ◌++◌, length, map, drop, set, get_or, replicate, take, slice_get, Vec, Option, Some, None, refl, sym, ap, ◌∙◌, subst, arith, add-one, if◌then◌else◌}
+use Rattle.std.proofs.Common.{◌≡◌, ◌≢◌, ℕ, zero, suc, ◌+◌, ◌<◌, min, Bool, true, false, cond, List, [], ◌∷◌, ◌++◌, length, map, drop, set, get_or, replicate, take, slice_get, Vec, Option, Some, None, refl, sym, ap, ◌∙◌, subst, arith, add-one, if◌then◌else◌}
 use Rattle.std.specs.List.{filter, filter_map, cons_option}
 use Rattle.std.specs.Option.{option_map, option_and_then, option_to_list}
 use Rattle.std.specs.Str.{bytes_eq}
@@ -10,15 +10,13 @@ use Rattle.std.proofs.lemmas.Option.{same_Some, none-some, slice_get-map, slice_
 use Rattle.std.proofs.lemmas.Slice.Eq.{bytes_eq-Decides}
 use Rattle.cml_grammar.specs.Script.{Lines}
 use Rattle.cml_report.specs.declared.report.Act.{Act}
-use Rattle.cml_report.specs.declared.report.Object.{Object}
-use Rattle.cml_report.specs.Lines.{Words, thread, Deed}
-use Rattle.cml_report.specs.Shown.{texts, shown_act, shown_object}
+use Rattle.cml_report.specs.Lines.{Words, thread, Deed, Thing}
+use Rattle.cml_report.specs.Shown.{texts, shown_act}
 use denote.Ref.{Bor}
 use Rattle.std.specs.Global.{Global}
-use Rattle.cml_chart.specs.declared.plan.Made.{Made}
 use Rattle.cml_chart.specs.declared.plan.Plan.{Plan}
 use Rattle.cml_chart.specs.Columns.{column_of}
-use Rattle.cml_chart.specs.Plan.{threads_in, own_steps, shown_made, shown_lines, Steps, IsPlan}
+use Rattle.cml_chart.specs.Plan.{Made, threads_in, own_steps, shown_lines, Steps, IsPlan}
 use Rattle.cml_chart.specs.Following.{is_by, fits, own_rows, stands_at, strange_row, strange_thing, IsCount}
 
 -- lists
@@ -44,12 +42,6 @@ pub dropped : {X : Type 0} (xs : List X) (k : ℕ) (x : X) → slice_get xs k �
 dropped [] k x found = absurd (none-some x found)
 dropped (y ∷ ys) zero x found = ap (λ z. z ∷ ys) (same_Some y x found)
 dropped (y ∷ ys) (suc k) x found = let ih = rw add-one at (dropped ys k x found) in rw add-one ih
-
-pub none_left : {X : Type 0} (xs : List X) (n : ℕ) → length xs ≤ n → drop n xs ≡ []
-none_left [] zero h = refl
-none_left [] (suc n) h = refl
-none_left (x ∷ xs) zero h = absurd (omega arith)
-none_left (x ∷ xs) (suc n) h = none_left xs n (omega arith)
 
 pub mapped_at : {X Y : Type 0} (f : X → Y) (xs : List X) (ys : List Y) (i : ℕ) (x : X) → map f xs ≡ ys → slice_get xs i ≡ Some x → slice_get ys i ≡ Some (f x)
 mapped_at f xs ys i x e found = ap (λ l. slice_get l i) (sym e) ∙ slice_get-map f xs i ∙ ap (option_map f) found
@@ -133,23 +125,13 @@ stood plan rows name seat count own deeds is sits there has counts =
     ∙ ap (slice_get (own_steps script name)) rows_are
     ∙ sym (ap (option_and_then (λ at. slice_get (own_steps script name) (own_rows name deeds))) sits)
 
--- more objects than the second part tells of
+-- one of two lists is at its end, and the other is not
 
-some_left : (k : ℕ) (made : List Made) (n : ℕ) → n < length made → strange_thing k [] (map shown_made (drop n made)) ≡ Some k
-some_left k [] n h = absurd (omega arith)
-some_left k (m ∷ ms) zero h = refl
-some_left k (m ∷ ms) (suc n) h = some_left k ms n (omega arith)
-
-pub too_many : (k : ℕ) (objects : List Object) (made : List Made) (n : ℕ) → length objects ≤ n → n < length made → strange_thing k (map shown_object (drop n objects)) (map shown_made (drop n made)) ≡ Some k
-too_many k objects made n all h = ap (λ (os : List Object). strange_thing k (map shown_object os) (map shown_made (drop n made))) (none_left objects n all) ∙ some_left k made n h
-
-object_left : (k : ℕ) (objects : List Object) (n : ℕ) → n < length objects → strange_thing k (map shown_object (drop n objects)) [] ≡ Some k
-object_left k [] n h = absurd (omega arith)
-object_left k (o ∷ os) zero h = refl
-object_left k (o ∷ os) (suc n) h = object_left k os n (omega arith)
-
-pub too_few : (k : ℕ) (objects : List Object) (made : List Made) (n : ℕ) → n < length objects → length made ≤ n → strange_thing k (map shown_object (drop n objects)) (map shown_made (drop n made)) ≡ Some k
-too_few k objects made n h all = ap (λ (ms : List Made). strange_thing k (map shown_object (drop n objects)) (map shown_made ms)) (none_left made n all) ∙ object_left k objects n h
+pub uneven : (k : ℕ) (things : List Thing) (made : List Made) → min (length things) (length made) ≡ 0 → length things ≢ length made → strange_thing k things made ≡ Some k
+uneven k [] [] none apart = absurd (apart refl)
+uneven k [] (m ∷ ms) none apart = refl
+uneven k (t ∷ ts) [] none apart = refl
+uneven k (t ∷ ts) (m ∷ ms) none apart = absurd (omega arith)
 
 -- one row more that is the script's, and one that is not
 

@@ -10,27 +10,21 @@ use Rattle.indexmap.specs.IndexSet.{insert_key}
 use Rattle.cml_grammar.proofs.ListLemmas.{position-cons}
 use Rattle.cml_chart.specs.Columns.{names_of, is_among, with_name, column_of}
 
-pub among-texts : (keys : List (String Global)) (word : List ℕ) → list_any (λ k. bytes_eq word (string_bytes k)) keys ≡ is_among (names_of keys) word
-among-texts [] word = refl
-among-texts (k ∷ ks) word = ap (λ t. bytes_eq word (string_bytes k) || t) (among-texts ks word)
+pub among_texts : (keys : List (String Global)) (word : List ℕ) → list_any (λ k. bytes_eq word (string_bytes k)) keys ≡ is_among (names_of keys) word
+among_texts [] word = refl
+among_texts (k ∷ ks) word = ap (λ t. bytes_eq word (string_bytes k) || t) (among_texts ks word)
 
-pub column-texts : (keys : List (String Global)) (word : List ℕ) → position (λ k. bytes_eq word (string_bytes k)) keys ≡ column_of (names_of keys) word
-column-texts [] word = refl
-column-texts (k ∷ ks) word =
+pub column_texts : (keys : List (String Global)) (word : List ℕ) → position (λ k. bytes_eq word (string_bytes k)) keys ≡ column_of (names_of keys) word
+column_texts [] word = refl
+column_texts (k ∷ ks) word =
     position-cons (λ k. bytes_eq word (string_bytes k)) k ks
-    ∙ ap (λ r. cond (bytes_eq word (string_bytes k)) (Some 0) (option_map suc r)) (column-texts ks word)
+    ∙ ap (λ r. cond (bytes_eq word (string_bytes k)) (Some 0) (option_map suc r)) (column_texts ks word)
     ∙ sym (position-cons (bytes_eq word) (string_bytes k) (names_of ks))
 
 -- a name that is put in stands behind the others, where it is not among them
 pub put_in : (keys : List (String Global)) (name : String Global) → names_of (insert_key string_eq keys name) ≡ with_name (names_of keys) (string_bytes name)
-put_in keys name = by (list_any (string_eq name) keys) ∙ ap (λ t. if t then names_of keys else names_of keys ++ string_bytes name ∷ []) (among-texts keys (string_bytes name))
+put_in keys name = by (list_any (string_eq name) keys) ∙ ap (λ t. if t then names_of keys else names_of keys ++ string_bytes name ∷ []) (among_texts keys (string_bytes name))
   where
     by : (t : Bool) → names_of (if t then keys else keys ++ name ∷ []) ≡ (if t then names_of keys else names_of keys ++ string_bytes name ∷ [])
     by true = refl
     by false = map-append string_bytes keys (name ∷ [])
-
-pub put_new : (old new : List (String Global)) (name : String Global) (word : List ℕ) → string_bytes name ≡ word → is_among (names_of old) word ≡ false → new ≡ insert_key string_eq old name → names_of new ≡ names_of old ++ word ∷ []
-put_new old new name word same free put =
-    ap names_of put ∙ put_in old name
-    ∙ ap (with_name (names_of old)) same
-    ∙ ap (λ t. if t then names_of old else names_of old ++ word ∷ []) free

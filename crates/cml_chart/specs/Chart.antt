@@ -7,7 +7,7 @@ use Rattle.cml_report.specs.Lines.{Words, Deed, Thing}
 use Rattle.cml_report.specs.Shown.{shown_act}
 use Rattle.cml_chart.specs.declared.chart.Row.{Row}
 use Rattle.cml_chart.specs.declared.chart.Chart.{Chart}
-use Rattle.cml_chart.specs.Columns.{doer_text, names_of, column_of, doers_of, taken_from}
+use Rattle.cml_chart.specs.Columns.{doer_text, names_of, column_of, threads_of, doers_of, taken_from}
 
 -- the columns at the ends of an arrow: that of who acts, and that of the object
 abbrev pub Arrow : Type 0
@@ -41,6 +41,7 @@ titles_of things = map (λ (t : Thing). t.name) things
 pub record IsChart (first : Words) (deeds : List Deed) (things : List Thing) (chart : Chart) : Type 0 where
   pub names : names_of chart.names.keys ≡ doers_of first deeds ++ titles_of things
   pub free : taken_from (doers_of first deeds) (length deeds + 1) things ≡ None
+  pub threads : chart.threads ≡ length (threads_of first deeds)
   pub actors : chart.actors ≡ length (doers_of first deeds)
   pub rows : map shown_row chart.rows.items ≡ map (joined (names_of chart.names.keys) chart.actors) deeds
 

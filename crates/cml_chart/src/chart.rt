@@ -3,7 +3,7 @@ ghost use Rattle.std.specs.Prelude.{◌≡◌, ◌⊎◌, ◌+◌, ◌++◌, ◌
 ghost use Rattle.cml_report.specs.declared.faults.What.TheVariants.{Memory, UnknownName};
 ghost use Rattle.cml_report.specs.Shown.{shown_act, shown_object};
 ghost use Rattle.cml_chart.specs.Columns.{names_of};
-ghost use Rattle.cml_chart.specs.Chart.{joined, arrow_of, arrow_between, unknown_from, chart_fault, shown_row, IsChart};
+ghost use Rattle.cml_chart.specs.Chart.{joined, arrow_of, unknown_from, chart_fault, shown_row, IsChart};
 
 use crate::columns::{add_actors, add_objects, column_of, name_of};
 use cml_report::{Act, Fault, Object, What};
@@ -91,24 +91,13 @@ fn row_of<'a>(
     let name = name_of(alloc, act.actor)?;
     let actor = column_of(names, &name);
     let object = column_of(names, act.object);
-    Ok(row_between(act, actors, actor, object))
-}
-
-/// The row of a line whose names have these columns.
-fn row_between<'a>(
-    act: &Act<'a>,
-    actors: usize,
-    actor: Option<usize>,
-    object: Option<usize>,
-) -> Option<Row<'a>>
-    ensures { MatchOption result
-        (arrow_between actors actor object ≡ None)
-        (λ row. shown_row row ≡ record { deed = shown_act act.now; arrow = arrow_between actors actor object }) }
-{
-    let (actor, object) = (actor?, object?);
-    (actor < actors && object >= actors).then_some(Row {
+    let (Some(actor), Some(object)) = (actor, object) else {
+        return Ok(None);
+    };
+    let row = Row {
         act: *act,
         actor,
         object,
-    })
+    };
+    Ok((actor < actors && object >= actors).then_some(row))
 }

@@ -1,6 +1,6 @@
 //! The columns of a chart: the threads in the order in which they first act, the lanes and feeds in theirs, and the objects in
 //! the order in which the report tells of them.
-ghost use Rattle.std.specs.Prelude.{◌≡◌, ◌⊎◌, ◌++◌, ◌∷◌, [], ◌+◌, ◌≤◌, ◌<◌, length, map, IfSome, IfOk, IfErr, OnOk, Some, None, false, string_bytes};
+ghost use Rattle.std.specs.Prelude.{◌≡◌, ◌⊎◌, ◌++◌, ◌∷◌, [], ◌+◌, ◌≤◌, ◌<◌, length, map, IfSome, IfOk, IfErr, OnOk, Some, None, string_bytes};
 ghost use Rattle.std.specs.Option.{option_map};
 ghost use Rattle.cml_report.specs.declared.faults.What.TheVariants.{Memory, NameTaken};
 ghost use Rattle.cml_report.specs.Shown.{shown_actor, shown_act, shown_object};
@@ -41,6 +41,7 @@ pub(crate) fn add_actors(
 }
 
 /// Adds a name, where it is not among them yet.
+#[tactic(auto, using(crate::proofs::NameLemmas::put_in))]
 pub(crate) fn add_name(names: &mut IndexSet<String>, name: String) -> Result<(), AllocError>
     ensures { OnOk result (names_of names.new.keys ≡ with_name (names_of names.old.keys) (string_bytes name)) }
 {
@@ -64,18 +65,8 @@ pub(crate) fn add_objects(
         if is_among(names, object.name) {
             return Err(What::NameTaken.at((first + at) as u64));
         }
-        add_new(alloc, names, object.name)?;
+        add_name(names, String::from_str(alloc, object.name)?)?;
     }
-    Ok(())
-}
-
-fn add_new(alloc: Global, names: &mut IndexSet<String>, name: &str) -> Result<(), What>
-    requires { is_among (names_of names.old.keys) name.now ≡ false }
-    ensures added { OnOk result (names_of names.new.keys ≡ names_of names.old.keys ++ name.now ∷ []) }
-    ensures memory { IfErr result (λ what. what ≡ Memory) }
-{
-    let name = String::from_str(alloc, name)?;
-    names.insert(name)?;
     Ok(())
 }
 
