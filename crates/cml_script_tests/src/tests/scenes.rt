@@ -59,28 +59,16 @@ fn one_after_the_other<Led: Ledger, R: Wait>(
     script: &Script,
     board: &Texts<Led>,
 ) -> Option<&'static str> {
-    let plan = Plan::new(alloc, script).ok()?;
-    if !is_declared(rt, alloc, &plan, board) {
+    let Ok(plan) = Plan::new(alloc, script) else {
         return None;
-    }
+    };
+    let mut maker = Seated::new(alloc, rt, board, board.seat(rt).ok()?);
+    declare(&plan, &mut maker).ok()?;
     let mut first = Seated::new(alloc, rt, board, board.seat(rt).ok()?);
     match work(alloc, &plan, 0, &Hold::new(Some(0)), &mut first) {
         Ok(Stop::Held) => Some("held"),
         _ => Some("not held"),
     }
-}
-
-/// Whether a seat makes the declared objects.
-fn is_declared<Led: Ledger, R: Wait>(
-    rt: &R,
-    alloc: Global,
-    plan: &Plan<'_>,
-    board: &Texts<Led>,
-) -> bool {
-    let Ok(seat) = board.seat(rt) else {
-        return false;
-    };
-    declare(plan, &mut Seated::new(alloc, rt, board, seat)).is_ok()
 }
 
 /// Whether each seat was answered as often as the journal has entries of it.
