@@ -13,7 +13,7 @@ use std::thread;
 use std::thread::Threads;
 
 /// How the waiting thread was refused, and what is left at the end.
-#[derive(Clone, Copy, Debug)]
+#[derive(Clone, Copy, Debug, PartialEq, Eq)]
 pub struct Stall {
     refusal: Option<Refusal>,
     confirmed: bool,

@@ -1,13 +1,16 @@
 //! A feed: what a ticker multicasts goes into a ring, from which a display takes it without a lock.
+ghost use Rattle.std.specs.Prelude.{◌≡◌, ◌+◌, ◌^◌, [], ◌∷◌, ◌++◌, IfOk};
+
 use crate::calls::Trouble;
-use crate::threads::{Shared, done, made, with_seat};
+use crate::threads::{Shared, done, made, settle};
 use cml_board::Name;
 use cml_lanes::Feed;
-use cml_threads::{Left, Seat};
+use cml_threads::{Count, Left, PARTS, Seat};
 use std::alloc::Global;
+use std::marker::Brand;
 use std::sync::Wait;
 use std::sync::atomic::{AtomicBool, Ordering};
-use std::sync::ledger::Ledger;
+use std::sync::ledger::{Blank, Ledger};
 use std::thread;
 use std::thread::Threads;
 
@@ -17,12 +20,34 @@ const PRICES: u64 = 10;
 /// For how many prices the feed has room: for all of them, in case no thread can be made to take them meanwhile.
 const ROOM: usize = 16;
 
-/// The sum of all prices that were shown, and the ticker's seat. The display has none: a feed is all that it needs.
-pub fn shown<Led: Ledger + Send + Sync, R: Threads + Wait + Sync>(
+/// The sum of all prices that were shown, and how many entries there are at the end.
+pub fn shown<R: Threads + Wait + Sync>(rt: &R, alloc: Global) -> Result<(u64, Count), Trouble>
+    ensures { IfOk result (λ found. found.1.total ≡ found.1.seats + found.1.rings) }
+{
+    tell_to_display::<Brand, R>(rt, alloc, Blank::new(PARTS))
+}
+
+fn tell_to_display<Led: Ledger + Send + Sync, R: Threads + Wait + Sync>(
     rt: &R,
     alloc: Global,
+    blank: Blank,
+) -> Result<(u64, Count), Trouble>
+    requires name { blank.name ≡ Led.name }
+    requires parts { blank.parts ≡ Led.parts }
+    requires enough { blank.parts ≡ 2 ^ 63 }
+    ensures { IfOk result (λ found. found.1.total ≡ found.1.seats + found.1.rings) }
+{
+    let shared = Shared::<Led>::new(alloc, 100, blank)?;
+    let (sum, left) = tell_and_show(rt, &shared)?;
+    let lefts = vec![in alloc; left]?;
+    Ok((sum, settle(shared, lefts)?.count()))
+}
+
+/// What was shown, and the ticker's seat. The display has none: a feed is all that it needs.
+fn tell_and_show<Led: Ledger + Send + Sync, R: Threads + Wait + Sync>(
+    rt: &R,
     board: &Shared<Led>,
-) -> Result<(u64, Vec<Left<Led>>), Trouble> {
+) -> Result<(u64, Left<Led>), Trouble> {
     let mut ticker = board.seat(rt)?;
     let prices = made(board.m_channel(rt, &mut ticker))?;
     let (feed, number) = board.open_feed(rt, prices, ROOM)?;
@@ -33,7 +58,8 @@ pub fn shown<Led: Ledger + Send + Sync, R: Threads + Wait + Sync>(
         move || show_all(rt, feed, is_over),
         move || tell_and_leave(rt, board, ticker, prices, number, is_over),
     );
-    with_seat(alloc, told.and(Ok(sum)), left)
+    told?;
+    Ok((sum, left))
 }
 
 /// Tells all prices, and leaves, whatever became of that. Then no more will come.

@@ -1,34 +1,58 @@
 //! A lane that can't be served any more, and a thread that waits behind a lane of its own: each comes to an end.
+ghost use Rattle.std.specs.Prelude.{◌≡◌, ◌+◌, ◌^◌, IfOk};
+
 use crate::calls::Trouble;
 use crate::ending::wait_for;
 use crate::lanes::{close, receive_and_leave, send_all};
-use crate::threads::{Shared, made, with_seat};
+use crate::threads::{Shared, made, settle};
 use cml_board::Refusal;
 use cml_lanes::LaneEnd;
-use cml_threads::Left;
+use cml_threads::{Count, Left, PARTS};
 use std::alloc::Global;
+use std::marker::Brand;
 use std::sync::Wait;
 use std::sync::atomic::AtomicBool;
-use std::sync::ledger::Ledger;
+use std::sync::ledger::{Blank, Ledger};
 
 /// For how many messages the lanes here have room.
 const ROOM: usize = 2;
 
 /// How many readings were sent, why their collector stopped, and why the lane was abandoned.
-#[derive(Clone, Copy, Debug)]
+#[derive(Clone, Copy, Debug, PartialEq, Eq)]
 pub struct GivenUp {
     sent: u64,
     collecting: Option<Trouble>,
     closing: Option<Trouble>,
 }
 
-/// The journal is full before the first reading is collected, and there the collector stops. Then the sensor gives up once
-/// its lane is full.
-pub fn stopped<Led: Ledger, R: Wait>(
+/// The journal is full before the first reading is collected.
+pub fn stopped<R: Wait>(rt: &R, alloc: Global) -> Result<(GivenUp, Count), Trouble>
+    ensures { IfOk result (λ found. found.1.total ≡ found.1.seats + found.1.rings) }
+{
+    stop::<Brand, R>(rt, alloc, Blank::new(PARTS))
+}
+
+fn stop<Led: Ledger, R: Wait>(
     rt: &R,
     alloc: Global,
+    blank: Blank,
+) -> Result<(GivenUp, Count), Trouble>
+    requires name { blank.name ≡ Led.name }
+    requires parts { blank.parts ≡ Led.parts }
+    requires enough { blank.parts ≡ 2 ^ 63 }
+    ensures { IfOk result (λ found. found.1.total ≡ found.1.seats + found.1.rings) }
+{
+    let shared = Shared::<Led>::new(alloc, 1, blank)?;
+    let (given_up, left) = send_in_vain(rt, &shared)?;
+    let lefts = vec![in alloc; left]?;
+    Ok((given_up, settle(shared, lefts)?.count()))
+}
+
+/// The collector stops at the first reading. Then the sensor gives up once its lane is full.
+fn send_in_vain<Led: Ledger, R: Wait>(
+    rt: &R,
     board: &Shared<Led>,
-) -> Result<(GivenUp, Vec<Left<Led>>), Trouble> {
+) -> Result<(GivenUp, Left<Led>), Trouble> {
     let mut collector = board.seat(rt)?;
     let readings = made(board.mailbox(rt, &mut collector))?;
     let (mut lane, number) = board.open_lane(rt, readings, ROOM)?;
@@ -41,7 +65,7 @@ pub fn stopped<Led: Ledger, R: Wait>(
         collecting: collected.err(),
         closing: close(rt, board, number, end).err(),
     };
-    with_seat(alloc, Ok(given_up), left)
+    Ok((given_up, left))
 }
 
 fn sent_by(end: &Option<LaneEnd<u64>>) -> u64 {
@@ -51,18 +75,42 @@ fn sent_by(end: &Option<LaneEnd<u64>>) -> u64 {
     }
 }
 
-/// Sends a question by a lane, closes the lane, and only then waits for the answer. Nobody could go on, and so it is told.
-pub fn closed_before_waiting<Led: Ledger, R: Wait>(
+/// A thread waits, and nobody could go on. Its own lane was closed before: so it is told.
+pub fn closed_before_waiting<R: Wait>(
     rt: &R,
     alloc: Global,
+) -> Result<(Option<Refusal>, Count), Trouble>
+    ensures { IfOk result (λ found. found.1.total ≡ found.1.seats + found.1.rings) }
+{
+    send_and_wait::<Brand, R>(rt, alloc, Blank::new(PARTS))
+}
+
+fn send_and_wait<Led: Ledger, R: Wait>(
+    rt: &R,
+    alloc: Global,
+    blank: Blank,
+) -> Result<(Option<Refusal>, Count), Trouble>
+    requires name { blank.name ≡ Led.name }
+    requires parts { blank.parts ≡ Led.parts }
+    requires enough { blank.parts ≡ 2 ^ 63 }
+    ensures { IfOk result (λ found. found.1.total ≡ found.1.seats + found.1.rings) }
+{
+    let shared = Shared::<Led>::new(alloc, 100, blank)?;
+    let (refusal, left) = close_and_wait(rt, &shared)?;
+    let lefts = vec![in alloc; left]?;
+    Ok((refusal, settle(shared, lefts)?.count()))
+}
+
+/// Sends a question by a lane, closes the lane, and only then waits for the answer.
+fn close_and_wait<Led: Ledger, R: Wait>(
+    rt: &R,
     board: &Shared<Led>,
-) -> Result<(Option<Refusal>, Vec<Left<Led>>), Trouble> {
+) -> Result<(Option<Refusal>, Left<Led>), Trouble> {
     let mut asker = board.seat(rt)?;
     let questions = made(board.mailbox(rt, &mut asker))?;
     let answers = made(board.mailbox(rt, &mut asker))?;
     let (mut lane, number) = board.open_lane(rt, questions, ROOM)?;
     lane.send(5).is_ok();
     close(rt, board, number, lane.finish())?;
-    let (refusal, left) = wait_for(rt, board, asker, answers);
-    with_seat(alloc, Ok(refusal), left)
+    Ok(wait_for(rt, board, asker, answers))
 }

@@ -1,13 +1,16 @@
 //! A lane: what a sensor sends without a lock, another thread moves into the journal and receives.
+ghost use Rattle.std.specs.Prelude.{◌≡◌, ◌+◌, ◌^◌, [], ◌∷◌, ◌++◌, IfOk};
+
 use crate::calls::Trouble;
-use crate::threads::{Shared, got, made, with_seat};
+use crate::threads::{Shared, got, made, settle};
 use cml_board::Name;
 use cml_lanes::{Lane, LaneEnd};
-use cml_threads::{Left, Seat};
+use cml_threads::{Count, Left, PARTS, Seat};
 use std::alloc::Global;
+use std::marker::Brand;
 use std::sync::Wait;
 use std::sync::atomic::{AtomicBool, Ordering};
-use std::sync::ledger::Ledger;
+use std::sync::ledger::{Blank, Ledger};
 use std::thread;
 use std::thread::Threads;
 
@@ -17,24 +20,46 @@ const READINGS: usize = 10;
 /// For how many readings the lane has room: for all of them, in case no thread can be made to collect them meanwhile.
 const ROOM: usize = 16;
 
-/// The sum of all readings, and the collector's seat. The sensor has none: a lane is all that it needs.
-pub fn collected<Led: Ledger + Send + Sync, R: Threads + Wait + Sync>(
+/// The sum of all readings, and how many entries there are at the end.
+pub fn collected<R: Threads + Wait + Sync>(rt: &R, alloc: Global) -> Result<(u64, Count), Trouble>
+    ensures { IfOk result (λ found. found.1.total ≡ found.1.seats + found.1.rings) }
+{
+    collect::<Brand, R>(rt, alloc, Blank::new(PARTS))
+}
+
+fn collect<Led: Ledger + Send + Sync, R: Threads + Wait + Sync>(
     rt: &R,
     alloc: Global,
+    blank: Blank,
+) -> Result<(u64, Count), Trouble>
+    requires name { blank.name ≡ Led.name }
+    requires parts { blank.parts ≡ Led.parts }
+    requires enough { blank.parts ≡ 2 ^ 63 }
+    ensures { IfOk result (λ found. found.1.total ≡ found.1.seats + found.1.rings) }
+{
+    let shared = Shared::<Led>::new(alloc, 100, blank)?;
+    let (sum, left) = send_and_collect(rt, &shared)?;
+    let lefts = vec![in alloc; left]?;
+    Ok((sum?, settle(shared, lefts)?.count()))
+}
+
+/// What was collected, and the collector's seat. The sensor has none: a lane is all that it needs.
+fn send_and_collect<Led: Ledger + Send + Sync, R: Threads + Wait + Sync>(
+    rt: &R,
     board: &Shared<Led>,
-) -> Result<(u64, Vec<Left<Led>>), Trouble> {
+) -> Result<(Result<u64, Trouble>, Left<Led>), Trouble> {
     let mut collector = board.seat(rt)?;
     let readings = made(board.mailbox(rt, &mut collector))?;
     let (lane, number) = board.open_lane(rt, readings, ROOM)?;
     let stopped = AtomicBool::new(false);
     let has_stopped = &stopped;
-    let ((sum, left), end) = thread::join(
+    let (collected, end) = thread::join(
         rt,
         move || receive_and_leave(rt, board, collector, readings, number, has_stopped),
         move || send_all(rt, lane, has_stopped),
     );
-    let closed = close(rt, board, number, end);
-    with_seat(alloc, closed.and(sum), left)
+    close(rt, board, number, end)?;
+    Ok(collected)
 }
 
 /// Sends all readings, or as many as there is room for once their collector has stopped, and finishes.

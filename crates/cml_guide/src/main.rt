@@ -1,7 +1,6 @@
 //! Short examples of calls on a board, each with what it comes to. `docs/GUIDE.md` shows most, word for word.
 #![tactic(auto)]
 
-mod boards;
 mod calls;
 mod channels;
 mod clients;
@@ -28,7 +27,6 @@ mod stream;
 mod threads;
 mod variables;
 
-use boards::{Example, show_example};
 use std::alloc::Global;
 use std::fmt::Debug;
 use std::io;
@@ -158,17 +156,25 @@ fn show_rooms(rt: &HostRuntime) -> io::Result<()> {
 fn show_threads<R: Threads + Wait + Sync + Print>(rt: &R, alloc: Global) -> io::Result<()> {
     show(rt, "passing::passed_on", &passing::passed_on(rt, alloc))?;
     show(rt, "requests::passed_on", &requests::passed_on(rt, alloc))?;
-    show_example(rt, alloc, Example::Squares)?;
-    show_example(rt, alloc, Example::ReadByThree)?;
+    show(rt, "pool::squares", &pool::squares(rt, alloc))?;
+    show(
+        rt,
+        "stream::read_by_three",
+        &stream::read_by_three(rt, alloc),
+    )?;
     show(
         rt,
         "locking::counted_by_two",
         &locking::counted_by_two(rt, alloc),
     )?;
-    show_example(rt, alloc, Example::Collected)?;
-    show_example(rt, alloc, Example::Stopped)?;
-    show_example(rt, alloc, Example::ClosedBeforeWaiting)?;
-    show_example(rt, alloc, Example::Shown)?;
+    show(rt, "lanes::collected", &lanes::collected(rt, alloc))?;
+    show(rt, "giving_up::stopped", &giving_up::stopped(rt, alloc))?;
+    show(
+        rt,
+        "giving_up::closed_before_waiting",
+        &giving_up::closed_before_waiting(rt, alloc),
+    )?;
+    show(rt, "feeds::shown", &feeds::shown(rt, alloc))?;
     show(rt, "ending::stalled", &ending::stalled(rt, alloc))?;
     show(rt, "ending::missed", &ending::missed(rt, alloc))?;
     show(rt, "server::ran_on", &server::ran_on(rt, alloc))

@@ -1,13 +1,16 @@
 //! Workers round one mailbox: each takes a job, and sends what it comes to into another.
+ghost use Rattle.std.specs.Prelude.{◌≡◌, ◌+◌, ◌^◌, IfOk};
+
 use crate::calls::Trouble;
-use crate::threads::{Shared, done, got, made};
+use crate::threads::{Shared, done, got, made, settle};
 use cml_board::Name;
-use cml_threads::{Left, Seat};
-use std::alloc::Global;
+use cml_threads::{Count, Left, PARTS, Seat};
+use std::alloc::{AllocError, Global};
+use std::marker::Brand;
 use std::sync::Wait;
-use std::sync::ledger::Ledger;
+use std::sync::ledger::{Blank, Ledger};
 use std::thread;
-use std::thread::Threads;
+use std::thread::{JoinHandle, Threads};
 
 /// How many workers there are.
 const WORKERS: u64 = 3;
@@ -25,36 +28,42 @@ pub struct Desk {
     results: Name,
 }
 
-/// The sum of all results, and everybody's seat. The boss leaves, whatever became of the work.
-pub fn squares<Led: Ledger + Send + Sync, R: Threads + Wait + Sync>(
+/// The sum of all results, and how many entries there are at the end.
+pub fn squares<R: Threads + Wait + Sync>(rt: &R, alloc: Global) -> Result<(u64, Count), Trouble>
+    ensures { IfOk result (λ found. found.1.total ≡ found.1.seats + found.1.rings) }
+{
+    run_pool::<Brand, R>(rt, alloc, Blank::new(PARTS))
+}
+
+fn run_pool<Led: Ledger + Send + Sync, R: Threads + Wait + Sync>(
+    rt: &R,
+    alloc: Global,
+    blank: Blank,
+) -> Result<(u64, Count), Trouble>
+    requires name { blank.name ≡ Led.name }
+    requires parts { blank.parts ≡ Led.parts }
+    requires enough { blank.parts ≡ 2 ^ 63 }
+    ensures { IfOk result (λ found. found.1.total ≡ found.1.seats + found.1.rings) }
+{
+    let shared = Shared::<Led>::new(alloc, 100, blank)?;
+    let (sum, lefts) = square_all(rt, alloc, &shared)?;
+    Ok((sum, settle(shared, lefts)?.count()))
+}
+
+/// What the boss does: hands out the jobs, lets the workers do them, and collects the results.
+fn square_all<Led: Ledger + Send + Sync, R: Threads + Wait + Sync>(
     rt: &R,
     alloc: Global,
     board: &Shared<Led>,
 ) -> Result<(u64, Vec<Left<Led>>), Trouble> {
     let mut boss = board.seat(rt)?;
-    let squared = square_all(rt, alloc, board, &mut boss);
-    let left = board.leave(rt, boss);
-    let (sum, mut lefts) = squared?;
-    lefts.push(left)?;
-    Ok((sum, lefts))
-}
-
-/// What the boss does: hands out the jobs, lets the workers do them, each in a thread of its own, and collects the results.
-fn square_all<Led: Ledger + Send + Sync, R: Threads + Wait + Sync>(
-    rt: &R,
-    alloc: Global,
-    board: &Shared<Led>,
-    boss: &mut Seat<Led>,
-) -> Result<(u64, Vec<Left<Led>>), Trouble> {
-    let desk = open_desk(rt, board, boss)?;
-    hand_out(rt, board, boss, desk)?;
+    let desk = open_desk(rt, board, &mut boss)?;
+    hand_out(rt, board, &mut boss, desk)?;
     let seats = make_seats(rt, alloc, board)?;
-    let lefts = thread::map_vec(
-        rt,
-        seats,
-        &|worker: Seat<Led>| { work_and_leave(rt, board, worker, desk) },
-    )?;
-    Ok((collect(rt, board, boss, desk)?, lefts))
+    let mut lefts = work_all(rt, alloc, board, seats, desk)?;
+    let sum = collect(rt, board, &mut boss, desk)?;
+    lefts.push(board.leave(rt, boss))?;
+    Ok((sum, lefts))
 }
 
 fn make_seats<Led: Ledger, R: Wait>(
@@ -121,6 +130,39 @@ fn work_and_leave<Led: Ledger, R: Wait>(
 ) -> Left<Led> {
     let _ = work(rt, board, &mut worker, desk);
     board.leave(rt, worker)
+}
+
+/// Starts a thread for each seat, and joins them all. Where no thread can be made, its work is done here.
+fn work_all<Led: Ledger + Send + Sync, R: Threads + Wait + Sync>(
+    rt: &R,
+    alloc: Global,
+    board: &Shared<Led>,
+    seats: Vec<Seat<Led>>,
+    desk: Desk,
+) -> Result<Vec<Left<Led>>, Trouble> {
+    thread::scope(thread::scope_env(), rt, move |scope| {
+        let mut running = Vec::new(alloc);
+        let mut lefts = Vec::new(alloc);
+        for seat in seats {
+            match scope.spawn(move || work_and_leave(rt, board, seat, desk)) {
+                Ok(handle) => running.push(handle)?,
+                Err(refused) => lefts.push((refused.value)())?,
+            }
+        }
+        join_all(rt, running, lefts)
+    })
+}
+
+fn join_all<Led: Ledger, R: Threads>(
+    rt: &R,
+    running: Vec<JoinHandle<Left<Led>>>,
+    lefts: Vec<Left<Led>>,
+) -> Result<Vec<Left<Led>>, Trouble> {
+    let mut lefts = lefts;
+    for handle in running {
+        lefts.push(handle.join(rt))?;
+    }
+    Ok(lefts)
 }
 
 /// The sum of the results of all jobs.

@@ -22,7 +22,7 @@ const WAYS: [Way; 3] = [Way::BySeat, Way::BySeat, Way::ByLanes];
 const LIMIT: u64 = 100_000;
 
 /// What a server came to.
-#[derive(Clone, Copy, Debug)]
+#[derive(Clone, Copy, Debug, PartialEq, Eq)]
 pub struct Served {
     /// The sum of all tickets that clients were given.
     tickets: u64,
@@ -104,7 +104,7 @@ fn open_and_close<Led: Ledger + Send + Sync, R: Threads + Wait + Sync>(
     // A thread that runs is to be joined: so there is room for all before the first.
     let running = Vec::with_capacity(alloc, WAYS.len())?;
     let (visits, shift) = let_in(rt, alloc, board, clients, running, shop);
-    sum_up_day(alloc, visits?, shift)
+    sum_tickets(alloc, visits?, shift)
 }
 
 fn open<Led: Ledger, R: Wait>(
@@ -227,27 +227,14 @@ fn next_request<Led: Ledger, R: Wait>(
     }
 }
 
-/// What is left of all, if all clients have their tickets.
-fn sum_up_day<Led: Ledger>(
+/// The sum of all clients' tickets, if all have theirs, and everybody's seat.
+fn sum_tickets<Led: Ledger>(
     alloc: Global,
     visits: Vec<Visit<Led>>,
     shift: Shift<Led>,
 ) -> Result<Day<Led>, Trouble> {
     shift.served?;
     let mut lefts = vec![in alloc; shift.left]?;
-    let tickets = sum_tickets(visits, &mut lefts)?;
-    Ok(Day {
-        tickets,
-        keeper: shift.keeper,
-        lefts,
-    })
-}
-
-/// The sum of all clients' tickets, if all have theirs. Their seats go into the list.
-fn sum_tickets<Led: Ledger>(
-    visits: Vec<Visit<Led>>,
-    lefts: &mut Vec<Left<Led>>,
-) -> Result<u64, Trouble> {
     let mut tickets = 0u64;
     for visit in visits {
         tickets = tickets.wrapping_add(visit.tickets?);
@@ -257,5 +244,9 @@ fn sum_tickets<Led: Ledger>(
     if lefts.len() <= WAYS.len() {
         return Err(Trouble::NoMemory);
     }
-    Ok(tickets)
+    Ok(Day {
+        tickets,
+        keeper: shift.keeper,
+        lefts,
+    })
 }

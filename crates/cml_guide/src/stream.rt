@@ -1,22 +1,99 @@
 //! A stream: what one thread multicasts, each of three others receives, all of it and in order.
+ghost use Rattle.std.specs.Prelude.{◌≡◌, ◌+◌, ◌^◌, IfOk};
+
 use crate::calls::Trouble;
-use crate::threads::{Shared, done, got, made};
+use crate::threads::{Shared, done, got, made, settle};
 use cml_board::Name;
-use cml_threads::{Left, Seat};
-use std::alloc::{AllocError, Global};
+use cml_threads::{Count, Left, PARTS, Seat};
+use std::alloc::Global;
+use std::marker::Brand;
 use std::sync::Wait;
-use std::sync::ledger::Ledger;
+use std::sync::ledger::{Blank, Ledger};
 use std::thread;
 use std::thread::Threads;
 
 /// How many digits are multicast: 1, 2 and so on.
 const DIGITS: u64 = 4;
 
-/// Who reads, and by which port.
-#[derive(Drop)]
-struct Reader<Led: Ledger> {
-    seat: Seat<Led>,
-    port: Name,
+/// What three readers have read, and how many entries there are at the end.
+pub fn read_by_three<R: Threads + Wait + Sync>(
+    rt: &R,
+    alloc: Global,
+) -> Result<([u64; 3], Count), Trouble>
+    ensures { IfOk result (λ found. found.1.total ≡ found.1.seats + found.1.rings) }
+{
+    stream::<Brand, R>(rt, alloc, Blank::new(PARTS))
+}
+
+fn stream<Led: Ledger + Send + Sync, R: Threads + Wait + Sync>(
+    rt: &R,
+    alloc: Global,
+    blank: Blank,
+) -> Result<([u64; 3], Count), Trouble>
+    requires name { blank.name ≡ Led.name }
+    requires parts { blank.parts ≡ Led.parts }
+    requires enough { blank.parts ≡ 2 ^ 63 }
+    ensures { IfOk result (λ found. found.1.total ≡ found.1.seats + found.1.rings) }
+{
+    let shared = Shared::<Led>::new(alloc, 100, blank)?;
+    let (digits, lefts) = tell_to_three(rt, alloc, &shared)?;
+    Ok((digits, settle(shared, lefts)?.count()))
+}
+
+/// What each of the three has read, and the seats of all.
+fn tell_to_three<Led: Ledger + Send + Sync, R: Threads + Wait + Sync>(
+    rt: &R,
+    alloc: Global,
+    board: &Shared<Led>,
+) -> Result<([u64; 3], Vec<Left<Led>>), Trouble> {
+    let mut teller = board.seat(rt)?;
+    let [news, first, second, third] = open_channel(rt, board, &mut teller)?;
+    let (ann, ben, cid) = make_seats(rt, board)?;
+    let ((ann, ben), (cid, (told, teller))) = thread::join(
+        rt,
+        move || {
+            let ann_reads = move || read(rt, board, ann, first);
+            thread::join(rt, ann_reads, move || read(rt, board, ben, second))
+        },
+        move || {
+            let cid_reads = move || read(rt, board, cid, third);
+            thread::join(rt, cid_reads, move || tell(rt, board, teller, news))
+        },
+    );
+    let digits = all_read(told, [ann.digits, ben.digits, cid.digits]);
+    let lefts = vec![in alloc; ann.left, ben.left, cid.left, teller]?;
+    Ok((digits?, lefts))
+}
+
+/// A seat for each of the three.
+fn make_seats<Led: Ledger, R: Wait>(
+    rt: &R,
+    board: &Shared<Led>,
+) -> Result<(Seat<Led>, Seat<Led>, Seat<Led>), Trouble> {
+    Ok((board.seat(rt)?, board.seat(rt)?, board.seat(rt)?))
+}
+
+/// What was read, if all was told and each has read it.
+fn all_read(
+    told: Result<(), Trouble>,
+    read: [Result<u64, Trouble>; 3],
+) -> Result<[u64; 3], Trouble> {
+    told?;
+    let [first, second, third] = read;
+    Ok([first?, second?, third?])
+}
+
+/// A channel with three ports.
+fn open_channel<Led: Ledger, R: Wait>(
+    rt: &R,
+    board: &Shared<Led>,
+    teller: &mut Seat<Led>,
+) -> Result<[Name; 4], Trouble> {
+    let news = made(board.m_channel(rt, teller))?;
+    let first = made(board.port(rt, teller, news))?;
+    let second = made(board.port(rt, teller, news))?;
+    let third = made(board.port(rt, teller, news))?;
+    Ok([news, first, second, third])
 }
 
 /// What a reader's thread comes to.
@@ -26,85 +103,17 @@ struct Reading<Led: Ledger> {
     left: Left<Led>,
 }
 
-/// What each of three readers has read, and everybody's seat.
-pub fn read_by_three<Led: Ledger + Send + Sync, R: Threads + Wait + Sync>(
-    rt: &R,
-    alloc: Global,
-    board: &Shared<Led>,
-) -> Result<([u64; 3], Vec<Left<Led>>), Trouble> {
-    let mut teller = board.seat(rt)?;
-    let news = made(board.m_channel(rt, &mut teller))?;
-    let readers = make_readers(rt, alloc, board, &mut teller, news)?;
-    let (readings, (told, teller)) = thread::join(
-        rt,
-        move || read_each(rt, board, readers),
-        move || tell(rt, board, teller, news),
-    );
-    told?;
-    sum_up(alloc, readings?, teller)
-}
-
-/// Three readers, with a port each.
-fn make_readers<Led: Ledger, R: Wait>(
-    rt: &R,
-    alloc: Global,
-    board: &Shared<Led>,
-    teller: &mut Seat<Led>,
-    news: Name,
-) -> Result<Vec<Reader<Led>>, Trouble> {
-    let mut readers = Vec::new(alloc);
-    for _ in 0..3 {
-        let port = made(board.port(rt, teller, news))?;
-        let seat = board.seat(rt)?;
-        readers.push(Reader { seat, port })?;
-    }
-    Ok(readers)
-}
-
-/// A thread for each reader.
-fn read_each<Led: Ledger + Send + Sync, R: Threads + Wait + Sync>(
-    rt: &R,
-    board: &Shared<Led>,
-    readers: Vec<Reader<Led>>,
-) -> Result<Vec<Reading<Led>>, AllocError> {
-    thread::map_vec(
-        rt,
-        readers,
-        &|reader: Reader<Led>| { read(rt, board, reader) },
-    )
-}
-
-/// What each has read, with everybody's seat.
-fn sum_up<Led: Ledger>(
-    alloc: Global,
-    readings: Vec<Reading<Led>>,
-    teller: Left<Led>,
-) -> Result<([u64; 3], Vec<Left<Led>>), Trouble> {
-    let mut lefts = vec![in alloc; teller]?;
-    let digits = all_read(readings, &mut lefts)?;
-    Ok((digits, lefts))
-}
-
-/// What each has read, if none had trouble. Their seats go into the list.
-fn all_read<Led: Ledger>(
-    readings: Vec<Reading<Led>>,
-    lefts: &mut Vec<Left<Led>>,
-) -> Result<[u64; 3], Trouble> {
-    let mut digits = [0u64; 3];
-    for (place, reading) in digits.iter_mut().zip(readings) {
-        *place = reading.digits?;
-        lefts.push(reading.left)?;
-    }
-    Ok(digits)
-}
-
 /// Receives all digits, and leaves, whatever became of that.
-fn read<Led: Ledger, R: Wait>(rt: &R, board: &Shared<Led>, reader: Reader<Led>) -> Reading<Led> {
-    let mut seat = reader.seat;
-    let digits = receive_all(rt, board, &mut seat, reader.port);
+fn read<Led: Ledger, R: Wait>(
+    rt: &R,
+    board: &Shared<Led>,
+    mut reader: Seat<Led>,
+    port: Name,
+) -> Reading<Led> {
+    let digits = receive_all(rt, board, &mut reader, port);
     Reading {
         digits,
-        left: board.leave(rt, seat),
+        left: board.leave(rt, reader),
     }
 }
 

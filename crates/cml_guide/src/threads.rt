@@ -6,7 +6,7 @@ use crate::calls::Trouble;
 use cml_board::{BoardLog, Call, Name, Refusal, Reply};
 use cml_lanes::LaneEnd;
 use cml_threads::{Left, Settled, Switchboard};
-use std::alloc::{AllocFailed, Global};
+use std::alloc::AllocFailed;
 use std::sync::ledger::Ledger;
 
 /// A switchboard whose messages are numbers.
@@ -70,16 +70,6 @@ pub fn done(replied: Replied) -> Result<(), Trouble>
         Reply::Done => Ok(()),
         _ => Err(Trouble::OtherReply),
     }
-}
-
-/// What a thread came to, and its seat in a list.
-pub fn with_seat<Led: Ledger, T: Drop>(
-    alloc: Global,
-    came_to: Result<T, Trouble>,
-    left: Left<Led>,
-) -> Result<(T, Vec<Left<Led>>), Trouble> {
-    let lefts = vec![in alloc; left]?;
-    Ok((came_to?, lefts))
 }
 
 /// What is left of a switchboard that all seats have left.
