@@ -9,6 +9,7 @@
 top=$(cd "$(dirname "$0")/.." && pwd) || exit 1
 cd "$top" || exit 1
 kit=$(dirname "$(rt doc)")
+. tests/beside.sh
 . tests/tried.sh
 
 # The steps, those that take longest first. Each prints lines `N passed, M failed`, and before them what failed.
@@ -125,18 +126,7 @@ has_c() {
 
 if [ "$1" = --step ]; then
     work=$2
-    step "$3" > "$work/$3.told" 2>&1
-    status=$?
-    grep -v '^[0-9]* passed, [0-9]* failed$' "$work/$3.told" | sed "s/^/$3: /"
-    sed -n 's/^\([0-9]*\) passed, \([0-9]*\) failed$/\1 \2/p' "$work/$3.told" |
-        awk -v name="$3" -v status="$status" '
-            { passed += $1; failed += $2 }
-            END {
-                # It was stopped before its last line.
-                if (!NR || (status && !failed)) failed++
-                print name ": " passed + 0 " passed, " failed + 0 " failed"
-            }
-        ' | tee "$work/$3.count"
+    counted "$3"
     exit
 fi
 
@@ -145,12 +135,4 @@ trap 'rm -rf "$work"' EXIT
 trap 'exit 1' HUP INT TERM
 [ $# -gt 0 ] || set -- $(steps)
 echo "This proves nothing. $# steps are tried, and some take minutes:"
-printf '%s\n' "$@" | xargs -P "$(nproc 2> /dev/null || echo 2)" -n 1 sh tests/quick.sh --step "$work"
-cat "$work"/*.count | awk -v steps=$# '
-    { steps--; passed += $2; failed += $4 }
-    END {
-        failed += steps
-        print passed + 0 " passed, " failed + 0 " failed"
-        exit failed > 0
-    }
-'
+beside tests/quick.sh "$@"

@@ -1,0 +1,34 @@
+# What tests/quick.sh and tests/all.sh share: their steps run side by side, as many at once as there are processors. `work` names
+# a folder for what the steps tell. Each script has a function `step`, which does the step of a name.
+
+# beside SCRIPT STEP..: has SCRIPT do these steps, and sums what they count. The last line is `N passed, M failed`.
+beside() {
+    script=$1
+    shift
+    printf '%s\n' "$@" | xargs -P "$(nproc 2> /dev/null || echo 2)" -n 1 sh "$script" --step "$work"
+    cat "$work"/*.count | awk -v steps=$# '
+        { steps -= !/^crates: /; passed += $2; failed += $4 }
+        END {
+            # A step was stopped before it counted.
+            failed += steps
+            print passed + 0 " passed, " failed + 0 " failed"
+            exit failed > 0
+        }
+    '
+}
+
+# counted NAME: does one step, shows what it tells with its name before each line, and keeps how many passed and failed.
+counted() {
+    step "$1" > "$work/$1.told" 2>&1
+    status=$?
+    grep -v '^[0-9]* passed, [0-9]* failed$' "$work/$1.told" | sed "s/^/$1: /"
+    sed -n 's/^\([0-9]*\) passed, \([0-9]*\) failed$/\1 \2/p' "$work/$1.told" |
+        awk -v name="$1" -v status="$status" '
+            { passed += $1; failed += $2 }
+            END {
+                # It was stopped before its last line.
+                if (!NR || (status && !failed)) failed++
+                print name ": " passed + 0 " passed, " failed + 0 " failed"
+            }
+        ' | tee "$work/$1.count"
+}
