@@ -3,9 +3,9 @@
 # or of all crates. Those in crates/*/must-fail, which guard what the README and docs/PROVED.md promise, `rt ci` tries itself.
 # Who changes a crate tries the others of that crate by this script.
 #
-# It tries them on a copy of the crates, in which they stand in must-fail/. The copy has what `rt check` kept in out/, and
-# begins with it. An edit that was tried before is not tried again unless something that it rests on has changed.
-# The last line is `N passed, M failed`.
+# `rt ci` tries them on a copy of the crates, in which they stand in must-fail/. It proves there what it has not passed before,
+# and each crate once more before its first edit. It keeps what each edit came to, and tries it again only if something has
+# changed on which the edit rests. The last line is `N passed, M failed`.
 cd "$(dirname "$0")/.." || exit 1
 work=$(mktemp -d) || exit 1
 trap 'rm -rf "$work"' EXIT
@@ -24,29 +24,23 @@ for name; do
     fi
 done
 
-# copy CRATE PART..: those of the parts that are there.
-copy() {
-    folder=$1
-    shift
-    for part; do
-        if [ -d "$folder/$part" ]; then
-            mkdir -p "$work/$folder/$part" && cp -a "$folder/$part/." "$work/$folder/$part"
-        fi
-    done
-}
-
 cp crates.txt HANDLES "$work" || exit 1
 for folder in crates/*; do
-    copy "$folder" src specs proofs out/rlib
+    mkdir -p "$work/$folder" || exit 1
+    for part in "$folder"/*; do
+        case ${part##*/} in
+            out | must-fail | edits) ;;
+            *) cp -a "$part" "$work/$folder" || exit 1 ;;
+        esac
+    done
 done
 for name; do
-    copy "crates/$name" out/incremental
     cp -a "crates/$name/edits" "$work/crates/$name/must-fail" || exit 1
 done
 
 RT_JOBS=${RT_JOBS:-$(nproc 2> /dev/null || echo 2)}
 export RT_JOBS
-(cd "$work" && rt must-fail "$@" 2>&1) | tee "$work/told"
+(cd "$work" && rt ci "$@" 2>&1) | tee "$work/told"
 edits=$(find "$work"/crates/*/must-fail -name '*.edit' | wc -l)
 passed=$(grep -c '^rt: must-fail .*: refused, as it must be' "$work/told")
 echo "$passed passed, $((edits - passed)) failed"
