@@ -2,11 +2,11 @@
 use crate::facts::{tell_check, tell_entry};
 use crate::feeding::Feeding;
 use crate::numbered::Numbered;
-use crate::outcome::{Numbers, refusal_word};
-use crate::rings::tell_done;
+use crate::outcome::{Numbers, refusal_word, tell_done};
+use crate::told::Told;
 use crate::words::number;
 use cml_board::{Board, Entry, Refusal};
-use std::alloc::{AllocError, Global};
+use std::alloc::Global;
 
 /// How a journal is cut.
 #[derive(Clone, Copy)]
@@ -34,14 +34,6 @@ pub fn last_look(way: Option<Way>) -> Option<&'static str> {
         Some(Way::Take) => Some("pieces"),
         Some(Way::Cut) | None => None,
     }
-}
-
-/// Whether a line that begins with this word is about the journal.
-pub fn is_of_journal(word: &str) -> bool {
-    matches!(
-        word,
-        "cut" | "take" | "cut_at" | "journal" | "noted" | "check" | "pieces" | "forget"
-    )
 }
 
 /// What has a board whose journal can be cut.
@@ -96,90 +88,88 @@ impl<M: Numbered> Pieces<M> {
         }
     }
 
+    /// Drops all that was handed over.
+    pub fn clear(&mut self) {
+        self.pieces.clear();
+    }
+
     /// Cuts the journal this way, if in any, unless a lane or a feed is open.
-    pub fn cut_by<J: Journaled<M>>(
-        &mut self,
-        ground: &mut J,
-        way: Option<Way>,
-    ) -> Result<(), AllocError> {
+    pub fn cut_by<J: Journaled<M>>(&mut self, told: &mut Told, ground: &mut J, way: Option<Way>) {
         match way {
             Some(Way::Cut) => {
                 let _busy = ground.cut();
             }
             Some(Way::Take) => {
-                let _count = self.take(ground)?;
+                let _count = self.take(told, ground);
             }
             None => {}
         }
-        Ok(())
     }
 
     /// What a line about the journal comes to.
-    pub fn tell<J: Journaled<M>>(
-        &mut self,
-        text: &mut String,
-        ground: &mut J,
-        words: &[&str],
-    ) -> Result<(), AllocError> {
+    pub fn tell<J: Journaled<M>>(&mut self, told: &mut Told, ground: &mut J, words: &[&str]) {
         match *words.first().unwrap_or(&"") {
-            "cut" => tell_done(text, ground.cut()),
-            "take" => match self.take(ground)? {
-                Ok(count) => write!(text, "took {count}"),
-                Err(refusal) => text.push_str(refusal_word(refusal)),
-            },
-            "cut_at" => write!(text, "{}", ground.board().cut_at()),
-            "journal" => write!(text, "{}", ground.board().journal().len()),
-            "noted" => {
-                let at = number(words, 1).unwrap_or(0);
-                self.tell_noted(text, ground.board(), at)
-            }
-            "check" => self.tell_checked(text, ground.board()),
-            "pieces" => self.tell_fed(text, ground.board()),
+            "cut" => tell_done(told, ground.cut()),
+            "take" => self.tell_take(told, ground),
+            "cut_at" => told.show(&ground.board().cut_at()),
+            "journal" => told.show(&ground.board().journal().len()),
+            "noted" => self.tell_noted(told, ground.board(), number(words, 1).unwrap_or(0)),
+            "check" => self.tell_checked(told, ground.board()),
+            "pieces" => self.tell_fed(told, ground.board()),
             "forget" => {
-                self.pieces.clear();
-                text.push_str("done")
+                self.clear();
+                told.say("done");
             }
-            _ => text.push_str("not understood"),
+            _ => told.say("not understood"),
+        }
+    }
+
+    fn tell_take<J: Journaled<M>>(&mut self, told: &mut Told, ground: &mut J) {
+        match self.take(told, ground) {
+            Ok(count) => {
+                told.say("took ");
+                told.show(&count);
+            }
+            Err(refusal) => told.say(refusal_word(refusal)),
         }
     }
 
     /// Cuts the journal, and keeps the entries that it hands over: how many.
-    fn take<J: Journaled<M>>(
-        &mut self,
-        ground: &mut J,
-    ) -> Result<Result<usize, Refusal>, AllocError> {
-        self.pieces.reserve(1)?;
+    fn take<J: Journaled<M>>(&mut self, told: &mut Told, ground: &mut J) -> Result<usize, Refusal> {
         let from = ground.board().cut_at();
-        match ground.take_journal() {
-            Ok(entries) => {
-                let count = entries.len();
-                self.pieces.push(Piece { from, entries })?;
-                Ok(Ok(count))
-            }
-            Err(refusal) => Ok(Err(refusal)),
-        }
+        let entries = ground.take_journal()?;
+        let count = entries.len();
+        told.needs(self.pieces.push(Piece { from, entries }).is_ok());
+        Ok(count)
     }
 
     /// Tells the entry at a position, which counts from the board's first entry on, also one that was handed over.
-    fn tell_noted(&self, text: &mut String, board: &Numbers<M>, at: u64) -> Result<(), AllocError> {
-        if let Some(index) = at.checked_sub(board.cut_at()) {
-            return tell_entry(text, board.journal().get(index as usize));
-        }
-        match self.pieces.iter().find_map(|piece| piece.entry(at)) {
-            Some(entry) => tell_entry(text, Some(entry)),
-            None => text.push_str("cut away"),
+    fn tell_noted(&self, told: &mut Told, board: &Numbers<M>, at: u64) {
+        match at.checked_sub(board.cut_at()) {
+            Some(index) => tell_entry(told, board.journal().get(index as usize), "no entry"),
+            None => tell_entry(told, self.entry(at), "cut away"),
         }
     }
 
+    /// The entry at a position that was handed over.
+    fn entry(&self, at: u64) -> Option<&Entry<M>> {
+        for piece in self.pieces.iter() {
+            if let Some(entry) = piece.entry(at) {
+                return Some(entry);
+            }
+        }
+        None
+    }
+
     /// Tells whether all entries since the board was made are lawful, unless some were dropped.
-    fn tell_checked(&self, text: &mut String, board: &Numbers<M>) -> Result<(), AllocError> {
+    fn tell_checked(&self, told: &mut Told, board: &Numbers<M>) {
         if board.cut_at() == 0 {
-            return tell_check(text, self.alloc, board.journal());
+            tell_check(told, self.alloc, board.journal());
+        } else if self.count() == board.cut_at() {
+            self.tell_fed(told, board);
+        } else {
+            told.say("dropped");
         }
-        if self.count() == board.cut_at() {
-            return self.tell_fed(text, board);
-        }
-        text.push_str("dropped")
     }
 
     /// How many entries were handed over.
@@ -192,12 +182,14 @@ impl<M: Numbered> Pieces<M> {
     }
 
     /// Feeds all that was handed over, and then the journal, to a checker, and tells what it found.
-    fn tell_fed(&self, text: &mut String, board: &Numbers<M>) -> Result<(), AllocError> {
-        let mut feeding = Feeding::new(self.alloc)?;
+    fn tell_fed(&self, told: &mut Told, board: &Numbers<M>) {
+        let Ok(mut feeding) = Feeding::new(self.alloc) else {
+            return told.lack();
+        };
         for piece in self.pieces.iter() {
-            feeding.feed(piece.entries.as_slice())?;
+            feeding.feed(told, piece.entries.as_slice());
         }
-        feeding.feed(board.journal())?;
-        feeding.tell(text)
+        feeding.feed(told, board.journal());
+        feeding.tell(told);
     }
 }

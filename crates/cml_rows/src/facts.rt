@@ -1,10 +1,11 @@
 //! What a board's readers tell of an object, and which objects take a call, in words.
 use crate::numbered::Numbered;
 use crate::outcome::{Numbers, REFUSED_ONCE};
+use crate::told::Told;
 use cml_board::{Call, Entry, Kind, Name, check};
-use std::alloc::{AllocError, Global};
+use std::alloc::Global;
 
-const KINDS: [Kind; 5] = [
+const KINDS: &[Kind] = &[
     Kind::Mailbox,
     Kind::Channel,
     Kind::Port,
@@ -12,120 +13,156 @@ const KINDS: [Kind; 5] = [
     Kind::MVar,
 ];
 
+/// A board's reader that has a number of some objects.
+#[derive(Clone, Copy)]
+enum Reader {
+    Of,
+    Start,
+    Sent,
+    Got,
+    Owed,
+    First,
+    Kept,
+}
+
+/// What is told of a port before whether it is open, and what is told of all objects behind that.
+const PLACES: &[(&str, Reader)] = &[(" of ", Reader::Of), (" start ", Reader::Start)];
+
+const COUNTS: &[(&str, Reader)] = &[
+    (" sent ", Reader::Sent),
+    (" got ", Reader::Got),
+    (" owed ", Reader::Owed),
+    (" first ", Reader::First),
+    (" kept ", Reader::Kept),
+];
+
 /// Tells all that the readers have of an object; each that has nothing of it is left out.
-pub fn tell_object<M: Numbered>(
-    text: &mut String,
-    board: &Numbers<M>,
-    name: Name,
-) -> Result<(), AllocError> {
-    match board.kind(name) {
-        Some(kind) => text.push_str(kind_word(kind))?,
-        None => text.push_str("no object")?,
+pub fn tell_object<M: Numbered>(told: &mut Told, board: &Numbers<M>, name: Name) {
+    tell_kind(told, board.kind(name));
+    tell_counts(told, board, name, PLACES);
+    match board.is_open(name) {
+        Some(true) => told.say(" open"),
+        Some(false) => told.say(" closed"),
+        None => {}
     }
-    tell_port(text, board, name)?;
-    tell_counts(text, board, name)?;
+    tell_counts(told, board, name, COUNTS);
+    tell_held(told, board, name);
+}
+
+fn tell_kind(told: &mut Told, kind: Option<Kind>) {
+    match kind {
+        Some(kind) => told.say(kind_word(kind)),
+        None => told.say("no object"),
+    }
+}
+
+/// Tells what a variable holds.
+fn tell_held<M: Numbered>(told: &mut Told, board: &Numbers<M>, name: Name) {
     match board.held(name) {
-        Some(Some(message)) => write!(text, " full {message:?}"),
-        Some(None) => text.push_str(" empty"),
-        None => Ok(()),
+        Some(Some(message)) => {
+            told.say(" full ");
+            told.show(message);
+        }
+        Some(None) => told.say(" empty"),
+        None => {}
     }
 }
 
 /// Tells how many entries a board's journal has, how many were cut away, and all that the readers have of each object.
-pub fn tell_board<M: Numbered>(text: &mut String, board: &Numbers<M>) -> Result<(), AllocError> {
-    let entries = board.journal().len();
-    write!(text, "{entries} entries, cut at {}", board.cut_at())?;
+pub fn tell_board<M: Numbered>(told: &mut Told, board: &Numbers<M>) {
+    told.show(&board.journal().len());
+    told.say(" entries, cut at ");
+    told.show(&board.cut_at());
     for number in 0..board.entries() {
         if board.kind(Name(number)).is_none() {
-            return Ok(());
+            break;
         }
-        text.push_str(", ")?;
-        tell_object(text, board, Name(number))?;
+        told.say(", ");
+        tell_object(told, board, Name(number));
     }
-    Ok(())
 }
 
-/// Tells an entry of a journal.
-pub fn tell_entry<M: Numbered>(
-    text: &mut String,
-    entry: Option<&Entry<M>>,
-) -> Result<(), AllocError> {
-    match entry {
-        Some(entry) => write!(text, "{:?} {:?} {:?}", entry.who, entry.call, entry.reply),
-        None => text.push_str("no entry"),
-    }
+/// Tells an entry of a journal, or this word where there is none.
+pub fn tell_entry<M: Numbered>(told: &mut Told, entry: Option<&Entry<M>>, none: &str) {
+    let Some(entry) = entry else {
+        return told.say(none);
+    };
+    told.show(&entry.who);
+    told.say(" ");
+    told.show(&entry.call);
+    told.say(" ");
+    told.show(&entry.reply);
 }
 
 /// Tells whether a short journal is lawful, or where it first isn't. A check that memory was refused is made once more.
-pub fn tell_check<M: Numbered>(
-    text: &mut String,
-    alloc: Global,
-    entries: &[Entry<M>],
-) -> Result<(), AllocError> {
+pub fn tell_check<M: Numbered>(told: &mut Told, alloc: Global, entries: &[Entry<M>]) {
     if entries.len() > 1000 {
-        return text.push_str("too many entries");
+        return told.say("too many entries");
+    }
+    if let Ok(verdict) = check(alloc, entries) {
+        return tell_verdict(told, verdict);
     }
     match check(alloc, entries) {
-        Ok(verdict) => write_verdict(text, verdict),
-        Err(AllocError) => {
-            write_verdict(text, check(alloc, entries)?)?;
-            text.push_str(REFUSED_ONCE)
+        Ok(verdict) => tell_verdict(told, verdict),
+        Err(_) => told.lack(),
+    }
+    told.say(REFUSED_ONCE);
+}
+
+fn tell_verdict(told: &mut Told, verdict: Result<(), usize>) {
+    match verdict {
+        Ok(()) => told.say("lawful"),
+        Err(at) => {
+            told.say("unlawful at ");
+            told.show(&at);
         }
     }
 }
 
-fn write_verdict(text: &mut String, verdict: Result<(), usize>) -> Result<(), AllocError> {
-    match verdict {
-        Ok(()) => text.push_str("lawful"),
-        Err(at) => write!(text, "unlawful at {at}"),
-    }
-}
-
-fn tell_port<M: Numbered>(
-    text: &mut String,
-    board: &Numbers<M>,
-    name: Name,
-) -> Result<(), AllocError> {
-    tell_count(text, "of", board.channel_of(name).map(|channel| channel.0))?;
-    tell_count(text, "start", board.start_of(name))?;
-    match board.is_open(name) {
-        Some(true) => text.push_str(" open"),
-        Some(false) => text.push_str(" closed"),
-        None => Ok(()),
-    }
-}
-
+/// Tells the numbers that these readers have of an object.
 fn tell_counts<M: Numbered>(
-    text: &mut String,
+    told: &mut Told,
     board: &Numbers<M>,
     name: Name,
-) -> Result<(), AllocError> {
-    tell_count(text, "sent", board.sent_count(name))?;
-    tell_count(text, "got", board.got_count(name))?;
-    tell_count(text, "owed", board.owed_count(name))?;
-    tell_count(text, "first", board.first_of(name))?;
-    tell_count(text, "kept", board.kept_count(name))
+    readers: &[(&str, Reader)],
+) {
+    for (word, reader) in readers.iter() {
+        if let Some(count) = reader.count(board, name) {
+            told.say(word);
+            told.show(&count);
+        }
+    }
 }
 
-fn tell_count(text: &mut String, word: &str, count: Option<u64>) -> Result<(), AllocError> {
-    match count {
-        Some(count) => write!(text, " {word} {count}"),
-        None => Ok(()),
+impl Reader {
+    fn count<M: Numbered>(self, board: &Numbers<M>, name: Name) -> Option<u64> {
+        match self {
+            Reader::Of => Some(board.channel_of(name)?.0),
+            Reader::Start => board.start_of(name),
+            Reader::Sent => board.sent_count(name),
+            Reader::Got => board.got_count(name),
+            Reader::Owed => board.owed_count(name),
+            Reader::First => board.first_of(name),
+            Reader::Kept => board.kept_count(name),
+        }
     }
 }
 
 /// Tells which object a call is made on, and each kind that takes it.
-pub fn tell_call<M: Numbered>(text: &mut String, call: &Call<M>) -> Result<(), AllocError> {
+pub fn tell_call<M: Numbered>(told: &mut Told, call: &Call<M>) {
     match call.object() {
-        Some(name) => write!(text, "object {}", name.0)?,
-        None => text.push_str("no object")?,
+        Some(name) => {
+            told.say("object ");
+            told.show(&name.0);
+        }
+        None => told.say("no object"),
     }
     for kind in KINDS.iter() {
         if kind.takes(call) {
-            write!(text, " {}", kind_word(*kind))?;
+            told.say(" ");
+            told.say(kind_word(*kind));
         }
     }
-    Ok(())
 }
 
 fn kind_word(kind: Kind) -> &'static str {

@@ -1,6 +1,7 @@
 //! A journal that is checked piece by piece.
 use crate::numbered::Numbered;
-use crate::outcome::{REFUSED_ONCE, note};
+use crate::outcome::REFUSED_ONCE;
+use crate::told::Told;
 use cml_board::{Checker, Entry};
 use std::alloc::{AllocError, Global};
 
@@ -34,39 +35,42 @@ impl<M: Numbered> Feeding<M> {
     }
 
     /// Feeds the next piece. Where memory is refused it goes on, once, with the entries that weren't taken yet.
-    pub fn feed(&mut self, piece: &[Entry<M>]) -> Result<(), AllocError> {
+    pub fn feed(&mut self, told: &mut Told, piece: &[Entry<M>]) {
         let before = self.checker.entries();
         self.given = self.given.saturating_add(piece.len() as u64);
-        match feed_some(&mut self.checker, piece) {
-            Ok(verdict) => self.verdict = verdict,
-            Err(AllocError) => {
-                self.was_refused = true;
-                let taken = self.checker.entries().saturating_sub(before);
-                let rest = piece.get(taken as usize..).unwrap_or(&[]);
-                self.verdict = feed_some(&mut self.checker, rest)?;
-            }
+        if let Ok(verdict) = feed_some(&mut self.checker, piece) {
+            self.verdict = verdict;
+            return;
         }
-        Ok(())
+        self.was_refused = true;
+        let taken = self.checker.entries().saturating_sub(before);
+        match feed_some(
+            &mut self.checker,
+            piece.get(taken as usize..).unwrap_or(&[]),
+        ) {
+            Ok(verdict) => self.verdict = verdict,
+            Err(_) => told.lack(),
+        }
     }
 
     /// Tells whether all was lawful, or where it first wasn't, and where the checker counted otherwise.
-    pub fn tell(&self, text: &mut String) -> Result<(), AllocError> {
+    pub fn tell(&self, told: &mut Told) {
         let lawful_count = match self.verdict {
             Verdict::Lawful => {
-                text.push_str("lawful")?;
+                told.say("lawful");
                 self.given
             }
             Verdict::UnlawfulAt(at) => {
-                write!(text, "unlawful at {at}")?;
+                told.say("unlawful at ");
+                told.show(&at);
                 at
             }
-            Verdict::TooMany => return text.push_str("too many entries"),
+            Verdict::TooMany => return told.say("too many entries"),
         };
         if self.was_refused {
-            text.push_str(REFUSED_ONCE)?;
+            told.say(REFUSED_ONCE);
         }
-        let is_counted = self.checker.entries() == lawful_count;
-        note(text, is_counted, "counted otherwise")
+        told.note(self.checker.entries() == lawful_count, "counted otherwise");
     }
 }
 

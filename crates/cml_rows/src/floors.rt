@@ -5,22 +5,18 @@ use crate::ground_table::perform_on;
 use crate::moving::Moves;
 use crate::numbered::{Maker, Numbered};
 use crate::outcome::Numbers;
+use crate::told::Told;
 use crate::words::limit_in;
 use cml_board::{BoardLog, Call, Entry, Name, Outcome, Refusal};
 use cml_lanes::{Feed, Floor, Lane, LaneEnd, MAX_CAPACITY};
 use cml_threads::Asked;
-use std::alloc::AllocError;
-use std::io;
 
 /// Performs the lines of a case on a floor.
-pub fn perform<M: Numbered, R: Print>(
-    rt: &R,
-    maker: &Maker<M>,
-    lines: &[String],
-    way: Option<Way>,
-) -> io::Result<()> {
-    let board = Numbers::<M>::new(maker.alloc, limit_in(lines))?;
-    perform_on(rt, maker, Floor::new(maker.alloc, board), lines, way)
+pub fn perform<M: Numbered>(told: &mut Told, maker: &Maker<M>, lines: &[String], way: Option<Way>) {
+    match Numbers::<M>::new(maker.alloc, limit_in(lines)) {
+        Ok(board) => perform_on(told, maker, Floor::new(maker.alloc, board), lines, way),
+        Err(_) => told.lack(),
+    }
 }
 
 impl<M: Numbered> Journaled<M> for Floor<M, BoardLog<M>> {
@@ -46,8 +42,8 @@ impl<M: Numbered> Ground<M> for Floor<M, BoardLog<M>> {
         Floor::reserve(self, entries)
     }
 
-    fn new_seat(&mut self) -> Result<Result<u64, Refusal>, AllocError> {
-        Ok(Err(Refusal::Gone))
+    fn new_seat(&mut self) -> Result<u64, Refusal> {
+        Err(Refusal::Gone)
     }
 
     fn leave(&mut self, _seat: usize) -> Result<(), Refusal> {

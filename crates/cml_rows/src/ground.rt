@@ -4,7 +4,6 @@ use crate::numbered::Numbered;
 use cml_board::{Call, Name, Refusal};
 use cml_lanes::{Feed, Lane, LaneEnd};
 use cml_threads::Asked;
-use std::alloc::AllocError;
 
 /// What a table's calls are made on beside a board: a floor, or a hall with its seats. On a floor a call that would wait
 /// parks no seat.
@@ -14,8 +13,8 @@ pub trait Ground<M: Numbered>: Journaled<M> {
 
     fn reserve(&mut self, entries: usize) -> Result<(), Refusal>;
 
-    /// A new seat's number. The other error is of the list that keeps the seats here.
-    fn new_seat(&mut self) -> Result<Result<u64, Refusal>, AllocError>;
+    /// A new seat's number.
+    fn new_seat(&mut self) -> Result<u64, Refusal>;
 
     fn leave(&mut self, seat: usize) -> Result<(), Refusal>;
 

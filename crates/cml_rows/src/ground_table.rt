@@ -1,49 +1,53 @@
 //! A table of calls on a floor or a hall under way.
-use crate::cutting::{Pieces, Way, is_of_journal};
+use crate::cutting::{Pieces, Way};
 use crate::facts::{tell_board, tell_object};
 use crate::ground::Ground;
 use crate::numbered::{Maker, Numbered};
-use crate::outcome::{NO_MEMORY, REFUSED_ONCE, note, refusal_word, write_answer};
+use crate::outcome::{
+    NO_MEMORY, Numbers, REFUSED_ONCE, refusal_word, tell_answer, tell_back, tell_done,
+};
 use crate::performing::{Performs, is_over, retell};
-use crate::rings::{Rings, tell_done};
+use crate::rings::Rings;
+use crate::told::Told;
 use crate::words::{call_and_copy, is_note, number, object};
-use cml_board::Call;
+use cml_board::{Call, Refusal};
 use cml_threads::Asked;
-use std::alloc::AllocError;
-use std::io;
 
 /// Writes each line of a case again, with what it comes to on this ground, whose journal is cut behind each.
-pub fn perform_on<M: Numbered, R: Print, G: Ground<M> + Drop>(
-    rt: &R,
+pub fn perform_on<M: Numbered, G: Ground<M> + Drop>(
+    told: &mut Told,
     maker: &Maker<M>,
     ground: G,
     lines: &[String],
     way: Option<Way>,
-) -> io::Result<()> {
+) {
     let mut table = GroundTable::new(maker, ground);
-    retell(rt, &mut table, lines, way)?;
+    retell(told, maker.alloc, &mut table, lines, way);
     let _left = table.into_left();
-    retell_over(rt, maker, lines)
+    retell_over(told, maker, lines);
 }
 
 /// Writes the line that says it is over, with how many messages live where the ground is dropped, and threads have their
 /// sides of its lanes and feeds still.
-fn retell_over<M: Numbered, R: Print>(
-    rt: &R,
-    maker: &Maker<M>,
-    lines: &[String],
-) -> io::Result<()> {
+fn retell_over<M: Numbered>(told: &mut Told, maker: &Maker<M>, lines: &[String]) {
     let mut was_over = false;
     for line in lines.iter() {
         let line = line.as_str();
         was_over = was_over || is_over(line);
-        if was_over && is_note(line) {
-            println!(rt; "{line}")?;
-        } else if was_over {
-            println!(rt; "over: live {}", maker.live())?;
+        if was_over {
+            tell_over(told, maker, line);
         }
     }
-    Ok(())
+}
+
+fn tell_over<M: Numbered>(told: &mut Told, maker: &Maker<M>, line: &str) {
+    if is_note(line) {
+        told.say(line);
+    } else {
+        told.say("over: live ");
+        told.show(&maker.live());
+    }
+    told.say("\n");
 }
 
 /// Whether a line's call may have moved messages before it was refused.
@@ -83,127 +87,121 @@ impl<'a, M: Numbered, G: Ground<M> + Drop> GroundTable<'a, M, G> {
         (self.rings, self.pieces)
     }
 
-    /// What a line's words come to. What memory was refused is done once more, and then tells whether all was as before.
-    fn tell(&mut self, words: &[&str]) -> Result<String, AllocError> {
-        let before = self.reading()?;
-        let told = self.obey(words, Turn::First)?;
-        if told.as_str() != NO_MEMORY {
-            return Ok(told);
-        }
-        let is_as_before = moves(words) || self.reading()?.as_str() == before.as_str();
-        let mut again = self.obey(words, Turn::Second)?;
-        again.push_str(REFUSED_ONCE)?;
-        note(&mut again, is_as_before, "not as before")?;
-        Ok(again)
-    }
-
     /// All that the readers tell.
-    fn reading(&self) -> Result<String, AllocError> {
-        let mut text = String::new(self.maker.alloc);
-        let (lanes, feeds) = self.ground.open_rings();
-        write!(text, "{lanes} lanes, {feeds} feeds, ")?;
-        tell_board(&mut text, self.ground.board())?;
-        Ok(text)
+    fn reading(&self) -> Told {
+        let mut told = Told::new(self.maker.alloc);
+        self.tell_open(&mut told);
+        tell_board(&mut told, self.ground.board());
+        told
     }
 
-    fn obey(&mut self, words: &[&str], turn: Turn) -> Result<String, AllocError> {
-        let mut text = String::new(self.maker.alloc);
+    /// Tells how many lanes and feeds are open.
+    fn tell_open(&self, told: &mut Told) {
+        let (lanes, feeds) = self.ground.open_rings();
+        told.say("lanes ");
+        told.show(&lanes);
+        told.say(" feeds ");
+        told.show(&feeds);
+    }
+
+    /// What a line's words come to.
+    fn told(&mut self, words: &[&str], turn: Turn) -> Told {
+        let mut told = Told::new(self.maker.alloc);
         match number(words, 0) {
-            Some(seat) => self.call(&mut text, seat as usize, words, turn)?,
-            None => self.look(&mut text, words)?,
+            Some(seat) => self.call(&mut told, seat as usize, words, turn),
+            None => self.look(&mut told, words),
         }
-        Ok(text)
+        told
     }
 
     /// A seat's line: its number, and what it does.
-    fn call(
-        &mut self,
-        text: &mut String,
-        seat: usize,
-        words: &[&str],
-        turn: Turn,
-    ) -> Result<(), AllocError> {
-        let is_again = words.get(1) == Some(&"again");
-        if words.get(1) == Some(&"leave") {
-            return tell_done(text, self.ground.leave(seat));
+    fn call(&mut self, told: &mut Told, seat: usize, words: &[&str], turn: Turn) {
+        match *words.get(1).unwrap_or(&"") {
+            "leave" => tell_done(told, self.ground.leave(seat)),
+            "again" => self.ask(
+                told,
+                seat,
+                words.get(2..).unwrap_or(&[]),
+                turn == Turn::First,
+            ),
+            _ => self.ask(told, seat, words.get(1..).unwrap_or(&[]), false),
         }
-        let from = if is_again { 2 } else { 1 };
-        let words = words.get(from..).unwrap_or(&[]);
-        let Some((call, asked)) = call_and_copy(self.maker, words)? else {
-            return text.push_str("not understood");
+    }
+
+    /// A seat's call.
+    fn ask(&mut self, told: &mut Told, seat: usize, words: &[&str], is_again: bool) {
+        let Some((call, asked)) = call_and_copy(told, self.maker, words) else {
+            return told.say("not understood");
         };
-        let told = if is_again && turn == Turn::First {
+        let came = if is_again {
             self.ground.ask_again(seat, call)
         } else {
             self.ground.ask(seat, call)
         };
-        self.tell_asked(text, told, &asked)
-    }
-
-    fn tell_asked(
-        &self,
-        text: &mut String,
-        told: Asked<M>,
-        asked: &Call<M>,
-    ) -> Result<(), AllocError> {
-        match told {
-            Asked::Answered(answer) => write_answer(text, self.ground.board(), &answer, asked),
-            Asked::Parked(back) => {
-                text.push_str("waits")?;
-                note(text, back.same(asked), "another call back")
-            }
-            Asked::Refused(refusal, back) => {
-                text.push_str(refusal_word(refusal))?;
-                note(text, back.same(asked), "another call back")
-            }
-        }
+        tell_asked(told, self.ground.board(), came, &asked);
     }
 
     /// A line that is no seat's: a look, or something done to a lane or a feed.
-    fn look(&mut self, text: &mut String, words: &[&str]) -> Result<(), AllocError> {
+    fn look(&mut self, told: &mut Told, words: &[&str]) {
         let rest = words.get(1..).unwrap_or(&[]);
-        match words.first() {
-            Some(&"floor") | Some(&"hall") => {
-                write!(text, "limit {}", self.ground.board().limit())
+        match *words.first().unwrap_or(&"") {
+            "floor" | "hall" => {
+                told.say("limit ");
+                told.show(&self.ground.board().limit());
             }
-            Some(&"seat") => match self.ground.new_seat()? {
-                Ok(seat) => write!(text, "{seat}"),
-                Err(refusal) => text.push_str(refusal_word(refusal)),
+            "seat" => tell_seat(told, self.ground.new_seat()),
+            "reserve" => tell_done(
+                told,
+                self.ground.reserve(number(rest, 0).unwrap_or(0) as usize),
+            ),
+            "tell" => match object(rest) {
+                Some(name) => tell_object(told, self.ground.board(), name),
+                None => told.say("no object is named"),
             },
-            Some(&"reserve") => {
-                let entries = number(rest, 0).unwrap_or(0) as usize;
-                tell_done(text, self.ground.reserve(entries))
+            "live" => told.show(&self.maker.live()),
+            "open" => self.tell_open(told),
+            _ => {
+                if !self.rings.obey(told, &mut self.ground, words) {
+                    self.pieces.tell(told, &mut self.ground, words);
+                }
             }
-            Some(&"tell") => match object(rest) {
-                Some(name) => tell_object(text, self.ground.board(), name),
-                None => text.push_str("no object is named"),
-            },
-            Some(&"live") => write!(text, "{}", self.maker.live()),
-            Some(&"open") => {
-                let (lanes, feeds) = self.ground.open_rings();
-                write!(text, "lanes {lanes} feeds {feeds}")
-            }
-            Some(word) if is_of_journal(word) => self.pieces.tell(text, &mut self.ground, words),
-            _ => self.rings.obey(text, &mut self.ground, words),
         }
     }
 }
 
+fn tell_seat(told: &mut Told, seat: Result<u64, Refusal>) {
+    match seat {
+        Ok(number) => told.show(&number),
+        Err(refusal) => told.say(refusal_word(refusal)),
+    }
+}
+
+/// Tells what a seat's call came to.
+fn tell_asked<M: Numbered>(told: &mut Told, board: &Numbers<M>, came: Asked<M>, asked: &Call<M>) {
+    match came {
+        Asked::Answered(answer) => tell_answer(told, board, &answer, asked),
+        Asked::Parked(back) => tell_back(told, "waits", &back, asked),
+        Asked::Refused(refusal, back) => tell_back(told, refusal_word(refusal), &back, asked),
+    }
+}
+
 impl<M: Numbered, G: Ground<M> + Drop> Performs for GroundTable<'_, M, G> {
-    fn perform(&mut self, line: &str) -> Result<String, AllocError> {
-        let mut text = String::new(self.maker.alloc);
-        if is_note(line) {
-            text.push_str(line)?;
-            return Ok(text);
+    /// What memory was refused is done once more, and then tells whether all was as before.
+    fn obey(&mut self, told: &mut Told, words: &[&str], _expected: &str) {
+        let before = self.reading();
+        let first = self.told(words, Turn::First);
+        if !first.is(NO_MEMORY) {
+            return told.add(&first);
         }
-        let (asked, _) = line.split_once(": ").unwrap_or((line, ""));
-        let words: Vec<&str> = asked.split(' ').collect(self.maker.alloc)?;
-        let told = self.tell(words.as_slice())?;
-        write!(text, "{asked}: {told}")?;
-        Ok(text)
+        let after = self.reading();
+        told.add(&self.told(words, Turn::Second));
+        told.say(REFUSED_ONCE);
+        if !moves(words) {
+            told.compare(&before, &after, "not as before");
+        }
     }
 
-    fn cut_by(&mut self, way: Option<Way>) -> Result<(), AllocError> {
-        self.pieces.cut_by(&mut self.ground, way)
+    fn cut_by(&mut self, told: &mut Told, way: Option<Way>) {
+        self.pieces.cut_by(told, &mut self.ground, way);
     }
 }

@@ -7,39 +7,37 @@ use crate::ground_table::perform_on;
 use crate::moving::Moves;
 use crate::numbered::{Maker, Numbered};
 use crate::outcome::Numbers;
+use crate::told::Told;
 use crate::words::limit_in;
 use cml_board::{BoardLog, Call, Entry, Name, Refusal};
 use cml_lanes::{Feed, Lane, LaneEnd, MAX_CAPACITY};
 use cml_threads::{Asked, Hall, PARTS, Seat};
-use std::alloc::AllocError;
-use std::io;
 use std::marker::Brand;
 use std::sync::ledger::{Blank, Ledger};
 
 /// Performs the lines of a case on a hall of its own, and so by a ledger of its own.
-pub fn perform<M: Numbered, R: Print>(
-    rt: &R,
-    maker: &Maker<M>,
-    lines: &[String],
-    way: Option<Way>,
-) -> io::Result<()> {
-    perform_by::<M, Brand, R>(rt, maker, lines, way, Blank::new(PARTS))
+pub fn perform<M: Numbered>(told: &mut Told, maker: &Maker<M>, lines: &[String], way: Option<Way>) {
+    perform_by::<M, Brand>(told, maker, lines, way, Blank::new(PARTS));
 }
 
-fn perform_by<M: Numbered, Led: Ledger, R: Print>(
-    rt: &R,
+fn perform_by<M: Numbered, Led: Ledger>(
+    told: &mut Told,
     maker: &Maker<M>,
     lines: &[String],
     way: Option<Way>,
     blank: Blank,
-) -> io::Result<()>
+)
     requires name { blank.name ≡ Led.name }
     requires parts { blank.parts ≡ Led.parts }
     requires enough { blank.parts ≡ 2 ^ 63 }
 {
-    let hall: Hall<M, BoardLog<M>, Led> = Hall::new(maker.alloc, limit_in(lines), blank)?;
-    let seats = Vec::new(maker.alloc);
-    perform_on(rt, maker, Seated { hall, seats }, lines, way)
+    match Hall::<M, BoardLog<M>, Led>::new(maker.alloc, limit_in(lines), blank) {
+        Ok(hall) => {
+            let seats = Vec::new(maker.alloc);
+            perform_on(told, maker, Seated { hall, seats }, lines, way);
+        }
+        Err(_) => told.lack(),
+    }
 }
 
 /// A hall, and the seats that it gave, each at its number.
@@ -72,16 +70,15 @@ impl<M: Numbered, Led: Ledger> Ground<M> for Seated<M, Led> {
         self.hall.reserve(entries)
     }
 
-    fn new_seat(&mut self) -> Result<Result<u64, Refusal>, AllocError> {
-        self.seats.reserve(1)?;
-        match self.hall.new_seat() {
-            Ok(seat) => {
-                let number = seat.number();
-                self.seats.push(seat)?;
-                Ok(Ok(number))
-            }
-            Err(refusal) => Ok(Err(refusal)),
+    fn new_seat(&mut self) -> Result<u64, Refusal> {
+        if self.seats.reserve(1).is_err() {
+            return Err(Refusal::NoMemory);
         }
+        let seat = self.hall.new_seat()?;
+        let number = seat.number();
+        // There is room for it.
+        self.seats.push(seat).is_ok();
+        Ok(number)
     }
 
     fn leave(&mut self, seat: usize) -> Result<(), Refusal> {

@@ -18,24 +18,24 @@ mod outcome;
 mod performing;
 mod rings;
 mod table;
+mod told;
 mod words;
 
 use cml_board::Text;
 use cutting::Way;
 use fussy::Fussy;
 use numbered::{Maker, Numbered};
-use performing::retell;
+use std::alloc::AllocError;
 use std::process::ExitCode;
 use std::sync::atomic::AtomicU64;
 use std::{env, io};
-use table::Table;
+use told::Told;
 
-/// What the program's words ask for.
+/// What the program's words ask for: the tables, with such messages and cuts.
 #[derive(Clone, Copy)]
-enum Order {
-    /// The tables, with such messages and cuts.
-    Perform(Messages, Option<Way>),
-    Usage,
+struct Order {
+    messages: Messages,
+    way: Option<Way>,
 }
 
 /// What the messages are.
@@ -46,35 +46,32 @@ enum Messages {
 }
 
 fn main(rt: HostRuntime) -> io::Result<ExitCode> {
-    match asked(&rt)? {
-        Order::Perform(Messages::Blocks, way) => perform_blocks(&rt, way)?,
-        Order::Perform(Messages::Texts, way) => perform_texts(&rt, way)?,
-        Order::Usage => {
-            eprintln!(rt; "usage: cml_rows [texts] [cut | take]")?;
-            return Ok(ExitCode::from(2));
-        }
+    let words = env::args(&rt)?.collect::<Vec<String>>(rt.alloc())?;
+    let Some(order) = order_of(words.get(1..).unwrap_or(&[])) else {
+        eprintln!(rt; "usage: cml_rows [texts] [cut | take]")?;
+        return Ok(ExitCode::from(2));
+    };
+    match order.messages {
+        Messages::Blocks => perform_blocks(&rt, order.way)?,
+        Messages::Texts => perform_texts(&rt, order.way)?,
     }
     Ok(ExitCode::SUCCESS)
 }
 
-fn asked(rt: &HostRuntime) -> io::Result<Order> {
-    let words = env::args(rt)?.collect::<Vec<String>>(rt.alloc())?;
-    let words = words.get(1..).unwrap_or(&[]);
-    Ok(match words.split_first() {
+fn order_of(words: &[String]) -> Option<Order> {
+    match words.split_first() {
         Some((word, rest)) if word.as_str() == "texts" => with_cuts(Messages::Texts, rest),
         _ => with_cuts(Messages::Blocks, words),
-    })
+    }
 }
 
-fn with_cuts(messages: Messages, words: &[String]) -> Order {
-    match words {
-        [] => Order::Perform(messages, None),
-        [word] => match Way::of_word(word.as_str()) {
-            Some(way) => Order::Perform(messages, Some(way)),
-            None => Order::Usage,
-        },
-        _ => Order::Usage,
-    }
+fn with_cuts(messages: Messages, words: &[String]) -> Option<Order> {
+    let way = match words {
+        [] => None,
+        [word] => Some(Way::of_word(word.as_str())?),
+        _ => return None,
+    };
+    Some(Order { messages, way })
 }
 
 fn perform_blocks(rt: &HostRuntime, way: Option<Way>) -> io::Result<()> {
@@ -109,24 +106,37 @@ fn perform_case<M: Numbered, R: Print>(
     lines: &[String],
     way: Option<Way>,
 ) -> io::Result<()> {
-    perform_begun(rt, maker, lines, way)?;
-    match maker.live() {
-        0 => Ok(()),
-        live => println!(rt; "live in the end: {live}"),
-    }
+    let told = told_of(maker, lines, way)?;
+    print!(rt; "{told}")
 }
 
-/// Performs the lines of one case on what its first call begins.
-fn perform_begun<M: Numbered, R: Print>(
-    rt: &R,
+fn told_of<M: Numbered>(
     maker: &Maker<M>,
     lines: &[String],
     way: Option<Way>,
-) -> io::Result<()> {
+) -> Result<String, AllocError> {
+    let mut told = Told::new(maker.alloc);
+    perform_begun(&mut told, maker, lines, way);
+    let live = maker.live();
+    if live > 0 {
+        told.say("live in the end: ");
+        told.show(&live);
+        told.say("\n");
+    }
+    told.end()
+}
+
+/// Performs the lines of one case on what its first call begins.
+fn perform_begun<M: Numbered>(
+    told: &mut Told,
+    maker: &Maker<M>,
+    lines: &[String],
+    way: Option<Way>,
+) {
     match beginning(lines) {
-        Some("floor") => floors::perform(rt, maker, lines, way),
-        Some("hall") => halls::perform(rt, maker, lines, way),
-        _ => retell(rt, &mut Table::new(maker)?, lines, way),
+        Some("floor") => floors::perform(told, maker, lines, way),
+        Some("hall") => halls::perform(told, maker, lines, way),
+        _ => table::perform(told, maker, lines, way),
     }
 }
 

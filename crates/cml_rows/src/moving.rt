@@ -2,8 +2,8 @@
 use crate::ground::Ground;
 use crate::numbered::Numbered;
 use crate::outcome::{REFUSED_ONCE, refusal_word};
+use crate::told::Told;
 use cml_board::Refusal;
-use std::alloc::AllocError;
 
 /// What moves messages.
 #[derive(Clone, Copy)]
@@ -18,7 +18,7 @@ pub enum Moves {
 const TURNS: usize = 2000;
 
 /// How many messages were moved, what refused the next one, and whether memory was refused before that.
-#[derive(Drop)]
+#[derive(Clone, Copy)]
 struct Moved {
     count: usize,
     refusal: Option<Refusal>,
@@ -28,21 +28,22 @@ struct Moved {
 /// Moves messages until there is nothing to move or one is refused, and tells how many. Where memory is refused the call
 /// is made once more, and goes on.
 pub fn tell_moves<M: Numbered, G: Ground<M>>(
-    text: &mut String,
+    told: &mut Told,
     ground: &mut G,
     moves: Moves,
     number: u64,
-) -> Result<(), AllocError> {
+) {
     let moved = move_all::<M, G>(ground, moves, number);
-    match moved.refusal {
-        None => write!(text, "{}", moved.count)?,
-        Some(refusal) if moved.count == 0 => text.push_str(refusal_word(refusal))?,
-        Some(refusal) => write!(text, "{}, then {}", moved.count, refusal_word(refusal))?,
+    if moved.count > 0 || moved.refusal.is_none() {
+        told.show(&moved.count);
+    }
+    if let Some(refusal) = moved.refusal {
+        told.say(if moved.count > 0 { ", then " } else { "" });
+        told.say(refusal_word(refusal));
     }
     if moved.was_refused {
-        text.push_str(REFUSED_ONCE)?;
+        told.say(REFUSED_ONCE);
     }
-    Ok(())
 }
 
 fn move_all<M: Numbered, G: Ground<M>>(ground: &mut G, moves: Moves, number: u64) -> Moved {

@@ -1,5 +1,6 @@
 //! What the messages of tables can be, and what makes them.
 use crate::fussy::Fussy;
+use crate::told::Told;
 use cml_board::{Message, Text};
 use std::alloc::{AllocError, Global};
 use std::fmt;
@@ -47,8 +48,15 @@ impl<M: Numbered> Maker<M> {
         Maker { alloc, first }
     }
 
-    pub fn make(&self, number: u64) -> Result<M, AllocError> {
-        self.first.another(self.alloc, number)
+    /// The message for this number, unless memory is refused, which leaves a gap in what is told.
+    pub fn make(&self, told: &mut Told, number: u64) -> Option<M> {
+        match self.first.another(self.alloc, number) {
+            Ok(message) => Some(message),
+            Err(_) => {
+                told.lack();
+                None
+            }
+        }
     }
 
     /// How many messages live, besides its first.

@@ -1,8 +1,9 @@
 //! What becomes of a call, in words.
 use crate::facts::tell_board;
 use crate::numbered::Numbered;
+use crate::told::Told;
 use cml_board::{Answer, Board, BoardLog, Call, Message, Outcome, Refusal, Reply, Who};
-use std::alloc::{AllocError, Global};
+use std::alloc::Global;
 
 /// A board whose messages stand for numbers, in chunks of four.
 pub type Numbers<M> = Board<M, BoardLog<M>>;
@@ -20,106 +21,167 @@ struct Foretold {
     is_full: bool,
 }
 
-/// Makes a call, of which `asked` is a copy, and again where memory was refused, and tells what became of it. What each call is to keep besides
-/// is told where it doesn't: that it is handed back and nothing is changed, that an answer is confirmed, and that
-/// `would_wait` and `is_full` foretold it.
+/// What a call came to.
+#[derive(Clone, Copy)]
+enum Came {
+    Answered,
+    Waits,
+    Refused(Refusal),
+}
+
+/// Makes a call, of which `asked` is a copy, and again where memory was refused, and tells what became of it. What each call
+/// is to keep besides is told where it doesn't: that it is handed back and nothing is changed, that an answer is confirmed,
+/// and that `would_wait` and `is_full` foretold it.
 pub fn tell<M: Numbered>(
-    text: &mut String,
+    told: &mut Told,
     alloc: Global,
     board: &mut Numbers<M>,
     who: Who,
     call: Call<M>,
     asked: &Call<M>,
-) -> Result<(), AllocError> {
-    let foretold = Foretold {
-        waits: board.would_wait(&call),
-        is_full: board.is_full(),
-    };
-    let before = reading(alloc, board)?;
-    match board.apply(who, call) {
-        Outcome::Refused(Refusal::NoMemory, back) => {
-            let is_as_before = back.same(&asked)
-                && reading(alloc, board)?.as_str() == before.as_str();
-            tell_once(text, board.apply(who, back), board, asked, foretold)?;
-            text.push_str(REFUSED_ONCE)?;
-            note(text, is_as_before, "not as before")
-        }
-        outcome => tell_once(text, outcome, board, asked, foretold),
+) {
+    let foretold = foretold(board, &call);
+    let before = reading(alloc, board);
+    if let Some(back) = tell_first(told, board, who, call, asked, foretold) {
+        let after = reading(alloc, board);
+        tell_again(told, board, who, back, asked, foretold);
+        told.compare(&before, &after, "not as before");
     }
 }
 
+fn foretold<M: Numbered>(board: &Numbers<M>, call: &Call<M>) -> Foretold {
+    Foretold {
+        waits: board.would_wait(call),
+        is_full: board.is_full(),
+    }
+}
+
+/// Makes a call, and hands it back where memory was refused. Else it tells what became of it.
+fn tell_first<M: Numbered>(
+    told: &mut Told,
+    board: &mut Numbers<M>,
+    who: Who,
+    call: Call<M>,
+    asked: &Call<M>,
+    foretold: Foretold,
+) -> Option<Call<M>> {
+    match board.apply(who, call) {
+        Outcome::Refused(Refusal::NoMemory, back) => Some(back),
+        outcome => {
+            tell_once(told, outcome, board, asked, foretold);
+            None
+        }
+    }
+}
+
+/// Makes a call that memory was refused once more, and tells what becomes of it.
+fn tell_again<M: Numbered>(
+    told: &mut Told,
+    board: &mut Numbers<M>,
+    who: Who,
+    back: Call<M>,
+    asked: &Call<M>,
+    foretold: Foretold,
+) {
+    let is_back = back.same(asked);
+    let outcome = board.apply(who, back);
+    tell_once(told, outcome, board, asked, foretold);
+    told.say(REFUSED_ONCE);
+    told.note(is_back, "another call back");
+}
+
 /// All that a board's readers tell.
-pub fn reading<M: Numbered>(alloc: Global, board: &Numbers<M>) -> Result<String, AllocError> {
-    let mut text = String::new(alloc);
-    tell_board(&mut text, board)?;
-    Ok(text)
+fn reading<M: Numbered>(alloc: Global, board: &Numbers<M>) -> Told {
+    let mut told = Told::new(alloc);
+    tell_board(&mut told, board);
+    told
 }
 
 fn tell_once<M: Numbered>(
-    text: &mut String,
+    told: &mut Told,
     outcome: Outcome<M>,
     board: &Numbers<M>,
     asked: &Call<M>,
     foretold: Foretold,
-) -> Result<(), AllocError> {
-    match outcome {
+) {
+    let came = match outcome {
         Outcome::Answered(answer) => {
-            write_answer(text, board, &answer, asked)?;
-            note(text, !foretold.waits, "was to wait")?;
-            note(text, !foretold.is_full, "was full")
+            tell_answer(told, board, &answer, asked);
+            Came::Answered
         }
         Outcome::WouldWait(back) => {
-            text.push_str("waits")?;
-            note(text, back.same(asked), "another call back")?;
-            note(text, foretold.waits, "was not to wait")?;
-            note(text, !foretold.is_full, "was full")
+            tell_back(told, "waits", &back, asked);
+            Came::Waits
         }
         Outcome::Refused(refusal, back) => {
-            text.push_str(refusal_word(refusal))?;
-            note(text, back.same(asked), "another call back")?;
-            let is_by_limit = refusal == Refusal::JournalFull;
-            note(text, !foretold.waits || is_by_limit, "was to wait")?;
-            note(text, foretold.is_full || !is_by_limit, "was not full")
+            tell_back(told, refusal_word(refusal), &back, asked);
+            Came::Refused(refusal)
         }
+    };
+    note_foretold(told, foretold, came);
+}
+
+/// Tells where a call came to something else than was foretold.
+fn note_foretold(told: &mut Told, foretold: Foretold, came: Came) {
+    match came {
+        Came::Answered => {
+            told.note(!foretold.waits, "was to wait");
+            told.note(!foretold.is_full, "was full");
+        }
+        Came::Waits => {
+            told.note(foretold.waits, "was not to wait");
+            told.note(!foretold.is_full, "was full");
+        }
+        Came::Refused(Refusal::JournalFull) => told.note(foretold.is_full, "was not full"),
+        Came::Refused(_) => told.note(!foretold.waits, "was to wait"),
     }
 }
 
 /// Tells the reply of an answer to this call.
-pub fn write_answer<M: Numbered>(
-    text: &mut String,
+pub fn tell_answer<M: Numbered>(
+    told: &mut Told,
     board: &Numbers<M>,
     answer: &Answer<M>,
     asked: &Call<M>,
-) -> Result<(), AllocError> {
-    write_reply(text, answer.reply())?;
-    note(text, is_noted(board, answer, asked), "not confirmed")
+) {
+    tell_reply(told, answer.reply());
+    told.note(is_noted(board, answer, asked), "not confirmed");
 }
 
-/// Adds what is wrong, unless all is well.
-pub fn note(text: &mut String, is_well: bool, wrong: &str) -> Result<(), AllocError> {
-    if is_well {
-        return Ok(());
-    }
-    write!(text, ", {wrong}")
+/// Tells why there is no answer, and where the call that came back is not the one that was made.
+pub fn tell_back<M: Numbered>(told: &mut Told, word: &str, back: &Call<M>, asked: &Call<M>) {
+    told.say(word);
+    told.note(back.same(asked), "another call back");
 }
 
 /// Whether the answer is of this call, is confirmed, and stands last in the journal.
 fn is_noted<M: Numbered>(board: &Numbers<M>, answer: &Answer<M>, asked: &Call<M>) -> bool {
-    let entries = board.entries();
-    answer.call().same(asked)
-        && board.confirm(answer)
-        && answer.at() < entries
-        && entries - answer.at() == 1
+    answer.call().same(asked) && board.confirm(answer) && is_last(answer.at(), board.entries())
 }
 
-fn write_reply<M: Numbered>(text: &mut String, reply: &Reply<M>) -> Result<(), AllocError> {
+fn is_last(at: u64, entries: u64) -> bool {
+    at < entries && entries - at == 1
+}
+
+fn tell_reply<M: Numbered>(told: &mut Told, reply: &Reply<M>) {
     match reply {
-        Reply::Done => text.push_str("done"),
-        Reply::Made(name) => write!(text, "made {}", name.0),
-        Reply::Got(message) => write!(text, "{message:?}"),
-        Reply::Nothing => text.push_str("none"),
-        Reply::Put => text.push_str("put"),
-        Reply::Closed => text.push_str("closed"),
+        Reply::Done => told.say("done"),
+        Reply::Made(name) => {
+            told.say("made ");
+            told.show(&name.0);
+        }
+        Reply::Got(message) => told.show(message),
+        Reply::Nothing => told.say("none"),
+        Reply::Put => told.say("put"),
+        Reply::Closed => told.say("closed"),
+    }
+}
+
+/// Tells whether something was done, or what refused it.
+pub fn tell_done(told: &mut Told, done: Result<(), Refusal>) {
+    match done {
+        Ok(()) => told.say("done"),
+        Err(refusal) => told.say(refusal_word(refusal)),
     }
 }
 

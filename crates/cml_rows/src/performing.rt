@@ -1,15 +1,16 @@
 //! Lines that are written again.
 use crate::cutting::{Way, last_look};
-use std::alloc::AllocError;
-use std::io;
+use crate::told::Told;
+use crate::words::is_note;
+use std::alloc::Global;
 
 /// What performs the lines of a case.
 pub trait Performs {
-    /// A line, with what it comes to now.
-    fn perform(&mut self, line: &str) -> Result<String, AllocError>;
+    /// Tells what a line's words come to now; the table has `expected` behind them.
+    fn obey(&mut self, told: &mut Told, words: &[&str], expected: &str);
 
     /// Cuts the journal this way, if in any.
-    fn cut_by(&mut self, way: Option<Way>) -> Result<(), AllocError>;
+    fn cut_by(&mut self, told: &mut Told, way: Option<Way>);
 }
 
 /// Whether a line says that what its case began is over.
@@ -19,23 +20,50 @@ pub fn is_over(line: &str) -> bool {
 
 /// Writes each line again, up to one that says it is over, with what it comes to on this table, whose journal is cut behind
 /// each.
-pub fn retell<R: Print, T: Performs>(
-    rt: &R,
+pub fn retell<T: Performs>(
+    told: &mut Told,
+    alloc: Global,
     table: &mut T,
     lines: &[String],
     way: Option<Way>,
-) -> io::Result<()> {
+) {
     for line in lines.iter() {
         if is_over(line.as_str()) {
             break;
         }
-        let told = table.perform(line.as_str())?;
-        println!(rt; "{told}")?;
-        table.cut_by(way)?;
+        perform(told, alloc, table, line.as_str());
+        table.cut_by(told, way);
     }
     if let Some(line) = last_look(way) {
-        let told = table.perform(line)?;
-        println!(rt; "{told}")?;
+        perform(told, alloc, table, line);
     }
-    Ok(())
+}
+
+fn perform<T: Performs>(told: &mut Told, alloc: Global, table: &mut T, line: &str) {
+    if is_note(line) {
+        told.say(line);
+    } else {
+        perform_call(told, alloc, table, line);
+    }
+    told.say("\n");
+}
+
+fn perform_call<T: Performs>(told: &mut Told, alloc: Global, table: &mut T, line: &str) {
+    let (asked, expected) = line.split_once(": ").unwrap_or((line, ""));
+    told.say(asked);
+    told.say(": ");
+    obey_words(told, alloc, table, asked, expected);
+}
+
+fn obey_words<T: Performs>(
+    told: &mut Told,
+    alloc: Global,
+    table: &mut T,
+    asked: &str,
+    expected: &str,
+) {
+    match asked.split(' ').collect::<Vec<&str>>(alloc) {
+        Ok(words) => table.obey(told, words.as_slice(), expected),
+        Err(_) => told.lack(),
+    }
 }

@@ -2,11 +2,11 @@
 use crate::ground::Ground;
 use crate::moving::{Moves, tell_moves};
 use crate::numbered::{Maker, Numbered};
-use crate::outcome::{note, refusal_word};
+use crate::outcome::{refusal_word, tell_done};
+use crate::told::Told;
 use crate::words::{number, object};
 use cml_board::Refusal;
 use cml_lanes::{Feed, Lane, LaneEnd};
-use std::alloc::AllocError;
 
 /// A lane's side: its sender, its end, or nothing any more.
 #[derive(Drop)]
@@ -32,169 +32,149 @@ impl<'a, M: Numbered> Rings<'a, M> {
         }
     }
 
-    /// Does what a line's words ask of a lane or a feed, and tells what it comes to.
-    pub fn obey<G: Ground<M>>(
-        &mut self,
-        text: &mut String,
-        ground: &mut G,
-        words: &[&str],
-    ) -> Result<(), AllocError> {
-        let Some((word, rest)) = words.split_first() else {
-            return text.push_str("nothing is asked");
-        };
+    /// Does what a line's words ask of a lane or a feed, and tells what it comes to: whether they ask for that.
+    pub fn obey<G: Ground<M>>(&mut self, told: &mut Told, ground: &mut G, words: &[&str]) -> bool {
+        let rest = words.get(1..).unwrap_or(&[]);
         let at = number(rest, 0).unwrap_or(u64::MAX);
-        match *word {
-            "lane" => self.open_lane(text, ground, rest),
-            "feed" => self.open_feed(text, ground, rest),
-            "push" => self.push(text, at, number(rest, 1).unwrap_or(0)),
-            "pop" => self.pop(text, at),
-            "finish" => self.finish(text, at),
-            "lose" => self.lose(text, at),
-            "let_go" => self.let_go(text, at),
-            "close" => self.close(text, ground, at),
-            "drain" => tell_moves::<M, G>(text, ground, Moves::Drain, at),
-            "drop" => tell_moves::<M, G>(text, ground, Moves::Drop, at),
-            "pump" => tell_moves::<M, G>(text, ground, Moves::Pump, at),
-            "abandon" => tell_done(text, ground.abandon_lane(at)),
-            "end" => tell_end(text, ground.end_feed(at)),
-            _ => text.push_str("not understood"),
+        match *words.first().unwrap_or(&"") {
+            "lane" => self.open_lane(told, ground, rest),
+            "feed" => self.open_feed(told, ground, rest),
+            "push" => self.push(told, at, number(rest, 1).unwrap_or(0)),
+            "pop" => self.pop(told, at),
+            "finish" => self.finish(told, at),
+            "lose" => self.lose(told, at),
+            "let_go" => self.let_go(told, at),
+            "close" => self.close(told, ground, at),
+            "drain" => tell_moves::<M, G>(told, ground, Moves::Drain, at),
+            "drop" => tell_moves::<M, G>(told, ground, Moves::Drop, at),
+            "pump" => tell_moves::<M, G>(told, ground, Moves::Pump, at),
+            "abandon" => tell_done(told, ground.abandon_lane(at)),
+            "end" => tell_end(told, ground.end_feed(at)),
+            _ => return false,
         }
+        true
     }
 
-    fn open_lane<G: Ground<M>>(
-        &mut self,
-        text: &mut String,
-        ground: &mut G,
-        rest: &[&str],
-    ) -> Result<(), AllocError> {
+    fn open_lane<G: Ground<M>>(&mut self, told: &mut Told, ground: &mut G, rest: &[&str]) {
         let (Some(target), Some(capacity)) = (object(rest), number(rest, 1)) else {
-            return text.push_str("not understood");
+            return told.say("not understood");
         };
-        self.lanes.reserve(1)?;
         match ground.open_lane(target, capacity as usize) {
             Ok((lane, number)) => {
-                self.lanes.push(Side::Sends(lane))?;
-                write!(text, "lane {number}")
+                told.needs(self.lanes.push(Side::Sends(lane)).is_ok());
+                told.say("lane ");
+                told.show(&number);
             }
-            Err(refusal) => text.push_str(refusal_word(refusal)),
+            Err(refusal) => told.say(refusal_word(refusal)),
         }
     }
 
-    fn open_feed<G: Ground<M>>(
-        &mut self,
-        text: &mut String,
-        ground: &mut G,
-        rest: &[&str],
-    ) -> Result<(), AllocError> {
+    fn open_feed<G: Ground<M>>(&mut self, told: &mut Told, ground: &mut G, rest: &[&str]) {
         let (Some(channel), Some(capacity)) = (object(rest), number(rest, 1)) else {
-            return text.push_str("not understood");
+            return told.say("not understood");
         };
-        self.feeds.reserve(1)?;
         match ground.open_feed(channel, capacity as usize) {
             Ok((feed, number)) => {
                 let port = feed.port().0;
-                self.feeds.push(Some(feed))?;
-                write!(text, "feed {number} port {port}")
+                told.needs(self.feeds.push(Some(feed)).is_ok());
+                told.say("feed ");
+                told.show(&number);
+                told.say(" port ");
+                told.show(&port);
             }
-            Err(refusal) => text.push_str(refusal_word(refusal)),
+            Err(refusal) => told.say(refusal_word(refusal)),
         }
     }
 
-    fn push(&mut self, text: &mut String, at: u64, value: u64) -> Result<(), AllocError> {
-        let message = self.maker.make(value)?;
+    fn push(&mut self, told: &mut Told, at: u64, value: u64) {
         let Some(Side::Sends(lane)) = self.lanes.get_mut(at as usize) else {
-            return text.push_str("no lane");
+            return told.say("no lane");
+        };
+        let Some(message) = self.maker.make(told, value) else {
+            return;
         };
         match lane.send(message) {
-            Ok(()) => text.push_str("done"),
-            Err(full) => {
-                let sent = self.maker.make(value)?;
-                text.push_str("full")?;
-                note(text, full.0.same(&sent), "another message back")
-            }
+            Ok(()) => told.say("done"),
+            Err(full) => tell_full(told, self.maker, &full.0, value),
         }
     }
 
-    fn pop(&mut self, text: &mut String, at: u64) -> Result<(), AllocError> {
+    fn pop(&mut self, told: &mut Told, at: u64) {
         let Some(Some(feed)) = self.feeds.get_mut(at as usize) else {
-            return text.push_str("no feed");
+            return told.say("no feed");
         };
         match feed.recv() {
-            Some(message) => write!(text, "{message:?}"),
-            None => text.push_str("none"),
+            Some(message) => told.show(&message),
+            None => told.say("none"),
         }
     }
 
-    fn finish(&mut self, text: &mut String, at: u64) -> Result<(), AllocError> {
+    fn finish(&mut self, told: &mut Told, at: u64) {
         let Some(side) = self.lanes.get_mut(at as usize) else {
-            return text.push_str("no lane");
+            return told.say("no lane");
         };
         let Side::Sends(lane) = std::mem::replace(side, Side::Gone) else {
-            return text.push_str("no lane");
+            return told.say("no lane");
         };
         let Some(end) = lane.finish() else {
-            return text.push_str("no end");
+            return told.say("no end");
         };
-        write!(text, "end of {}", end.count())?;
+        told.say("end of ");
+        told.show(&end.count());
         *side = Side::Finished(end);
-        Ok(())
     }
 
     /// Drops the thread's side of a lane.
-    fn lose(&mut self, text: &mut String, at: u64) -> Result<(), AllocError> {
+    fn lose(&mut self, told: &mut Told, at: u64) {
         match self.lanes.get_mut(at as usize) {
             Some(side) => {
                 *side = Side::Gone;
-                text.push_str("done")
+                told.say("done");
             }
-            None => text.push_str("no lane"),
+            None => told.say("no lane"),
         }
     }
 
     /// Drops the thread's side of a feed.
-    fn let_go(&mut self, text: &mut String, at: u64) -> Result<(), AllocError> {
+    fn let_go(&mut self, told: &mut Told, at: u64) {
         match self.feeds.get_mut(at as usize) {
             Some(feed) => {
                 *feed = None;
-                text.push_str("done")
+                told.say("done");
             }
-            None => text.push_str("no feed"),
+            None => told.say("no feed"),
         }
     }
 
-    fn close<G: Ground<M>>(
-        &mut self,
-        text: &mut String,
-        ground: &mut G,
-        at: u64,
-    ) -> Result<(), AllocError> {
+    fn close<G: Ground<M>>(&mut self, told: &mut Told, ground: &mut G, at: u64) {
         let Some(side) = self.lanes.get_mut(at as usize) else {
-            return text.push_str("no lane");
+            return told.say("no lane");
         };
         let Side::Finished(end) = std::mem::replace(side, Side::Gone) else {
-            return text.push_str("no end");
+            return told.say("no end");
         };
         match ground.close_counted(end) {
-            Ok(()) => text.push_str("done"),
+            Ok(()) => told.say("done"),
             Err((end, refusal)) => {
                 *side = Side::Finished(end);
-                text.push_str(refusal_word(refusal))
+                told.say(refusal_word(refusal));
             }
         }
     }
 }
 
-pub fn tell_done(text: &mut String, told: Result<(), Refusal>) -> Result<(), AllocError> {
-    match told {
-        Ok(()) => text.push_str("done"),
-        Err(refusal) => text.push_str(refusal_word(refusal)),
+/// Tells that a lane had no room for a message, and where another came back.
+fn tell_full<M: Numbered>(told: &mut Told, maker: &Maker<M>, back: &M, value: u64) {
+    told.say("full");
+    if let Some(sent) = maker.make(told, value) {
+        told.note(back.same(&sent), "another message back");
     }
 }
 
-fn tell_end(text: &mut String, told: Result<bool, Refusal>) -> Result<(), AllocError> {
-    match told {
-        Ok(true) => text.push_str("an end"),
-        Ok(false) => text.push_str("no end"),
-        Err(refusal) => text.push_str(refusal_word(refusal)),
-    }
+fn tell_end(told: &mut Told, ended: Result<bool, Refusal>) {
+    told.say(match ended {
+        Ok(true) => "an end",
+        Ok(false) => "no end",
+        Err(refusal) => refusal_word(refusal),
+    });
 }

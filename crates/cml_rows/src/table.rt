@@ -3,16 +3,25 @@ use crate::cutting::{Pieces, Way};
 use crate::facts::{tell_call, tell_check, tell_object};
 use crate::numbered::{Maker, Numbered};
 use crate::outcome::{NO_MEMORY, Numbers, REFUSED_ONCE, tell};
-use crate::performing::Performs;
-use crate::words::{call_and_copy, call_of, is_note, number, object, reply_of};
+use crate::performing::{Performs, retell};
+use crate::told::Told;
+use crate::words::{call_and_copy, call_of, number, object, reply_of};
 use cml_board::{Answer, Call, Entry, Outcome, Refusal, Who};
 use std::alloc::AllocError;
 
 /// How many entries a board takes where its table doesn't say.
 const LIMIT: u64 = 100;
 
+/// Performs the lines of a case on a board.
+pub fn perform<M: Numbered>(told: &mut Told, maker: &Maker<M>, lines: &[String], way: Option<Way>) {
+    match Table::new(maker) {
+        Ok(mut table) => retell(told, maker.alloc, &mut table, lines, way),
+        Err(_) => told.lack(),
+    }
+}
+
 #[derive(Drop)]
-pub struct Table<'a, M: Numbered> {
+struct Table<'a, M: Numbered> {
     maker: &'a Maker<M>,
     board: Numbers<M>,
     // What the board's journal handed over.
@@ -25,15 +34,12 @@ pub struct Table<'a, M: Numbered> {
 }
 
 impl<'a, M: Numbered> Table<'a, M> {
-    pub fn new(maker: &'a Maker<M>) -> Result<Table<'a, M>, AllocError> {
-        Table::with_limit(maker, LIMIT)
-    }
-
-    fn with_limit(maker: &'a Maker<M>, limit: u64) -> Result<Table<'a, M>, AllocError> {
+    /// Begins with a board of the usual limit.
+    fn new(maker: &'a Maker<M>) -> Result<Table<'a, M>, AllocError> {
         let alloc = maker.alloc;
         Ok(Table {
             maker,
-            board: Numbers::<M>::new(alloc, limit.max(1).min(4_294_967_296))?,
+            board: Numbers::<M>::new(alloc, LIMIT)?,
             pieces: Pieces::new(alloc),
             who: Who::Seat(0),
             entries: Vec::new(alloc),
@@ -41,24 +47,26 @@ impl<'a, M: Numbered> Table<'a, M> {
         })
     }
 
-    fn obey(&mut self, text: &mut String, words: &[&str], told: &str) -> Result<(), AllocError> {
-        let Some((word, rest)) = words.split_first() else {
-            return text.push_str("nothing is asked");
+    /// Begins another board. The answer that is kept is of one before.
+    fn begin(&mut self, told: &mut Told, limit: u64) {
+        let limit = limit.max(1).min(4_294_967_296);
+        let Ok(board) = Numbers::<M>::new(self.maker.alloc, limit) else {
+            return told.lack();
         };
-        match (*word, call_of(self.maker, rest)?) {
-            ("takes", Some(call)) => tell_call(text, &call),
-            ("keep", Some(call)) => self.keep(text, call),
-            ("entry", Some(call)) => self.make_up(text, told, call),
-            _ => self.call(text, words),
-        }
+        self.board = board;
+        self.pieces.clear();
+        self.who = Who::Seat(0);
+        self.entries.clear();
+        told.say("limit ");
+        told.show(&self.board.limit());
     }
 
     /// Makes the call that the words ask for, or looks at the board.
-    fn call(&mut self, text: &mut String, words: &[&str]) -> Result<(), AllocError> {
-        match call_and_copy(self.maker, words)? {
+    fn call(&mut self, told: &mut Told, words: &[&str]) {
+        match call_and_copy(told, self.maker, words) {
             Some((call, asked)) => {
                 tell(
-                    text,
+                    told,
                     self.maker.alloc,
                     &mut self.board,
                     self.who,
@@ -66,106 +74,115 @@ impl<'a, M: Numbered> Table<'a, M> {
                     &asked,
                 )
             }
-            None => self.look(text, words),
+            None => self.look(told, words),
         }
     }
 
-    /// Adds an entry with this call, and the reply that is told, to the journal that the table makes up.
-    fn make_up(&mut self, text: &mut String, told: &str, call: Call<M>) -> Result<(), AllocError> {
-        let Some(reply) = reply_of(self.maker, told)? else {
-            return text.push_str("no reply is told");
+    /// Adds an entry with the call of these words, and the reply that the table has, to the journal that it makes up.
+    fn make_up(&mut self, told: &mut Told, words: &[&str], expected: &str) {
+        let Some(entry) = self.entry(told, words, expected) else {
+            return told.say("no entry");
         };
-        let who = self.who;
-        self.entries.push(Entry { who, call, reply })?;
-        text.push_str(told)
+        told.needs(self.entries.push(entry).is_ok());
+        told.say(expected);
+    }
+
+    fn entry(&self, told: &mut Told, words: &[&str], expected: &str) -> Option<Entry<M>> {
+        let call = call_of(told, self.maker, words)?;
+        Some(Entry {
+            who: self.who,
+            call,
+            reply: reply_of(told, self.maker, expected)?,
+        })
+    }
+
+    /// Tells what takes the call of these words.
+    fn tell_takers(&self, told: &mut Told, words: &[&str]) {
+        match call_of(told, self.maker, words) {
+            Some(call) => tell_call(told, &call),
+            None => told.say("not understood"),
+        }
     }
 
     /// Makes a call, and again where memory was refused, and keeps its answer.
-    fn keep(&mut self, text: &mut String, call: Call<M>) -> Result<(), AllocError> {
-        match self.board.apply(self.who, call) {
-            Outcome::Refused(Refusal::NoMemory, back) => {
-                let outcome = self.board.apply(self.who, back);
-                self.keep_answer(text, outcome)?;
-                text.push_str(REFUSED_ONCE)
-            }
-            outcome => self.keep_answer(text, outcome),
+    fn keep(&mut self, told: &mut Told, words: &[&str]) {
+        let Some(call) = call_of(told, self.maker, words) else {
+            return told.say("not understood");
+        };
+        if let Some(back) = self.kept(told, call) {
+            let _refused = self.kept(told, back);
+            told.say(REFUSED_ONCE);
         }
     }
 
-    fn keep_answer(&mut self, text: &mut String, outcome: Outcome<M>) -> Result<(), AllocError> {
-        match outcome {
+    /// Keeps the answer to a call, and hands a call back that memory was refused.
+    fn kept(&mut self, told: &mut Told, call: Call<M>) -> Option<Call<M>> {
+        match self.board.apply(self.who, call) {
             Outcome::Answered(answer) => {
                 self.kept = Some(answer);
-                text.push_str("kept")
+                told.say("kept");
+                None
             }
-            _ => text.push_str("not answered"),
+            Outcome::Refused(Refusal::NoMemory, back) => Some(back),
+            _ => {
+                told.say("not answered");
+                None
+            }
         }
     }
 
     /// Tells whether the board confirms the answer that is kept.
-    fn confirm(&self, text: &mut String) -> Result<(), AllocError> {
-        match &self.kept {
-            Some(answer) if self.board.confirm(answer) => text.push_str("yes"),
-            Some(_) => text.push_str("no"),
-            None => text.push_str("nothing is kept"),
-        }
+    fn confirm(&self, told: &mut Told) {
+        told.say(match &self.kept {
+            Some(answer) if self.board.confirm(answer) => "yes",
+            Some(_) => "no",
+            None => "nothing is kept",
+        });
     }
 
     /// Takes memory for entries, and asks once more where it is refused.
-    fn reserve(&mut self, text: &mut String, entries: usize) -> Result<(), AllocError> {
+    fn reserve(&mut self, told: &mut Told, entries: usize) {
         if self.board.reserve(entries).is_ok() {
-            return text.push_str("done");
+            return told.say("done");
         }
-        text.push_str(if self.board.reserve(entries).is_ok() {
-            "done"
-        } else {
-            NO_MEMORY
-        })?;
-        text.push_str(REFUSED_ONCE)
+        let is_done = self.board.reserve(entries).is_ok();
+        told.say(if is_done { "done" } else { NO_MEMORY });
+        told.say(REFUSED_ONCE);
     }
 
     /// Looks at the board, or begins another.
-    fn look(&mut self, text: &mut String, words: &[&str]) -> Result<(), AllocError> {
+    fn look(&mut self, told: &mut Told, words: &[&str]) {
         let rest = words.get(1..).unwrap_or(&[]);
         match *words.first().unwrap_or(&"") {
-            "board" => {
-                let kept = self.kept.take();
-                *self = Table::with_limit(self.maker, number(rest, 0).unwrap_or(LIMIT))?;
-                self.kept = kept;
-                write!(text, "limit {}", self.board.limit())
-            }
+            "board" => self.begin(told, number(rest, 0).unwrap_or(LIMIT)),
             "seat" => {
                 self.who = Who::Seat(number(rest, 0).unwrap_or(0));
-                text.push_str("calls")
+                told.say("calls");
             }
-            "reserve" => self.reserve(text, number(rest, 0).unwrap_or(0) as usize),
+            "reserve" => self.reserve(told, number(rest, 0).unwrap_or(0) as usize),
             "tell" => match object(rest) {
-                Some(name) => tell_object(text, &self.board, name),
-                None => text.push_str("no object is named"),
+                Some(name) => tell_object(told, &self.board, name),
+                None => told.say("no object is named"),
             },
-            "confirm" => self.confirm(text),
-            "entries" => tell_check(text, self.maker.alloc, self.entries.as_slice()),
-            _ => self.pieces.tell(text, &mut self.board, words),
+            "confirm" => self.confirm(told),
+            "entries" => tell_check(told, self.maker.alloc, self.entries.as_slice()),
+            _ => self.pieces.tell(told, &mut self.board, words),
         }
     }
 }
 
 impl<M: Numbered> Performs for Table<'_, M> {
-    fn perform(&mut self, line: &str) -> Result<String, AllocError> {
-        let mut text = String::new(self.maker.alloc);
-        if is_note(line) {
-            text.push_str(line)?;
-            return Ok(text);
+    fn obey(&mut self, told: &mut Told, words: &[&str], expected: &str) {
+        let rest = words.get(1..).unwrap_or(&[]);
+        match *words.first().unwrap_or(&"") {
+            "takes" => self.tell_takers(told, rest),
+            "keep" => self.keep(told, rest),
+            "entry" => self.make_up(told, rest, expected),
+            _ => self.call(told, words),
         }
-        let (asked, told) = line.split_once(": ").unwrap_or((line, ""));
-        text.push_str(asked)?;
-        text.push_str(": ")?;
-        let words: Vec<&str> = asked.split(' ').collect(self.maker.alloc)?;
-        self.obey(&mut text, words.as_slice(), told)?;
-        Ok(text)
     }
 
-    fn cut_by(&mut self, way: Option<Way>) -> Result<(), AllocError> {
-        self.pieces.cut_by(&mut self.board, way)
+    fn cut_by(&mut self, told: &mut Told, way: Option<Way>) {
+        self.pieces.cut_by(told, &mut self.board, way);
     }
 }

@@ -2,8 +2,8 @@
 ghost use Rattle.std.specs.Prelude.{◌^◌, ◌≤◌};
 
 use crate::numbered::{Maker, Numbered};
+use crate::told::Told;
 use cml_board::{Call, Name, Reply};
-use std::alloc::AllocError;
 
 /// Whether a line asks for nothing: it is empty, a note, or a case's name.
 pub fn is_note(line: &str) -> bool {
@@ -12,8 +12,12 @@ pub fn is_note(line: &str) -> bool {
 
 /// The first line of a case that asks for something.
 pub fn first_line(lines: &[String]) -> Option<&str> {
-    let asks = |line: &&String| !is_note(line.as_str());
-    Some(lines.iter().find(asks)?.as_str())
+    for line in lines.iter() {
+        if !is_note(line.as_str()) {
+            return Some(line.as_str());
+        }
+    }
+    None
 }
 
 /// How many entries the journal takes of what a case's first line begins, as `hall 10: limit 10` does: 100 where it
@@ -32,73 +36,89 @@ pub fn limit_in(lines: &[String]) -> u64
 }
 
 /// The call that these words ask for. An object goes by its number.
-pub fn call_of<M: Numbered>(
-    maker: &Maker<M>,
-    words: &[&str],
-) -> Result<Option<Call<M>>, AllocError> {
-    let Some((word, rest)) = words.split_first() else {
-        return Ok(None);
+pub fn call_of<M: Numbered>(told: &mut Told, maker: &Maker<M>, words: &[&str]) -> Option<Call<M>> {
+    let (word, rest) = words.split_first()?;
+    let Some(value) = message_in(word, rest) else {
+        return bare_call_of(word, rest);
     };
-    if let ("mvar", Some(value)) = (*word, number(rest, 0)) {
-        return Ok(Some(Call::MVarInit(maker.make(value)?)));
-    }
-    let (Some(name), Some(value)) = (object(rest), number(rest, 1)) else {
-        return Ok(bare_call_of(word, rest));
-    };
-    let message = maker.make(value)?;
-    match *word {
-        "send" => Ok(Some(Call::Send(name, message))),
-        "multicast" => Ok(Some(Call::Cast(name, message))),
-        "put" => Ok(Some(Call::Put(name, message))),
-        "swap" => Ok(Some(Call::Swap(name, message))),
-        _ => Ok(None),
+    let name = object(rest)?;
+    Some(call_with(word, name, maker.make(told, value)?))
+}
+
+/// The number of the message that stands behind a word.
+fn message_in(word: &str, rest: &[&str]) -> Option<u64> {
+    match word {
+        "mvar" => number(rest, 0),
+        "send" | "multicast" | "put" | "swap" => number(rest, 1),
+        _ => None,
     }
 }
 
 /// The call that these words ask for, and the same call once more.
 pub fn call_and_copy<M: Numbered>(
+    told: &mut Told,
     maker: &Maker<M>,
     words: &[&str],
-) -> Result<Option<(Call<M>, Call<M>)>, AllocError> {
-    match (call_of(maker, words)?, call_of(maker, words)?) {
-        (Some(call), Some(copy)) => Ok(Some((call, copy))),
-        _ => Ok(None),
+) -> Option<(Call<M>, Call<M>)> {
+    let call = call_of(told, maker, words)?;
+    Some((call, call_of(told, maker, words)?))
+}
+
+/// The call that a word with a message asks for. One that makes a variable has no object yet.
+fn call_with<M: Numbered>(word: &str, name: Name, message: M) -> Call<M> {
+    match word {
+        "send" => Call::Send(name, message),
+        "multicast" => Call::Cast(name, message),
+        "put" => Call::Put(name, message),
+        "swap" => Call::Swap(name, message),
+        _ => Call::MVarInit(message),
     }
 }
 
-/// The same of a call without a message.
+/// The call that a word asks for without a message.
 fn bare_call_of<M: Numbered>(word: &str, rest: &[&str]) -> Option<Call<M>> {
     match word {
         "mailbox" => Some(Call::NewMailbox),
         "channel" => Some(Call::NewChannel),
         "ivar" => Some(Call::NewIVar),
         "mvar" => Some(Call::NewMVar),
-        "port" => Some(Call::NewPort(object(rest)?)),
-        "copy" => Some(Call::CopyPort(object(rest)?)),
-        "close" => Some(Call::ClosePort(object(rest)?)),
-        "recv" => Some(Call::Recv(object(rest)?)),
-        "poll" => Some(Call::Poll(object(rest)?)),
-        "get" => Some(Call::Get(object(rest)?)),
-        "getpoll" => Some(Call::GetPoll(object(rest)?)),
-        "take" => Some(Call::Take(object(rest)?)),
-        "takepoll" => Some(Call::TakePoll(object(rest)?)),
+        _ => call_on(word, object(rest)?),
+    }
+}
+
+fn call_on<M: Numbered>(word: &str, name: Name) -> Option<Call<M>> {
+    match word {
+        "port" => Some(Call::NewPort(name)),
+        "copy" => Some(Call::CopyPort(name)),
+        "close" => Some(Call::ClosePort(name)),
+        "recv" => Some(Call::Recv(name)),
+        "poll" => Some(Call::Poll(name)),
+        "get" => Some(Call::Get(name)),
+        "getpoll" => Some(Call::GetPoll(name)),
+        "take" => Some(Call::Take(name)),
+        "takepoll" => Some(Call::TakePoll(name)),
         _ => None,
     }
 }
 
 /// The reply that this text tells, as a table writes it.
-pub fn reply_of<M: Numbered>(maker: &Maker<M>, text: &str) -> Result<Option<Reply<M>>, AllocError> {
+pub fn reply_of<M: Numbered>(told: &mut Told, maker: &Maker<M>, text: &str) -> Option<Reply<M>> {
     match text {
-        "done" => Ok(Some(Reply::Done)),
-        "none" => Ok(Some(Reply::Nothing)),
-        "put" => Ok(Some(Reply::Put)),
-        "closed" => Ok(Some(Reply::Closed)),
-        _ => match (text.strip_prefix("made "), text.parse()) {
-            (Some(name), _) => Ok(name.parse().ok().map(|name| Reply::Made(Name(name)))),
-            (None, Ok(value)) => Ok(Some(Reply::Got(maker.make(value)?))),
-            (None, Err(_)) => Ok(None),
-        },
+        "done" => Some(Reply::Done),
+        "none" => Some(Reply::Nothing),
+        "put" => Some(Reply::Put),
+        "closed" => Some(Reply::Closed),
+        _ => given_by(told, maker, text),
     }
+}
+
+/// The reply that gives a name or a message.
+fn given_by<M: Numbered>(told: &mut Told, maker: &Maker<M>, text: &str) -> Option<Reply<M>> {
+    if let Some(name) = text.strip_prefix("made ") {
+        return Some(Reply::Made(Name(parsed(name)?)));
+    }
+    let value = parsed(text)?;
+    Some(Reply::Got(maker.make(told, value)?))
 }
 
 /// The object that the first word names.
@@ -107,5 +127,9 @@ pub fn object(words: &[&str]) -> Option<Name> {
 }
 
 pub fn number(words: &[&str], at: usize) -> Option<u64> {
-    words.get(at)?.parse().ok()
+    parsed(words.get(at)?)
+}
+
+fn parsed(word: &str) -> Option<u64> {
+    word.parse().ok()
 }
