@@ -6,53 +6,45 @@ mod rings;
 mod scene;
 mod senders;
 mod settling;
+mod steps;
 mod verdict;
 
-use cml_threads::Count;
 use crew::Crew;
-use scene::{Part, Scene, performed};
+use scene::{Scene, performed};
 use std::process::Abort;
-use std::test::Fail;
 
-const SCENES: &[(Scene, &str)] = &[
-    (Scene::Alone(Part::Rings), "as told"),
-    (Scene::Threads(Crew::Callers), "all confirmed"),
-    (Scene::Threads(Crew::Crowd), "each once, and lawful"),
-    (Scene::Threads(Crew::Stalled), "each is told"),
-    (Scene::Alone(Part::Forms), "as told"),
-    (Scene::Alone(Part::Refused), "as told"),
-    (Scene::Alone(Part::Cut), "as told"),
-    (Scene::OneLeft, "handed back, and settled"),
-    (Scene::Dropped, "handed back"),
+/// How many entries a journal takes where a scene needs no limit.
+const MANY: u64 = 65_536;
+
+/// How many entries each scene's journal takes, and what the scene comes to.
+const SCENES: &[(u64, Scene, &str)] = &[
+    (MANY, Scene::Alone(rings::STEPS), rings::TOLD),
+    (MANY, Scene::Threads(Crew::Callers), verdict::CALLERS),
+    (MANY, Scene::Threads(Crew::Crowd), verdict::CROWD),
+    (MANY, Scene::Threads(Crew::Stalled), verdict::STALLED),
+    (MANY, Scene::Alone(forms::STEPS), forms::TOLD),
+    (2, Scene::Alone(refusing::STEPS), refusing::TOLD),
+    (2, Scene::Alone(cutting::STEPS), cutting::TOLD),
     (
-        Scene::Threads(Crew::Senders),
-        "each once, in its lane's order",
+        MANY,
+        Scene::InTurn(settling::SENDS, settling::POLLS),
+        settling::LATE,
     ),
+    (MANY, Scene::Dropped(settling::SENDS), settling::WITHOUT),
+    (MANY, Scene::Threads(Crew::Senders), verdict::SENDERS),
 ];
 
-fn is_counted(rt: &impl Abort, count: Option<Count>, expected: Count) {
-    assert_eq!(rt; count, Some(expected), "the counts of what was settled");
-}
-
-fn is_same(rt: &impl Abort, word: &str, expected: &str) {
-    assert_eq!(rt; word, expected);
+fn is_same(rt: &impl Abort, text: &str, expected: &str) {
+    assert_eq!(rt; text, expected);
 }
 
 #[test]
-fn counts_entries_of_lanes_for_no_seat(rt: HostRuntime) -> Result<(), Fail> {
-    let expected = Count {
-        seats: 2,
-        rings: 2,
-        total: 4,
-    };
-    is_counted(&rt, settling::count_with_lane(rt.alloc()), expected);
-    Ok(())
-}
-
-#[test]
-fn plays_scenes_of_threads(rt: HostRuntime) -> Result<(), Fail> {
-    for (scene, expected) in SCENES.iter() {
-        is_same(&rt, performed(&rt, rt.alloc(), *scene), expected);
+fn plays_scenes_of_threads(rt: HostRuntime) {
+    for (limit, scene, expected) in SCENES.iter() {
+        is_same(
+            &rt,
+            performed(&rt, rt.alloc(), *limit, *scene).as_str(),
+            expected,
+        );
     }
-    Ok(())
 }

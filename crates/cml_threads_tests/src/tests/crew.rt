@@ -1,22 +1,26 @@
 //! Threads at work on one switchboard, each by a seat or a lane of its own.
-use super::scene::{Final, Numbers, settled};
+use super::scene::Numbers;
+use super::steps::{Form, Step, taken};
 use super::{senders, verdict};
 use cml_board::{Answer, Call, Name, Refusal};
-use cml_lanes::{Lane, LaneEnd};
+use cml_lanes::Lane;
 use cml_threads::{Left, Seat};
-use std::alloc::{AllocError, Global};
+use std::alloc::Global;
 use std::sync::Wait;
 use std::sync::ledger::Ledger;
 use std::thread::{self, Threads};
 
 /// How many calls each of the two callers makes.
-pub const CALLS: u64 = 200;
+const CALLS: u64 = 200;
 
 /// How many messages each thread of the crowd sends or receives.
-pub const MESSAGES: u64 = 2_500;
+const MESSAGES: u64 = 2_500;
 
 /// How many of the crowd receive; as many send.
-pub const RECEIVERS: u64 = 4;
+const RECEIVERS: u64 = 4;
+
+/// A seat that comes first makes the two mailboxes.
+const MAILBOXES: &[Step] = &[Step::Form(Form::Mailbox), Step::Form(Form::Mailbox)];
 
 const TO: Name = Name(0);
 
@@ -40,44 +44,26 @@ pub enum Crew {
 pub enum Job<Led: Ledger> {
     /// The calls of a seat.
     Call(Seat<Led>),
-    /// To receive what comes by lanes.
-    Receive(Seat<Led>),
     Send(Lane<u64>),
     Drain,
 }
 
-/// What it hands back.
+/// What it hands back: what its seat left, if it had one, and what became of its calls.
 #[derive(Drop)]
-enum Done<Led: Ledger> {
-    Called(Left<Led>, Made),
-    Received(Left<Led>, Vec<u64>),
-    Sent(Option<LaneEnd<u64>>),
-    Drained,
+struct Done<Led: Ledger> {
+    left: Option<Left<Led>>,
+    made: Made,
 }
 
-/// What became of a thread's calls: the answers, and why it stopped before its last.
+/// The answers to a thread's calls, and why it stopped before its last.
 #[derive(Drop)]
 pub struct Made {
     pub answers: Vec<Answer<u64>>,
     pub refusal: Option<Refusal>,
 }
 
-/// What all of them handed back.
-#[derive(Drop)]
-struct All<Led: Ledger> {
-    lefts: Vec<Left<Led>>,
-    ends: Vec<LaneEnd<u64>>,
-    told: Told,
-}
-
-/// What is told of the calls.
-#[derive(Drop)]
-pub struct Told {
-    pub made: Vec<Made>,
-    pub received: Vec<u64>,
-}
-
 impl Crew {
+    /// How many seats there are.
     fn size(self) -> u64 {
         match self {
             Crew::Callers | Crew::Senders => 2,
@@ -85,145 +71,102 @@ impl Crew {
         }
     }
 
-    /// What a seat is to do.
-    fn job<Led: Ledger>(self, seat: Seat<Led>) -> Job<Led> {
-        match self {
-            Crew::Senders => Job::Receive(seat),
-            Crew::Callers | Crew::Crowd | Crew::Stalled => Job::Call(seat),
-        }
-    }
-
-    /// A seat's call of this round, until it has made its last.
+    /// The call of this round of the seat with this number, which begin at 1, until it has made its last.
     fn call(self, number: u64, round: u64) -> Option<Call<u64>> {
         match self {
             Crew::Callers if round == CALLS => None,
-            Crew::Callers if number == 0 && round % 2 == 0 => Some(Call::Send(TO, round)),
-            Crew::Callers if number == 0 => Some(Call::Recv(FRO)),
+            Crew::Callers if number == 1 && round % 2 == 0 => Some(Call::Send(TO, round)),
+            Crew::Callers if number == 1 => Some(Call::Recv(FRO)),
             Crew::Callers if round % 2 == 0 => Some(Call::Recv(TO)),
             Crew::Callers => Some(Call::Send(FRO, round)),
             Crew::Crowd if round == MESSAGES => None,
-            Crew::Crowd if number < RECEIVERS => Some(Call::Recv(TO)),
+            Crew::Crowd if number <= RECEIVERS => Some(Call::Recv(TO)),
             Crew::Crowd => Some(Call::Send(TO, sent_first(number).saturating_add(round))),
-            Crew::Stalled if round == 0 => Some(Call::Recv(TO)),
-            Crew::Stalled | Crew::Senders => None,
+            Crew::Stalled if round > 0 => None,
+            Crew::Stalled => Some(Call::Recv(TO)),
+            Crew::Senders if round == senders::HALF => None,
+            Crew::Senders => Some(Call::Recv(senders::MAILBOX)),
         }
     }
 }
 
 fn sent_first(number: u64) -> u64 {
-    number.saturating_sub(RECEIVERS).saturating_mul(MESSAGES)
+    number
+        .saturating_sub(RECEIVERS + 1)
+        .saturating_mul(MESSAGES)
 }
 
 /// All threads at work until each has left, and what that comes to.
-pub fn come_to<Led: Ledger + Send + Sync, R: Threads + Wait + Sync>(
+pub fn perform<Led: Ledger + Send + Sync, R: Threads + Wait + Sync>(
     rt: &R,
     alloc: Global,
+    text: &mut String,
     board: Numbers<Led>,
     crew: Crew,
-) -> Option<&'static str> {
-    let All { lefts, ends, told } = at_work(rt, alloc, &board, crew).ok()?;
-    if !senders::are_closed(rt, &board, ends, crew) {
-        return Some("a lane is still open");
+) {
+    let mut lefts = Vec::new(alloc);
+    let mut all = Vec::new(alloc);
+    if let Some(first) = taken(rt, text, &board, MAILBOXES) {
+        lefts.push(first).is_ok();
     }
-    let settled = settled(board, Ok(lefts))?;
-    word(alloc, &settled, told, crew).ok()
-}
-
-fn word(
-    alloc: Global,
-    settled: &Final,
-    told: Told,
-    crew: Crew,
-) -> Result<&'static str, AllocError> {
-    let Told { made, received } = told;
-    match crew {
-        Crew::Callers => Ok(verdict::of_callers(settled, &made)),
-        Crew::Crowd => verdict::of_crowd(alloc, settled, &made),
-        Crew::Stalled => Ok(verdict::of_stalled(&made)),
-        Crew::Senders => Ok(senders::verdict(settled, received)),
+    work_together(rt, alloc, &board, crew, &mut lefts, &mut all);
+    if matches!(crew, Crew::Senders) {
+        senders::let_go(rt, text, &board);
+    }
+    if let Ok(settled) = board.settle(lefts) {
+        verdict::tell_all(alloc, text, &settled, &all);
     }
 }
 
-fn at_work<Led: Ledger + Send + Sync, R: Threads + Wait + Sync>(
+fn work_together<Led: Ledger + Send + Sync, R: Threads + Wait + Sync>(
     rt: &R,
     alloc: Global,
     board: &Numbers<Led>,
     crew: Crew,
-) -> Result<All<Led>, AllocError> {
+    lefts: &mut Vec<Left<Led>>,
+    all: &mut Vec<Made>,
+) {
     let mut jobs = Vec::new(alloc);
-    if add_jobs(rt, board, crew, &mut jobs).is_none() {
-        return Err(AllocError);
-    }
-    let done = thread::map_vec(
+    add_jobs(rt, board, crew, &mut jobs);
+    if let Ok(done) = thread::map_vec(
         rt,
         jobs,
         &|job: Job<Led>| { work(rt, alloc, board, crew, job) },
-    )?;
-    gathered(alloc, done)
+    ) {
+        gather(done, lefts, all);
+    }
 }
 
-/// A job for each lane and one that drains them, if there are any, and one for each seat.
+/// A job for each seat; and for each lane and one that drains them, if there are any.
 fn add_jobs<Led: Ledger, R: Wait>(
     rt: &R,
     board: &Numbers<Led>,
     crew: Crew,
     jobs: &mut Vec<Job<Led>>,
-) -> Option<()> {
-    let first = first_seat(rt, board)?;
+) {
+    for _ in 0..crew.size() {
+        if let Ok(seat) = board.seat(rt) {
+            add(jobs, Job::Call(seat));
+        }
+    }
     if matches!(crew, Crew::Senders) {
-        senders::add_jobs(rt, board, jobs)?;
+        senders::add_jobs(rt, board, jobs);
     }
-    jobs.push(crew.job(first)).ok()?;
-    for _ in 1..crew.size() {
-        jobs.push(crew.job(board.seat(rt).ok()?)).ok()?;
-    }
-    Some(())
 }
 
-/// A seat that made two mailboxes.
-fn first_seat<Led: Ledger, R: Wait>(rt: &R, board: &Numbers<Led>) -> Option<Seat<Led>> {
-    let mut seat = board.seat(rt).ok()?;
-    if board.mailbox(rt, &mut seat).is_ok() && board.mailbox(rt, &mut seat).is_ok() {
-        return Some(seat);
-    }
-    None
+/// Adds a job. One that is missing for want of memory shows in what all comes to.
+pub fn add<Led: Ledger>(jobs: &mut Vec<Job<Led>>, job: Job<Led>) {
+    jobs.push(job).is_ok();
 }
 
-fn gathered<Led: Ledger>(alloc: Global, done: Vec<Done<Led>>) -> Result<All<Led>, AllocError> {
-    let mut all = All {
-        lefts: Vec::new(alloc),
-        ends: Vec::new(alloc),
-        told: Told {
-            made: Vec::new(alloc),
-            received: Vec::new(alloc),
-        },
-    };
+fn gather<Led: Ledger>(done: Vec<Done<Led>>, lefts: &mut Vec<Left<Led>>, all: &mut Vec<Made>) {
     for one in done {
-        add(&mut all, one)?;
-    }
-    Ok(all)
-}
-
-fn add<Led: Ledger>(all: &mut All<Led>, done: Done<Led>) -> Result<(), AllocError> {
-    match done {
-        Done::Called(left, made) => {
-            all.lefts.push(left)?;
-            Ok(all.told.made.push(made)?)
+        let Done { left, made } = one;
+        if let Some(left) = left {
+            lefts.push(left).is_ok();
         }
-        Done::Received(left, received) => {
-            all.lefts.push(left)?;
-            add_received(&mut all.told.received, &received)
-        }
-        Done::Sent(Some(end)) => Ok(all.ends.push(end)?),
-        Done::Sent(None) | Done::Drained => Ok(()),
+        all.push(made).is_ok();
     }
-}
-
-fn add_received(all: &mut Vec<u64>, received: &[u64]) -> Result<(), AllocError> {
-    for message in received.iter() {
-        all.push(*message)?;
-    }
-    Ok(())
 }
 
 fn work<Led: Ledger, R: Wait>(
@@ -233,54 +176,64 @@ fn work<Led: Ledger, R: Wait>(
     crew: Crew,
     job: Job<Led>,
 ) -> Done<Led> {
-    match job {
-        Job::Call(mut seat) => {
-            let made = make_all(rt, alloc, board, &mut seat, crew);
-            Done::Called(board.leave(rt, seat), made)
+    let mut made = Made {
+        answers: Vec::new(alloc),
+        refusal: None,
+    };
+    let left = match job {
+        Job::Call(seat) => Some(called(rt, board, seat, crew, &mut made)),
+        Job::Send(lane) => {
+            made.refusal = senders::send_all(rt, board, lane).err();
+            None
         }
-        Job::Receive(mut seat) => {
-            let received = senders::receive(rt, alloc, board, &mut seat);
-            Done::Received(board.leave(rt, seat), received)
-        }
-        Job::Send(lane) => Done::Sent(senders::send(lane)),
         Job::Drain => {
-            senders::drain(rt, board);
-            Done::Drained
+            senders::drain_all(rt, board);
+            None
         }
-    }
+    };
+    Done { left, made }
 }
 
-fn make_all<Led: Ledger, R: Wait>(
+/// Makes all calls of a seat, which leaves then.
+fn called<Led: Ledger, R: Wait>(
     rt: &R,
-    alloc: Global,
+    board: &Numbers<Led>,
+    seat: Seat<Led>,
+    crew: Crew,
+    made: &mut Made,
+) -> Left<Led> {
+    let mut seat = seat;
+    call_all(rt, board, &mut seat, crew, made);
+    board.leave(rt, seat)
+}
+
+/// Makes all calls of a seat, up to one that is refused.
+fn call_all<Led: Ledger, R: Wait>(
+    rt: &R,
     board: &Numbers<Led>,
     seat: &mut Seat<Led>,
     crew: Crew,
-) -> Made {
-    let mut answers = Vec::new(alloc);
-    let mut refusal = None;
+    made: &mut Made,
+) {
     for round in 0..=MESSAGES {
+        if made.refusal.is_some() {
+            break;
+        }
         let Some(call) = crew.call(seat.number(), round) else {
             break;
         };
-        refusal = keep(&mut answers, board.call(rt, seat, call));
-        if refusal.is_some() {
-            break;
-        }
+        made.keep(board.call(rt, seat, call));
     }
-    Made { answers, refusal }
 }
 
-/// Keeps an answer, or tells why there is none.
-fn keep(
-    answers: &mut Vec<Answer<u64>>,
-    told: Result<Answer<u64>, (Refusal, Call<u64>)>,
-) -> Option<Refusal> {
-    match told {
-        Ok(answer) => match answers.push(answer) {
-            Ok(()) => None,
-            Err(_) => Some(Refusal::NoMemory),
-        },
-        Err((refusal, _)) => Some(refusal),
+impl Made {
+    /// Keeps an answer, or why there is none.
+    fn keep(&mut self, told: Result<Answer<u64>, (Refusal, Call<u64>)>) {
+        match told {
+            Ok(answer) => {
+                self.answers.push(answer).is_ok();
+            }
+            Err((refusal, _)) => self.refusal = Some(refusal),
+        }
     }
 }

@@ -1,51 +1,38 @@
-//! Calls that a switchboard refuses: by `call` and by a named form each is told its own refusal, and costs no entry. Nor
-//! does what is reserved.
-use super::scene::Numbers;
-use cml_board::{Call, Name, Refusal, Reply};
-use cml_threads::Seat;
-use std::sync::Wait;
-use std::sync::ledger::Ledger;
+//! Calls that a switchboard refuses: by a named form and by `call` each is told its own refusal, is handed back, and costs no
+//! entry. Nor does what is reserved.
+use super::steps::{Form, Step};
+use cml_board::Name;
 
 const MAILBOX: Name = Name(0);
 
-/// The mailbox and one message, after which the journal is full.
-pub const ENTRIES: u64 = 2;
+/// The last two behind the mailbox and one message, with which the journal is full.
+pub const STEPS: &[Step] = &[
+    Step::Reserve(2),
+    Step::Form(Form::Recv(MAILBOX)),
+    Step::Recv(MAILBOX),
+    Step::Form(Form::Mailbox),
+    Step::Form(Form::MTake(MAILBOX)),
+    Step::Take(MAILBOX),
+    Step::Form(Form::Recv(MAILBOX)),
+    Step::Recv(MAILBOX),
+    Step::Form(Form::Send(MAILBOX, 5)),
+    Step::Form(Form::Recv(MAILBOX)),
+    Step::Recv(MAILBOX),
+];
 
-/// Whether each call is refused as it is to be.
-pub fn are_told_apart<Led: Ledger, R: Wait>(
-    rt: &R,
-    board: &Numbers<Led>,
-    seat: &mut Seat<Led>,
-) -> bool {
-    board.reserve(rt, 2).is_ok()
-        && is_refused(board.recv(rt, seat, MAILBOX), Refusal::NoSuch)
-        && refuses(rt, board, seat, Call::Recv(MAILBOX), Refusal::NoSuch)
-        && board.mailbox(rt, seat).is_ok()
-        && is_refused(board.m_take(rt, seat, MAILBOX), Refusal::WrongKind)
-        && refuses(rt, board, seat, Call::Take(MAILBOX), Refusal::WrongKind)
-        && is_refused(board.recv(rt, seat, MAILBOX), Refusal::Stalled)
-        && refuses(rt, board, seat, Call::Recv(MAILBOX), Refusal::Stalled)
-        && board.send(rt, seat, MAILBOX, 5).is_ok()
-        && is_refused(board.recv(rt, seat, MAILBOX), Refusal::JournalFull)
-        && refuses(rt, board, seat, Call::Recv(MAILBOX), Refusal::JournalFull)
-}
-
-fn refuses<Led: Ledger, R: Wait>(
-    rt: &R,
-    board: &Numbers<Led>,
-    seat: &mut Seat<Led>,
-    call: Call<u64>,
-    refusal: Refusal,
-) -> bool {
-    match board.call(rt, seat, call) {
-        Ok(_) => false,
-        Err((told, _)) => told == refusal,
-    }
-}
-
-fn is_refused(told: Result<Reply<u64>, (Refusal, Call<u64>)>, refusal: Refusal) -> bool {
-    match told {
-        Ok(_) => false,
-        Err((told, _)) => told == refusal,
-    }
-}
+/// What each comes to, and then the counts and the journal.
+pub const TOLD: &str = "Ok(())
+Err((NoSuch, Recv(Name(0))))
+Err((NoSuch, Recv(Name(0))))
+Ok(Made(Name(0)))
+Err((WrongKind, Take(Name(0))))
+Err((WrongKind, Take(Name(0))))
+Err((Stalled, Recv(Name(0))))
+Err((Stalled, Recv(Name(0))))
+Ok(Done)
+Err((JournalFull, Recv(Name(0))))
+Err((JournalFull, Recv(Name(0))))
+Count { seats: 2, rings: 0, total: 2 }
+(Seat(0), NewMailbox, Made(Name(0)))
+(Seat(0), Send(Name(0), 5), Done)
+";

@@ -1,11 +1,12 @@
-//! Scenes on a switchboard, and the one place that names a ledger for them.
+//! Scenes on a switchboard, and the one place that names a ledger for them. What comes of a scene is a text.
 ghost use Rattle.std.specs.Prelude.{◌≡◌, ◌≤◌, ◌^◌};
 
 use super::crew::{self, Crew};
-use super::{cutting, forms, refusing, rings, settling};
-use cml_board::BoardLog;
-use cml_threads::{Left, PARTS, Seat, Settled, Switchboard};
-use std::alloc::{AllocError, Global};
+use super::steps::{Step, taken};
+use cml_board::{BoardLog, Entry};
+use cml_threads::{Left, PARTS, Settled, Switchboard};
+use std::alloc::Global;
+use std::fmt::Debug;
 use std::marker::Brand;
 use std::sync::Wait;
 use std::sync::ledger::{Blank, Ledger};
@@ -17,137 +18,132 @@ pub type Numbers<Led> = Switchboard<u64, BoardLog<u64>, Led>;
 /// One that was settled.
 pub type Final = Settled<u64, BoardLog<u64>>;
 
-const LIMIT: u64 = 65_536;
-
+/// What is done on a switchboard.
 #[derive(Clone, Copy)]
 pub enum Scene {
-    /// Several threads.
+    /// Several threads are at work.
     Threads(Crew),
-    /// One seat, alone.
-    Alone(Part),
-    /// Two seats, settled first with the left of one.
-    OneLeft,
-    /// A seat that is dropped.
-    Dropped,
+    /// One seat takes steps, alone.
+    Alone(&'static [Step]),
+    /// One seat takes steps, and then another. It is settled with the left of the first, and then with both.
+    InTurn(&'static [Step], &'static [Step]),
+    /// One seat takes steps, and another is dropped.
+    Dropped(&'static [Step]),
 }
 
-/// What a seat does alone.
-#[derive(Clone, Copy)]
-pub enum Part {
-    /// A lane and a feed, each on the second object of its kind.
-    Rings,
-    /// All named forms in turn.
-    Forms,
-    /// Calls that are refused, the last in a full journal.
-    Refused,
-    /// A journal that is full, and cut.
-    Cut,
-}
-
-impl Scene {
-    /// How many entries the scene's journal takes.
-    fn limit(self) -> u64
-        ensures least { 1 ≤ result }
-        ensures most { result ≤ 2 ^ 32 }
-    {
-        match self {
-            Scene::Alone(Part::Refused) => refusing::ENTRIES,
-            Scene::Alone(Part::Cut) => cutting::ENTRIES,
-            _ => LIMIT,
-        }
-    }
-}
-
-/// What the scene comes to.
-pub fn performed<R: Threads + Wait + Sync>(rt: &R, alloc: Global, scene: Scene) -> &'static str {
-    performed_in::<Brand, R>(rt, alloc, scene, Blank::new(PARTS)).unwrap_or("trouble")
-}
-
-fn performed_in<Led: Ledger + Send + Sync, R: Threads + Wait + Sync>(
+/// What the scene comes to on a switchboard whose journal takes so many entries.
+pub fn performed<R: Threads + Wait + Sync>(
     rt: &R,
     alloc: Global,
+    limit: u64,
+    scene: Scene,
+) -> String {
+    let limit = limit.max(1).min(4_294_967_296);
+    let mut text = String::new(alloc);
+    perform_in::<Brand, R>(rt, alloc, &mut text, limit, scene, Blank::new(PARTS));
+    text
+}
+
+fn perform_in<Led: Ledger + Send + Sync, R: Threads + Wait + Sync>(
+    rt: &R,
+    alloc: Global,
+    text: &mut String,
+    limit: u64,
     scene: Scene,
     blank: Blank,
-) -> Option<&'static str>
+)
+    requires least { 1 ≤ limit }
+    requires most { limit ≤ 2 ^ 32 }
     requires name { blank.name ≡ Led.name }
     requires parts { blank.parts ≡ Led.parts }
     requires enough { blank.parts ≡ 2 ^ 63 }
 {
-    let board: Numbers<Led> = Switchboard::new(alloc, scene.limit(), blank).ok()?;
-    match scene {
-        Scene::Threads(crew) => crew::come_to(rt, alloc, board, crew),
-        Scene::Alone(part) => plays(rt, alloc, board, part),
-        Scene::OneLeft => settling::settle_late(rt, alloc, board),
-        Scene::Dropped => settling::settle_without(rt, alloc, board),
+    if let Ok(board) = Switchboard::new(alloc, limit, blank) {
+        perform::<Led, R>(rt, alloc, text, board, scene);
     }
 }
 
-/// What a seat does alone, and what is settled behind it.
-fn plays<Led: Ledger, R: Wait>(
+fn perform<Led: Ledger + Send + Sync, R: Threads + Wait + Sync>(
     rt: &R,
     alloc: Global,
+    text: &mut String,
     board: Numbers<Led>,
-    part: Part,
-) -> Option<&'static str> {
-    let (is_as_told, left) = played(rt, &board, part)?;
-    let settled = settled(board, alone(alloc, left))?;
-    if is_as_told && is_left(part, &settled) {
-        return Some("as told");
+    scene: Scene,
+) {
+    match scene {
+        Scene::Threads(crew) => crew::perform(rt, alloc, text, board, crew),
+        Scene::Alone(steps) => settle_alone(rt, alloc, text, board, steps),
+        Scene::InTurn(first, second) => settle_late(rt, alloc, text, board, first, second),
+        Scene::Dropped(steps) => {
+            board.seat(rt).is_ok();
+            settle_alone(rt, alloc, text, board, steps);
+        }
     }
-    Some("otherwise")
 }
 
-fn played<Led: Ledger, R: Wait>(
+/// A seat takes its steps, and then the switchboard is settled with what it left.
+fn settle_alone<Led: Ledger, R: Wait>(
     rt: &R,
-    board: &Numbers<Led>,
-    part: Part,
-) -> Option<(bool, Left<Led>)> {
-    let mut seat = board.seat(rt).ok()?;
-    let is_as_told = is_played(rt, board, &mut seat, part);
-    Some((is_as_told, board.leave(rt, seat)))
-}
-
-fn is_played<Led: Ledger, R: Wait>(
-    rt: &R,
-    board: &Numbers<Led>,
-    seat: &mut Seat<Led>,
-    part: Part,
-) -> bool {
-    match part {
-        Part::Rings => rings::carry(rt, board, seat),
-        Part::Forms => forms::reply(rt, board, seat),
-        Part::Refused => refusing::are_told_apart(rt, board, seat),
-        Part::Cut => cutting::goes_on(rt, board, seat),
-    }
-}
-
-/// Whether that is left of the seat's board.
-fn is_left(part: Part, settled: &Final) -> bool {
-    match part {
-        Part::Rings => rings::are_counted(settled),
-        Part::Forms => forms::is_table(settled.board().journal()),
-        Part::Refused => settled.count().total == refusing::ENTRIES,
-        Part::Cut => cutting::is_left(settled),
-    }
-}
-
-/// Settles a switchboard with these lefts.
-pub fn settled<Led: Ledger>(
+    alloc: Global,
+    text: &mut String,
     board: Numbers<Led>,
-    lefts: Result<Vec<Left<Led>>, AllocError>,
-) -> Option<Final> {
-    let Ok(lefts) = lefts else {
-        return None;
+    steps: &[Step],
+) {
+    if let Some(left) = taken(rt, text, &board, steps) {
+        end(text, board, alone(alloc, left));
+    }
+}
+
+/// Two seats take their steps. With what the first left the switchboard is handed back, and with what both left it is settled.
+fn settle_late<Led: Ledger, R: Wait>(
+    rt: &R,
+    alloc: Global,
+    text: &mut String,
+    board: Numbers<Led>,
+    first: &[Step],
+    second: &[Step],
+) {
+    let (Some(one), Some(two)) = (
+        taken(rt, text, &board, first),
+        taken(rt, text, &board, second),
+    ) else {
+        return;
     };
-    match board.settle(lefts) {
-        Ok(settled) => Some(settled),
-        Err(_) => None,
+    if let Err((board, mut lefts)) = board.settle(alone(alloc, one)) {
+        lefts.push(two).is_ok();
+        end(text, board, lefts);
     }
+}
+
+/// Settles a switchboard with these lefts, and tells its counts and its journal; or how many lefts are handed back, and the
+/// journal all the same.
+fn end<Led: Ledger>(text: &mut String, board: Numbers<Led>, lefts: Vec<Left<Led>>) {
+    match board.settle(lefts) {
+        Ok(settled) => {
+            tell(text, &settled.count());
+            tell_journal(text, settled.board().journal());
+        }
+        Err((board, lefts)) => {
+            tell(text, &lefts.len());
+            tell_journal(text, board.into_hall().board().journal());
+        }
+    }
+}
+
+fn tell_journal(text: &mut String, journal: &[Entry<u64>]) {
+    for entry in journal.iter() {
+        tell(text, &(entry.who, &entry.call, &entry.reply));
+    }
+}
+
+/// Writes a line. One that is missing for want of memory shows in the text.
+pub fn tell<D: Debug>(text: &mut String, told: &D) {
+    write!(text, "{told:?}\n").is_ok();
 }
 
 /// One left alone.
-pub fn alone<Led: Ledger>(alloc: Global, left: Left<Led>) -> Result<Vec<Left<Led>>, AllocError> {
+fn alone<Led: Ledger>(alloc: Global, left: Left<Led>) -> Vec<Left<Led>> {
     let mut lefts = Vec::new(alloc);
-    lefts.push(left)?;
-    Ok(lefts)
+    lefts.push(left).is_ok();
+    lefts
 }

@@ -1,85 +1,152 @@
 //! What a crew's answers and the settled board come to.
-use super::crew::{CALLS, MESSAGES, Made, RECEIVERS};
-use super::scene::Final;
-use cml_board::{Answer, Refusal, Reply, check};
-use std::alloc::{AllocError, Global};
+use super::crew::Made;
+use super::scene::{Final, tell};
+use super::senders::{EACH, LANES, MAILBOX};
+use cml_board::{Answer, Call, Entry, Reply, Who, check};
+use std::alloc::Global;
 
-/// Two mailboxes, and a send and a receive of each message of the crowd.
-const ENTRIES: u64 = 2 + 2 * RECEIVERS * MESSAGES;
+/// Each is confirmed, and received what the other sent.
+pub const CALLERS: &str = "Ok(Made(Name(0)))
+Ok(Made(Name(1)))
+(200, 200, None)
+(200, 200, None)
+(200, true)
+Count { seats: 402, rings: 0, total: 402 }
+Ok(Ok(()))
+";
 
-pub fn of_callers(settled: &Final, all: &[Made]) -> &'static str {
-    for made in all {
-        if made.answers.len() as u64 != CALLS || !are_confirmed(settled, &made.answers) {
-            return "not all confirmed";
-        }
-    }
-    "all confirmed"
-}
+/// All that four sent was received by the four others, each once.
+pub const CROWD: &str = "Ok(Made(Name(0)))
+Ok(Made(Name(1)))
+(2500, 2500, None)
+(2500, 2500, None)
+(2500, 2500, None)
+(2500, 2500, None)
+(2500, 2500, None)
+(2500, 2500, None)
+(2500, 2500, None)
+(2500, 2500, None)
+(10000, true)
+Count { seats: 20002, rings: 0, total: 20002 }
+Ok(Ok(()))
+";
 
-pub fn of_stalled(all: &[Made]) -> &'static str {
-    for made in all {
-        if made.refusal != Some(Refusal::Stalled) {
-            return "one is not told";
-        }
-    }
-    "each is told"
-}
+/// Each is told that all are stalled.
+pub const STALLED: &str = "Ok(Made(Name(0)))
+Ok(Made(Name(1)))
+(0, 0, Some(Stalled))
+(0, 0, Some(Stalled))
+(0, 0, Some(Stalled))
+(0, 0, Some(Stalled))
+(0, 0, Some(Stalled))
+(0, 0, Some(Stalled))
+(0, 0, Some(Stalled))
+(0, 0, Some(Stalled))
+(0, true)
+Count { seats: 2, rings: 0, total: 2 }
+Ok(Ok(()))
+";
 
-pub fn of_crowd(alloc: Global, settled: &Final, all: &[Made]) -> Result<&'static str, AllocError> {
-    let received = received_by(alloc, settled, all)?;
-    if !is_each_once(&received) || settled.count().total != ENTRIES {
-        return Ok("not each once");
-    }
-    is_lawful(alloc, settled)
-}
+/// Two more lanes are let go, and no lane takes a drain any more. What was sent on four was received, each once and in its
+/// lane's order: the two mailboxes and the receives are of seats, all sends of lanes.
+pub const SENDERS: &str = "Ok(Made(Name(0)))
+Ok(Made(Name(1)))
+true
+true
+Ok((0, true))
+Ok(())
+Err(NoSuch)
+Err(NoSuch)
+Err(NoSuch)
+Err(NoSuch)
+Err(NoSuch)
+Err(NoSuch)
+(500, 500, None)
+(500, 500, None)
+(0, 0, None)
+(0, 0, None)
+(0, 0, None)
+(0, 0, None)
+(0, 0, None)
+(1000, true)
+Count { seats: 1002, rings: 1000, total: 2002 }
+Ok(Ok(()))
+Lane(0) in order
+Lane(1) in order
+Lane(2) in order
+Lane(3) in order
+";
 
-fn is_lawful(alloc: Global, settled: &Final) -> Result<&'static str, AllocError> {
-    let journal = settled.board().journal();
-    if journal.len() as u64 > ENTRIES {
-        return Ok("too long");
-    }
-    match check(alloc, journal)? {
-        Ok(()) => Ok("each once, and lawful"),
-        Err(_) => Ok("unlawful"),
-    }
-}
-
-/// The messages in all answers that the journal confirms, from the least on.
-fn received_by(alloc: Global, settled: &Final, all: &[Made]) -> Result<Vec<u64>, AllocError> {
+/// Tells of each thread how many answers it had, how many of them the journal confirms, and what refused it one; how many
+/// messages were received, and whether each was once; the counts, and whether the journal is lawful.
+pub fn tell_all(alloc: Global, text: &mut String, settled: &Final, all: &[Made]) {
     let mut received = Vec::new(alloc);
-    for made in all {
-        if are_confirmed(settled, &made.answers) {
-            add_received(&mut received, &made.answers)?;
-        }
+    for made in all.iter() {
+        let answers = made.answers.as_slice();
+        tell(
+            text,
+            &(answers.len(), confirmed(settled, answers), made.refusal),
+        );
+        add_received(&mut received, answers);
     }
-    received.sort()?;
-    Ok(received)
+    let count = received.len();
+    tell(text, &(count, is_each_once(received)));
+    tell(text, &settled.count());
+    tell_journal(alloc, text, settled.board().journal());
 }
 
-fn add_received(received: &mut Vec<u64>, answers: &[Answer<u64>]) -> Result<(), AllocError> {
-    for answer in answers {
+/// How many of these answers the journal confirms.
+fn confirmed(settled: &Final, answers: &[Answer<u64>]) -> usize {
+    let mut count = 0usize;
+    for answer in answers.iter() {
+        if settled.board().confirm(answer) {
+            count = count.saturating_add(1);
+        }
+    }
+    count
+}
+
+fn add_received(received: &mut Vec<u64>, answers: &[Answer<u64>]) {
+    for answer in answers.iter() {
         if let Reply::Got(message) = answer.reply() {
-            received.push(*message)?;
+            received.push(*message).is_ok();
         }
     }
-    Ok(())
 }
 
-/// Whether that is each number that was sent, in order.
-fn is_each_once(received: &[u64]) -> bool {
-    for (at, message) in received.iter().enumerate() {
-        if *message != at as u64 {
-            return false;
-        }
-    }
-    received.len() as u64 == RECEIVERS * MESSAGES
+/// Whether that is each number from 0 on, once.
+fn is_each_once(received: Vec<u64>) -> bool {
+    let mut received = received;
+    received.sort().is_ok()
+        && received
+            .iter()
+            .zip(0u64..)
+            .all(|(message, number)| *message == number)
 }
 
-fn are_confirmed(settled: &Final, answers: &[Answer<u64>]) -> bool {
-    for answer in answers {
-        if !settled.board().confirm(answer) {
-            return false;
+/// Tells whether a journal is lawful, and which lanes' numbers it has, all in order.
+fn tell_journal(alloc: Global, text: &mut String, journal: &[Entry<u64>]) {
+    if journal.len() > 65_536 {
+        return;
+    }
+    tell(text, &check(alloc, journal));
+    for lane in 0..LANES {
+        if is_in_order(journal, lane) {
+            write!(text, "{:?} in order\n", Who::Lane(lane)).is_ok();
         }
     }
-    true
+}
+
+/// Whether the journal has the numbers of this lane, in order, and no others of it.
+fn is_in_order(journal: &[Entry<u64>], lane: u64) -> bool {
+    let mut next = lane.saturating_mul(EACH);
+    for entry in journal.iter() {
+        if entry.who == Who::Lane(lane) {
+            if !entry.call.same(&Call::Send(MAILBOX, next)) {
+                return false;
+            }
+            next = next.saturating_add(1);
+        }
+    }
+    next == lane.saturating_add(1).saturating_mul(EACH)
 }

@@ -1,0 +1,208 @@
+//! Steps of one seat, with a lane and a feed that it has at hand. What each comes to is a line of a text.
+use super::scene::{Numbers, tell};
+use cml_board::{Call, Name, Refusal, Reply};
+use cml_lanes::{Feed, Lane};
+use cml_threads::{Left, Seat};
+use std::sync::Wait;
+use std::sync::ledger::Ledger;
+
+/// How many messages a lane or a feed has room for.
+const ROOM: usize = 2;
+
+/// The number of the first lane, and of the first feed: a scene has one of each.
+const FIRST: u64 = 0;
+
+/// A named form of a call.
+#[derive(Clone, Copy)]
+pub enum Form {
+    Mailbox,
+    Send(Name, u64),
+    Recv(Name),
+    RecvPoll(Name),
+    MChannel,
+    Port(Name),
+    Multicast(Name, u64),
+    Copy(Name),
+    Close(Name),
+    IVar,
+    IPut(Name, u64),
+    IGet(Name),
+    IGetPoll(Name),
+    MVar,
+    MVarInit(u64),
+    MPut(Name, u64),
+    MGet(Name),
+    MGetPoll(Name),
+    MSwap(Name, u64),
+    MTake(Name),
+    MTakePoll(Name),
+}
+
+#[derive(Clone, Copy)]
+pub enum Step {
+    Form(Form),
+    /// A receive by `call`.
+    Recv(Name),
+    /// A take by `call`.
+    Take(Name),
+    Reserve(usize),
+    Cut,
+    /// A cut that hands the journal over: how many entries.
+    TakeJournal,
+    OpenLane(Name),
+    Push(u64),
+    /// The lane is closed by its end.
+    CloseLane,
+    AbandonLane,
+    OpenFeed(Name),
+    Pump,
+    Pop,
+    /// The feed is ended: whether that gives an end.
+    EndFeed,
+}
+
+impl Form {
+    fn reply<Led: Ledger, R: Wait>(
+        self,
+        rt: &R,
+        board: &Numbers<Led>,
+        seat: &mut Seat<Led>,
+    ) -> Result<Reply<u64>, (Refusal, Call<u64>)> {
+        match self {
+            Form::Mailbox => board.mailbox(rt, seat),
+            Form::Send(name, message) => board.send(rt, seat, name, message),
+            Form::Recv(name) => board.recv(rt, seat, name),
+            Form::RecvPoll(name) => board.recv_poll(rt, seat, name),
+            Form::MChannel => board.m_channel(rt, seat),
+            Form::Port(name) => board.port(rt, seat, name),
+            Form::Multicast(name, message) => board.multicast(rt, seat, name, message),
+            Form::Copy(name) => board.copy(rt, seat, name),
+            Form::Close(name) => board.close(rt, seat, name),
+            Form::IVar => board.i_var(rt, seat),
+            Form::IPut(name, message) => board.i_put(rt, seat, name, message),
+            Form::IGet(name) => board.i_get(rt, seat, name),
+            Form::IGetPoll(name) => board.i_get_poll(rt, seat, name),
+            Form::MVar => board.m_var(rt, seat),
+            Form::MVarInit(message) => board.m_var_init(rt, seat, message),
+            Form::MPut(name, message) => board.m_put(rt, seat, name, message),
+            Form::MGet(name) => board.m_get(rt, seat, name),
+            Form::MGetPoll(name) => board.m_get_poll(rt, seat, name),
+            Form::MSwap(name, message) => board.m_swap(rt, seat, name, message),
+            Form::MTake(name) => board.m_take(rt, seat, name),
+            Form::MTakePoll(name) => board.m_take_poll(rt, seat, name),
+        }
+    }
+}
+
+/// A seat on a switchboard, and the lane and the feed that it has.
+#[derive(Drop)]
+struct Hands<'a, Led: Ledger, R: Wait> {
+    rt: &'a R,
+    board: &'a Numbers<Led>,
+    seat: Seat<Led>,
+    lane: Option<Lane<u64>>,
+    feed: Option<Feed<u64>>,
+}
+
+/// A new seat takes these steps and leaves: what it left.
+pub fn taken<Led: Ledger, R: Wait>(
+    rt: &R,
+    text: &mut String,
+    board: &Numbers<Led>,
+    steps: &[Step],
+) -> Option<Left<Led>> {
+    let seat = board.seat(rt).ok()?;
+    let mut hands = Hands {
+        rt,
+        board,
+        seat,
+        lane: None,
+        feed: None,
+    };
+    for step in steps.iter() {
+        hands.take(text, *step);
+    }
+    Some(board.leave(rt, hands.seat))
+}
+
+impl<Led: Ledger, R: Wait> Hands<'_, Led, R> {
+    fn take(&mut self, text: &mut String, step: Step) {
+        match step {
+            Step::Form(form) => tell(text, &form.reply(self.rt, self.board, &mut self.seat)),
+            Step::Recv(name) => self.call(text, Call::Recv(name)),
+            Step::Take(name) => self.call(text, Call::Take(name)),
+            Step::Reserve(entries) => tell(text, &self.board.reserve(self.rt, entries)),
+            Step::Cut => tell(text, &self.board.cut(self.rt)),
+            Step::TakeJournal => tell(text, &journal_taken(self.rt, self.board)),
+            Step::OpenLane(target) => self.open_lane(text, target),
+            Step::Push(message) => self.push(text, message),
+            Step::CloseLane => self.close_lane(text),
+            Step::AbandonLane => tell(text, &self.board.abandon_lane(self.rt, FIRST)),
+            Step::OpenFeed(channel) => self.open_feed(text, channel),
+            Step::Pump => tell(text, &self.board.pump(self.rt, FIRST)),
+            Step::Pop => self.pop(text),
+            Step::EndFeed => tell(text, &has_end(self.rt, self.board)),
+        }
+    }
+
+    fn call(&mut self, text: &mut String, call: Call<u64>) {
+        tell(text, &self.board.call(self.rt, &mut self.seat, call));
+    }
+
+    fn open_lane(&mut self, text: &mut String, target: Name) {
+        if let Ok((lane, number)) = self.board.open_lane(self.rt, target, ROOM) {
+            tell(text, &number);
+            self.lane = Some(lane);
+        }
+    }
+
+    fn push(&mut self, text: &mut String, message: u64) {
+        if let Some(lane) = &mut self.lane {
+            tell(text, &lane.send(message));
+        }
+    }
+
+    fn close_lane(&mut self, text: &mut String) {
+        if let Some(lane) = self.lane.take() {
+            tell(text, &closed(self.rt, self.board, lane));
+        }
+    }
+
+    fn open_feed(&mut self, text: &mut String, channel: Name) {
+        if let Ok((feed, number)) = self.board.open_feed(self.rt, channel, ROOM) {
+            tell(text, &(number, feed.port()));
+            self.feed = Some(feed);
+        }
+    }
+
+    fn pop(&mut self, text: &mut String) {
+        if let Some(feed) = &mut self.feed {
+            tell(text, &feed.recv());
+        }
+    }
+}
+
+/// Cuts the journal: how many entries are handed over.
+fn journal_taken<Led: Ledger, R: Wait>(rt: &R, board: &Numbers<Led>) -> Result<usize, Refusal> {
+    Ok(board.take_journal(rt)?.len())
+}
+
+/// Ends the first feed: whether that gives an end.
+fn has_end<Led: Ledger, R: Wait>(rt: &R, board: &Numbers<Led>) -> Result<bool, Refusal> {
+    Ok(board.end_feed(rt, FIRST)?.is_some())
+}
+
+/// Finishes a lane, and closes it by its end.
+pub fn closed<Led: Ledger, R: Wait>(
+    rt: &R,
+    board: &Numbers<Led>,
+    lane: Lane<u64>,
+) -> Result<(), Refusal> {
+    let Some(end) = lane.finish() else {
+        return Err(Refusal::Unseen);
+    };
+    match board.close_lane(rt, end) {
+        Ok(()) => Ok(()),
+        Err((_, refusal)) => Err(refusal),
+    }
+}
