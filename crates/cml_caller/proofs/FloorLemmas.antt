@@ -9,7 +9,7 @@ use Rattle.cml_lanes.specs.Fed.{with_feed, feed_entry}
 use Rattle.cml_lanes.specs.Floor.{FloorShown}
 use Rattle.cml_lanes.proofs.Deeds.{Deed, as_it_was, lane_drained, lane_gone, lane_opened, feed_pumped, feed_gone, feed_opened}
 use Rattle.cml_script.specs.Schedule.{History}
-use Rattle.cml_caller_tests.specs.Rings.{asked, IsUnasked}
+use Rattle.cml_caller.specs.Rings.{asked, IsUnasked}
 
 lane_moves : (number : ℕ) (way : Way) (target : Name) (moved : List (List ℕ)) (history : History) → asked (with_lane number way target moved history) ≡ asked history
 lane_moves number way target [] history = refl

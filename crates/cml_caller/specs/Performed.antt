@@ -2,8 +2,8 @@
 use Rattle.std.specs.Prelude.{Ok, Err}
 use Rattle.cml_grammar.specs.Script.{Lines}
 use Rattle.cml_script.specs.Working.{Made, Declares, Works}
-use Rattle.cml_caller_tests.specs.declared.performing.Performed.{Performed}
-use Rattle.cml_caller_tests.specs.declared.performing.Performed.TheVariants.{Undeclared, Stopped}
+use Rattle.cml_caller.specs.declared.performing.Performed.{Performed}
+use Rattle.cml_caller.specs.declared.performing.Performed.TheVariants.{Undeclared, Stopped}
 
 -- the declared objects were made, but for those behind one that was refused; or all of them, and then the first thread's steps
 -- behind just these

@@ -5,8 +5,8 @@ use Rattle.cml_script.specs.Counting.{how_many}
 use Rattle.cml_script.specs.Schedule.{History}
 use Rattle.cml_script.specs.Apart.{Apart, by_lane, by_feed}
 use Rattle.cml_script.specs.Working.{Made, is_of_feed}
-use Rattle.cml_caller_tests.specs.declared.teller.Went.{Went}
-use Rattle.cml_caller_tests.specs.declared.teller.Went.TheVariants.{Sent, Polled}
+use Rattle.cml_caller.specs.declared.teller.Went.{Went}
+use Rattle.cml_caller.specs.declared.teller.Went.TheVariants.{Sent, Polled}
 
 abbrev pub went_so : Went → Apart
 went_so (Sent sent) = by_lane sent.target sent.capacity sent.message

@@ -1,6 +1,6 @@
 //! A floor of one's own, and the ends of its rings that threads would have.
 ghost use Rattle.std.specs.Prelude.{◌≡◌, ◌^◌, ◌<◌, ◌≤◌, true, [], length, OnOk, OnErr, IfOk, IfSome};
-ghost use Rattle.cml_caller_tests.specs.Rings.{asked, with_call, with_feed, IsUnasked};
+ghost use Rattle.cml_caller.specs.Rings.{asked, with_call, with_feed, IsUnasked};
 ghost use Rattle.cml_threads.specs.Telling.{suits};
 ghost use Rattle.cml_grammar.specs.Reading.{IsCapacity};
 
@@ -26,7 +26,7 @@ pub struct Rings {
 }
 
 impl Model for Rings {
-    ghost use Rattle.cml_caller_tests.specs.Rings.{RingsShown, asked};
+    ghost use Rattle.cml_caller.specs.Rings.{RingsShown, asked};
 
     ghost Value = { RingsShown };
 

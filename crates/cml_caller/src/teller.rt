@@ -1,7 +1,7 @@
 //! A caller on a floor of its own.
 ghost use Rattle.std.specs.Prelude.{◌≡◌, ◌≤◌, ◌^◌, true, Some, IfOk};
-ghost use Rattle.cml_caller_tests.specs.Rings.{asked};
-ghost use Rattle.cml_caller_tests.specs.Telling.{unmade, EndsWith};
+ghost use Rattle.cml_caller.specs.Rings.{asked};
+ghost use Rattle.cml_caller.specs.Telling.{unmade, EndsWith};
 
 use crate::rings::Rings;
 use cml_board::{Answer, Board, BoardLog, Call, Name, Refusal, Text};
@@ -43,12 +43,12 @@ pub struct Teller {
 
 impl Model for Teller {
     ghost use Rattle.cml_script.specs.Working.{Made};
-    ghost use Rattle.cml_caller_tests.specs.Telling.{made_by};
+    ghost use Rattle.cml_caller.specs.Telling.{made_by};
 
     ghost Value = { Made };
 
     ghost use Rattle.std.specs.Prelude.{◌≡◌, false, length, take};
-    ghost use Rattle.cml_caller_tests.specs.Telling.{feeds_told};
+    ghost use Rattle.cml_caller.specs.Telling.{feeds_told};
 
     ghost view = { λ t. made_by t.seat (take t.told t.rings.asked) t.opened.items t.went.items t.is_sending t.refused };
 

@@ -1,5 +1,5 @@
-use Rattle.cml_caller_tests.proofs.OpeningLemmas.{opens}
-use Rattle.cml_caller_tests.proofs.performing.perform_first.Goals as goal
+use Rattle.cml_caller.proofs.OpeningLemmas.{opens}
+use Rattle.cml_caller.proofs.performing.perform_first.Goals as goal
 
 pub returns : goal.returns
 returns c =

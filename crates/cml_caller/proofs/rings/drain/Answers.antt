@@ -1,7 +1,7 @@
 use Rattle.std.proofs.Common.{rules, ◌≡◌, length}
 use Rattle.cml_lanes.proofs.Deeds.{drains}
-use Rattle.cml_caller_tests.proofs.FloorLemmas.{unasked}
-use Rattle.cml_caller_tests.proofs.rings.drain.Goals as goal
+use Rattle.cml_caller.proofs.FloorLemmas.{unasked}
+use Rattle.cml_caller.proofs.rings.drain.Goals as goal
 
 pub returns : goal.returns
 returns c =

@@ -1,7 +1,7 @@
 use Rattle.std.proofs.Common.{rules, ◌≡◌, length}
 use Rattle.cml_lanes.proofs.Deeds.{closes_counted}
-use Rattle.cml_caller_tests.proofs.FloorLemmas.{unasked}
-use Rattle.cml_caller_tests.proofs.rings.finish.Goals as goal
+use Rattle.cml_caller.proofs.FloorLemmas.{unasked}
+use Rattle.cml_caller.proofs.rings.finish.Goals as goal
 
 pub returns : goal.returns
 returns c =

@@ -1,6 +1,6 @@
 use Rattle.std.proofs.Common.{◌≡◌, ◌≤◌, length, vec_len}
-use Rattle.cml_caller_tests.specs.Rings.{asked}
-use Rattle.cml_caller_tests.proofs.rings.Rings.abandon_lanes.Given as goal
+use Rattle.cml_caller.specs.Rings.{asked}
+use Rattle.cml_caller.proofs.rings.Rings.abandon_lanes.Given as goal
 
 abbrev pub invariant-loop-open : goal.invariant-loop-open
 invariant-loop-open l = record {

@@ -1,7 +1,7 @@
 use Rattle.std.proofs.Common.{rules}
-use Rattle.cml_caller_tests.proofs.AnswerLemmas.{floor_suits, floor_call}
-use Rattle.cml_caller_tests.proofs.rings.Rings.apply.Goals as goal
-use Rattle.cml_caller_tests.proofs.rings.Rings.apply.Goals.{in-Answered, in-WouldWait, in-Refused}
+use Rattle.cml_caller.proofs.AnswerLemmas.{floor_suits, floor_call}
+use Rattle.cml_caller.proofs.rings.Rings.apply.Goals as goal
+use Rattle.cml_caller.proofs.rings.Rings.apply.Goals.{in-Answered, in-WouldWait, in-Refused}
 
 pub returns-clause-refused : goal.returns-clause-refused
 returns-clause-refused c =

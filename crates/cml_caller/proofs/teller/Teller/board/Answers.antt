@@ -1,6 +1,6 @@
 use Rattle.std.proofs.Common.{rules}
-use Rattle.cml_caller_tests.proofs.TellingLemmas.{ends_with}
-use Rattle.cml_caller_tests.proofs.teller.Teller.board.Goals as goal
+use Rattle.cml_caller.proofs.TellingLemmas.{ends_with}
+use Rattle.cml_caller.proofs.teller.Teller.board.Goals as goal
 
 pub returns : goal.returns
 returns c =
