@@ -69,14 +69,14 @@ fn main(rt: HostRuntime) -> io::Result<()> {
 
 /// Performs a script's first thread, and shows what comes of it.
 fn show<R: Print>(rt: &R, alloc: Global, case: &Case) -> io::Result<()> {
-    match performed(alloc, case.script, case.limit.max(1).min(4_294_967_296)) {
+    match performed_of(alloc, case.script, case.limit.max(1).min(4_294_967_296)) {
         Some(performed) => show_performed(rt, &performed),
         None => println!(rt; "nothing"),
     }
 }
 
 /// What becomes of a script, unless memory or the script is at fault.
-fn performed(alloc: Global, script: &str, limit: u64) -> Option<Performed>
+fn performed_of(alloc: Global, script: &str, limit: u64) -> Option<Performed>
     requires least { 1 ≤ limit }
     requires most { limit ≤ 2 ^ 32 }
 {

@@ -40,7 +40,7 @@ pub fn tell<M: Numbered>(
     call: Call<M>,
     asked: &Call<M>,
 ) {
-    let foretold = foretold(board, &call);
+    let foretold = foretell(board, &call);
     let before = reading(alloc, board);
     if let Some(back) = tell_first(told, board, who, call, asked, foretold) {
         let after = reading(alloc, board);
@@ -49,7 +49,7 @@ pub fn tell<M: Numbered>(
     }
 }
 
-fn foretold<M: Numbered>(board: &Numbers<M>, call: &Call<M>) -> Foretold {
+fn foretell<M: Numbered>(board: &Numbers<M>, call: &Call<M>) -> Foretold {
     Foretold {
         waits: board.would_wait(call),
         is_full: board.is_full(),
