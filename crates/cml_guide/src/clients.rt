@@ -1,7 +1,7 @@
 //! The clients of a server, each in a thread of its own. A request names the mailbox that the answer is to go to.
 use crate::calls::Trouble;
-use crate::lanes::close;
-use crate::threads::{Shared, done, got};
+use crate::lanes::{close, receive};
+use crate::threads::{Shared, done};
 use cml_board::Name;
 use cml_threads::{Left, Seat};
 use std::sync::Wait;
@@ -101,10 +101,6 @@ impl<Led: Ledger> Client<Led> {
         board: &Shared<Led>,
         count: usize,
     ) -> Result<u64, Trouble> {
-        let mut sum = 0u64;
-        for _ in 0..count {
-            sum = sum.wrapping_add(got(board.recv(rt, &mut self.seat, self.answers))?);
-        }
-        Ok(sum)
+        receive(rt, board, &mut self.seat, self.answers, count)
     }
 }

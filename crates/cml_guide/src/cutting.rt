@@ -38,9 +38,18 @@ pub fn checked_in_pieces(alloc: Global) -> Result<(bool, u64), Trouble> {
     perform(&mut board, Call::Send(letters, 5))?;
     let taken = board.take_journal();
     let _received = fetch(&mut board, Call::Recv(letters))?;
+    check_both(alloc, &taken, board.journal())
+}
+
+/// Whether two pieces are lawful together, and how many entries they are.
+fn check_both(
+    alloc: Global,
+    first: &[Entry<u64>],
+    second: &[Entry<u64>],
+) -> Result<(bool, u64), Trouble> {
     let mut checker = Checker::new(alloc)?;
-    let was_lawful = feed(&mut checker, &taken)?;
-    let is_lawful = feed(&mut checker, board.journal())?;
+    let was_lawful = feed(&mut checker, first)?;
+    let is_lawful = feed(&mut checker, second)?;
     Ok((was_lawful && is_lawful, checker.entries()))
 }
 

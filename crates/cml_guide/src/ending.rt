@@ -1,8 +1,8 @@
 //! How threads end: a stall is told, an answer that was kept is confirmed, and a seat that was dropped is missed.
-ghost use Rattle.std.specs.Prelude.{◌≡◌, ◌+◌, ◌^◌, IfOk};
+ghost use Rattle.std.specs.Prelude.{◌≡◌, ◌+◌, ◌^◌, length, IfOk};
 
 use crate::calls::Trouble;
-use crate::threads::{Shared, settle};
+use crate::threads::{Came, Shared, settled, with_both};
 use cml_board::{Answer, Call, Name, Refusal, Reply};
 use cml_threads::{Count, Left, PARTS, Seat};
 use std::alloc::Global;
@@ -13,7 +13,7 @@ use std::thread;
 use std::thread::Threads;
 
 /// How the waiting thread was refused, and what is left at the end.
-#[derive(Clone, Copy, Debug, PartialEq, Eq)]
+#[derive(Clone, Copy, Debug)]
 pub struct Stall {
     refusal: Option<Refusal>,
     confirmed: bool,
@@ -38,8 +38,8 @@ fn wait_in_vain<Led: Ledger + Send + Sync, R: Threads + Wait + Sync>(
     ensures { IfOk result (λ stall. stall.count.total ≡ stall.count.seats + stall.count.rings) }
 {
     let shared = Shared::<Led>::new(alloc, 100, blank)?;
-    let (kept, refusal, lefts) = wait_for_nobody(rt, alloc, &shared)?;
-    let ended = settle(shared, lefts)?;
+    let waited = wait_for_nobody(rt, alloc, &shared);
+    let ((kept, refusal), ended) = settled(shared, waited)?;
     Ok(Stall {
         refusal,
         confirmed: ended.board().confirm(&kept),
@@ -52,19 +52,29 @@ fn wait_for_nobody<Led: Ledger + Send + Sync, R: Threads + Wait + Sync>(
     rt: &R,
     alloc: Global,
     board: &Shared<Led>,
-) -> Result<(Answer<u64>, Option<Refusal>, Vec<Left<Led>>), Trouble> {
+) -> Came<(Answer<u64>, Option<Refusal>), Led> {
     let waiter = board.seat(rt)?;
     let mut other = board.seat(rt)?;
-    let kept = board.call(rt, &mut other, Call::NewMailbox)?;
-    let Reply::Made(letters) = *kept.reply() else {
-        return Err(Trouble::OtherReply);
-    };
+    let (kept, letters) = open(rt, board, &mut other)?;
     let ((refusal, waiter), other) = thread::join(
         rt,
         move || wait_for(rt, board, waiter, letters),
         move || board.leave(rt, other),
     );
-    Ok((kept, refusal, vec![in alloc; waiter, other]?))
+    with_both(alloc, Ok((kept, refusal)), waiter, other)
+}
+
+/// A mailbox, and the answer by which it was made.
+fn open<Led: Ledger, R: Wait>(
+    rt: &R,
+    board: &Shared<Led>,
+    seat: &mut Seat<Led>,
+) -> Result<(Answer<u64>, Name), Trouble> {
+    let kept = board.call(rt, seat, Call::NewMailbox)?;
+    match *kept.reply() {
+        Reply::Made(letters) => Ok((kept, letters)),
+        _ => Err(Trouble::OtherReply),
+    }
 }
 
 /// Waits for a message, and then leaves. Gives why there was none.
@@ -95,12 +105,23 @@ fn miss<Led: Ledger, R: Wait>(rt: &R, alloc: Global, blank: Blank) -> Result<usi
     ensures { IfOk result (λ back. back ≡ 1) }
 {
     let shared = Shared::<Led>::new(alloc, 100, blank)?;
-    let stays = shared.seat(rt)?;
-    let dropped = shared.seat(rt)?;
-    drop(dropped);
-    let lefts = vec![in alloc; shared.leave(rt, stays)]?;
+    let lefts = drop_one(rt, alloc, &shared)?;
     match shared.settle(lefts) {
         Ok(_) => Err(Trouble::OtherReply),
         Err((_shared, lefts)) => Ok(lefts.len()),
     }
+}
+
+/// Makes two seats, of which one leaves and the other is dropped.
+fn drop_one<Led: Ledger, R: Wait>(
+    rt: &R,
+    alloc: Global,
+    board: &Shared<Led>,
+) -> Result<Vec<Left<Led>>, Trouble>
+    ensures { IfOk result (λ lefts. length lefts.items ≡ 1) }
+{
+    let stays = board.seat(rt)?;
+    let dropped = board.seat(rt)?;
+    drop(dropped);
+    Ok(vec![in alloc; board.leave(rt, stays)]?)
 }

@@ -2,7 +2,7 @@
 ghost use Rattle.std.specs.Prelude.{◌≡◌, ◌+◌, ◌^◌, [], ◌∷◌, ◌++◌, IfOk};
 
 use crate::calls::Trouble;
-use crate::threads::{Shared, done, made, settle};
+use crate::threads::{Came, Shared, counted, done, made, with_one};
 use cml_board::Name;
 use cml_lanes::Feed;
 use cml_threads::{Count, Left, PARTS, Seat};
@@ -38,16 +38,16 @@ fn tell_to_display<Led: Ledger + Send + Sync, R: Threads + Wait + Sync>(
     ensures { IfOk result (λ found. found.1.total ≡ found.1.seats + found.1.rings) }
 {
     let shared = Shared::<Led>::new(alloc, 100, blank)?;
-    let (sum, left) = tell_and_show(rt, &shared)?;
-    let lefts = vec![in alloc; left]?;
-    Ok((sum, settle(shared, lefts)?.count()))
+    let shown = tell_and_show(rt, alloc, &shared);
+    counted(shared, shown)
 }
 
 /// What was shown, and the ticker's seat. The display has none: a feed is all that it needs.
 fn tell_and_show<Led: Ledger + Send + Sync, R: Threads + Wait + Sync>(
     rt: &R,
+    alloc: Global,
     board: &Shared<Led>,
-) -> Result<(u64, Left<Led>), Trouble> {
+) -> Came<u64, Led> {
     let mut ticker = board.seat(rt)?;
     let prices = made(board.m_channel(rt, &mut ticker))?;
     let (feed, number) = board.open_feed(rt, prices, ROOM)?;
@@ -58,8 +58,7 @@ fn tell_and_show<Led: Ledger + Send + Sync, R: Threads + Wait + Sync>(
         move || show_all(rt, feed, is_over),
         move || tell_and_leave(rt, board, ticker, prices, number, is_over),
     );
-    told?;
-    Ok((sum, left))
+    with_one(alloc, told.and(Ok(sum)), left)
 }
 
 /// Tells all prices, and leaves, whatever became of that. Then no more will come.

@@ -4,10 +4,10 @@ ghost use Rattle.std.specs.Prelude.{◌≡◌, ◌+◌, ◌^◌, IfOk};
 use crate::calls::Trouble;
 use crate::ending::wait_for;
 use crate::lanes::{close, receive_and_leave, send_all};
-use crate::threads::{Shared, made, settle};
+use crate::threads::{Came, Shared, counted, made, with_one};
 use cml_board::Refusal;
 use cml_lanes::LaneEnd;
-use cml_threads::{Count, Left, PARTS};
+use cml_threads::{Count, PARTS};
 use std::alloc::Global;
 use std::marker::Brand;
 use std::sync::Wait;
@@ -18,7 +18,7 @@ use std::sync::ledger::{Blank, Ledger};
 const ROOM: usize = 2;
 
 /// How many readings were sent, why their collector stopped, and why the lane was abandoned.
-#[derive(Clone, Copy, Debug, PartialEq, Eq)]
+#[derive(Clone, Copy, Debug)]
 pub struct GivenUp {
     sent: u64,
     collecting: Option<Trouble>,
@@ -43,16 +43,16 @@ fn stop<Led: Ledger, R: Wait>(
     ensures { IfOk result (λ found. found.1.total ≡ found.1.seats + found.1.rings) }
 {
     let shared = Shared::<Led>::new(alloc, 1, blank)?;
-    let (given_up, left) = send_in_vain(rt, &shared)?;
-    let lefts = vec![in alloc; left]?;
-    Ok((given_up, settle(shared, lefts)?.count()))
+    let given_up = send_in_vain(rt, alloc, &shared);
+    counted(shared, given_up)
 }
 
 /// The collector stops at the first reading. Then the sensor gives up once its lane is full.
 fn send_in_vain<Led: Ledger, R: Wait>(
     rt: &R,
+    alloc: Global,
     board: &Shared<Led>,
-) -> Result<(GivenUp, Left<Led>), Trouble> {
+) -> Came<GivenUp, Led> {
     let mut collector = board.seat(rt)?;
     let readings = made(board.mailbox(rt, &mut collector))?;
     let (mut lane, number) = board.open_lane(rt, readings, ROOM)?;
@@ -65,7 +65,7 @@ fn send_in_vain<Led: Ledger, R: Wait>(
         collecting: collected.err(),
         closing: close(rt, board, number, end).err(),
     };
-    Ok((given_up, left))
+    with_one(alloc, Ok(given_up), left)
 }
 
 fn sent_by(end: &Option<LaneEnd<u64>>) -> u64 {
@@ -96,21 +96,22 @@ fn send_and_wait<Led: Ledger, R: Wait>(
     ensures { IfOk result (λ found. found.1.total ≡ found.1.seats + found.1.rings) }
 {
     let shared = Shared::<Led>::new(alloc, 100, blank)?;
-    let (refusal, left) = close_and_wait(rt, &shared)?;
-    let lefts = vec![in alloc; left]?;
-    Ok((refusal, settle(shared, lefts)?.count()))
+    let waited = close_and_wait(rt, alloc, &shared);
+    counted(shared, waited)
 }
 
 /// Sends a question by a lane, closes the lane, and only then waits for the answer.
 fn close_and_wait<Led: Ledger, R: Wait>(
     rt: &R,
+    alloc: Global,
     board: &Shared<Led>,
-) -> Result<(Option<Refusal>, Left<Led>), Trouble> {
+) -> Came<Option<Refusal>, Led> {
     let mut asker = board.seat(rt)?;
     let questions = made(board.mailbox(rt, &mut asker))?;
     let answers = made(board.mailbox(rt, &mut asker))?;
     let (mut lane, number) = board.open_lane(rt, questions, ROOM)?;
     lane.send(5).is_ok();
     close(rt, board, number, lane.finish())?;
-    Ok(wait_for(rt, board, asker, answers))
+    let (refusal, left) = wait_for(rt, board, asker, answers);
+    with_one(alloc, Ok(refusal), left)
 }

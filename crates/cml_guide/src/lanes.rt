@@ -2,7 +2,7 @@
 ghost use Rattle.std.specs.Prelude.{◌≡◌, ◌+◌, ◌^◌, [], ◌∷◌, ◌++◌, IfOk};
 
 use crate::calls::Trouble;
-use crate::threads::{Shared, got, made, settle};
+use crate::threads::{Came, Shared, counted, got, made, with_one};
 use cml_board::Name;
 use cml_lanes::{Lane, LaneEnd};
 use cml_threads::{Count, Left, PARTS, Seat};
@@ -38,28 +38,28 @@ fn collect<Led: Ledger + Send + Sync, R: Threads + Wait + Sync>(
     ensures { IfOk result (λ found. found.1.total ≡ found.1.seats + found.1.rings) }
 {
     let shared = Shared::<Led>::new(alloc, 100, blank)?;
-    let (sum, left) = send_and_collect(rt, &shared)?;
-    let lefts = vec![in alloc; left]?;
-    Ok((sum?, settle(shared, lefts)?.count()))
+    let collected = send_and_collect(rt, alloc, &shared);
+    counted(shared, collected)
 }
 
 /// What was collected, and the collector's seat. The sensor has none: a lane is all that it needs.
 fn send_and_collect<Led: Ledger + Send + Sync, R: Threads + Wait + Sync>(
     rt: &R,
+    alloc: Global,
     board: &Shared<Led>,
-) -> Result<(Result<u64, Trouble>, Left<Led>), Trouble> {
+) -> Came<u64, Led> {
     let mut collector = board.seat(rt)?;
     let readings = made(board.mailbox(rt, &mut collector))?;
     let (lane, number) = board.open_lane(rt, readings, ROOM)?;
     let stopped = AtomicBool::new(false);
     let has_stopped = &stopped;
-    let (collected, end) = thread::join(
+    let ((sum, left), end) = thread::join(
         rt,
         move || receive_and_leave(rt, board, collector, readings, number, has_stopped),
         move || send_all(rt, lane, has_stopped),
     );
-    close(rt, board, number, end)?;
-    Ok(collected)
+    let closed = close(rt, board, number, end);
+    with_one(alloc, closed.and(sum), left)
 }
 
 /// Sends all readings, or as many as there is room for once their collector has stopped, and finishes.
@@ -129,7 +129,7 @@ fn receive_all<Led: Ledger, R: Wait>(
 }
 
 /// Receives so many readings: their sum.
-fn receive<Led: Ledger, R: Wait>(
+pub fn receive<Led: Ledger, R: Wait>(
     rt: &R,
     board: &Shared<Led>,
     collector: &mut Seat<Led>,

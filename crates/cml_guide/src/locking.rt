@@ -3,7 +3,7 @@ ghost use Rattle.std.specs.Prelude.{◌≡◌, ◌+◌, ◌*◌, ◌^◌, IfOk, 
 ghost use Rattle.cml_threads.specs.Seating.{answers_in};
 
 use crate::calls::Trouble;
-use crate::threads::{Shared, done, got, made, settle};
+use crate::threads::{Came, Shared, done, got, made, settle, with_both};
 use cml_board::Name;
 use cml_threads::{Count, Left, PARTS, Seat};
 use std::alloc::Global;
@@ -52,7 +52,7 @@ fn raise_by_two<Led: Ledger + Send + Sync, R: Threads + Wait + Sync>(
     rt: &R,
     alloc: Global,
     board: &Shared<Led>,
-) -> Result<(Name, Vec<Left<Led>>), Trouble>
+) -> Came<Name, Led>
     ensures { IfOk result (λ found. answers_in found.1.items ≡ 4 * ROUNDS + 1) }
 {
     let mut one = board.seat(rt)?;
@@ -63,9 +63,7 @@ fn raise_by_two<Led: Ledger + Send + Sync, R: Threads + Wait + Sync>(
         move || raise(rt, board, one, counter),
         move || raise(rt, board, two, counter),
     );
-    first?;
-    second?;
-    Ok((counter, vec![in alloc; one, two]?))
+    with_both(alloc, first.and(second).and(Ok(counter)), one, two)
 }
 
 /// Raises the counter, and leaves.

@@ -91,10 +91,28 @@ fn open_channel<M: Message>(board: &mut BoardOf<M>) -> Result<[Name; 4], Trouble
     Ok([news, first, second, third])
 }
 
+/// Multicasts a message on a new channel: what each of its three ports receives.
+fn tell_three<M: Message>(board: &mut BoardOf<M>, message: M) -> Result<(M, M, M), Trouble> {
+    let [news, first, second, third] = open_channel(board)?;
+    ask(board, Call::Cast(news, message))?;
+    receive_each(board, [first, second, third])
+}
+
+/// Receives by each of three ports.
+fn receive_each<M: Message>(
+    board: &mut BoardOf<M>,
+    ports: [Name; 3],
+) -> Result<(M, M, M), Trouble> {
+    let [first, second, third] = ports;
+    let first = fetch(board, Call::Recv(first))?;
+    let second = fetch(board, Call::Recv(second))?;
+    let third = fetch(board, Call::Recv(third))?;
+    Ok((first, second, third))
+}
+
 /// A notice is multicast, and each of three ports receives it: what the weather was there, and how many owners it has then.
 pub fn noticed_by_three(alloc: Global) -> Result<([Weather; 3], usize), Trouble> {
     let mut board = BoardOf::<Notice>::new(alloc, 100)?;
-    let [news, first, second, third] = open_channel(&mut board)?;
     let weather = Weather {
         degrees: -3,
         wind: 12,
@@ -102,10 +120,7 @@ pub fn noticed_by_three(alloc: Global) -> Result<([Weather; 3], usize), Trouble>
     let notice = Notice {
         weather: Arc::new(alloc, weather)?,
     };
-    ask(&mut board, Call::Cast(news, notice))?;
-    let first = fetch(&mut board, Call::Recv(first))?;
-    let second = fetch(&mut board, Call::Recv(second))?;
-    let third = fetch(&mut board, Call::Recv(third))?;
+    let (first, second, third) = tell_three(&mut board, notice)?;
     let owners = Arc::strong_count(&first.weather);
     Ok(([*first.weather, *second.weather, *third.weather], owners))
 }
@@ -113,11 +128,7 @@ pub fn noticed_by_three(alloc: Global) -> Result<([Weather; 3], usize), Trouble>
 /// A headline is multicast, and each of three ports receives it: whether it is the same text.
 pub fn read_by_three(alloc: Global) -> Result<[bool; 3], Trouble> {
     let mut board = BoardOf::<Headline>::new(alloc, 100)?;
-    let [news, first, second, third] = open_channel(&mut board)?;
     let text = "frost by night";
-    ask(&mut board, Call::Cast(news, Headline { text }))?;
-    let first = fetch(&mut board, Call::Recv(first))?;
-    let second = fetch(&mut board, Call::Recv(second))?;
-    let third = fetch(&mut board, Call::Recv(third))?;
+    let (first, second, third) = tell_three(&mut board, Headline { text })?;
     Ok([first.text == text, second.text == text, third.text == text])
 }

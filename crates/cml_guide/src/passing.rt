@@ -1,10 +1,11 @@
 //! Two threads: one sends a message, and the other waits for it.
-ghost use Rattle.std.specs.Prelude.{◌≡◌, ◌+◌, ◌^◌, IfOk};
+ghost use Rattle.std.specs.Prelude.{◌≡◌, ◌+◌, ◌^◌, IfOk, OnOk};
 ghost use Rattle.cml_threads.specs.Seating.{answers_in};
 
 use crate::calls::Trouble;
-use crate::threads::{Shared, done, got, made, settle};
-use cml_threads::{Count, Left, PARTS};
+use crate::threads::{Came, Shared, got, made, settle, with_both};
+use cml_board::{BoardLog, Message, Name, Reply};
+use cml_threads::{Count, Left, PARTS, Seat, Switchboard};
 use std::alloc::Global;
 use std::marker::Brand;
 use std::sync::Wait;
@@ -41,23 +42,47 @@ fn send_and_receive<Led: Ledger + Send + Sync, R: Threads + Wait + Sync>(
     rt: &R,
     alloc: Global,
     board: &Shared<Led>,
-) -> Result<(u64, Vec<Left<Led>>), Trouble>
+) -> Came<u64, Led>
     ensures { IfOk result (λ found. answers_in found.1.items ≡ 3) }
 {
     let mut sender = board.seat(rt)?;
     let letters = made(board.mailbox(rt, &mut sender))?;
-    let mut receiver = board.seat(rt)?;
+    let receiver = board.seat(rt)?;
     let ((received, receiver), (sent, sender)) = thread::join(
         rt,
-        move || {
-            let received = got(board.recv(rt, &mut receiver, letters));
-            (received, board.leave(rt, receiver))
-        },
-        move || {
-            let sent = done(board.send(rt, &mut sender, letters, 5));
-            (sent, board.leave(rt, sender))
-        },
+        move || receive_and_leave(rt, board, receiver, letters),
+        move || send_and_leave(rt, board, sender, letters, 5),
     );
-    sent?;
-    Ok((received?, vec![in alloc; receiver, sender]?))
+    with_both(alloc, sent.and(received), receiver, sender)
+}
+
+/// Receives a message, and leaves, whatever became of that.
+fn receive_and_leave<Led: Ledger, R: Wait>(
+    rt: &R,
+    board: &Shared<Led>,
+    mut receiver: Seat<Led>,
+    letters: Name,
+) -> (Result<u64, Trouble>, Left<Led>)
+    ensures { OnOk result.0 (result.1.share ≡ receiver.share + 1) }
+{
+    let received = got(board.recv(rt, &mut receiver, letters));
+    (received, board.leave(rt, receiver))
+}
+
+/// Sends a message, and leaves, whatever became of that.
+pub fn send_and_leave<M: Message, Led: Ledger, R: Wait>(
+    rt: &R,
+    board: &Switchboard<M, BoardLog<M>, Led>,
+    mut sender: Seat<Led>,
+    letters: Name,
+    message: M,
+) -> (Result<(), Trouble>, Left<Led>)
+    ensures { OnOk result.0 (result.1.share ≡ sender.share + 1) }
+{
+    let sent = match board.send(rt, &mut sender, letters, message) {
+        Ok(Reply::Done) => Ok(()),
+        Ok(_) => Err(Trouble::OtherReply),
+        Err((refusal, _)) => Err(Trouble::Refused(refusal)),
+    };
+    (sent, board.leave(rt, sender))
 }

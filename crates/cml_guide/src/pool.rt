@@ -2,7 +2,8 @@
 ghost use Rattle.std.specs.Prelude.{◌≡◌, ◌+◌, ◌^◌, IfOk};
 
 use crate::calls::Trouble;
-use crate::threads::{Shared, done, got, made, settle};
+use crate::lanes::receive;
+use crate::threads::{Came, Shared, counted, done, got, made};
 use cml_board::Name;
 use cml_threads::{Count, Left, PARTS, Seat};
 use std::alloc::{AllocError, Global};
@@ -46,24 +47,36 @@ fn run_pool<Led: Ledger + Send + Sync, R: Threads + Wait + Sync>(
     ensures { IfOk result (λ found. found.1.total ≡ found.1.seats + found.1.rings) }
 {
     let shared = Shared::<Led>::new(alloc, 100, blank)?;
-    let (sum, lefts) = square_all(rt, alloc, &shared)?;
-    Ok((sum, settle(shared, lefts)?.count()))
+    let squared = square_all(rt, alloc, &shared);
+    counted(shared, squared)
 }
 
-/// What the boss does: hands out the jobs, lets the workers do them, and collects the results.
+/// The boss has the jobs done, and leaves, whatever became of that.
 fn square_all<Led: Ledger + Send + Sync, R: Threads + Wait + Sync>(
     rt: &R,
     alloc: Global,
     board: &Shared<Led>,
-) -> Result<(u64, Vec<Left<Led>>), Trouble> {
+) -> Came<u64, Led> {
     let mut boss = board.seat(rt)?;
-    let desk = open_desk(rt, board, &mut boss)?;
-    hand_out(rt, board, &mut boss, desk)?;
-    let seats = make_seats(rt, alloc, board)?;
-    let mut lefts = work_all(rt, alloc, board, seats, desk)?;
-    let sum = collect(rt, board, &mut boss, desk)?;
-    lefts.push(board.leave(rt, boss))?;
+    let squared = have_squared(rt, alloc, board, &mut boss);
+    let left = board.leave(rt, boss);
+    let (sum, mut lefts) = squared?;
+    lefts.push(left)?;
     Ok((sum, lefts))
+}
+
+/// What the boss does: hands out the jobs, lets the workers do them, and collects the results.
+fn have_squared<Led: Ledger + Send + Sync, R: Threads + Wait + Sync>(
+    rt: &R,
+    alloc: Global,
+    board: &Shared<Led>,
+    boss: &mut Seat<Led>,
+) -> Came<u64, Led> {
+    let desk = open_desk(rt, board, boss)?;
+    hand_out(rt, board, boss, desk)?;
+    let seats = make_seats(rt, alloc, board)?;
+    let lefts = work_all(rt, alloc, board, seats, desk)?;
+    Ok((collect(rt, board, boss, desk)?, lefts))
 }
 
 fn make_seats<Led: Ledger, R: Wait>(
@@ -172,9 +185,5 @@ fn collect<Led: Ledger, R: Wait>(
     boss: &mut Seat<Led>,
     desk: Desk,
 ) -> Result<u64, Trouble> {
-    let mut sum: u64 = 0;
-    for _ in 0..JOBS {
-        sum = sum.wrapping_add(got(board.recv(rt, boss, desk.results))?);
-    }
-    Ok(sum)
+    receive(rt, board, boss, desk.results, JOBS as usize)
 }

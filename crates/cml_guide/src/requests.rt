@@ -1,12 +1,14 @@
 //! Messages of one's own that own memory: a share of one takes memory too, and may be refused.
-ghost use Rattle.std.specs.Prelude.{◌≡◌, ◌^◌, false, IfOk, IfErr, OnErr};
+ghost use Rattle.std.specs.Prelude.{◌≡◌, ◌+◌, ◌^◌, false, IfOk, IfErr, Ok, OnErr, OnOk};
 ghost use Rattle.cml_board.specs.Outcome.{IsAsBefore};
 ghost use Rattle.cml_threads.specs.Seating.{answers_in};
 
 use crate::calls::{SEAT, Trouble};
 use crate::messages::{BoardOf, make};
+use crate::passing::send_and_leave;
+use crate::threads::{Came, settle, with_both};
 use cml_board::{BoardLog, Call, Message, Name, Outcome, Refusal, Reply};
-use cml_threads::{Count, Left, PARTS, Switchboard};
+use cml_threads::{Count, Left, PARTS, Seat, Switchboard};
 use std::alloc::{AllocError, Global};
 use std::marker::{Brand, Model};
 use std::sync::Wait;
@@ -54,13 +56,13 @@ impl Message for Request {
     }
 }
 
-/// Sends a request. Where that is refused, as for want of memory for its share, it comes back with the reason, and the board
-/// is as it was.
-pub fn send_or_keep(
-    board: &mut BoardOf<Request>,
+/// Sends a request, or any other message. Where that is refused, as for want of memory for its share, it comes back with the
+/// reason, and the board is as it was.
+pub fn send_or_keep<M: Message>(
+    board: &mut BoardOf<M>,
     requests: Name,
-    request: Request,
-) -> Result<(), (Refusal, Request)>
+    request: M,
+) -> Result<(), (Refusal, M)>
     ensures kept { IfErr result (λ back. back.1 ≡ request) }
     ensures unchanged { OnErr result (IsAsBefore board.old board.new) }
 {
@@ -74,11 +76,20 @@ pub fn send_or_keep(
 pub fn kept(alloc: Global) -> Result<[Result<(), (Refusal, Request)>; 2], Trouble> {
     let mut board = BoardOf::<Request>::new(alloc, 2)?;
     let requests = make(&mut board, Call::NewMailbox)?;
-    let coffee = Request::new(alloc, "coffee", 7)?;
-    let tea = Request::new(alloc, "tea", 8)?;
-    let first = send_or_keep(&mut board, requests, coffee);
-    let second = send_or_keep(&mut board, requests, tea);
+    let first = send_new(alloc, &mut board, requests, ("coffee", 7))?;
+    let second = send_new(alloc, &mut board, requests, ("tea", 8))?;
     Ok([first, second])
+}
+
+/// Makes a request and sends it, or keeps it.
+fn send_new(
+    alloc: Global,
+    board: &mut BoardOf<Request>,
+    requests: Name,
+    what: (&str, u64),
+) -> Result<Result<(), (Refusal, Request)>, AllocError> {
+    let request = Request::new(alloc, what.0, what.1)?;
+    Ok(send_or_keep(board, requests, request))
 }
 
 /// A switchboard whose messages are requests.
@@ -112,10 +123,7 @@ fn pass_on<Led: Ledger + Send + Sync, R: Threads + Wait + Sync>(
 {
     let office = Office::<Led>::new(alloc, 100, blank)?;
     let (request, lefts) = send_and_receive(rt, alloc, &office)?;
-    match office.settle(lefts) {
-        Ok(settled) => Ok((request, settled.count())),
-        Err(_) => Err(Trouble::Unsettled),
-    }
+    Ok((request, settle(office, lefts)?.count()))
 }
 
 /// What was received, and the seats of both threads.
@@ -123,7 +131,7 @@ fn send_and_receive<Led: Ledger + Send + Sync, R: Threads + Wait + Sync>(
     rt: &R,
     alloc: Global,
     office: &Office<Led>,
-) -> Result<(Request, Vec<Left<Led>>), Trouble>
+) -> Came<Request, Led>
     ensures { IfOk result (λ found. answers_in found.1.items ≡ 3) }
 {
     let coffee = Request::new(alloc, "coffee", 7)?;
@@ -131,21 +139,34 @@ fn send_and_receive<Led: Ledger + Send + Sync, R: Threads + Wait + Sync>(
     let Reply::Made(requests) = office.mailbox(rt, &mut client)? else {
         return Err(Trouble::OtherReply);
     };
-    let mut clerk = office.seat(rt)?;
+    let clerk = office.seat(rt)?;
     let ((received, clerk), (sent, client)) = thread::join(
         rt,
-        move || {
-            let received = office.recv(rt, &mut clerk, requests);
-            (received, office.leave(rt, clerk))
-        },
-        move || {
-            let sent = office.send(rt, &mut client, requests, coffee);
-            (sent, office.leave(rt, client))
-        },
+        move || receive_and_leave(rt, office, clerk, requests),
+        move || send_and_leave(rt, office, client, requests, coffee),
     );
-    sent?;
-    match received? {
-        Reply::Got(request) => Ok((request, vec![in alloc; clerk, client]?)),
+    with_both(alloc, sent.and(received), clerk, client)
+}
+
+/// Receives a request, and leaves, whatever became of that.
+fn receive_and_leave<Led: Ledger, R: Wait>(
+    rt: &R,
+    office: &Office<Led>,
+    mut clerk: Seat<Led>,
+    requests: Name,
+) -> (Result<Request, Trouble>, Left<Led>)
+    ensures { OnOk result.0 (result.1.share ≡ clerk.share + 1) }
+{
+    let received = got(office.recv(rt, &mut clerk, requests));
+    (received, office.leave(rt, clerk))
+}
+
+/// The request that was got.
+fn got(replied: Result<Reply<Request>, (Refusal, Call<Request>)>) -> Result<Request, Trouble>
+    ensures { IfOk result (λ request. replied ≡ Ok (Reply.Got request)) }
+{
+    match replied? {
+        Reply::Got(request) => Ok(request),
         _ => Err(Trouble::OtherReply),
     }
 }

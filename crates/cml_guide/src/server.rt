@@ -4,7 +4,7 @@ ghost use Rattle.std.specs.Prelude.{◌≡◌, ◌+◌, ◌^◌, IfOk};
 use crate::calls::Trouble;
 use crate::clients::{Client, Visit, Way, ask_and_leave};
 use crate::keeper::Keeper;
-use crate::threads::{Ended, Shared, made, settle};
+use crate::threads::{Came, Ended, Shared, made, settled};
 use cml_board::{Call, Name, Refusal, Reply};
 use cml_threads::{Count, Left, PARTS, Seat};
 use std::alloc::Global;
@@ -22,7 +22,7 @@ const WAYS: [Way; 3] = [Way::BySeat, Way::BySeat, Way::ByLanes];
 const LIMIT: u64 = 100_000;
 
 /// What a server came to.
-#[derive(Clone, Copy, Debug, PartialEq, Eq)]
+#[derive(Clone, Copy, Debug)]
 pub struct Served {
     /// The sum of all tickets that clients were given.
     tickets: u64,
@@ -38,23 +38,13 @@ pub struct Served {
 struct Shop<Led: Ledger> {
     seat: Seat<Led>,
     requests: Name,
-    keeper: Keeper,
 }
 
 /// What is left of the server once nobody asks any more.
 #[derive(Drop)]
 struct Shift<Led: Ledger> {
     served: Result<(), Trouble>,
-    keeper: Keeper,
     left: Left<Led>,
-}
-
-/// What is left of the server and its clients.
-#[derive(Drop)]
-struct Day<Led: Ledger> {
-    tickets: u64,
-    keeper: Keeper,
-    lefts: Vec<Left<Led>>,
 }
 
 /// What the server comes to when all its clients have left.
@@ -74,13 +64,29 @@ fn run_on<Led: Ledger + Send + Sync, R: Threads + Wait + Sync>(
     requires enough { blank.parts ≡ 2 ^ 63 }
     ensures { IfOk result (λ served. served.count.total ≡ served.count.seats + served.count.rings) }
 {
+    let mut keeper = Keeper::new(alloc)?;
+    run_with::<Led, R>(rt, alloc, blank, &mut keeper)
+}
+
+fn run_with<Led: Ledger + Send + Sync, R: Threads + Wait + Sync>(
+    rt: &R,
+    alloc: Global,
+    blank: Blank,
+    keeper: &mut Keeper,
+) -> Result<Served, Trouble>
+    requires name { blank.name ≡ Led.name }
+    requires parts { blank.parts ≡ Led.parts }
+    requires enough { blank.parts ≡ 2 ^ 63 }
+    ensures { IfOk result (λ served. served.count.total ≡ served.count.seats + served.count.rings) }
+{
     let shared = Shared::<Led>::new(alloc, LIMIT, blank)?;
-    let day = open_and_close(rt, alloc, &shared)?;
-    sum_up(settle(shared, day.lefts)?, day.tickets, day.keeper)
+    let day = open_and_close(rt, alloc, &shared, keeper);
+    let (tickets, ended) = settled(shared, day)?;
+    sum_up(&ended, tickets, keeper)
 }
 
 /// Checks what has come since the last piece was taken, and tells of all.
-fn sum_up(ended: Ended, tickets: u64, mut keeper: Keeper) -> Result<Served, Trouble>
+fn sum_up(ended: &Ended, tickets: u64, keeper: &mut Keeper) -> Result<Served, Trouble>
     ensures { IfOk result (λ served. served.count.total ≡ served.count.seats + served.count.rings) }
 {
     let is_lawful = keeper.check(ended.board().journal())?;
@@ -98,28 +104,20 @@ fn open_and_close<Led: Ledger + Send + Sync, R: Threads + Wait + Sync>(
     rt: &R,
     alloc: Global,
     board: &Shared<Led>,
-) -> Result<Day<Led>, Trouble> {
-    let mut shop = open(rt, alloc, board)?;
+    keeper: &mut Keeper,
+) -> Came<u64, Led> {
+    let mut shop = open(rt, board)?;
     let clients = make_clients(rt, alloc, board, &mut shop)?;
     // A thread that runs is to be joined: so there is room for all before the first.
     let running = Vec::with_capacity(alloc, WAYS.len())?;
-    let (visits, shift) = let_in(rt, alloc, board, clients, running, shop);
-    sum_tickets(alloc, visits?, shift)
+    let (visits, shift) = let_in(rt, alloc, board, clients, running, shop, keeper);
+    sum_up_day(alloc, visits?, shift)
 }
 
-fn open<Led: Ledger, R: Wait>(
-    rt: &R,
-    alloc: Global,
-    board: &Shared<Led>,
-) -> Result<Shop<Led>, Trouble> {
-    let keeper = Keeper::new(alloc)?;
+fn open<Led: Ledger, R: Wait>(rt: &R, board: &Shared<Led>) -> Result<Shop<Led>, Trouble> {
     let mut seat = board.seat(rt)?;
     let requests = made(board.mailbox(rt, &mut seat))?;
-    Ok(Shop {
-        seat,
-        requests,
-        keeper,
-    })
+    Ok(Shop { seat, requests })
 }
 
 /// A client for each way, with a seat and a mailbox for its answers.
@@ -150,6 +148,7 @@ fn let_in<Led: Ledger + Send + Sync, R: Threads + Wait + Sync>(
     clients: Vec<Client<Led>>,
     running: Vec<JoinHandle<Visit<Led>>>,
     shop: Shop<Led>,
+    keeper: &mut Keeper,
 ) -> (Result<Vec<Visit<Led>>, Trouble>, Shift<Led>) {
     let shut = AtomicBool::new(false);
     let is_shut = &shut;
@@ -165,7 +164,7 @@ fn let_in<Led: Ledger + Send + Sync, R: Threads + Wait + Sync>(
                 }
             };
         }
-        let shift = serve_and_leave(rt, board, shop);
+        let shift = serve_and_leave(rt, board, shop, keeper);
         (join_all(rt, running, visits), shift)
     })
 }
@@ -187,12 +186,12 @@ fn serve_and_leave<Led: Ledger, R: Wait>(
     rt: &R,
     board: &Shared<Led>,
     shop: Shop<Led>,
+    keeper: &mut Keeper,
 ) -> Shift<Led> {
     let mut shop = shop;
-    let served = serve(rt, board, &mut shop);
+    let served = serve(rt, board, &mut shop, keeper);
     Shift {
         served,
-        keeper: shop.keeper,
         left: board.leave(rt, shop.seat),
     }
 }
@@ -202,13 +201,14 @@ fn serve<Led: Ledger, R: Wait>(
     rt: &R,
     board: &Shared<Led>,
     shop: &mut Shop<Led>,
+    keeper: &mut Keeper,
 ) -> Result<(), Trouble> {
     for ticket in 1..u64::MAX {
         let Some(answers) = next_request(rt, board, shop)? else {
             return Ok(());
         };
         let answer = board.call(rt, &mut shop.seat, Call::Send(answers, ticket))?;
-        shop.keeper.take_once_due(rt, board, answer.at())?;
+        keeper.take_once_due(rt, board, answer.at())?;
     }
     Ok(())
 }
@@ -228,13 +228,22 @@ fn next_request<Led: Ledger, R: Wait>(
 }
 
 /// The sum of all clients' tickets, if all have theirs, and everybody's seat.
-fn sum_tickets<Led: Ledger>(
+fn sum_up_day<Led: Ledger>(
     alloc: Global,
     visits: Vec<Visit<Led>>,
     shift: Shift<Led>,
-) -> Result<Day<Led>, Trouble> {
+) -> Came<u64, Led> {
     shift.served?;
     let mut lefts = vec![in alloc; shift.left]?;
+    let tickets = sum_tickets(visits, &mut lefts)?;
+    Ok((tickets, lefts))
+}
+
+/// The sum of all clients' tickets, if all have theirs. Their seats go into the list.
+fn sum_tickets<Led: Ledger>(
+    visits: Vec<Visit<Led>>,
+    lefts: &mut Vec<Left<Led>>,
+) -> Result<u64, Trouble> {
     let mut tickets = 0u64;
     for visit in visits {
         tickets = tickets.wrapping_add(visit.tickets?);
@@ -244,9 +253,5 @@ fn sum_tickets<Led: Ledger>(
     if lefts.len() <= WAYS.len() {
         return Err(Trouble::NoMemory);
     }
-    Ok(Day {
-        tickets,
-        keeper: shift.keeper,
-        lefts,
-    })
+    Ok(tickets)
 }

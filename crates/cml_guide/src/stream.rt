@@ -2,7 +2,7 @@
 ghost use Rattle.std.specs.Prelude.{◌≡◌, ◌+◌, ◌^◌, IfOk};
 
 use crate::calls::Trouble;
-use crate::threads::{Shared, done, got, made, settle};
+use crate::threads::{Came, Shared, counted, done, got, made};
 use cml_board::Name;
 use cml_threads::{Count, Left, PARTS, Seat};
 use std::alloc::Global;
@@ -36,8 +36,8 @@ fn stream<Led: Ledger + Send + Sync, R: Threads + Wait + Sync>(
     ensures { IfOk result (λ found. found.1.total ≡ found.1.seats + found.1.rings) }
 {
     let shared = Shared::<Led>::new(alloc, 100, blank)?;
-    let (digits, lefts) = tell_to_three(rt, alloc, &shared)?;
-    Ok((digits, settle(shared, lefts)?.count()))
+    let told = tell_to_three(rt, alloc, &shared);
+    counted(shared, told)
 }
 
 /// What each of the three has read, and the seats of all.
@@ -45,7 +45,7 @@ fn tell_to_three<Led: Ledger + Send + Sync, R: Threads + Wait + Sync>(
     rt: &R,
     alloc: Global,
     board: &Shared<Led>,
-) -> Result<([u64; 3], Vec<Left<Led>>), Trouble> {
+) -> Came<[u64; 3], Led> {
     let mut teller = board.seat(rt)?;
     let [news, first, second, third] = open_channel(rt, board, &mut teller)?;
     let (ann, ben, cid) = make_seats(rt, board)?;

@@ -1,12 +1,12 @@
 //! What threads that share a board have in common: their switchboard, what a reply gives them, and the end.
-ghost use Rattle.std.specs.Prelude.{◌≡◌, IfOk, Ok};
+ghost use Rattle.std.specs.Prelude.{◌≡◌, ◌+◌, IfOk, Ok};
 ghost use Rattle.cml_threads.specs.Seating.{answers_in};
 
 use crate::calls::Trouble;
-use cml_board::{BoardLog, Call, Name, Refusal, Reply};
+use cml_board::{BoardLog, Call, Message, Name, Refusal, Reply};
 use cml_lanes::LaneEnd;
-use cml_threads::{Left, Settled, Switchboard};
-use std::alloc::AllocFailed;
+use cml_threads::{Count, Left, Settled, Switchboard};
+use std::alloc::{AllocFailed, Global};
 use std::sync::ledger::Ledger;
 
 /// A switchboard whose messages are numbers.
@@ -73,11 +73,64 @@ pub fn done(replied: Replied) -> Result<(), Trouble>
 }
 
 /// What is left of a switchboard that all seats have left.
-pub fn settle<Led: Ledger>(shared: Shared<Led>, lefts: Vec<Left<Led>>) -> Result<Ended, Trouble>
+pub fn settle<M: Message, Led: Ledger>(
+    shared: Switchboard<M, BoardLog<M>, Led>,
+    lefts: Vec<Left<Led>>,
+) -> Result<Settled<M, BoardLog<M>>, Trouble>
     ensures { IfOk result (λ settled. settled.seats ≡ answers_in lefts.items) }
 {
     match shared.settle(lefts) {
         Ok(settled) => Ok(settled),
         Err(_) => Err(Trouble::Unsettled),
     }
+}
+
+/// What an example found, and the seats of its threads.
+pub type Came<T, Led> = Result<(T, Vec<Left<Led>>), Trouble>;
+
+/// What an example found, and what is left of its switchboard once all seats have left.
+pub fn settled<T: Drop, M: Message, Led: Ledger>(
+    shared: Switchboard<M, BoardLog<M>, Led>,
+    came: Came<T, Led>,
+) -> Result<(T, Settled<M, BoardLog<M>>), Trouble>
+    ensures { IfOk result (λ found. IfOk came (λ gave. found.1.seats ≡ answers_in gave.1.items)) }
+{
+    let (found, lefts) = came?;
+    Ok((found, settle(shared, lefts)?))
+}
+
+/// What an example found, and how many entries there are at the end.
+pub fn counted<T: Drop, M: Message, Led: Ledger>(
+    shared: Switchboard<M, BoardLog<M>, Led>,
+    came: Came<T, Led>,
+) -> Result<(T, Count), Trouble>
+    ensures seats { IfOk result (λ found. IfOk came (λ gave. found.1.seats ≡ answers_in gave.1.items)) }
+    ensures total { IfOk result (λ found. found.1.total ≡ found.1.seats + found.1.rings) }
+{
+    let (found, ended) = settled(shared, came)?;
+    Ok((found, ended.count()))
+}
+
+/// What a thread found, and its seat.
+pub fn with_one<T: Drop, Led: Ledger>(
+    alloc: Global,
+    found: Result<T, Trouble>,
+    left: Left<Led>,
+) -> Came<T, Led> {
+    let lefts = vec![in alloc; left]?;
+    Ok((found?, lefts))
+}
+
+/// What two threads found, and their seats.
+pub fn with_both<T: Drop, Led: Ledger>(
+    alloc: Global,
+    found: Result<T, Trouble>,
+    one: Left<Led>,
+    two: Left<Led>,
+) -> Came<T, Led>
+    ensures found { IfOk result (λ gave. found ≡ Ok gave.0) }
+    ensures seats { IfOk result (λ gave. answers_in gave.1.items ≡ one.share + two.share) }
+{
+    let lefts = vec![in alloc; one, two]?;
+    Ok((found?, lefts))
 }
