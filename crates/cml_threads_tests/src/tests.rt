@@ -1,3 +1,4 @@
+mod counting;
 mod crew;
 mod cutting;
 mod forms;
@@ -47,4 +48,5 @@ fn plays_scenes_of_threads(rt: HostRuntime) {
             expected,
         );
     }
+    is_same(&rt, counting::told(rt.alloc()).as_str(), counting::TOLD);
 }

@@ -142,7 +142,7 @@ pub fn tell<D: Debug>(text: &mut String, told: &D) {
 }
 
 /// One left alone.
-fn alone<Led: Ledger>(alloc: Global, left: Left<Led>) -> Vec<Left<Led>> {
+pub fn alone<Led: Ledger>(alloc: Global, left: Left<Led>) -> Vec<Left<Led>> {
     let mut lefts = Vec::new(alloc);
     lefts.push(left).is_ok();
     lefts
