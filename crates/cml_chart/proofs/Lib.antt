@@ -1,4 +1,2 @@
-mod OptionLemmas
 mod NameLemmas
-mod FollowingLemmas
 mod DrawingLemmas

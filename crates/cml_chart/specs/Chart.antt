@@ -7,7 +7,8 @@ use Rattle.cml_report.specs.Lines.{Words, Deed, Thing}
 use Rattle.cml_report.specs.Shown.{shown_act}
 use Rattle.cml_chart.specs.declared.chart.Row.{Row}
 use Rattle.cml_chart.specs.declared.chart.Chart.{Chart}
-use Rattle.cml_chart.specs.Columns.{doer_text, names_of, column_of, threads_of, doers_of, taken_from}
+use Rattle.cml_chart.specs.Threads.{Standing}
+use Rattle.cml_chart.specs.Columns.{doer_text, names_of, column_of, doers_of, taken_from}
 
 -- the columns at the ends of an arrow: that of who acts, and that of the object
 abbrev pub Arrow : Type 0
@@ -36,13 +37,12 @@ shown_row row = record { deed = shown_act row.act; arrow = Some (row.actor, row.
 abbrev pub titles_of : List Thing → Words
 titles_of things = map (λ (t : Thing). t.name) things
 
--- The columns are the threads that stand first, those others who act, and behind them the objects, each of which has a name of its
+-- The columns are the threads of the script, those others who act, and behind them the objects, each of which has a name of its
 -- own. There is a row for each line, in their order, and each has an arrow.
-pub record IsChart (first : Words) (deeds : List Deed) (things : List Thing) (chart : Chart) : Type 0 where
-  pub names : names_of chart.names.keys ≡ doers_of first deeds ++ titles_of things
-  pub free : taken_from (doers_of first deeds) (length deeds + 1) things ≡ None
-  pub threads : chart.threads ≡ length (threads_of first deeds)
-  pub actors : chart.actors ≡ length (doers_of first deeds)
+pub record IsChart (threads : List Standing) (deeds : List Deed) (things : List Thing) (chart : Chart) : Type 0 where
+  pub names : names_of chart.names.keys ≡ doers_of threads deeds ++ titles_of things
+  pub free : taken_from (doers_of threads deeds) (length deeds + 1) things ≡ None
+  pub actors : chart.actors ≡ length (doers_of threads deeds)
   pub rows : map shown_row chart.rows.items ≡ map (joined (names_of chart.names.keys) chart.actors) deeds
 
 -- the number of the first of these lines, from k on, whose names don't both have columns
@@ -50,13 +50,13 @@ abbrev pub unknown_from : Words → ℕ → ℕ → List Deed → Option ℕ
 unknown_from names doers k [] = None
 unknown_from names doers k (d ∷ ds) = option_map_or (λ _. unknown_from names doers (suc k) ds) (arrow_of names doers d) (Some k)
 
-abbrev pub unknown_fault : Words → List Deed → List Thing → Option Fault
-unknown_fault first deeds things =
+abbrev pub unknown_fault : List Standing → List Deed → List Thing → Option Fault
+unknown_fault threads deeds things =
     option_map (λ k. record { line = k; what = UnknownName })
-    (unknown_from (doers_of first deeds ++ titles_of things) (length (doers_of first deeds)) 1 deeds)
+    (unknown_from (doers_of threads deeds ++ titles_of things) (length (doers_of threads deeds)) 1 deeds)
 
 -- why the lines of a report have no chart: an object has the name of an earlier column, or else a line of the first part an object
 -- that the second doesn't tell of
-abbrev pub chart_fault : Words → List Deed → List Thing → Option Fault
-chart_fault first deeds things =
-    option_map_or (λ k. Some (record { line = k; what = NameTaken })) (taken_from (doers_of first deeds) (length deeds + 1) things) (unknown_fault first deeds things)
+abbrev pub chart_fault : List Standing → List Deed → List Thing → Option Fault
+chart_fault threads deeds things =
+    option_map_or (λ k. Some (record { line = k; what = NameTaken })) (taken_from (doers_of threads deeds) (length deeds + 1) things) (unknown_fault threads deeds things)

@@ -4,6 +4,7 @@ use Rattle.std.specs.Global.{Global}
 use Rattle.std.specs.List.{list_any}
 use Rattle.std.specs.Option.{option_map_or}
 use Rattle.std.specs.Str.{bytes_eq}
+use Rattle.cml_chart.specs.Threads.{Standing}
 use Rattle.cml_report.specs.Lines.{Words, Doer, thread, lane, feed, Deed, Thing}
 
 -- what the column of who acts is called
@@ -41,12 +42,16 @@ doer_in rings d = named_in rings d.doer
     named_in false doer = None
     named_in true doer = Some (doer_text doer)
 
--- the threads that stand first, those others that act, and then the lanes and feeds, each in the order of their first lines
-abbrev pub threads_of : Words → List Deed → Words
-threads_of first deeds = each_once first (map (doer_in false) deeds)
+-- the name of a thread of the script
+abbrev pub name_in : Standing → Option (List ℕ)
+name_in s = Some s.name
 
-abbrev pub doers_of : Words → List Deed → Words
-doers_of first deeds = each_once (threads_of first deeds) (map (doer_in true) deeds)
+-- the threads of the script, those others that act, and then the lanes and feeds, each in the order of their first lines
+abbrev pub threads_of : List Standing → List Deed → Words
+threads_of threads deeds = each_once (each_once [] (map name_in threads)) (map (doer_in false) deeds)
+
+abbrev pub doers_of : List Standing → List Deed → Words
+doers_of threads deeds = each_once (threads_of threads deeds) (map (doer_in true) deeds)
 
 -- the number of the first line, where these have numbers from k on, whose object has the name of an earlier column
 abbrev pub taken_from : Words → ℕ → List Thing → Option ℕ

@@ -19,13 +19,16 @@ use Rattle.cml_chart.specs.Following.{IsCourse, lines_fault}
 abbrev pub IsRead : Option (List ℕ) → Option (List ℕ) → List ℕ → Type 0
 IsRead old new text = IsReadUpTo 33554433 old new text
 
--- the last row that is asked for: 500 rows where it is not told
+-- the first row that is asked for, and the last: the first of all, and 500 rows, where they are not told
+abbrev pub first_of : Order → ℕ
+first_of order = unwrap_or order.from 1
+
 abbrev pub last_of : Order → ℕ
-last_of order = unwrap_or order.to (min (order.from + 499) (2 ^ 64 - 1))
+last_of order = unwrap_or order.to (min (first_of order + 499) (2 ^ 64 - 1))
 
 -- the rows from the first to the last that are asked for, as far as there are such, stand between these of so many
 abbrev pub bounds_of : Order → ℕ → ℕ × ℕ
-bounds_of order count = let end = min count (last_of order) in (min end (order.from - 1), end)
+bounds_of order count = let end = min count (last_of order) in (min end (first_of order - 1), end)
 
 -- All of the reader's bytes were read, they are a report, of the script where there is one, and this is the course that was drawn.
 pub record IsDrawnOf (script : Option Lines) (old new : Option (List ℕ)) : Type 0 where

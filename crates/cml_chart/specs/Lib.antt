@@ -1,3 +1,4 @@
+pub mod Threads
 pub mod Columns
 pub mod Chart
 pub mod Plan

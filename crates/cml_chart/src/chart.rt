@@ -2,10 +2,12 @@
 ghost use Rattle.std.specs.Prelude.{◌≡◌, ◌⊎◌, ◌+◌, ◌++◌, ◌≤◌, length, map, IfOk, IfErr, OnOk, MatchOption, Some, None};
 ghost use Rattle.cml_report.specs.declared.faults.What.TheVariants.{Memory, UnknownName};
 ghost use Rattle.cml_report.specs.Shown.{shown_act, shown_object};
+ghost use Rattle.cml_chart.specs.Threads.{shown_threads};
 ghost use Rattle.cml_chart.specs.Columns.{names_of};
 ghost use Rattle.cml_chart.specs.Chart.{joined, arrow_of, unknown_from, chart_fault, shown_row, IsChart};
 
-use crate::columns::{add_actors, add_objects, column_of, name_of};
+use crate::columns::{add_actors, add_objects, add_threads, column_of, name_of};
+use crate::threads::Thread;
 use cml_report::{Act, Fault, Object, What};
 use indexmap::IndexSet;
 use std::alloc::{AllocError, Global};
@@ -23,9 +25,7 @@ pub(crate) struct Row<'a> {
 pub(crate) struct Chart<'a> {
     /// The columns' names: the threads, the lanes and feeds, and the objects.
     pub(crate) names: IndexSet<String>,
-    /// How many of the columns are threads.
-    pub(crate) threads: usize,
-    /// How many are threads, lanes or feeds.
+    /// How many of the columns are of those who act: threads, lanes or feeds.
     pub(crate) actors: usize,
     pub(crate) rows: Vec<Row<'a>>,
 }
@@ -34,22 +34,23 @@ pub(crate) struct Chart<'a> {
 /// columns begin with these threads.
 pub(crate) fn chart_of<'a>(
     alloc: Global,
-    first: IndexSet<String>,
+    threads: &[Thread<'_>],
     acts: &[Act<'a>],
     objects: &[Object<'_>],
 ) -> Result<Chart<'a>, Fault>
     requires few { length acts.now + length objects.now ≤ 33554432 }
-    ensures chart { IfOk result (λ chart. IsChart (names_of first.keys) (map shown_act acts.now) (map shown_object objects.now) chart) }
-    ensures fault { IfErr result (λ fault. (fault.what ≡ Memory) ⊎ (chart_fault (names_of first.keys) (map shown_act acts.now) (map shown_object objects.now) ≡ Some fault)) }
+    ensures chart { IfOk result (λ chart. IsChart (shown_threads threads.now) (map shown_act acts.now) (map shown_object objects.now) chart) }
+    ensures fault { IfErr result (λ fault. (fault.what ≡ Memory) ⊎ (chart_fault (shown_threads threads.now) (map shown_act acts.now) (map shown_object objects.now) ≡ Some fault)) }
 {
-    let mut names = first;
-    let threads = add_actors(alloc, &mut names, acts, false)?;
-    let actors = add_actors(alloc, &mut names, acts, true)?;
+    let mut names = IndexSet::new(alloc);
+    add_threads(alloc, &mut names, threads)?;
+    add_actors(alloc, &mut names, acts, false)?;
+    add_actors(alloc, &mut names, acts, true)?;
+    let actors = names.len();
     add_objects(alloc, &mut names, objects, acts.len() + 1)?;
     let rows = rows_of(alloc, &names, actors, acts)?;
     Ok(Chart {
         names,
-        threads,
         actors,
         rows,
     })
@@ -63,7 +64,6 @@ fn rows_of<'a>(
 ) -> Result<Vec<Row<'a>>, Fault>
     requires { length acts.now ≤ 33554432 }
     ensures rows { IfOk result (λ rows. map shown_row rows.items ≡ map (joined (names_of names.now.keys) actors) (map shown_act acts.now)) }
-    ensures known { OnOk result (unknown_from (names_of names.now.keys) actors 1 (map shown_act acts.now) ≡ None) }
     ensures fault { IfErr result (λ fault. (fault.what ≡ Memory)
         ⊎ ((fault.what ≡ UnknownName) × (unknown_from (names_of names.now.keys) actors 1 (map shown_act acts.now) ≡ Some fault.line))) }
 {

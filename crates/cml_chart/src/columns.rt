@@ -4,12 +4,17 @@ ghost use Rattle.std.specs.Prelude.{◌≡◌, ◌⊎◌, ◌++◌, ◌∷◌, [
 ghost use Rattle.std.specs.Option.{option_map};
 ghost use Rattle.cml_report.specs.declared.faults.What.TheVariants.{Memory, NameTaken};
 ghost use Rattle.cml_report.specs.Shown.{shown_actor, shown_act, shown_object};
-ghost use Rattle.cml_chart.specs.Columns.{doer_text, names_of, with_name, each_once, doer_in, is_among, taken_from, column_of};
+ghost use Rattle.cml_chart.specs.Threads.{shown_threads};
+ghost use Rattle.cml_chart.specs.Columns.{doer_text, names_of, with_name, each_once, name_in, doer_in, is_among, taken_from, column_of};
 ghost use Rattle.cml_chart.specs.Chart.{titles_of};
 
+use crate::threads::Thread;
 use cml_report::{Act, Actor, Fault, Object, What};
 use indexmap::IndexSet;
 use std::alloc::{AllocError, Global};
+
+/// What comes of adding something.
+pub(crate) type Added = Result<(), AllocError>;
 
 /// What the column of an actor is called.
 pub(crate) fn name_of(alloc: Global, actor: Actor<'_>) -> Result<String, AllocError>
@@ -22,27 +27,40 @@ pub(crate) fn name_of(alloc: Global, actor: Actor<'_>) -> Result<String, AllocEr
     }
 }
 
-/// Adds who acts, the threads or else the lanes and feeds, each once where it first acts, and tells how many names there are then.
+/// Adds the threads of a script.
+pub(crate) fn add_threads(
+    alloc: Global,
+    names: &mut IndexSet<String>,
+    threads: &[Thread<'_>],
+) -> Added
+    ensures { OnOk result (names_of names.new.keys ≡ each_once (names_of names.old.keys) (map name_in (shown_threads threads.now))) }
+{
+    for thread in threads {
+        add_name(names, String::from_str(alloc, thread.name)?)?;
+    }
+    Ok(())
+}
+
+/// Adds who acts, the threads or else the lanes and feeds, each once where it first acts.
 pub(crate) fn add_actors(
     alloc: Global,
     names: &mut IndexSet<String>,
     acts: &[Act<'_>],
     rings: bool,
-) -> Result<usize, AllocError>
-    ensures names { OnOk result (names_of names.new.keys ≡ each_once (names_of names.old.keys) (map (doer_in rings) (map shown_act acts.now))) }
-    ensures count { IfOk result (λ count. count ≡ length (names_of names.new.keys)) }
+) -> Added
+    ensures { OnOk result (names_of names.new.keys ≡ each_once (names_of names.old.keys) (map (doer_in rings) (map shown_act acts.now))) }
 {
     for act in acts {
         if matches!(act.actor, Actor::Lane(_) | Actor::Feed(_)) == rings {
             add_name(names, name_of(alloc, act.actor)?)?;
         }
     }
-    Ok(names.len())
+    Ok(())
 }
 
 /// Adds a name, where it is not among them yet.
 #[tactic(auto, using(crate::proofs::NameLemmas::put_in))]
-pub(crate) fn add_name(names: &mut IndexSet<String>, name: String) -> Result<(), AllocError>
+pub(crate) fn add_name(names: &mut IndexSet<String>, name: String) -> Added
     ensures { OnOk result (names_of names.new.keys ≡ with_name (names_of names.old.keys) (string_bytes name)) }
 {
     names.insert(name)?;

@@ -1,7 +1,7 @@
 //! The words of the command line, by `clap`, which also writes the help.
-ghost use Rattle.std.specs.Prelude.{◌≡◌, map, codes, IfOk, false};
-ghost use Rattle.clap.specs.Words.{app_of, found_of, new_app, FailsBy, rows_of, rule_of};
-ghost use Rattle.cml_chart.specs.CommandLine.{drawing_usage, usage, faults_of, options_in, text_rule, bare_rule, from_rule, to_rule, script_rule, IsAsked};
+ghost use Rattle.std.specs.Prelude.{◌≡◌, map, IfOk, false};
+ghost use Rattle.clap.specs.Words.{app_of, found_of, FailsBy, rows_of, rule_of};
+ghost use Rattle.cml_chart.specs.CommandLine.{usage, faults_of, options_in, text_rule, numbered_rule, script_rule, IsAsked};
 
 use clap::{Arg, ArgAction, ArgMatches, Command, Error, value_parser};
 use std::alloc::{AllocError, Global};
@@ -47,8 +47,8 @@ Exit status:
 pub(crate) struct Order<'a> {
     /// As lines of text, and not as SVG.
     pub(crate) text: bool,
-    /// The first row, from 1.
-    pub(crate) from: u64,
+    /// The first row, from 1; where it is not told, the first of all.
+    pub(crate) from: Option<u64>,
     /// The last row; where it is not told, 500 rows are drawn at the most.
     pub(crate) to: Option<u64>,
     /// The file with the script that the report is of.
@@ -60,24 +60,17 @@ pub(crate) fn order_of<'a, S: AsStr>(alloc: Global, words: &'a [S]) -> Result<Or
     ensures fails { FailsBy (faults_of (map S.text words.now)) result }
     ensures asked { IfOk result (λ order. IsAsked (options_in (map S.text words.now)) order) }
 {
-    let matches = matches(alloc, words)?;
+    let matches = command(alloc)?.try_get_matches_from(words)?;
     Ok(order_in(&matches))
 }
 
-fn matches<'a, S: AsStr>(alloc: Global, words: &'a [S]) -> Result<ArgMatches<'a>, Error>
-    ensures fails { FailsBy (faults_of (map S.text words.now)) result }
-    ensures found { IfOk result (λ matches. rows_of (found_of matches) ≡ options_in (map S.text words.now)) }
-{
-    command(alloc)?.try_get_matches_from(words)
-}
-
-/// What the program's words ask for, once they are understood: the rows begin with the first, or that which is told.
+/// What the program's words ask for, once they are understood.
 fn order_in<'a>(matches: &ArgMatches<'a>) -> Order<'a>
     ensures { IsAsked (rows_of (found_of matches.now)) result }
 {
     Order {
         text: matches.get_flag("text"),
-        from: matches.get_one::<u64>("from").unwrap_or(1).max(1),
+        from: matches.get_one::<u64>("from"),
         to: matches.get_one::<u64>("to"),
         script: matches.get_str("script"),
     }
@@ -86,39 +79,14 @@ fn order_in<'a>(matches: &ArgMatches<'a>) -> Order<'a>
 fn command<'a>(alloc: Global) -> Result<Command<'a>, AllocError>
     ensures { IfOk result (λ command. app_of command ≡ usage) }
 {
-    drawing_command(alloc)?.arg(script(alloc))
-}
-
-/// The program with the options of how a report is to be drawn.
-fn drawing_command<'a>(alloc: Global) -> Result<Command<'a>, AllocError>
-    ensures { IfOk result (λ command. app_of command ≡ drawing_usage) }
-{
-    bare_command(alloc)
-        .arg(text(alloc))?
-        .arg(from(alloc))?
-        .arg(to(alloc))
-}
-
-/// The program without an option.
-fn bare_command<'a>(alloc: Global) -> Command<'a>
-    ensures { app_of result ≡ new_app (codes "cml_chart") }
-{
     Command::new(alloc, "cml_chart")
         .about(ABOUT)
         .long_about(LONG_ABOUT)
         .after_help(AFTER_HELP)
-}
-
-fn from<'a>(alloc: Global) -> Arg<'a>
-    ensures { (rule_of result ≡ from_rule) × (result.global ≡ false) }
-{
-    numbered(alloc, "from").value_name("K").help(FROM_HELP)
-}
-
-fn to<'a>(alloc: Global) -> Arg<'a>
-    ensures { (rule_of result ≡ to_rule) × (result.global ≡ false) }
-{
-    numbered(alloc, "to").value_name("L").help(TO_HELP)
+        .arg(text(alloc))?
+        .arg(numbered(alloc, "from", "K", FROM_HELP))?
+        .arg(numbered(alloc, "to", "L", TO_HELP))?
+        .arg(script(alloc))
 }
 
 fn text<'a>(alloc: Global) -> Arg<'a>
@@ -131,12 +99,19 @@ fn text<'a>(alloc: Global) -> Arg<'a>
 }
 
 /// An option whose value is the number of a row.
-fn numbered<'a>(alloc: Global, name: &'static str) -> Arg<'a>
-    ensures { (rule_of result ≡ bare_rule name.now) × (result.global ≡ false) }
+fn numbered<'a>(
+    alloc: Global,
+    name: &'static str,
+    value: &'static str,
+    help: &'static str,
+) -> Arg<'a>
+    ensures { (rule_of result ≡ numbered_rule name.now) × (result.global ≡ false) }
 {
     Arg::new(alloc, name)
         .long(name)
         .value_parser(value_parser!(u64).range(1..=4_294_967_296))
+        .value_name(value)
+        .help(help)
 }
 
 fn script<'a>(alloc: Global) -> Arg<'a>

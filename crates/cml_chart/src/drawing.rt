@@ -7,7 +7,7 @@ ghost use Rattle.cml_chart.specs.Drawing.{bounds_of, Draws, DrawsGiven, IsDrawnO
 use crate::command_line::Order;
 use crate::course::{Course, course_of};
 use crate::ending::Ending;
-use crate::marks::add_drawn;
+use crate::marks::{add_declared, add_drawn};
 use crate::picture::Picture;
 use crate::plain::draw_plain;
 use crate::svg::draw_svg;
@@ -84,7 +84,7 @@ fn picture<R: Read>(
     let text = read_all(alloc, reader, Ending::ReadFault)?;
     let report = read_report(alloc, &text)?;
     let course = course_of(alloc, script, report)?;
-    let picture = draw_course(alloc, &course, order)?;
+    let picture = draw_course(alloc, script, &course, order)?;
     Ok(picture)
 }
 
@@ -101,20 +101,20 @@ fn read_all<R: Read>(alloc: Global, reader: &mut R, failed: Ending) -> Result<Ve
 }
 
 /// The rows that are asked for as SVG or as lines of text.
-fn draw_course(
+fn draw_course<'a>(
     alloc: Global,
-    course: &Course<'_>,
+    script: Option<&'a Script>,
+    course: &Course<'a>,
     order: &Order<'_>,
 ) -> Result<String, AllocError> {
     let bounds = bounds(order, course.chart.rows.len());
-    let mut open = Vec::from_slice(alloc, &course.open)?;
-    let mut rows = Vec::new(alloc);
-    add_drawn(alloc, &mut rows, &mut open, &course.chart, bounds)?;
-    let picture = Picture {
-        course,
-        rows: &rows,
-        before: bounds.0,
-    };
+    let mut picture = Picture::new(alloc, course, bounds.0);
+    picture.add_columns()?;
+    let mut open = Vec::new(alloc);
+    if let Some(script) = script {
+        add_declared(&mut open, script)?;
+    }
+    add_drawn(alloc, &mut picture.rows, &mut open, &course.chart, bounds)?;
     let mut out = String::new(alloc);
     if order.text {
         draw_plain(&mut out, &picture)?;
@@ -129,8 +129,9 @@ fn bounds(order: &Order<'_>, count: usize) -> (usize, usize)
     ensures bounds { result ≡ bounds_of order.now count }
     ensures within { (result.0 ≤ result.1) × (result.1 ≤ count) }
 {
-    let to = order.to.unwrap_or(order.from.saturating_add(MOST_ROWS - 1));
+    let from = order.from.unwrap_or(1);
+    let to = order.to.unwrap_or(from.saturating_add(MOST_ROWS - 1));
     let end = count.min(to as usize);
-    let start = end.min(order.from.saturating_sub(1) as usize);
+    let start = end.min(from.saturating_sub(1) as usize);
     (start, end)
 }

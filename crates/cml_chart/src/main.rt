@@ -7,14 +7,13 @@ mod command_line;
 mod course;
 mod drawing;
 mod ending;
-mod escape;
 mod following;
-mod labels;
 mod marks;
 mod picture;
 mod plain;
 mod plan;
 mod svg;
+mod threads;
 
 use cml_shell::{NoOrder, end, words};
 use command_line::order_of;

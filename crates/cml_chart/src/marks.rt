@@ -1,8 +1,8 @@
 //! Which ports are open, and which of them a multicast goes to.
 use crate::chart::{Chart, Row};
-use crate::columns::column_of;
+use crate::columns::{Added, column_of};
 use cml_grammar::{Makes, Script, Verb};
-use cml_report::{Act, Reply};
+use cml_report::Act;
 use std::alloc::{AllocError, Global};
 
 /// A port that is open, and its channel.
@@ -26,7 +26,7 @@ pub(crate) fn add_drawn<'a>(
     open: &mut Vec<Listener<'a>>,
     chart: &Chart<'a>,
     bounds: (usize, usize),
-) -> Result<(), AllocError> {
+) -> Added {
     for (at, row) in chart.rows.iter().take(bounds.1).enumerate() {
         if at >= bounds.0 {
             let marks = marks_of(alloc, chart, open, &row.act)?;
@@ -38,10 +38,7 @@ pub(crate) fn add_drawn<'a>(
 }
 
 /// Adds the ports that a script declares, those of feeds too. The i-th declaration gives the i-th name.
-pub(crate) fn add_declared<'a>(
-    open: &mut Vec<Listener<'a>>,
-    script: &'a Script,
-) -> Result<(), AllocError> {
+pub(crate) fn add_declared<'a>(open: &mut Vec<Listener<'a>>, script: &'a Script) -> Added {
     let declarations = script.declarations();
     for (at, declaration) in declarations.iter().enumerate() {
         if let Some(listener) = declared(script, at, &declaration.makes) {
@@ -63,7 +60,7 @@ fn declared<'a>(script: &'a Script, at: usize, makes: &Makes) -> Option<Listener
 }
 
 /// Opens the port that a row makes, or closes the one that it closes.
-fn follow<'a>(open: &mut Vec<Listener<'a>>, act: &Act<'a>) -> Result<(), AllocError> {
+fn follow<'a>(open: &mut Vec<Listener<'a>>, act: &Act<'a>) -> Added {
     let port = act.object;
     if matches!(act.verb, Verb::Close) {
         open.retain(|listener| listener.port != port);
@@ -77,9 +74,9 @@ fn follow<'a>(open: &mut Vec<Listener<'a>>, act: &Act<'a>) -> Result<(), AllocEr
 /// The channel of the port that a row makes, if it makes one: that of the port which it copies, where that is open.
 fn channel_made<'a>(open: &[Listener<'a>], act: &Act<'a>) -> Option<&'a str> {
     let source = act.with?;
-    match (act.reply, act.verb) {
-        (Reply::Made, Verb::Port) => Some(source),
-        (Reply::Made, Verb::Copy) => {
+    match (act.verb, act.reply) {
+        (Verb::Port, "made") => Some(source),
+        (Verb::Copy, "made") => {
             let listener = open.iter().find(|listener| listener.port == source)?;
             Some(listener.channel)
         }

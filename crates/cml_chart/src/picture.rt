@@ -1,43 +1,118 @@
-//! What is drawn of a run: some rows of its chart, with what stands over, at and under them.
+//! What is drawn of a run, as lines of text or as SVG: its columns, some rows of its chart, and what is written at them.
+use crate::columns::Added;
 use crate::course::Course;
 use crate::marks::Drawn;
-use cml_report::Object;
+use cml_grammar::Verb;
+use cml_report::{Act, Object};
+use std::alloc::Global;
+use std::fmt::Write;
 
-/// The rows that are drawn of a course.
+/// A column: its name, the kind over that, and what is said of an object under it, with a space in front.
 #[derive(Clone, Copy)]
+pub(crate) struct Column<'p> {
+    pub(crate) kind: &'p str,
+    pub(crate) name: &'p str,
+    pub(crate) closing: &'p str,
+}
+
+/// The rows that are drawn of a course, under the columns.
+#[derive(Drop)]
 pub(crate) struct Picture<'p, 'a> {
     pub(crate) course: &'p Course<'a>,
-    pub(crate) rows: &'p [Drawn<'a>],
+    pub(crate) columns: Vec<Column<'p>>,
+    pub(crate) rows: Vec<Drawn<'a>>,
     /// How many rows stand before those that are drawn.
     pub(crate) before: usize,
 }
 
-/// What stands over a column's name. The names of lanes and feeds tell their kind.
-pub(crate) fn kind_at<'a>(course: &Course<'a>, column: usize) -> &'a str {
-    if column < course.chart.threads {
-        return "thread";
-    }
-    match object_at(course, column) {
-        Some(object) => object.kind,
-        None => "",
+impl Column<'_> {
+    /// How many letters wide it is. All texts of a report are ASCII, so bytes are letters.
+    pub(crate) fn width(&self) -> usize {
+        self.kind.len().max(self.name.len()).saturating_add(1)
     }
 }
 
-/// How many letters wide a column of this name is. All texts of a report are ASCII, so bytes are letters.
-pub(crate) fn width_at(course: &Course<'_>, column: usize, name: &str) -> usize {
-    let kind = kind_at(course, column);
-    kind.len().max(name.len()).saturating_add(1)
-}
+impl<'p, 'a> Picture<'p, 'a> {
+    /// A picture without columns and rows.
+    pub(crate) fn new(alloc: Global, course: &'p Course<'a>, before: usize) -> Picture<'p, 'a> {
+        Picture {
+            course,
+            columns: Vec::new(alloc),
+            rows: Vec::new(alloc),
+            before,
+        }
+    }
 
-/// What a report says of the object whose column this is, with a space in front.
-pub(crate) fn closing_at<'a>(course: &Course<'a>, column: usize) -> &'a str {
-    match object_at(course, column) {
-        Some(object) => object.line.split_once(':').unwrap_or(("", "")).1,
-        None => "",
+    /// Adds the columns of those who act, and of the objects. The names of lanes and feeds tell their kind.
+    pub(crate) fn add_columns(&mut self) -> Added {
+        let chart = &self.course.chart;
+        for name in chart.names.iter().take(chart.actors) {
+            let kind = if name.contains(' ') { "" } else { "thread" };
+            let (name, closing) = (name.as_str(), "");
+            self.columns.push(Column {
+                kind,
+                name,
+                closing,
+            })?;
+        }
+        for object in &self.course.report.objects {
+            self.columns.push(column_of(object))?;
+        }
+        Ok(())
     }
 }
 
-fn object_at<'p, 'a>(course: &'p Course<'a>, column: usize) -> Option<&'p Object<'a>> {
-    let at = column.checked_sub(course.chart.actors)?;
-    course.report.objects.get(at)
+fn column_of<'a>(object: &Object<'a>) -> Column<'a> {
+    let (_, closing) = object.line.split_once(':').unwrap_or(("", ""));
+    Column {
+        kind: object.kind,
+        name: object.name,
+        closing,
+    }
+}
+
+/// Adds what stands at the arrow of an act: its step, the message, and what came of it where that isn't as ever.
+pub(crate) fn push_label(out: &mut String, act: &Act<'_>) -> Added {
+    out.push_str(act.word)?;
+    if let Some(with) = act.with {
+        let makes_port = matches!(act.verb, Verb::Port | Verb::Copy);
+        out.push_str(if makes_port { " of " } else { " " })?;
+        out.push_str(with)?;
+    }
+    match act.reply {
+        "done" | "made" => Ok(()),
+        reply => write!(out, ": {reply}"),
+    }
+}
+
+/// Whether an act found nothing, or not what it asks for.
+pub(crate) fn is_missed(act: &Act<'_>) -> bool {
+    matches!(act.reply, "none" | "put" | "closed")
+}
+
+/// Whether something goes to the object.
+pub(crate) fn points_out(act: &Act<'_>) -> bool {
+    act.with.is_some() || matches!(act.verb, Verb::Close)
+}
+
+/// Whether something comes from the object. With a swap both are so.
+pub(crate) fn points_back(act: &Act<'_>) -> bool {
+    !points_out(act) || matches!(act.verb, Verb::Swap)
+}
+
+/// Adds a step at which a thread stands, without the thread's name.
+pub(crate) fn push_step(out: &mut String, stop: &str, step: &str) -> Added {
+    let says = if stop == "stalled" { "waits" } else { "next" };
+    let (_, step) = step.split_once(' ').unwrap_or(("", ""));
+    write!(out, "{says}: {step}")
+}
+
+/// Adds how many rows are drawn of all, and behind how many others, where not all are drawn.
+pub(crate) fn push_note(out: &mut String, picture: &Picture<'_, '_>, end: &str) -> Added {
+    let (drawn, all) = (picture.rows.len(), picture.course.chart.rows.len());
+    let before = picture.before;
+    if drawn >= all {
+        return Ok(());
+    }
+    write!(out, "{drawn} of {all} rows, behind row {before}{end}")
 }

@@ -1,16 +1,17 @@
 //! A chart as lines of text: a column for each thread and object, and a line for each row.
+use crate::columns::Added;
 use crate::course::Course;
-use crate::labels::{is_missed, points_back, points_out, push_label, push_note, push_step};
 use crate::marks::Drawn;
-use crate::picture::{Picture, kind_at, width_at};
-use std::alloc::AllocError;
+use crate::picture::{
+    Picture, is_missed, points_back, points_out, push_label, push_note, push_step,
+};
 use std::fmt::Write;
 
 /// Adds the columns' heads, a line for each row, for each thread that has a step left, and for each object, and the end.
-pub(crate) fn draw_plain(out: &mut String, picture: &Picture<'_, '_>) -> Result<(), AllocError> {
-    push_heads(out, picture.course)?;
-    for drawn in picture.rows {
-        push_cells(out, picture.course, drawn)?;
+pub(crate) fn draw_plain(out: &mut String, picture: &Picture<'_, '_>) -> Added {
+    push_heads(out, picture)?;
+    for drawn in &picture.rows {
+        push_cells(out, picture, drawn)?;
         push_label(out, &drawn.row.act)?;
         out.push_str("\n")?;
     }
@@ -18,27 +19,29 @@ pub(crate) fn draw_plain(out: &mut String, picture: &Picture<'_, '_>) -> Result<
     push_below(out, picture.course)
 }
 
-fn push_heads(out: &mut String, course: &Course<'_>) -> Result<(), AllocError> {
-    for (at, name) in course.chart.names.iter().enumerate() {
-        let width = width_at(course, at, name);
+fn push_heads(out: &mut String, picture: &Picture<'_, '_>) -> Added {
+    for column in &picture.columns {
+        let (name, width) = (column.name, column.width());
         write!(out, "{name:width$}")?;
     }
     out.push_str("\n")?;
-    for (at, name) in course.chart.names.iter().enumerate() {
-        let (kind, width) = (kind_at(course, at), width_at(course, at, name));
+    for column in &picture.columns {
+        let (kind, width) = (column.kind, column.width());
         write!(out, "{kind:width$}")?;
     }
     out.push_str("\n")
 }
 
 /// Adds what stands below the rows.
-fn push_below(out: &mut String, course: &Course<'_>) -> Result<(), AllocError> {
+fn push_below(out: &mut String, course: &Course<'_>) -> Added {
     let end = course.report.end;
-    for step in &course.standing {
-        out.push_str(step.first().unwrap_or(&""))?;
-        out.push_str(" ")?;
-        push_step(out, end.stop, step)?;
-        out.push_str("\n")?;
+    for thread in &course.threads {
+        if let Some(step) = thread.step() {
+            out.push_str(thread.name)?;
+            out.push_str(" ")?;
+            push_step(out, end.stop, step)?;
+            out.push_str("\n")?;
+        }
     }
     for object in &course.report.objects {
         out.push_str(object.line)?;
@@ -48,17 +51,14 @@ fn push_below(out: &mut String, course: &Course<'_>) -> Result<(), AllocError> {
     out.push_str("\n")
 }
 
-fn push_cells(out: &mut String, course: &Course<'_>, drawn: &Drawn<'_>) -> Result<(), AllocError> {
+fn push_cells(out: &mut String, picture: &Picture<'_, '_>, drawn: &Drawn<'_>) -> Added {
     let row = &drawn.row;
-    let dash = if is_missed(row.act.reply) { '.' } else { '-' };
-    for (at, name) in course.chart.names.iter().enumerate() {
+    let dash = if is_missed(&row.act) { '.' } else { '-' };
+    for (at, column) in picture.columns.iter().enumerate() {
         out.push(lead_at(drawn, dash, at))?;
-        let fill = if row.actor <= at && at < row.object {
-            dash
-        } else {
-            ' '
-        };
-        for _ in 1..width_at(course, at, name) {
+        let is_crossed = row.actor <= at && at < row.object;
+        let fill = if is_crossed { dash } else { ' ' };
+        for _ in 1..column.width() {
             out.push(fill)?;
         }
     }
@@ -69,10 +69,10 @@ fn push_cells(out: &mut String, course: &Course<'_>, drawn: &Drawn<'_>) -> Resul
 fn lead_at(drawn: &Drawn<'_>, dash: char, at: usize) -> char {
     let row = &drawn.row;
     if at == row.object {
-        return if points_out(row.act.verb) { '>' } else { '|' };
+        return if points_out(&row.act) { '>' } else { '|' };
     }
     if at == row.actor {
-        return if points_back(row.act.verb) { '<' } else { '|' };
+        return if points_back(&row.act) { '<' } else { '|' };
     }
     if drawn.marks.contains(&at) {
         return '*';

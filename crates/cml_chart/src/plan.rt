@@ -1,194 +1,160 @@
 //! What a script says of its reports.
-ghost use Rattle.std.specs.Prelude.{◌≡◌, ◌++◌, ◌∷◌, [], map, filter_map, slice_get, IfOk, OnOk, false};
-ghost use Rattle.std.specs.Option.{option_map, option_map_or, option_to_list};
+ghost use Rattle.std.specs.Prelude.{◌≡◌, ◌++◌, [], map, filter_map, slice_get, string_bytes, IfOk, OnOk, Some, None, false, if◌then◌else◌};
+ghost use Rattle.std.specs.Option.{option_map, option_map_or, option_and_then, option_to_list};
 ghost use Rattle.cml_grammar.specs.Meaning.{names_of as given_by};
 ghost use Rattle.cml_grammar.specs.Reading.{source_of, ReadsStep};
 ghost use Rattle.cml_report.specs.Shown.{texts};
-ghost use Rattle.cml_chart.specs.Columns.{names_of, each_once};
-ghost use Rattle.cml_chart.specs.Plan.{kind_of, made_in, feed_in, thread_in, is_feed, is_apart, begins, own_steps, targets_in, shown_lines, shown_made, Steps, IsPlan};
+ghost use Rattle.cml_chart.specs.Columns.{names_of};
+ghost use Rattle.cml_chart.specs.Threads.{shown_threads};
+ghost use Rattle.cml_chart.specs.Plan.{declared_in, port_in, feed_in, object_in, objects_in, targets_in, thread_in, threads_in, is_feed, is_apart, begins, own_in, own_steps, shown_made, IsPlan};
 
-use crate::columns::add_name;
-use cml_grammar::{Action, Named, Script, Step, split_words};
+use crate::columns::{Added, add_name};
+use crate::threads::Thread;
+use cml_grammar::{Action, Declaration, Named, Script, Step, split_words};
 use indexmap::IndexSet;
 use std::alloc::{AllocError, Global};
 
-/// The kind's word and the name of an object.
+/// What a line of a script makes, by its kind and its name.
 #[derive(Clone, Copy)]
 pub(crate) struct Made<'a> {
-    pub(crate) kind: &'static str,
+    pub(crate) kind: &'a str,
     pub(crate) name: &'a str,
 }
 
 /// What a script says of its reports.
 #[derive(Drop)]
 pub(crate) struct Plan<'a> {
-    pub(crate) script: &'a Script,
-    pub(crate) threads: IndexSet<String>,
+    pub(crate) threads: Vec<Thread<'a>>,
     /// The feeds, by their numbers.
     pub(crate) feeds: Vec<&'a str>,
     /// The objects that lanes lead to.
     pub(crate) targets: IndexSet<String>,
     /// All objects, in the order of a report's second part.
     pub(crate) objects: Vec<Made<'a>>,
-    /// By thread, the steps that have rows of it.
-    pub(crate) steps: Vec<Vec<Vec<&'a str>>>,
-}
-
-pub(crate) fn plan_of(alloc: Global, script: &Script) -> Result<Plan<'_>, AllocError>
-    ensures plan { IfOk result IsPlan }
-    ensures script { IfOk result (λ plan. plan.script.now ≡ script.now) }
-{
-    let mut plan = Plan {
-        script,
-        threads: IndexSet::new(alloc),
-        feeds: Vec::new(alloc),
-        targets: IndexSet::new(alloc),
-        objects: Vec::new(alloc),
-        steps: Vec::new(alloc),
-    };
-    fill(alloc, &mut plan)?;
-    Ok(plan)
 }
 
 /// Fills an empty plan. What was added when memory is refused goes with the plan.
-fn fill(alloc: Global, plan: &mut Plan<'_>) -> Result<(), AllocError>
-    requires { (plan.old.threads.keys ≡ []) × (plan.old.feeds.items ≡ []) × (plan.old.targets.keys ≡ []) × (plan.old.objects.items ≡ []) × (plan.old.steps.items ≡ []) }
-    ensures plan { OnOk result (IsPlan plan.new) }
-    ensures script { OnOk result (plan.new.script ≡ plan.old.script) }
+pub(crate) fn fill<'a>(alloc: Global, plan: &mut Plan<'a>, script: &'a Script) -> Added
+    requires { (plan.old.threads.items ≡ []) × (plan.old.feeds.items ≡ []) × (plan.old.targets.keys ≡ []) × (plan.old.objects.items ≡ []) }
+    ensures { OnOk result (IsPlan script.now plan.new) }
 {
-    add_names(alloc, plan)?;
-    add_targets(alloc, &mut plan.targets, plan.script)?;
-    add_steps(alloc, &mut plan.steps, plan.script, &plan.threads)
-}
-
-/// Adds what each name of a script stands for.
-fn add_names(alloc: Global, plan: &mut Plan<'_>) -> Result<(), AllocError>
-    ensures threads { OnOk result (names_of plan.new.threads.keys ≡ each_once (names_of plan.old.threads.keys) (map thread_in (given_by plan.old.script.now))) }
-    ensures feeds { OnOk result (texts plan.new.feeds.items ≡ texts plan.old.feeds.items ++ filter_map feed_in (given_by plan.old.script.now)) }
-    ensures objects { OnOk result (map shown_made plan.new.objects.items ≡ map shown_made plan.old.objects.items ++ filter_map made_in (given_by plan.old.script.now)) }
-    ensures others { OnOk result (plan.new ≡ record plan.old { threads = plan.new.threads; feeds = plan.new.feeds; objects = plan.new.objects }) }
-{
-    let names = plan.script.names();
-    for at in 0..names.len() {
-        let (name, named) = names.get_index(at).unwrap();
-        add_given(alloc, plan, name, *named)?;
+    let declarations = script.declarations();
+    for declaration in declarations {
+        add_declared(alloc, plan, script, declaration)?;
     }
-    Ok(())
+    add_ports(alloc, &mut plan.objects, script)?;
+    add_targets(alloc, &mut plan.targets, script)
 }
 
-fn add_given<'a>(
+/// Adds what a declaration makes.
+fn add_declared<'a>(
     alloc: Global,
     plan: &mut Plan<'a>,
-    name: &'a str,
-    named: Named,
-) -> Result<(), AllocError>
-    ensures threads { OnOk result (names_of plan.new.threads.keys ≡ each_once (names_of plan.old.threads.keys) (thread_in (name.now, named) ∷ [])) }
-    ensures feeds { OnOk result (texts plan.new.feeds.items ≡ texts plan.old.feeds.items ++ option_to_list (feed_in (name.now, named))) }
-    ensures objects { OnOk result (map shown_made plan.new.objects.items ≡ map shown_made plan.old.objects.items ++ option_to_list (made_in (name.now, named))) }
-    ensures others { OnOk result (plan.new ≡ record plan.old { threads = plan.new.threads; feeds = plan.new.feeds; objects = plan.new.objects }) }
+    script: &'a Script,
+    declaration: &'a Declaration,
+) -> Added
+    ensures threads { OnOk result (shown_threads plan.new.threads.items ≡ shown_threads plan.old.threads.items ++ option_to_list (thread_in script.now (source_of declaration.now.line))) }
+    ensures feeds { OnOk result (texts plan.new.feeds.items ≡ texts plan.old.feeds.items ++ option_to_list (feed_in (source_of declaration.now.line))) }
+    ensures objects { OnOk result (map shown_made plan.new.objects.items ≡ map shown_made plan.old.objects.items ++ option_to_list (object_in (source_of declaration.now.line))) }
+    ensures targets { OnOk result (plan.new.targets ≡ plan.old.targets) }
 {
-    let Some(kind) = kind_of(named) else {
-        return add_name(&mut plan.threads, String::from_str(alloc, name)?);
+    let words = split_words(alloc, declaration.line.text.as_str())?;
+    let Some(made) = declared_in(&words) else {
+        return Ok(());
     };
-    if is_feed(named) {
-        plan.feeds.push(name)?;
+    if made.kind == "thread" {
+        let (name, steps) = (made.name, own_steps(alloc, script, made.name)?);
+        plan.threads.push(Thread {
+            name,
+            steps,
+            performed: 0,
+        })?;
+        return Ok(());
     }
-    plan.objects.push(Made { kind, name })?;
+    if made.kind == "feed" {
+        plan.feeds.push(made.name)?;
+    }
+    plan.objects.push(made)?;
     Ok(())
 }
 
-/// The word of an object's kind.
-fn kind_of(named: Named) -> Option<&'static str>
-    ensures { option_map (λ k. k.now) result ≡ kind_of named }
+/// What a declaration of these words makes.
+fn declared_in<'a>(words: &[&'a str]) -> Option<Made<'a>>
+    ensures { option_map shown_made result ≡ declared_in (texts words.now) }
 {
-    match named {
-        Named::Thread(_) => None,
-        Named::Mailbox => Some("mailbox"),
-        Named::Channel => Some("channel"),
-        Named::Port(_) => Some("port"),
-        Named::IVar => Some("ivar"),
-        Named::MVar => Some("mvar"),
-        Named::Feed(_) => Some("feed"),
-    }
+    let (kind, rest) = words.split_first()?;
+    let at = if *kind == "port" || *kind == "feed" {
+        1
+    } else {
+        0
+    };
+    let name = rest.get(at)?;
+    Some(Made { kind, name })
 }
 
-fn is_feed(named: Named) -> bool
-    ensures { result ≡ is_feed named }
+/// Adds the ports that steps make.
+fn add_ports<'a>(alloc: Global, objects: &mut Vec<Made<'a>>, script: &'a Script) -> Added
+    ensures { OnOk result (map shown_made objects.new.items ≡ map shown_made objects.old.items ++ filter_map (λ line. port_in line.words) script.now.steps) }
 {
-    matches!(named, Named::Feed(_))
+    let steps = script.steps();
+    for step in steps {
+        let words = split_words(alloc, step.line.text.as_str())?;
+        if let Some(port) = port_in(&words) {
+            objects.push(port)?;
+        }
+    }
+    Ok(())
+}
+
+/// The port that a step of these words makes, if it makes one.
+fn port_in<'a>(words: &[&'a str]) -> Option<Made<'a>>
+    ensures { option_map shown_made result ≡ port_in (texts words.now) }
+{
+    let (_, rest) = words.split_first()?;
+    let (word, rest) = rest.split_first()?;
+    if *word != "port" && *word != "copy" {
+        return None;
+    }
+    let name = rest.get(1)?;
+    Some(Made { kind: "port", name })
 }
 
 /// Adds the objects that lanes lead to, each once.
-fn add_targets(
-    alloc: Global,
-    targets: &mut IndexSet<String>,
-    script: &Script,
-) -> Result<(), AllocError>
+fn add_targets(alloc: Global, targets: &mut IndexSet<String>, script: &Script) -> Added
     requires { targets.old.keys ≡ [] }
     ensures { OnOk result (names_of targets.new.keys ≡ targets_in script.now) }
 {
     let lanes = script.lanes();
     for lane in lanes {
         let words = split_words(alloc, lane.line.text.as_str())?;
-        if let Some(name) = target_in(&words) {
+        if let Some(name) = words.get(2) {
             add_name(targets, String::from_str(alloc, name)?)?;
         }
     }
     Ok(())
 }
 
-#[tactic(auto, using(crate::proofs::FollowingLemmas::no_third))]
-fn target_in<'a>(words: &[&'a str]) -> Option<&'a str>
-    ensures { option_map (λ n. n.now) result ≡ slice_get (texts words.now) 2 }
-{
-    match words {
-        [_, _, object, ..] => Some(*object),
-        _ => None,
-    }
-}
-
-/// Adds for each of these threads the steps that have rows of it. There are at most 64 threads.
-fn add_steps<'a>(
-    alloc: Global,
-    steps: &mut Vec<Vec<Vec<&'a str>>>,
-    script: &'a Script,
-    threads: &IndexSet<String>,
-) -> Result<(), AllocError>
-    requires { steps.old.items ≡ [] }
-    ensures { OnOk result (map (λ (s : Steps). shown_lines s.items) steps.new.items ≡ map (own_steps script.now) (names_of threads.now.keys)) }
-{
-    for at in 0..threads.len() {
-        let name = threads.get_index(at).unwrap();
-        steps.push(own_steps(alloc, script, name)?)?;
-    }
-    Ok(())
-}
-
-fn own_steps<'a>(
-    alloc: Global,
-    script: &'a Script,
-    name: &str,
-) -> Result<Vec<Vec<&'a str>>, AllocError>
-    ensures { IfOk result (λ own. shown_lines own.items ≡ own_steps script.now name.now) }
+/// The lines of the steps of this thread that have rows of it.
+fn own_steps<'a>(alloc: Global, script: &'a Script, name: &str) -> Result<Vec<&'a str>, AllocError>
+    ensures { IfOk result (λ own. texts own.items ≡ own_steps script.now name.now) }
 {
     let steps = script.steps();
     let mut own = Vec::new(alloc);
     for step in steps {
-        let words = split_words(alloc, step.line.text.as_str())?;
-        if begins(&words, name) && !is_apart(script, step) {
-            own.push(words)?;
+        if is_own(alloc, script, name, step)? {
+            own.push(step.line.text.as_str())?;
         }
     }
     Ok(own)
 }
 
-fn begins(words: &[&str], name: &str) -> bool
-    ensures { result ≡ begins name.now (texts words.now) }
+/// Whether a step is one of this thread, and has a row of it.
+fn is_own(alloc: Global, script: &Script, name: &str, step: &Step) -> Result<bool, AllocError>
+    requires { ReadsStep (given_by script.now) step.now }
+    ensures { IfOk result (λ own. (if own then Some (string_bytes step.now.line.text) else None) ≡ own_in script.now name.now (source_of step.now.line)) }
 {
-    match words {
-        [first, ..] => name == *first,
-        [] => false,
-    }
+    let words = split_words(alloc, step.line.text.as_str())?;
+    Ok(words.first() == Some(&name) && !is_apart(script, step))
 }
 
 /// Whether a step goes by a lane of its thread, or polls a feed.
@@ -208,8 +174,5 @@ fn is_apart(script: &Script, step: &Step) -> bool
 fn is_feed_at(script: &Script, at: usize) -> bool
     ensures { result ≡ option_map_or (λ g. is_feed g.1) (slice_get (given_by script.now) at) false }
 {
-    match script.names().get_index(at) {
-        Some((_, named)) => is_feed(*named),
-        None => false,
-    }
+    matches!(script.names().get_index(at), Some((_, Named::Feed(_))))
 }

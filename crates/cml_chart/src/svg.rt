@@ -1,13 +1,13 @@
 //! A chart as SVG.
-use crate::chart::Row;
-use crate::columns::column_of;
+use crate::columns::Added;
 use crate::course::Course;
-use crate::escape::Escaped;
-use crate::labels::{is_missed, points_back, points_out, push_label, push_note, push_step};
 use crate::marks::Drawn;
-use crate::picture::{Picture, closing_at, kind_at, width_at};
-use cml_report::{Reply, Stop};
-use std::alloc::{AllocError, Global};
+use crate::picture::{
+    Picture, is_missed, points_back, points_out, push_label, push_note, push_step,
+};
+use cml_report::Act;
+use std::alloc::Global;
+use std::fmt;
 use std::fmt::Write;
 
 /// What readers of screens are told of the picture.
@@ -31,34 +31,23 @@ struct Sheet {
 }
 
 /// Adds a picture: the columns, the rows, the steps that threads have left, and how the run ended.
-pub(crate) fn draw_svg(
-    alloc: Global,
-    out: &mut String,
-    picture: &Picture<'_, '_>,
-) -> Result<(), AllocError> {
-    let course = picture.course;
-    let (mut widest, mut foot) = (0, longest(&course.standing));
-    for (at, name) in course.chart.names.iter().enumerate() {
-        widest = widest.max(width_at(course, at, name));
-        foot = foot.max(closing_at(course, at).len());
-    }
-    let gap = place_at(12, 8, widest);
+pub(crate) fn draw_svg(alloc: Global, out: &mut String, picture: &Picture<'_, '_>) -> Added {
+    let gap = place_at(12, 8, widest(picture));
     let bottom = place_at(84, 26, picture.rows.len());
     // A step's word has at most nine letters.
-    let width = place_at(188, gap, course.chart.names.len());
-    let width = place_at(width, 8, longest_label(picture.rows));
-    let height = place_at(bottom.saturating_add(60), 5, foot);
+    let width = place_at(188, gap, picture.columns.len());
+    let width = place_at(width, 8, longest_label(&picture.rows));
+    let height = place_at(bottom.saturating_add(60), 5, longest_below(picture));
     write!(
         out,
-        "<svg xmlns='http://www.w3.org/2000/svg' viewBox='0 0 {width} {height}'"
+        "<svg xmlns='http://www.w3.org/2000/svg' viewBox='0 0 {width} {height}'{ABOUT}{STYLE}{HEAD}"
     )?;
-    out.push_str(ABOUT)?;
-    out.push_str(STYLE)?;
-    out.push_str(HEAD)?;
     let sheet = Sheet { alloc, gap, bottom };
-    sheet.push_heads(out, course)?;
-    sheet.push_rows(out, picture.rows)?;
-    sheet.push_steps(out, course)?;
+    sheet.push_columns(out, picture)?;
+    for (at, drawn) in picture.rows.iter().enumerate() {
+        sheet.push_row(out, place_at(80, 26, at), drawn)?;
+    }
+    sheet.push_steps(out, picture.course)?;
     push_foot(out, height, picture)
 }
 
@@ -68,112 +57,110 @@ impl Sheet {
         place_at(60, self.gap, at)
     }
 
-    fn push_heads(&self, out: &mut String, course: &Course<'_>) -> Result<(), AllocError> {
-        for (at, name) in course.chart.names.iter().enumerate() {
-            let (kind, x, y) = (kind_at(course, at), self.column_at(at), self.bottom);
-            writeln!(
-                out,
-                "<line class='life' x1='{x}' y1='52' x2='{x}' y2='{y}'/>"
-            )?;
-            writeln!(out, "<text class='kind' x='{x}' y='26'>{kind}</text>")?;
-            writeln!(out, "<text class='name' x='{x}' y='43'>{name}</text>")?;
-            if at >= course.chart.actors {
-                self.push_under(out, "closing", at, closing_at(course, at))?;
+    /// The line of each column, with its head, and under an object's line how it was left.
+    fn push_columns(&self, out: &mut String, picture: &Picture<'_, '_>) -> Added {
+        for (at, column) in picture.columns.iter().enumerate() {
+            let x = self.column_at(at);
+            push_line(out, "life", (x, 52), (x, self.bottom))?;
+            push_text(out, "kind", (x, 26), column.kind)?;
+            push_text(out, "name", (x, 43), column.name)?;
+            if !column.closing.is_empty() {
+                self.push_under(out, "closing", at, column.closing)?;
+            }
+        }
+        Ok(())
+    }
+
+    /// The arrow of a row, from the line of the actor's column to that of the object's, and from there to each that is marked.
+    fn push_row(&self, out: &mut String, y: u64, drawn: &Drawn<'_>) -> Added {
+        let (row, act) = (&drawn.row, &drawn.row.act);
+        let (from, to) = (self.column_at(row.actor), self.column_at(row.object));
+        push_line(out, arrow_class(act), (from, y), (to, y))?;
+        for mark in &drawn.marks {
+            push_line(out, "told", (to, y), (self.column_at(*mark), y))?;
+        }
+        let mut label = String::new(self.alloc);
+        push_label(&mut label, act)?;
+        let place = (from.saturating_add(8), y.saturating_sub(9));
+        push_text(out, "label", place, &label)
+    }
+
+    /// The steps that threads have left, each under its thread's column. Those of the script's threads come first.
+    fn push_steps(&self, out: &mut String, course: &Course<'_>) -> Added {
+        let stop = course.report.end.stop;
+        let stalled = stop == "stalled";
+        let class = if stalled {
+            "closing stalled"
+        } else {
+            "closing"
+        };
+        for (at, thread) in course.threads.iter().enumerate() {
+            if let Some(step) = thread.step() {
+                let mut says = String::new(self.alloc);
+                push_step(&mut says, stop, step)?;
+                self.push_under(out, class, at, &says)?;
             }
         }
         Ok(())
     }
 
     /// Adds a text aslant under a column.
-    fn push_under(
-        &self,
-        out: &mut String,
-        class: &str,
-        column: usize,
-        says: &str,
-    ) -> Result<(), AllocError> {
-        let (x, y, says) = (
-            self.column_at(column),
-            self.bottom.saturating_add(12),
-            Escaped(says),
-        );
-        write!(
-            out,
-            "<text class='{class}' transform='translate({x} {y}) rotate(30)'>"
-        )?;
-        writeln!(out, "{says}</text>")
-    }
-
-    fn push_rows(&self, out: &mut String, rows: &[Drawn<'_>]) -> Result<(), AllocError> {
-        for (at, drawn) in rows.iter().enumerate() {
-            let y = place_at(80, 26, at);
-            self.push_arrows(out, y, drawn)?;
-            let mut label = String::new(self.alloc);
-            push_label(&mut label, &drawn.row.act)?;
-            let x = self.column_at(drawn.row.actor).saturating_add(8);
-            let (y, label) = (y.saturating_sub(9), Escaped(&label));
-            writeln!(out, "<text class='label' x='{x}' y='{y}'>{label}</text>")?;
-        }
-        Ok(())
-    }
-
-    /// The arrow of a row, from the line of the actor's column to that of the object's, and from there to each that is marked.
-    fn push_arrows(&self, out: &mut String, y: u64, drawn: &Drawn<'_>) -> Result<(), AllocError> {
-        let class = arrow_class(&drawn.row);
-        let x1 = self.column_at(drawn.row.actor);
-        let x2 = self.column_at(drawn.row.object);
+    fn push_under(&self, out: &mut String, class: &str, column: usize, says: &str) -> Added {
+        let (x, y) = (self.column_at(column), self.bottom.saturating_add(12));
+        let says = Escaped(says);
         writeln!(
             out,
-            "<line class='{class}' x1='{x1}' y1='{y}' x2='{x2}' y2='{y}'/>"
-        )?;
-        for mark in &drawn.marks {
-            let x = self.column_at(*mark);
-            writeln!(
-                out,
-                "<line class='told' x1='{x2}' y1='{y}' x2='{x}' y2='{y}'/>"
-            )?;
-        }
-        Ok(())
+            "<text class='{class}' transform='translate({x} {y}) rotate(30)'>{says}</text>"
+        )
     }
+}
 
-    /// The steps that threads have left, each under its thread's column.
-    fn push_steps(&self, out: &mut String, course: &Course<'_>) -> Result<(), AllocError> {
-        let stop = course.report.end.stop;
-        let stalled = matches!(stop, Stop::Stalled);
-        let class = if stalled {
-            "closing stalled"
-        } else {
-            "closing"
-        };
-        for step in &course.standing {
-            let mut says = String::new(self.alloc);
-            push_step(&mut says, stop, step)?;
-            if let Some(column) = column_of(&course.chart.names, step.first().unwrap_or(&"")) {
-                self.push_under(out, class, column, &says)?;
+/// Adds how many rows there are, where not all are drawn, how the run ended, and the end of the whole.
+fn push_foot(out: &mut String, height: u64, picture: &Picture<'_, '_>) -> Added {
+    let y = height.saturating_sub(38);
+    write!(out, "<text class='note' x='16' y='{y}'>")?;
+    push_note(out, picture, "")?;
+    let end = picture.course.report.end;
+    let (y, stop, line) = (height.saturating_sub(16), end.stop, end.line);
+    writeln!(
+        out,
+        "</text>\n<text class='end {stop}' x='16' y='{y}'>{line}</text>\n</svg>"
+    )
+}
+
+/// Adds a line of this class between two points.
+fn push_line(out: &mut String, class: &str, from: (u64, u64), to: (u64, u64)) -> Added {
+    let ((x1, y1), (x2, y2)) = (from, to);
+    writeln!(
+        out,
+        "<line class='{class}' x1='{x1}' y1='{y1}' x2='{x2}' y2='{y2}'/>"
+    )
+}
+
+/// Adds a text of this class at a point.
+fn push_text(out: &mut String, class: &str, place: (u64, u64), says: &str) -> Added {
+    let ((x, y), says) = (place, Escaped(says));
+    writeln!(out, "<text class='{class}' x='{x}' y='{y}'>{says}</text>")
+}
+
+/// A text of which XML has a meaning for nothing.
+#[derive(Clone, Copy)]
+struct Escaped<'a>(&'a str);
+
+impl fmt::Display for Escaped<'_> {
+    fn fmt<W: fmt::Write>(&self, f: &mut fmt::Formatter<W>) -> fmt::Result {
+        for letter in self.0.chars() {
+            match letter {
+                '&' => f.write_str("&amp;")?,
+                '<' => f.write_str("&lt;")?,
+                '>' => f.write_str("&gt;")?,
+                '"' => f.write_str("&quot;")?,
+                '\'' => f.write_str("&apos;")?,
+                _ => f.write_char(letter)?,
             }
         }
         Ok(())
     }
-}
-
-/// How many rows there are, where not all are drawn, how the run ended, and the end of the whole.
-fn push_foot(out: &mut String, height: u64, picture: &Picture<'_, '_>) -> Result<(), AllocError> {
-    let y = height.saturating_sub(38);
-    write!(out, "<text class='note' x='16' y='{y}'>")?;
-    push_note(out, picture, "")?;
-    let report = &picture.course.report;
-    let (y, end) = (height.saturating_sub(16), report.end);
-    let class = match end.stop {
-        Stop::Done => "done",
-        Stop::Stalled => "stalled",
-        Stop::Full => "full",
-        Stop::Held => "held",
-    };
-    let line = end.line;
-    writeln!(
-        out,
-        "</text>\n<text class='end {class}' x='16' y='{y}'>{line}</text>\n</svg>"
-    )
 }
 
 /// Where what has this position stands, from this origin in steps of this size.
@@ -181,12 +168,24 @@ fn place_at(origin: u64, step: u64, at: usize) -> u64 {
     step.saturating_mul(at as u64).saturating_add(origin)
 }
 
-/// How many letters the longest of these steps has.
-fn longest(steps: &[Vec<&str>]) -> usize {
+/// How many letters the widest column has.
+fn widest(picture: &Picture<'_, '_>) -> usize {
     let mut most: usize = 0;
-    for step in steps {
-        let letters = step.iter().map(|word| word.len().saturating_add(1));
-        most = most.max(letters.fold(0, |length, word| word.saturating_add(length)));
+    for column in &picture.columns {
+        most = most.max(column.width());
+    }
+    most
+}
+
+/// How many letters the longest text below the columns has.
+fn longest_below(picture: &Picture<'_, '_>) -> usize {
+    let mut most: usize = 0;
+    for column in &picture.columns {
+        most = most.max(column.closing.len());
+    }
+    for thread in &picture.course.threads {
+        let step = thread.step().unwrap_or("");
+        most = most.max(step.len().saturating_add(1));
     }
     most
 }
@@ -195,18 +194,18 @@ fn longest(steps: &[Vec<&str>]) -> usize {
 fn longest_label(rows: &[Drawn<'_>]) -> usize {
     let mut most: usize = 0;
     for drawn in rows {
-        let reply = match drawn.row.act.reply {
-            Reply::Message(word) => word.len(),
-            _ => 6,
+        let act = &drawn.row.act;
+        let reply = match act.reply {
+            "done" | "made" | "none" | "put" | "closed" => 6,
+            message => message.len(),
         };
-        most = most.max(reply.saturating_add(drawn.row.act.with.unwrap_or("").len()));
+        most = most.max(act.with.unwrap_or("").len().saturating_add(reply));
     }
     most
 }
 
-fn arrow_class(row: &Row<'_>) -> &'static str {
-    let (out, back) = (points_out(row.act.verb), points_back(row.act.verb));
-    match (out, back, is_missed(row.act.reply)) {
+fn arrow_class(act: &Act<'_>) -> &'static str {
+    match (points_out(act), points_back(act), is_missed(act)) {
         (true, true, _) => "both",
         (true, false, false) => "out",
         (true, false, true) => "out missed",

@@ -1,17 +1,17 @@
 -- What the lines of a report are, by their words.
-use Rattle.std.specs.Prelude.{ℕ, Bool, true, false, not, ◌&&◌, ◌||◌, ◌==◌, List, [], ◌∷◌, length, Option, Some, None, if◌then◌else◌, codes}
+use Rattle.std.specs.Prelude.{ℕ, Bool, true, false, not, ◌&&◌, ◌||◌, ◌==◌, List, [], ◌∷◌, length, slice_get, Option, Some, None, if◌then◌else◌, codes}
 use Rattle.std.specs.Option.{option_map, option_and_then, option_or}
 use Rattle.std.specs.List.{list_any}
 use Rattle.std.specs.Str.{bytes_eq}
 use Rattle.std.specs.Str.Parse.{digits_value}
 use Rattle.cml_grammar.specs.Names.{is_name, is_number}
 use Rattle.cml_grammar.specs.Words.{words_of}
-use Rattle.cml_grammar.specs.Forms.{verb_of}
+use Rattle.cml_grammar.specs.Forms.{verb_of, step_places}
 use Rattle.cml_grammar.specs.declared.forms.Verb.{Verb}
 use Rattle.cml_grammar.specs.declared.forms.Verb.TheVariants as verb
+use Rattle.cml_grammar.specs.declared.forms.Place.{Place}
+use Rattle.cml_grammar.specs.declared.forms.Place.TheVariants.{Fresh, Message}
 use Rattle.cml_text.specs.Text.{is_text}
-use Rattle.cml_report.specs.declared.report.Stop.{Stop}
-use Rattle.cml_report.specs.declared.report.Stop.TheVariants as stop
 
 -- the texts of a line, wherever they lie in memory
 abbrev pub Words : Type 0
@@ -46,15 +46,6 @@ pub data Doer : Type 0 where
   lane : List ℕ → Doer
   feed : List ℕ → Doer
 
--- what came of it
-pub data Answer : Type 0 where
-  done : Answer
-  made : Answer
-  message : List ℕ → Answer
-  nothing : Answer
-  put : Answer
-  closed : Answer
-
 -- a line of the first part
 pub record Deed : Type 0 where
   pub doer : Doer
@@ -62,7 +53,8 @@ pub record Deed : Type 0 where
   pub word : List ℕ
   pub object : List ℕ
   pub with : Option (List ℕ)
-  pub answer : Answer
+  pub reply : List ℕ
+  pub line : List ℕ
 
 -- a line of the second part
 pub record Thing : Type 0 where
@@ -72,7 +64,7 @@ pub record Thing : Type 0 where
 
 -- the last line
 pub record Ended : Type 0 where
-  pub stop : Stop
+  pub stop : List ℕ
   pub line : List ℕ
 
 -- First part.
@@ -92,100 +84,63 @@ abbrev pub doer_of : Words → Option (Doer × Words)
 doer_of [] = None
 doer_of (word ∷ rest) = if is_name word then Some (thread word, rest) else ring_in word rest
 
-abbrev pub answer_of : List ℕ → Option Answer
-answer_of word =
-    if bytes_eq word (codes "done") then Some done
-    else if bytes_eq word (codes "made") then Some made
-    else if bytes_eq word (codes "none") then Some nothing
-    else if bytes_eq word (codes "put") then Some put
-    else if bytes_eq word (codes "closed") then Some closed
-    else if is_message word then Some (message word) else None
-
 -- which replies a step may have
-abbrev pub may_answer : Verb → Answer → Bool
-may_answer verb.Send done = true
-may_answer verb.Multicast done = true
-may_answer verb.Recv (message word) = true
-may_answer verb.Recv closed = true
-may_answer verb.Poll (message word) = true
-may_answer verb.Poll nothing = true
-may_answer verb.Poll closed = true
-may_answer verb.Port made = true
-may_answer verb.Copy made = true
-may_answer verb.Copy closed = true
-may_answer verb.Close done = true
-may_answer verb.Close closed = true
-may_answer verb.Put done = true
-may_answer verb.Put put = true
-may_answer verb.Get (message word) = true
-may_answer verb.GetPoll (message word) = true
-may_answer verb.GetPoll nothing = true
-may_answer verb.Take (message word) = true
-may_answer verb.TakePoll (message word) = true
-may_answer verb.TakePoll nothing = true
-may_answer verb.Swap (message word) = true
-may_answer _ _ = false
-
--- what a step has beside its object
-abbrev pub gives_message : Verb → Bool
-gives_message verb.Send = true
-gives_message verb.Multicast = true
-gives_message verb.Put = true
-gives_message verb.Swap = true
-gives_message _ = false
-
-abbrev pub makes_port : Verb → Bool
-makes_port verb.Port = true
-makes_port verb.Copy = true
-makes_port _ = false
-
-abbrev pub is_sent : Verb → Bool
-is_sent verb.Send = true
-is_sent verb.Multicast = true
-is_sent _ = false
+abbrev pub may_answer : Verb → List ℕ → Bool
+may_answer verb.Send reply = bytes_eq reply (codes "done")
+may_answer verb.Multicast reply = bytes_eq reply (codes "done")
+may_answer verb.Recv reply = is_message reply || bytes_eq reply (codes "closed")
+may_answer verb.Poll reply = is_message reply || bytes_eq reply (codes "none") || bytes_eq reply (codes "closed")
+may_answer verb.Port reply = bytes_eq reply (codes "made")
+may_answer verb.Copy reply = bytes_eq reply (codes "made") || bytes_eq reply (codes "closed")
+may_answer verb.Close reply = bytes_eq reply (codes "done") || bytes_eq reply (codes "closed")
+may_answer verb.Put reply = bytes_eq reply (codes "done") || bytes_eq reply (codes "put")
+may_answer verb.Get reply = is_message reply
+may_answer verb.GetPoll reply = is_message reply || bytes_eq reply (codes "none")
+may_answer verb.Take reply = is_message reply
+may_answer verb.TakePoll reply = is_message reply || bytes_eq reply (codes "none")
+may_answer verb.Swap reply = is_message reply
 
 -- a thread may do anything; a lane sends or multicasts, and a feed receives a message
-abbrev pub may_do : Doer → Verb → Answer → Bool
-may_do (thread name) step a = may_answer step a
-may_do (lane number) step a = is_sent step && may_answer step a
-may_do (feed number) verb.Recv (message word) = true
-may_do (feed number) _ _ = false
+abbrev pub may_do : Doer → Verb → List ℕ → Bool
+may_do (thread name) step reply = may_answer step reply
+may_do (lane number) verb.Send reply = bytes_eq reply (codes "done")
+may_do (lane number) verb.Multicast reply = bytes_eq reply (codes "done")
+may_do (feed number) verb.Recv reply = is_message reply
+may_do _ _ _ = false
 
 -- a message that a thread gives stands as in the script, and one that a lane moved as in a reply
 abbrev pub is_given_by : Doer → List ℕ → Bool
 is_given_by (lane number) word = is_message word
 is_given_by _ word = is_text word
 
--- the words behind the step's word: the last but one ends with a colon, and the last is the reply
-abbrev pub before_reply : Option (List ℕ) → List ℕ → List ℕ → Option (Option (List ℕ) × List ℕ × Answer)
-before_reply first last reply = option_and_then (λ (word : List ℕ). option_map (λ (a : Answer). (first, word, a)) (answer_of reply)) (before_colon last)
-
-abbrev pub behind_step : Words → Option (Option (List ℕ) × List ℕ × Answer)
-behind_step (last ∷ reply ∷ []) = before_reply None last reply
-behind_step (first ∷ last ∷ reply ∷ rest) = if length rest == 0 then before_reply (Some first) last reply else None
+-- what stands behind the step's word: one word or two, the last with a colon, and the reply
+abbrev pub behind_step : Words → Option (Option (List ℕ) × List ℕ × List ℕ)
+behind_step (last ∷ reply ∷ []) = Some (None, last, reply)
+behind_step (first ∷ last ∷ reply ∷ rest) = if length rest == 0 then Some (Some first, last, reply) else None
 behind_step _ = None
 
--- the object of a step, and what stands beside it: a message, or what a port is made of, which stands before the port
-abbrev pub object_of : Doer → Verb → Option (List ℕ) → List ℕ → Option (List ℕ × Option (List ℕ))
-object_of doer step None last = if gives_message step || makes_port step then None else Some (last, None)
-object_of doer step (Some first) last =
-    if makes_port step then Some (last, Some first)
-    else if gives_message step && is_given_by doer last then Some (first, Some last)
-    else None
+-- the object of a step, by what its second place is for, and what stands beside it: a message, or what a port is made of, which stands
+-- before the port
+abbrev pub object_of : Doer → Option Place → Option (List ℕ) → List ℕ → Option (List ℕ × Option (List ℕ))
+object_of doer None None last = Some (last, None)
+object_of doer (Some Fresh) (Some source) last = Some (last, Some source)
+object_of doer (Some Message) (Some object) last = if is_given_by doer last then Some (object, Some last) else None
+object_of doer _ _ _ = None
 
-abbrev pub deed_with : Doer → Verb → List ℕ → Option (List ℕ) × List ℕ × Answer → Option Deed
-deed_with doer step word b =
+abbrev pub deed_with : Doer → Verb → List ℕ → List ℕ → Option (List ℕ) × List ℕ × List ℕ → Option Deed
+deed_with doer step word line b =
     if not (may_do doer step b.2) then None
-    else option_map (λ (o : List ℕ × Option (List ℕ)). record { doer = doer; verb = step; word = word; object = o.0; with = o.1; answer = b.2 }) (object_of doer step b.0 b.1)
+    else option_map (λ (o : List ℕ × Option (List ℕ)). record { doer = doer; verb = step; word = word; object = o.0; with = o.1; reply = b.2; line = line })
+    (option_and_then (object_of doer (slice_get (step_places step) 1) b.0) (before_colon b.1))
 
--- the words of a step
-abbrev pub deed_by : Doer → Words → Option Deed
-deed_by doer [] = None
-deed_by doer (word ∷ rest) = option_and_then (λ (step : Verb). option_and_then (deed_with doer step word) (behind_step rest)) (verb_of word)
+-- a step, and its reply
+abbrev pub deed_by : Doer → List ℕ → Words → Option Deed
+deed_by doer line [] = None
+deed_by doer line (word ∷ rest) = option_and_then (λ (step : Verb). option_and_then (deed_with doer step word line) (behind_step rest)) (verb_of word)
 
 -- a line of the first part
-unfoldable pub deed_of : Words → Option Deed
-deed_of words = option_and_then (λ (d : Doer × Words). deed_by d.0 d.1) (doer_of words)
+unfoldable pub deed_of : List ℕ → Words → Option Deed
+deed_of line words = option_and_then (λ (d : Doer × Words). deed_by d.0 line d.1) (doer_of words)
 
 -- Second part.
 
@@ -211,21 +166,18 @@ thing_of line _ = None
 
 -- The last line.
 
-abbrev pub is_counted : ℕ → Words → Bool
-is_counted count (end ∷ word ∷ performed ∷ behind) = is_number performed && (digits_value 10 performed == count)
-is_counted count _ = false
+-- what a run that stopped so has left
+abbrev pub may_leave : List ℕ → Words → Bool
+may_leave stop left =
+    if bytes_eq stop (codes "done") then length left == 0
+    else list_any (bytes_eq stop) (words_of (codes "stalled full held")) && fits (words_of (codes "left #")) left
 
-abbrev pub stop_of : Words → Option Stop
-stop_of words =
-    if fits (words_of (codes "end: done #")) words then Some stop.Done
-    else if fits (words_of (codes "end: stalled # left #")) words then Some stop.Stalled
-    else if fits (words_of (codes "end: full # left #")) words then Some stop.Full
-    else if fits (words_of (codes "end: held # left #")) words then Some stop.Held
-    else None
-
--- the last line, behind so many lines of the first part
+-- the last line, behind so many lines of the first part, which it counts
 unfoldable pub ended_of : ℕ → List ℕ → Words → Option Ended
-ended_of count line words = if is_counted count words then option_map (λ s. record { stop = s; line = line }) (stop_of words) else None
+ended_of count line (first ∷ stop ∷ performed ∷ left) =
+    if bytes_eq first (codes "end:") && (is_number performed && (digits_value 10 performed == count)) && may_leave stop left
+    then Some (record { stop = stop; line = line }) else None
+ended_of count line _ = None
 
 pub data Line : Type 0 where
   deed : Deed → Line
@@ -236,7 +188,7 @@ pub data Line : Type 0 where
 abbrev pub line_by : ℕ → List ℕ → Words → Option Line
 line_by count line words =
     option_or (option_map ended (ended_of count line words))
-    (option_or (option_map thing (thing_of line words)) (option_map deed (deed_of words)))
+    (option_or (option_map thing (thing_of line words)) (option_map deed (deed_of line words)))
 
 unfoldable pub line_of : ℕ → List ℕ → Option Line
 line_of count line = line_by count line (words_of line)

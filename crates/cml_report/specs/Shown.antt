@@ -4,8 +4,6 @@ use Rattle.std.specs.Option.{option_map}
 use denote.Ref.{Bor}
 use Rattle.cml_report.specs.declared.report.Actor.{Actor}
 use Rattle.cml_report.specs.declared.report.Actor.TheVariants as actor
-use Rattle.cml_report.specs.declared.report.Reply.{Reply}
-use Rattle.cml_report.specs.declared.report.Reply.TheVariants as reply
 use Rattle.cml_report.specs.declared.report.Act.{Act}
 use Rattle.cml_report.specs.declared.report.Object.{Object}
 use Rattle.cml_report.specs.declared.report.End.{End}
@@ -14,7 +12,7 @@ use Rattle.cml_report.specs.declared.report.Line.{Line as ReadLine}
 use Rattle.cml_report.specs.declared.report.Line.TheVariants as read
 use Rattle.cml_report.specs.declared.reading.Reading.{Reading}
 use Rattle.cml_report.specs.Reading.{SoFar, Told, report}
-use Rattle.cml_report.specs.Lines.{Words, Doer, thread, lane, feed, Answer, done, made, message, nothing, put, closed, Deed, Thing, Ended, Line, deed, thing, ended}
+use Rattle.cml_report.specs.Lines.{Words, Doer, thread, lane, feed, Deed, Thing, Ended, Line, deed, thing, ended}
 
 abbrev pub texts : List (Bor (List ℕ)) → Words
 texts words = map (λ w. w.now) words
@@ -24,22 +22,22 @@ shown_actor (actor.Thread name) = thread name.now
 shown_actor (actor.Lane number) = lane number.now
 shown_actor (actor.Feed number) = feed number.now
 
-abbrev pub shown_reply : Reply → Answer
-shown_reply reply.Done = done
-shown_reply reply.Made = made
-shown_reply (reply.Message word) = message word.now
-shown_reply reply.Nothing = nothing
-shown_reply reply.Put = put
-shown_reply reply.Closed = closed
-
 abbrev pub shown_act : Act → Deed
-shown_act a = record { doer = shown_actor a.actor; verb = a.verb; word = a.word.now; object = a.object.now; with = option_map (λ (w : Bor (List ℕ)). w.now) a.with; answer = shown_reply a.reply }
+shown_act a = record {
+  doer = shown_actor a.actor;
+  verb = a.verb;
+  word = a.word.now;
+  object = a.object.now;
+  with = option_map (λ (w : Bor (List ℕ)). w.now) a.with;
+  reply = a.reply.now;
+  line = a.line.now;
+}
 
 abbrev pub shown_object : Object → Thing
 shown_object o = record { kind = o.kind.now; name = o.name.now; line = o.line.now }
 
 abbrev pub shown_end : End → Ended
-shown_end e = record { stop = e.stop; line = e.line.now }
+shown_end e = record { stop = e.stop.now; line = e.line.now }
 
 abbrev pub shown_report : Report → Told
 shown_report r = report (map shown_act r.acts.items) (map shown_object r.objects.items) (shown_end r.end)

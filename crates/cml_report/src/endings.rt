@@ -1,46 +1,34 @@
 //! The last line.
 ghost use Rattle.std.specs.Prelude.{◌≡◌};
 ghost use Rattle.std.specs.Option.{option_map};
-ghost use Rattle.cml_report.specs.Lines.{is_counted, stop_of, ended_of};
+ghost use Rattle.cml_report.specs.Lines.{may_leave, ended_of};
 ghost use Rattle.cml_report.specs.Shown.{texts, shown_end};
 
-use crate::report::{End, Stop};
+use crate::report::End;
 use crate::words::fits;
 use cml_grammar::number_of;
 
 /// How the run ended by the last line, behind so many lines of the first part.
 #[tactic(auto, unfolding(crate::specs::Lines::ended_of))]
-pub(crate) fn end_of<'a>(line: &'a str, words: &[&str], count: usize) -> Option<End<'a>>
+pub(crate) fn end_of<'a>(line: &'a str, words: &[&'a str], count: usize) -> Option<End<'a>>
     ensures { option_map shown_end result ≡ ended_of count line.now (texts words.now) }
 {
-    if !is_counted(words, count) {
+    let (first, rest) = words.split_first()?;
+    let (stop, rest) = rest.split_first()?;
+    let (performed, left) = rest.split_first()?;
+    if *first != "end:" || number_of(performed) != Some(count as u64) {
         return None;
     }
-    let stop = stop_of(words)?;
-    Some(End { stop, line })
+    may_leave(stop, left).then_some(End { stop, line })
 }
 
-/// Whether the last line tells this number of lines.
-fn is_counted(words: &[&str], count: usize) -> bool
-    ensures { result ≡ is_counted count (texts words.now) }
+/// Whether a run that stopped so may have left this.
+fn may_leave(stop: &str, left: &[&str]) -> bool
+    ensures { result ≡ may_leave stop.now (texts left.now) }
 {
-    match words {
-        [_, _, performed, ..] => number_of(performed) == Some(count as u64),
+    match stop {
+        "done" => left.is_empty(),
+        "stalled" | "full" | "held" => fits(&["left", "#"], left),
         _ => false,
     }
-}
-
-fn stop_of(words: &[&str]) -> Option<Stop>
-    ensures { result ≡ stop_of (texts words.now) }
-{
-    if fits(&["end:", "done", "#"], words) {
-        return Some(Stop::Done);
-    }
-    if fits(&["end:", "stalled", "#", "left", "#"], words) {
-        return Some(Stop::Stalled);
-    }
-    if fits(&["end:", "full", "#", "left", "#"], words) {
-        return Some(Stop::Full);
-    }
-    fits(&["end:", "held", "#", "left", "#"], words).then_some(Stop::Held)
 }

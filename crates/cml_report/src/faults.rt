@@ -68,14 +68,6 @@ impl<T: Drop> From<AllocFailed<T>> for What {
     }
 }
 
-impl From<What> for Fault {
-    ghost from_gives = { λ what fault. fault ≡ record { line = 0; what = what } };
-
-    fn from(what: What) -> Fault {
-        Fault { line: 0, what }
-    }
-}
-
 impl From<AllocError> for Fault {
     ghost from_gives = { λ _ fault. fault ≡ record { line = 0; what = Memory } };
 

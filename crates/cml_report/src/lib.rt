@@ -9,7 +9,7 @@ mod reading;
 mod report;
 mod words;
 
-pub use acts::{gives_message, makes_port};
+pub use acts::second_place;
 pub use faults::{Fault, What};
 pub use reading::read_report;
-pub use report::{Act, Actor, End, Object, Reply, Report, Stop};
+pub use report::{Act, Actor, End, Object, Report};

@@ -89,7 +89,7 @@ fn line_by<'a>(line: &'a str, words: &[&'a str], count: usize) -> Option<Line<'a
     if let Some(object) = object_of(line, words) {
         return Some(Line::Object(object));
     }
-    let act = act_of(words)?;
+    let act = act_of(line, words)?;
     Some(Line::Act(act))
 }
 

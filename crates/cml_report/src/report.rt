@@ -12,18 +12,6 @@ pub enum Actor<'a> {
     Feed(&'a str),
 }
 
-/// What came of an act.
-#[derive(Clone, Copy)]
-pub enum Reply<'a> {
-    Done,
-    Made,
-    /// A message as it stands in the report: in version 2 with `=` before it.
-    Message(&'a str),
-    Nothing,
-    Put,
-    Closed,
-}
-
 /// A line of the first part: what somebody did with an object, and what came of it.
 #[derive(Clone, Copy)]
 pub struct Act<'a> {
@@ -35,7 +23,10 @@ pub struct Act<'a> {
     pub object: &'a str,
     /// The message that is given; or what a port is made of.
     pub with: Option<&'a str>,
-    pub reply: Reply<'a>,
+    /// The reply's word, or the message that came: in version 2 with `=` before it.
+    pub reply: &'a str,
+    /// The line as a whole.
+    pub line: &'a str,
 }
 
 /// A line of the second part: an object, and how it was left.
@@ -48,19 +39,11 @@ pub struct Object<'a> {
     pub line: &'a str,
 }
 
-/// How the run stopped.
-#[derive(Clone, Copy)]
-pub enum Stop {
-    Done,
-    Stalled,
-    Full,
-    Held,
-}
-
 /// The last line.
 #[derive(Clone, Copy)]
 pub struct End<'a> {
-    pub stop: Stop,
+    /// How the run stopped: `done`, `stalled`, `full` or `held`.
+    pub stop: &'a str,
     /// The line as a whole.
     pub line: &'a str,
 }

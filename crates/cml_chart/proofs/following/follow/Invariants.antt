@@ -1,9 +1,11 @@
-use Rattle.std.proofs.Common.{◌≡◌, ◌+◌, [], take, drop, map}
-use Rattle.cml_report.specs.Shown.{shown_act}
-use Rattle.cml_chart.specs.Following.{strange_row, IsCount}
+use Rattle.std.proofs.Common.{◌≡◌, ◌+◌, drop, map}
+use Rattle.cml_report.specs.Shown.{shown_act, texts}
+use Rattle.cml_chart.specs.Columns.{names_of}
+use Rattle.cml_chart.specs.Threads.{shown_threads}
+use Rattle.cml_chart.specs.Following.{follow}
 use Rattle.cml_chart.proofs.following.follow.Given as goal
 
 abbrev pub invariant-loop-at : goal.invariant-loop-at
 invariant-loop-at l =
-    (IsCount l.plan.script.now (map shown_act (take l.at l.acts)) l.rows.items)
-    × (strange_row l.plan.script.now (map shown_act (take l.at l.acts)) (l.at + 1) (map shown_act (drop l.at l.acts)) ≡ strange_row l.plan.script.now [] 1 (map shown_act l.acts))
+    follow (texts l.feeds) (names_of l.targets.keys) (shown_threads l.threads.items) (l.at + 1) (map shown_act (drop l.at l.acts))
+    ≡ follow (texts l.feeds) (names_of l.targets.keys) (shown_threads l.fn.threads.items) 1 (map shown_act l.acts)

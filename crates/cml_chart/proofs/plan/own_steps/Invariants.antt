@@ -2,9 +2,10 @@ use Rattle.std.proofs.Common.{◌≡◌, ◌++◌, drop, map}
 use Rattle.std.specs.List.{filter_map}
 use Rattle.cml_grammar.specs.Reading.{source_of}
 use Rattle.cml_grammar.specs.declared.script.Step.{Step}
-use Rattle.cml_chart.specs.Plan.{own_in, own_steps, shown_lines}
+use Rattle.cml_report.specs.Shown.{texts}
+use Rattle.cml_chart.specs.Plan.{own_in, own_steps}
 use Rattle.cml_chart.proofs.plan.own_steps.Given as goal
 
 abbrev pub invariant-loop-step : goal.invariant-loop-step
 invariant-loop-step l =
-    shown_lines l.own.items ++ filter_map (own_in l.script l.name) (map (λ (x : Step). source_of x.line) (drop l.step-index l.steps)) ≡ own_steps l.script l.name
+    texts l.own.items ++ filter_map (own_in l.script l.name) (map (λ (s : Step). source_of s.line) (drop l.step-index l.steps)) ≡ own_steps l.script l.name

@@ -1,0 +1,12 @@
+use Rattle.std.proofs.Common.{◌≡◌, ◌++◌, drop, map}
+use Rattle.std.specs.List.{filter_map}
+use Rattle.cml_grammar.specs.declared.script.Step.{Step}
+use Rattle.cml_grammar.specs.Reading.{source_of}
+use Rattle.cml_grammar.specs.Script.{SourceLine}
+use Rattle.cml_chart.specs.Plan.{port_in, shown_made}
+use Rattle.cml_chart.proofs.plan.add_ports.Given as goal
+
+abbrev pub invariant-loop-step : goal.invariant-loop-step
+invariant-loop-step l =
+    map shown_made l.objects.items ++ filter_map (λ (line : SourceLine). port_in line.words) (map (λ (s : Step). source_of s.line) (drop l.step-index l.steps))
+    ≡ map shown_made l.fn.objects.items ++ filter_map (λ (line : SourceLine). port_in line.words) l.script.steps
