@@ -4,7 +4,7 @@ use Rattle.std.specs.Option.{option_map, option_map_or}
 use Rattle.std.specs.Str.{bytes_eq}
 use Rattle.cml_report.specs.Lines.{Words, Deed}
 use Rattle.cml_report.specs.Shown.{texts}
-use Rattle.cml_chart.specs.declared.threads.Thread.{Thread}
+use Rattle.cml_chart.specs.declared.following.Thread.{Thread}
 
 -- a thread, the lines of its steps that have rows, and how many of these were performed
 pub record Standing : Type 0 where

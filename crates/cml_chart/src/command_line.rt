@@ -22,15 +22,6 @@ left the step that it stands at: the one behind the last that the report tells o
 
 It is drawn as SVG, or with --text as lines of text.";
 
-const TEXT_HELP: &str = "Draws lines of text in place of SVG";
-
-const FROM_HELP: &str = "The first row that is drawn, from 1";
-
-const TO_HELP: &str = "The last row that is drawn; without it 500 rows at the most";
-
-const SCRIPT_HELP: &str =
-    "The script that the report is of: tells the step at which each thread stands";
-
 const AFTER_HELP: &str = "Example:
   cml run < chat_room.cml | cml_chart --script chat_room.cml > chat_room.svg
 
@@ -84,8 +75,13 @@ fn command<'a>(alloc: Global) -> Result<Command<'a>, AllocError>
         .long_about(LONG_ABOUT)
         .after_help(AFTER_HELP)
         .arg(text(alloc))?
-        .arg(numbered(alloc, "from", "K", FROM_HELP))?
-        .arg(numbered(alloc, "to", "L", TO_HELP))?
+        .arg(numbered(alloc, "from", "K", "The first row that is drawn, from 1"))?
+        .arg(numbered(
+            alloc,
+            "to",
+            "L",
+            "The last row that is drawn; without it 500 rows at the most",
+        ))?
         .arg(script(alloc))
 }
 
@@ -95,7 +91,7 @@ fn text<'a>(alloc: Global) -> Arg<'a>
     Arg::new(alloc, "text")
         .long("text")
         .action(ArgAction::SetTrue)
-        .help(TEXT_HELP)
+        .help("Draws lines of text in place of SVG")
 }
 
 /// An option whose value is the number of a row.
@@ -120,5 +116,5 @@ fn script<'a>(alloc: Global) -> Arg<'a>
     Arg::new(alloc, "script")
         .long("script")
         .value_name("FILE")
-        .help(SCRIPT_HELP)
+        .help("The script that the report is of: tells the step at which each thread stands")
 }

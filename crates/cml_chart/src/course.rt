@@ -1,13 +1,11 @@
 //! The course of a run: its report, its chart, and how far the threads of its script have come.
-ghost use Rattle.std.specs.Prelude.{◌≡◌, ◌⊎◌, ◌+◌, ◌≤◌, length, Some, Ok, Err, IfOk, IfErr};
+ghost use Rattle.std.specs.Prelude.{◌≡◌, ◌⊎◌, ◌+◌, ◌≤◌, length, Some, IfOk, IfErr};
 ghost use Rattle.std.specs.Option.{option_map};
 ghost use Rattle.cml_report.specs.declared.faults.What.TheVariants.{Memory};
-ghost use Rattle.cml_chart.specs.Threads.{shown_threads};
-ghost use Rattle.cml_chart.specs.Following.{deeds_of, things_of, threads_behind, IsCourse, lines_fault};
+ghost use Rattle.cml_chart.specs.Following.{deeds_of, things_of, IsCourse, lines_fault};
 
 use crate::chart::{Chart, chart_of};
-use crate::following::followed;
-use crate::threads::Thread;
+use crate::following::{Thread, threads_behind};
 use cml_grammar::Script;
 use cml_report::{Fault, Report};
 use std::alloc::Global;
@@ -38,20 +36,4 @@ pub(crate) fn course_of<'a>(
         threads,
         chart,
     })
-}
-
-/// The threads of the script, where one is given, as they stand at the end of the report.
-fn threads_behind<'a>(
-    alloc: Global,
-    script: Option<&'a Script>,
-    report: &Report<'_>,
-) -> Result<Vec<Thread<'a>>, Fault>
-    requires few { length report.now.acts.items + length report.now.objects.items ≤ 33554432 }
-    ensures threads { IfOk result (λ threads. threads_behind (option_map (λ s. s.now) script.entry) (deeds_of report.now) (things_of report.now) ≡ Ok (shown_threads threads.items)) }
-    ensures fault { IfErr result (λ fault. (fault.what ≡ Memory) ⊎ (threads_behind (option_map (λ s. s.now) script.entry) (deeds_of report.now) (things_of report.now) ≡ Err fault)) }
-{
-    match script {
-        Some(script) => followed(alloc, script, report),
-        None => Ok(Vec::new(alloc)),
-    }
 }

@@ -112,7 +112,7 @@ fn draw_course<'a>(
     picture.add_columns()?;
     let mut open = Vec::new(alloc);
     if let Some(script) = script {
-        add_declared(&mut open, script)?;
+        add_declared(alloc, &mut open, script)?;
     }
     add_drawn(alloc, &mut picture.rows, &mut open, &course.chart, bounds)?;
     let mut out = String::new(alloc);
@@ -126,8 +126,7 @@ fn draw_course<'a>(
 
 /// Between which of so many rows those stand that are asked for, as far as there are such.
 fn bounds(order: &Order<'_>, count: usize) -> (usize, usize)
-    ensures bounds { result ≡ bounds_of order.now count }
-    ensures within { (result.0 ≤ result.1) × (result.1 ≤ count) }
+    ensures { result ≡ bounds_of order.now count }
 {
     let from = order.from.unwrap_or(1);
     let to = order.to.unwrap_or(from.saturating_add(MOST_ROWS - 1));

@@ -7,28 +7,22 @@ use cml_report::{Fault, What};
 use std::alloc::AllocError;
 use thiserror::Error;
 
-/// How the drawing of a report ends. It shows as the line for standard error.
+/// How the drawing of a report ends. It shows as the line for standard error. A reader that was asked too often has failed, and
+/// where there was no memory nothing was written.
 #[derive(Clone, Copy, Debug, PartialEq, Eq, Error)]
 pub(crate) enum Ending {
-    /// The chart was written.
     #[error("cml_chart: done")]
     Done,
-    /// What was read is no report.
     #[error("{0}")]
     Fault(Fault),
-    /// What was read as a script is none.
     #[error("{0}")]
     ScriptFault(cml_grammar::Fault),
-    /// The script could not be read, or its reader was asked too often.
     #[error("cml_chart: script read failed")]
     ScriptReadFault,
-    /// The report could not be read, or its reader was asked too often.
     #[error("cml_chart: read failed")]
     ReadFault,
-    /// The chart could not be written.
     #[error("cml_chart: write failed")]
     WriteFault,
-    /// There was no memory, and nothing was written.
     #[error("cml_chart: no memory")]
     NoMemory,
 }

@@ -1,57 +1,76 @@
 //! Whether a report is one of a script, and how far its threads have come.
-ghost use Rattle.std.specs.Prelude.{◌≡◌, ◌⊎◌, ◌≤◌, ◌+◌, [], length, map, IfOk, IfErr, OnOk, Ok, Err, Some, None, true, false, MatchOption};
+ghost use Rattle.std.specs.Prelude.{◌≡◌, ◌⊎◌, ◌≤◌, ◌+◌, length, map, IfOk, IfErr, OnOk, Ok, Err, Some, None, true, false, MatchOption};
+ghost use Rattle.std.specs.Option.{option_map};
 ghost use Rattle.cml_report.specs.declared.faults.What.TheVariants.{Memory, OtherScript};
 ghost use Rattle.cml_report.specs.Shown.{texts, shown_act, shown_object, shown_actor};
 ghost use Rattle.cml_chart.specs.Columns.{names_of};
-ghost use Rattle.cml_chart.specs.Threads.{shown_threads};
+ghost use Rattle.cml_chart.specs.Threads.{shown_thread, shown_threads, stands_at, tells, advanced, perform};
 ghost use Rattle.cml_chart.specs.Plan.{shown_made};
-ghost use Rattle.cml_chart.specs.Following.{is_feed, is_made, pass, follow, strange_thing, followed, deeds_of, things_of};
+ghost use Rattle.cml_chart.specs.Following.{is_feed, is_made, pass, follow, strange_thing, deeds_of, things_of, threads_behind};
 
-use crate::columns::is_among;
+use crate::chart::is_among;
 use crate::plan::{Made, Plan, fill};
-use crate::threads::{Thread, perform};
 use cml_grammar::{Script, number_of};
 use cml_report::{Act, Actor, Fault, Object, Report, What};
 use indexmap::IndexSet;
 use std::alloc::{AllocError, Global};
 
-/// The threads of a script as they stand at the end of a report, where the report is one of that script.
-pub(crate) fn followed<'a>(
+/// A thread of a script.
+#[derive(Drop)]
+pub(crate) struct Thread<'a> {
+    pub(crate) name: &'a str,
+    /// The lines of its steps that have rows.
+    pub(crate) steps: Vec<&'a str>,
+    /// How many of these were performed.
+    pub(crate) performed: usize,
+}
+
+impl<'a> Thread<'a> {
+    /// The step at which it stands, if it has one left.
+    pub(crate) fn step(&self) -> Option<&'a str>
+        ensures { option_map (λ step. step.now) result ≡ stands_at (shown_thread self.now) }
+    {
+        self.steps.get(self.performed).copied()
+    }
+
+    /// Whether a row tells the step at which it stands. It has then performed that.
+    fn performs(&mut self, alloc: Global, act: &Act<'_>) -> Result<bool, AllocError>
+        ensures told { IfOk result (λ told. told ≡ tells (shown_thread self.old) (shown_act act.now)) }
+        ensures thread { IfOk result (λ told. shown_thread self.new ≡ advanced told (shown_thread self.old)) }
+    {
+        let Some(step) = self.step() else {
+            return Ok(false);
+        };
+        let reply = act.reply;
+        let line = format!(in alloc; "{step}: {reply}")?;
+        if line.as_str() != act.line {
+            return Ok(false);
+        }
+        self.performed += 1;
+        Ok(true)
+    }
+}
+
+/// The threads of a script, where one is given, as they stand at the end of its report.
+pub(crate) fn threads_behind<'a>(
     alloc: Global,
-    script: &'a Script,
+    script: Option<&'a Script>,
     report: &Report<'_>,
 ) -> Result<Vec<Thread<'a>>, Fault>
     requires few { length report.now.acts.items + length report.now.objects.items ≤ 33554432 }
-    ensures threads { IfOk result (λ threads. followed script.now (deeds_of report.now) (things_of report.now) ≡ Ok (shown_threads threads.items)) }
-    ensures fault { IfErr result (λ fault. (fault.what ≡ Memory) ⊎ (followed script.now (deeds_of report.now) (things_of report.now) ≡ Err fault)) }
+    ensures threads { IfOk result (λ threads. threads_behind (option_map (λ s. s.now) script.entry) (deeds_of report.now) (things_of report.now) ≡ Ok (shown_threads threads.items)) }
+    ensures fault { IfErr result (λ fault. (fault.what ≡ Memory) ⊎ (threads_behind (option_map (λ s. s.now) script.entry) (deeds_of report.now) (things_of report.now) ≡ Err fault)) }
 {
-    let mut plan = Plan {
-        threads: Vec::new(alloc),
-        feeds: Vec::new(alloc),
-        targets: IndexSet::new(alloc),
-        objects: Vec::new(alloc),
+    let Some(script) = script else {
+        return Ok(Vec::new(alloc));
     };
-    follow_by(alloc, &mut plan, script, report)?;
-    let Plan { threads, .. } = plan;
-    Ok(threads)
-}
-
-/// Fills an empty plan, and has its threads follow the report.
-fn follow_by<'a>(
-    alloc: Global,
-    plan: &mut Plan<'a>,
-    script: &'a Script,
-    report: &Report<'_>,
-) -> Result<(), Fault>
-    requires empty { (plan.old.threads.items ≡ []) × (plan.old.feeds.items ≡ []) × (plan.old.targets.keys ≡ []) × (plan.old.objects.items ≡ []) }
-    requires few { length report.now.acts.items + length report.now.objects.items ≤ 33554432 }
-    ensures threads { OnOk result (followed script.now (deeds_of report.now) (things_of report.now) ≡ Ok (shown_threads plan.new.threads.items)) }
-    ensures fault { IfErr result (λ fault. (fault.what ≡ Memory) ⊎ (followed script.now (deeds_of report.now) (things_of report.now) ≡ Err fault)) }
-{
-    fill(alloc, plan, script)?;
+    let mut plan = Plan::new(alloc);
+    fill(alloc, &mut plan, script)?;
     let (acts, objects) = (report.acts.as_slice(), report.objects.as_slice());
     follow(alloc, &mut plan.threads, &plan.feeds, &plan.targets, acts)?;
-    compare(&plan.objects, objects, acts.len() + 1)
+    compare(&plan.objects, objects, acts.len() + 1)?;
+    let Plan { threads, .. } = plan;
+    Ok(threads)
 }
 
 /// Goes along a report's first part, as far as its rows are the script's.
@@ -90,6 +109,23 @@ fn passes(
         Actor::Thread(name) => perform(alloc, threads, name, act),
         Actor::Lane(_) => Ok(is_among(targets, act.object)),
         Actor::Feed(number) => Ok(is_feed(feeds, number, act.object)),
+    }
+}
+
+/// Whether a row of the thread with this name tells the step at which it stands. It has then performed that.
+pub(crate) fn perform(
+    alloc: Global,
+    threads: &mut [Thread<'_>],
+    name: &str,
+    act: &Act<'_>,
+) -> Result<bool, AllocError>
+    ensures { IfOk result (λ told. MatchOption (perform (shown_threads threads.old) name.now (shown_act act.now))
+        (told ≡ false) (λ later. (told ≡ true) × (shown_threads threads.new ≡ later))) }
+{
+    match threads {
+        [] => Ok(false),
+        [thread, ..] if thread.name == name => thread.performs(alloc, act),
+        [_, others @ ..] => perform(alloc, others, name, act),
     }
 }
 

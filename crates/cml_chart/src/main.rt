@@ -2,7 +2,6 @@
 #![tactic(auto)]
 
 mod chart;
-mod columns;
 mod command_line;
 mod course;
 mod drawing;
@@ -13,7 +12,6 @@ mod picture;
 mod plain;
 mod plan;
 mod svg;
-mod threads;
 
 use cml_shell::{NoOrder, end, words};
 use command_line::order_of;

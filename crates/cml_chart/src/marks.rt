@@ -1,7 +1,6 @@
 //! Which ports are open, and which of them a multicast goes to.
-use crate::chart::{Chart, Row};
-use crate::columns::{Added, column_of};
-use cml_grammar::{Makes, Script, Verb};
+use crate::chart::{Added, Chart, Row, column_of};
+use cml_grammar::{Script, Verb, split_words};
 use cml_report::Act;
 use std::alloc::{AllocError, Global};
 
@@ -37,51 +36,36 @@ pub(crate) fn add_drawn<'a>(
     Ok(())
 }
 
-/// Adds the ports that a script declares, those of feeds too. The i-th declaration gives the i-th name.
-pub(crate) fn add_declared<'a>(open: &mut Vec<Listener<'a>>, script: &'a Script) -> Added {
-    let declarations = script.declarations();
-    for (at, declaration) in declarations.iter().enumerate() {
-        if let Some(listener) = declared(script, at, &declaration.makes) {
-            open.push(listener)?;
+/// Adds the ports that a script declares, those of feeds too.
+pub(crate) fn add_declared<'a>(
+    alloc: Global,
+    open: &mut Vec<Listener<'a>>,
+    script: &'a Script,
+) -> Added {
+    for declaration in script.declarations() {
+        let words = split_words(alloc, declaration.line.text.as_str())?;
+        if let ["port", channel, port] | ["feed", _, port, channel, _] = words.as_slice() {
+            open.push(Listener { port, channel })?;
         }
     }
     Ok(())
 }
 
-fn declared<'a>(script: &'a Script, at: usize, makes: &Makes) -> Option<Listener<'a>> {
-    let channel = match makes {
-        Makes::Port(channel) => *channel,
-        Makes::Feed(feed) => feed.channel,
-        _ => return None,
-    };
-    let (port, _) = script.names().get_index(at)?;
-    let (channel, _) = script.names().get_index(channel)?;
-    Some(Listener { port, channel })
-}
-
-/// Opens the port that a row makes, or closes the one that it closes.
+/// Opens the port that a row makes, or closes the one that it closes. A copy is of the channel of the port that it is made of.
 fn follow<'a>(open: &mut Vec<Listener<'a>>, act: &Act<'a>) -> Added {
     let port = act.object;
-    if matches!(act.verb, Verb::Close) {
-        open.retain(|listener| listener.port != port);
-    }
-    if let Some(channel) = channel_made(open, act) {
-        open.push(Listener { port, channel })?;
+    match (act.verb, act.with) {
+        (Verb::Close, _) => open.retain(|listener| listener.port != port),
+        (Verb::Port, Some(channel)) => open.push(Listener { port, channel })?,
+        (Verb::Copy, Some(source)) if act.reply == "made" => {
+            if let Some(listener) = open.iter().find(|listener| listener.port == source) {
+                let channel = listener.channel;
+                open.push(Listener { port, channel })?;
+            }
+        }
+        _ => {}
     }
     Ok(())
-}
-
-/// The channel of the port that a row makes, if it makes one: that of the port which it copies, where that is open.
-fn channel_made<'a>(open: &[Listener<'a>], act: &Act<'a>) -> Option<&'a str> {
-    let source = act.with?;
-    match (act.verb, act.reply) {
-        (Verb::Port, "made") => Some(source),
-        (Verb::Copy, "made") => {
-            let listener = open.iter().find(|listener| listener.port == source)?;
-            Some(listener.channel)
-        }
-        _ => None,
-    }
 }
 
 /// The columns of the open ports of the channel on which an act multicasts, if it does.
@@ -92,11 +76,9 @@ fn marks_of(
     act: &Act<'_>,
 ) -> Result<Vec<usize>, AllocError> {
     let mut marks = Vec::new(alloc);
-    if !matches!(act.verb, Verb::Multicast) {
-        return Ok(marks);
-    }
     for listener in open {
-        if listener.channel == act.object
+        if matches!(act.verb, Verb::Multicast)
+            && listener.channel == act.object
             && let Some(column) = column_of(&chart.names, listener.port)
         {
             marks.push(column)?;

@@ -1,5 +1,5 @@
 //! What is drawn of a run, as lines of text or as SVG: its columns, some rows of its chart, and what is written at them.
-use crate::columns::Added;
+use crate::chart::Added;
 use crate::course::Course;
 use crate::marks::Drawn;
 use cml_grammar::Verb;

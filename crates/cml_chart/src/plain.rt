@@ -1,5 +1,5 @@
 //! A chart as lines of text: a column for each thread and object, and a line for each row.
-use crate::columns::Added;
+use crate::chart::Added;
 use crate::course::Course;
 use crate::marks::Drawn;
 use crate::picture::{
@@ -37,18 +37,18 @@ fn push_below(out: &mut String, course: &Course<'_>) -> Added {
     let end = course.report.end;
     for thread in &course.threads {
         if let Some(step) = thread.step() {
-            out.push_str(thread.name)?;
-            out.push_str(" ")?;
+            let name = thread.name;
+            write!(out, "{name} ")?;
             push_step(out, end.stop, step)?;
             out.push_str("\n")?;
         }
     }
     for object in &course.report.objects {
-        out.push_str(object.line)?;
-        out.push_str("\n")?;
+        let line = object.line;
+        writeln!(out, "{line}")?;
     }
-    out.push_str(end.line)?;
-    out.push_str("\n")
+    let line = end.line;
+    writeln!(out, "{line}")
 }
 
 fn push_cells(out: &mut String, picture: &Picture<'_, '_>, drawn: &Drawn<'_>) -> Added {
@@ -68,18 +68,15 @@ fn push_cells(out: &mut String, picture: &Picture<'_, '_>, drawn: &Drawn<'_>) ->
 /// What stands where a row crosses a column's line: an arrow's head, a mark, a part of the arrow, or the column's line.
 fn lead_at(drawn: &Drawn<'_>, dash: char, at: usize) -> char {
     let row = &drawn.row;
-    if at == row.object {
-        return if points_out(&row.act) { '>' } else { '|' };
+    if at == row.object && points_out(&row.act) {
+        return '>';
     }
-    if at == row.actor {
-        return if points_back(&row.act) { '<' } else { '|' };
+    if at == row.actor && points_back(&row.act) {
+        return '<';
     }
     if drawn.marks.contains(&at) {
         return '*';
     }
-    if row.actor < at && at < row.object {
-        dash
-    } else {
-        '|'
-    }
+    let is_between = row.actor < at && at < row.object;
+    if is_between { dash } else { '|' }
 }

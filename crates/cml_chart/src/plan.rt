@@ -8,8 +8,8 @@ ghost use Rattle.cml_chart.specs.Columns.{names_of};
 ghost use Rattle.cml_chart.specs.Threads.{shown_threads};
 ghost use Rattle.cml_chart.specs.Plan.{declared_in, port_in, feed_in, object_in, objects_in, targets_in, thread_in, threads_in, is_feed, is_apart, begins, own_in, own_steps, shown_made, IsPlan};
 
-use crate::columns::{Added, add_name};
-use crate::threads::Thread;
+use crate::chart::{Added, add_name};
+use crate::following::Thread;
 use cml_grammar::{Action, Declaration, Named, Script, Step, split_words};
 use indexmap::IndexSet;
 use std::alloc::{AllocError, Global};
@@ -31,6 +31,20 @@ pub(crate) struct Plan<'a> {
     pub(crate) targets: IndexSet<String>,
     /// All objects, in the order of a report's second part.
     pub(crate) objects: Vec<Made<'a>>,
+}
+
+impl Plan<'_> {
+    /// A plan that says nothing yet.
+    pub(crate) fn new<'a>(alloc: Global) -> Plan<'a>
+        ensures { (result.threads.items ≡ []) × (result.feeds.items ≡ []) × (result.targets.keys ≡ []) × (result.objects.items ≡ []) }
+    {
+        Plan {
+            threads: Vec::new(alloc),
+            feeds: Vec::new(alloc),
+            targets: IndexSet::new(alloc),
+            objects: Vec::new(alloc),
+        }
+    }
 }
 
 /// Fills an empty plan. What was added when memory is refused goes with the plan.
@@ -83,12 +97,10 @@ fn declared_in<'a>(words: &[&'a str]) -> Option<Made<'a>>
     ensures { option_map shown_made result ≡ declared_in (texts words.now) }
 {
     let (kind, rest) = words.split_first()?;
-    let at = if *kind == "port" || *kind == "feed" {
-        1
-    } else {
-        0
+    let name = match *kind {
+        "port" | "feed" => rest.get(1)?,
+        _ => rest.first()?,
     };
-    let name = rest.get(at)?;
     Some(Made { kind, name })
 }
 

@@ -1,6 +1,7 @@
 //! A chart as SVG.
-use crate::columns::Added;
+use crate::chart::Added;
 use crate::course::Course;
+use crate::following::Thread;
 use crate::marks::Drawn;
 use crate::picture::{
     Picture, is_missed, points_back, points_out, push_label, push_note, push_step,
@@ -32,12 +33,20 @@ struct Sheet {
 
 /// Adds a picture: the columns, the rows, the steps that threads have left, and how the run ended.
 pub(crate) fn draw_svg(alloc: Global, out: &mut String, picture: &Picture<'_, '_>) -> Added {
-    let gap = place_at(12, 8, widest(picture));
+    let widths = picture.columns.iter().map(|column| column.width());
+    let closings = picture.columns.iter().map(|column| column.closing.len());
+    let labels = picture
+        .rows
+        .iter()
+        .map(|drawn| label_length(&drawn.row.act));
+    let steps = picture.course.threads.iter().map(step_length);
+    let gap = place_at(12, 8, widths.max().unwrap_or(0));
     let bottom = place_at(84, 26, picture.rows.len());
     // A step's word has at most nine letters.
     let width = place_at(188, gap, picture.columns.len());
-    let width = place_at(width, 8, longest_label(&picture.rows));
-    let height = place_at(bottom.saturating_add(60), 5, longest_below(picture));
+    let width = place_at(width, 8, labels.max().unwrap_or(0));
+    let deepest = closings.max().unwrap_or(0).max(steps.max().unwrap_or(0));
+    let height = place_at(bottom.saturating_add(60), 5, deepest);
     write!(
         out,
         "<svg xmlns='http://www.w3.org/2000/svg' viewBox='0 0 {width} {height}'{ABOUT}{STYLE}{HEAD}"
@@ -168,40 +177,18 @@ fn place_at(origin: u64, step: u64, at: usize) -> u64 {
     step.saturating_mul(at as u64).saturating_add(origin)
 }
 
-/// How many letters the widest column has.
-fn widest(picture: &Picture<'_, '_>) -> usize {
-    let mut most: usize = 0;
-    for column in &picture.columns {
-        most = most.max(column.width());
-    }
-    most
+/// How many letters the step has at which a thread stands, with a space in front.
+fn step_length(thread: &Thread<'_>) -> usize {
+    thread.step().unwrap_or("").len().saturating_add(1)
 }
 
-/// How many letters the longest text below the columns has.
-fn longest_below(picture: &Picture<'_, '_>) -> usize {
-    let mut most: usize = 0;
-    for column in &picture.columns {
-        most = most.max(column.closing.len());
-    }
-    for thread in &picture.course.threads {
-        let step = thread.step().unwrap_or("");
-        most = most.max(step.len().saturating_add(1));
-    }
-    most
-}
-
-/// How many letters the longest label of these rows has, without the word of its step.
-fn longest_label(rows: &[Drawn<'_>]) -> usize {
-    let mut most: usize = 0;
-    for drawn in rows {
-        let act = &drawn.row.act;
-        let reply = match act.reply {
-            "done" | "made" | "none" | "put" | "closed" => 6,
-            message => message.len(),
-        };
-        most = most.max(act.with.unwrap_or("").len().saturating_add(reply));
-    }
-    most
+/// How many letters the label of a row has, without the word of its step.
+fn label_length(act: &Act<'_>) -> usize {
+    let reply = match act.reply {
+        "done" | "made" | "none" | "put" | "closed" => 6,
+        message => message.len(),
+    };
+    act.with.unwrap_or("").len().saturating_add(reply)
 }
 
 fn arrow_class(act: &Act<'_>) -> &'static str {

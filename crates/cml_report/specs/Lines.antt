@@ -72,17 +72,14 @@ pub record Ended : Type 0 where
 -- the line begins with a thread's name, or with the number of a lane or a feed
 abbrev pub ring_of : List ℕ → List ℕ → Option Doer
 ring_of word number =
-    if bytes_eq word (codes "lane") then (if is_number number then Some (lane number) else None)
-    else if bytes_eq word (codes "feed") then (if is_number number then Some (feed number) else None)
+    if bytes_eq word (codes "lane") && is_number number then Some (lane number)
+    else if bytes_eq word (codes "feed") && is_number number then Some (feed number)
     else None
-
-abbrev pub ring_in : List ℕ → Words → Option (Doer × Words)
-ring_in word [] = None
-ring_in word (number ∷ rest) = option_map (λ doer. (doer, rest)) (ring_of word number)
 
 abbrev pub doer_of : Words → Option (Doer × Words)
 doer_of [] = None
-doer_of (word ∷ rest) = if is_name word then Some (thread word, rest) else ring_in word rest
+doer_of (word ∷ []) = if is_name word then Some (thread word, []) else None
+doer_of (word ∷ number ∷ rest) = if is_name word then Some (thread word, number ∷ rest) else option_map (λ doer. (doer, rest)) (ring_of word number)
 
 -- which replies a step may have
 abbrev pub may_answer : Verb → List ℕ → Bool
@@ -190,5 +187,5 @@ line_by count line words =
     option_or (option_map ended (ended_of count line words))
     (option_or (option_map thing (thing_of line words)) (option_map deed (deed_of line words)))
 
-unfoldable pub line_of : ℕ → List ℕ → Option Line
+abbrev pub line_of : ℕ → List ℕ → Option Line
 line_of count line = line_by count line (words_of line)

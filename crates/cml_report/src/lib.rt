@@ -1,15 +1,12 @@
 //! Reports of runs: what a text says, line by line, and what is wrong with it.
 #![tactic(auto)]
 
-mod acts;
-mod endings;
 mod faults;
-mod objects;
+mod lines;
 mod reading;
 mod report;
 mod words;
 
-pub use acts::second_place;
 pub use faults::{Fault, What};
 pub use reading::read_report;
 pub use report::{Act, Actor, End, Object, Report};

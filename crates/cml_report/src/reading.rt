@@ -1,19 +1,14 @@
 //! A report's lines, read one by one.
 ghost use Rattle.std.specs.Prelude.{◌≡◌, ◌⊎◌, ◌≤◌, ◌+◌, Ok, Err, IfOk, IfErr, OnOk, length};
-ghost use Rattle.std.specs.Option.{option_map};
-ghost use Rattle.cml_grammar.specs.Words.{words_of};
 ghost use Rattle.cml_report.specs.declared.faults.What.TheVariants.{Memory};
-ghost use Rattle.cml_report.specs.Lines.{line_by, line_of};
-ghost use Rattle.cml_report.specs.Shown.{texts, shown_line, shown_report, so_far, line_count};
+ghost use Rattle.cml_report.specs.Shown.{shown_line, shown_report, so_far, line_count};
 ghost use Rattle.cml_report.specs.Reading.{told, told_at_end, with_line, with_text, wrong, IsFaultOf};
 
-use crate::acts::act_of;
-use crate::endings::end_of;
 use crate::faults::{Fault, What};
-use crate::objects::object_of;
+use crate::lines::line_by;
 use crate::report::{Act, End, Line, Object, Report};
 use cml_grammar::{cut_line, has_bad_byte, split_words};
-use std::alloc::{AllocError, Global};
+use std::alloc::Global;
 
 /// The most bytes that a report may have. With a journal of 65,536 entries, as many as there are where `cml` is not told
 /// otherwise, a report has at most some 14 megabytes of steps and some 13 of objects.
@@ -65,32 +60,11 @@ fn read_line<'a>(alloc: Global, reading: &mut Reading<'a>, line: &'a [u8]) -> Re
     let Ok(line) = str::from_utf8(line) else {
         unreachable!();
     };
-    match line_of(alloc, line, reading.acts.len())? {
+    let words = split_words(alloc, line)?;
+    match line_by(line, &words, reading.acts.len()) {
         Some(line) => add_line(reading, line),
         None => Err(What::NoReportLine),
     }
-}
-
-/// The line that a text is behind so many lines of the first part.
-#[tactic(auto, unfolding(crate::specs::Lines::line_of))]
-fn line_of(alloc: Global, line: &str, count: usize) -> Result<Option<Line<'_>>, AllocError>
-    ensures { IfOk result (λ found. option_map shown_line found ≡ line_of count line.now) }
-{
-    let words = split_words(alloc, line)?;
-    Ok(line_by(line, &words, count))
-}
-
-fn line_by<'a>(line: &'a str, words: &[&'a str], count: usize) -> Option<Line<'a>>
-    ensures { option_map shown_line result ≡ line_by count line.now (texts words.now) }
-{
-    if let Some(end) = end_of(line, words, count) {
-        return Some(Line::End(end));
-    }
-    if let Some(object) = object_of(line, words) {
-        return Some(Line::Object(object));
-    }
-    let act = act_of(line, words)?;
-    Some(Line::Act(act))
 }
 
 /// Adds a line, which may stand behind those of its own part and of the parts before.

@@ -46,11 +46,9 @@ pub(crate) fn fits(form: &[&str], words: &[&str]) -> bool
 fn is_for(mark: &str, word: &str) -> bool
     ensures { result ≡ is_for mark.now word.now }
 {
-    if mark == "#" {
-        return is_number(word);
+    match mark {
+        "#" => is_number(word),
+        "=" => is_message(word),
+        _ => word == mark,
     }
-    if mark == "=" {
-        return is_message(word);
-    }
-    word == mark
 }

@@ -2,7 +2,7 @@ use Rattle.std.proofs.Common.{◌≡◌, ◌+◌, ◌++◌, drop, map}
 use Rattle.cml_report.specs.Shown.{shown_object}
 use Rattle.cml_chart.specs.Columns.{names_of, taken_from}
 use Rattle.cml_chart.specs.Chart.{titles_of}
-use Rattle.cml_chart.proofs.columns.add_objects.Given as goal
+use Rattle.cml_chart.proofs.chart.add_objects.Given as goal
 
 abbrev pub invariant-loop-at : goal.invariant-loop-at
 invariant-loop-at l =

@@ -1,18 +1,33 @@
-//! Lines of the first part.
+//! What the lines of a report are, by their words.
 ghost use Rattle.std.specs.Prelude.{◌≡◌, slice_get};
 ghost use Rattle.std.specs.Option.{option_map};
 ghost use Rattle.cml_grammar.specs.Forms.{step_places};
-ghost use Rattle.cml_report.specs.Lines.{ring_of, doer_of, may_answer, may_do, is_given_by, behind_step, object_of, deed_by, deed_of};
-ghost use Rattle.cml_report.specs.Shown.{texts, shown_actor, shown_act};
+ghost use Rattle.cml_report.specs.Lines.{doer_of, may_answer, may_do, is_given_by, behind_step, object_of, deed_by, deed_of, is_closing, thing_of, may_leave, ended_of, line_by};
+ghost use Rattle.cml_report.specs.Shown.{texts, shown_actor, shown_act, shown_object, shown_end, shown_line};
 
-use crate::report::{Act, Actor};
-use crate::words::{before_colon, is_message, is_number};
-use cml_grammar::{Place, Verb, is_name};
+use crate::report::{Act, Actor, End, Line, Object};
+use crate::words::{before_colon, fits, is_message, is_number};
+use cml_grammar::{Place, Verb, is_name, number_of};
 use cml_text::is_text;
 
-/// The act that a line's words are, if they are one.
+/// The line that these words are behind so many lines of the first part: the last one, or else one of the second part or of the
+/// first.
+pub(crate) fn line_by<'a>(line: &'a str, words: &[&'a str], count: usize) -> Option<Line<'a>>
+    ensures { option_map shown_line result ≡ line_by count line.now (texts words.now) }
+{
+    if let Some(end) = end_of(line, words, count) {
+        return Some(Line::End(end));
+    }
+    if let Some(object) = thing_of(line, words) {
+        return Some(Line::Object(object));
+    }
+    let act = act_of(line, words)?;
+    Some(Line::Act(act))
+}
+
+/// The act that a line of the first part tells.
 #[tactic(auto, unfolding(crate::specs::Lines::deed_of))]
-pub(crate) fn act_of<'a>(line: &'a str, words: &[&'a str]) -> Option<Act<'a>>
+fn act_of<'a>(line: &'a str, words: &[&'a str]) -> Option<Act<'a>>
     ensures { option_map shown_act result ≡ deed_of line.now (texts words.now) }
 {
     let (actor, rest) = actor_of(words)?;
@@ -27,16 +42,9 @@ fn actor_of<'a, 'w>(words: &'w [&'a str]) -> Option<(Actor<'a>, &'w [&'a str])>
         return Some((Actor::Thread(first), rest));
     }
     let (number, rest) = rest.split_first()?;
-    let ring = ring_of(first, number)?;
-    Some((ring, rest))
-}
-
-fn ring_of<'a>(word: &str, number: &'a str) -> Option<Actor<'a>>
-    ensures { option_map shown_actor result ≡ ring_of word.now number.now }
-{
-    match word {
-        "lane" => is_number(number).then_some(Actor::Lane(number)),
-        "feed" => is_number(number).then_some(Actor::Feed(number)),
+    match *first {
+        "lane" if is_number(number) => Some((Actor::Lane(number), rest)),
+        "feed" if is_number(number) => Some((Actor::Feed(number), rest)),
         _ => None,
     }
 }
@@ -96,7 +104,7 @@ fn object_of<'a>(
 }
 
 /// What a step has beside its object: a message, or the port that it makes.
-pub fn second_place(verb: Verb) -> Option<Place>
+fn second_place(verb: Verb) -> Option<Place>
     ensures { result ≡ slice_get (step_places verb) 1 }
 {
     match verb {
@@ -141,5 +149,63 @@ fn may_answer(verb: Verb, reply: &str) -> bool
         Verb::Put => reply == "done" || reply == "put",
         Verb::Get | Verb::Take | Verb::Swap => is_message(reply),
         Verb::GetPoll | Verb::TakePoll => is_message(reply) || reply == "none",
+    }
+}
+
+/// The object that a line tells of, if it does.
+#[tactic(auto, unfolding(crate::specs::Lines::thing_of))]
+fn thing_of<'a>(line: &'a str, words: &[&'a str]) -> Option<Object<'a>>
+    ensures { option_map shown_object result ≡ thing_of line.now (texts words.now) }
+{
+    let (kind, rest) = words.split_first()?;
+    let (name, closing) = rest.split_first()?;
+    let name = before_colon(name)?;
+    (is_name(name) && is_closing(kind, closing)).then_some(Object { kind, name, line })
+}
+
+/// Whether a line may say this of an object of this kind.
+#[tactic(auto, unfolding(crate::specs::Lines::is_closing))]
+fn is_closing(kind: &str, closing: &[&str]) -> bool
+    ensures { result ≡ is_closing kind.now (texts closing.now) }
+{
+    let is_made = match kind {
+        "mailbox" => fits(&["sent", "#", "got", "#", "waits", "#"], closing),
+        "channel" => fits(&["sent", "#", "kept", "#", "first", "#"], closing),
+        "port" => {
+            fits(&["start", "#", "got", "#", "owed", "#"], closing)
+                || fits(&["start", "#", "got", "#", "closed"], closing)
+        }
+        "feed" => fits(
+            &["start", "#", "got", "#", "owed", "#", "taken", "#"],
+            closing,
+        ),
+        "ivar" | "mvar" => fits(&["empty"], closing) || fits(&["full", "="], closing),
+        _ => return false,
+    };
+    is_made || fits(&["not", "made"], closing)
+}
+
+/// How the run ended by the last line, behind so many lines of the first part.
+#[tactic(auto, unfolding(crate::specs::Lines::ended_of))]
+fn end_of<'a>(line: &'a str, words: &[&'a str], count: usize) -> Option<End<'a>>
+    ensures { option_map shown_end result ≡ ended_of count line.now (texts words.now) }
+{
+    let (first, rest) = words.split_first()?;
+    let (stop, rest) = rest.split_first()?;
+    let (performed, left) = rest.split_first()?;
+    if *first != "end:" || number_of(performed) != Some(count as u64) {
+        return None;
+    }
+    may_leave(stop, left).then_some(End { stop, line })
+}
+
+/// Whether a run that stopped so may have left this.
+fn may_leave(stop: &str, left: &[&str]) -> bool
+    ensures { result ≡ may_leave stop.now (texts left.now) }
+{
+    match stop {
+        "done" => left.is_empty(),
+        "stalled" | "full" | "held" => fits(&["left", "#"], left),
+        _ => false,
     }
 }

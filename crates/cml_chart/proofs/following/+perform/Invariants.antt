@@ -1,5 +1,5 @@
 use Rattle.std.proofs.Common.{length}
-use Rattle.cml_chart.proofs.threads.+perform.Given as goal
+use Rattle.cml_chart.proofs.following.+perform.Given as goal
 
 abbrev pub decreases-perform : goal.decreases-perform
 decreases-perform l = length l.threads.now

@@ -1,7 +1,7 @@
 use Rattle.std.proofs.Common.{◌≡◌, drop, map}
 use Rattle.cml_chart.specs.Columns.{names_of, each_once, name_in}
 use Rattle.cml_chart.specs.Threads.{shown_threads}
-use Rattle.cml_chart.proofs.columns.add_threads.Given as goal
+use Rattle.cml_chart.proofs.chart.add_threads.Given as goal
 
 abbrev pub invariant-loop-thread : goal.invariant-loop-thread
 invariant-loop-thread l =
