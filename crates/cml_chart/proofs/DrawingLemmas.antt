@@ -7,7 +7,7 @@ use Rattle.cml_report.specs.declared.faults.What.TheVariants as what
 use Rattle.cml_report.specs.declared.report.Report.{Report}
 use Rattle.cml_report.specs.Reading.{told, wrong_at, told_from, nothing_yet}
 use Rattle.cml_report.specs.Shown.{shown_report}
-use Rattle.cml_chart.specs.declared.course.Course.{Course}
+use Rattle.cml_chart.specs.declared.chart.Course.{Course}
 use Rattle.cml_chart.specs.Following.{IsCourse}
 use Rattle.cml_chart.specs.Drawing.{IsRead, IsDrawnOf}
 

@@ -1,12 +1,14 @@
--- Names as they are kept, by their bytes.
+-- Names as they are kept, by their bytes, and lines, by their words.
 use Rattle.std.proofs.Common.{◌≡◌, ℕ, suc, Bool, true, false, List, [], ◌∷◌, ◌++◌, ◌||◌, position, Some, refl, sym, ap, ◌∙◌, cond, if◌then◌else◌, String, string_bytes}
 use Rattle.std.specs.Global.{Global}
-use Rattle.std.specs.List.{list_any}
+use Rattle.std.specs.List.{list_any, join_with_byte}
 use Rattle.std.specs.Option.{option_map}
 use Rattle.std.specs.Str.{bytes_eq}
 use Rattle.std.specs.String.{string_eq}
 use Rattle.std.proofs.lemmas.List.{map-append}
+use Rattle.std.proofs.lemmas.List.Splits.{join_with_byte-slice_split}
 use Rattle.indexmap.specs.IndexSet.{insert_key}
+use Rattle.cml_grammar.specs.Words.{words_of}
 use Rattle.cml_grammar.proofs.ListLemmas.{position-cons}
 use Rattle.cml_chart.specs.Columns.{names_of, is_among, with_name, column_of}
 
@@ -28,3 +30,7 @@ put_in keys name = by (list_any (string_eq name) keys) ∙ ap (λ t. if t then n
     by : (t : Bool) → names_of (if t then keys else keys ++ name ∷ []) ≡ (if t then names_of keys else names_of keys ++ string_bytes name ∷ [])
     by true = refl
     by false = map-append string_bytes keys (name ∷ [])
+
+-- a line's words, with a space between each two, are the line
+pub words_make_line : (line : List ℕ) → join_with_byte 32 (words_of line) ≡ line
+words_make_line line = join_with_byte-slice_split 32 line

@@ -10,7 +10,7 @@ use Rattle.cml_report.specs.Lines.{Deed, Thing, Ended}
 use Rattle.cml_report.specs.Shown.{shown_report}
 use Rattle.cml_report.specs.Reading.{told, report, wrong}
 use Rattle.cml_chart.specs.declared.command_line.Order.{Order}
-use Rattle.cml_chart.specs.declared.course.Course.{Course}
+use Rattle.cml_chart.specs.declared.chart.Course.{Course}
 use Rattle.cml_chart.specs.declared.ending.Ending.{Ending}
 use Rattle.cml_chart.specs.declared.ending.Ending.TheVariants as ending
 use Rattle.cml_chart.specs.Following.{IsCourse, lines_fault}

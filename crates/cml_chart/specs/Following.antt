@@ -14,7 +14,7 @@ use Rattle.cml_chart.specs.Columns.{is_among}
 use Rattle.cml_chart.specs.Chart.{IsChart, chart_fault}
 use Rattle.cml_chart.specs.Threads.{Standing, perform, shown_threads}
 use Rattle.cml_chart.specs.Plan.{Made, threads_in, feeds_in, targets_in, objects_in}
-use Rattle.cml_chart.specs.declared.course.Course.{Course}
+use Rattle.cml_chart.specs.declared.chart.Course.{Course}
 
 -- the feed of this number has this name
 abbrev pub is_feed : Words → List ℕ → List ℕ → Bool

@@ -1,13 +1,16 @@
 //! A chart: the columns of a run, and a row for each line of the report's first part.
 ghost use Rattle.std.specs.Prelude.{◌≡◌, ◌⊎◌, ◌+◌, ◌++◌, ◌≤◌, ◌<◌, length, map, string_bytes, IfSome, IfOk, IfErr, OnOk, MatchOption, Some, None};
+ghost use Rattle.std.specs.Option.{option_map};
 ghost use Rattle.cml_report.specs.declared.faults.What.TheVariants.{Memory, NameTaken, UnknownName};
 ghost use Rattle.cml_report.specs.Shown.{shown_actor, shown_act, shown_object};
 ghost use Rattle.cml_chart.specs.Threads.{shown_threads};
 ghost use Rattle.cml_chart.specs.Columns.{doer_text, names_of, with_name, each_once, name_in, doer_in, is_among, taken_from, column_of};
+ghost use Rattle.cml_chart.specs.Following.{deeds_of, things_of, IsCourse, lines_fault};
 ghost use Rattle.cml_chart.specs.Chart.{titles_of, joined, arrow_of, unknown_from, chart_fault, shown_row, IsChart};
 
-use crate::following::Thread;
-use cml_report::{Act, Actor, Fault, Object, What};
+use crate::following::{Thread, threads_behind};
+use cml_grammar::Script;
+use cml_report::{Act, Actor, Fault, Object, Report, What};
 use indexmap::IndexSet;
 use std::alloc::{AllocError, Global};
 
@@ -32,9 +35,37 @@ pub(crate) struct Chart<'a> {
     pub(crate) rows: Vec<Row<'a>>,
 }
 
+/// The course of a run. Without a script it tells of no threads.
+#[derive(Drop)]
+pub(crate) struct Course<'a> {
+    pub(crate) report: Report<'a>,
+    pub(crate) threads: Vec<Thread<'a>>,
+    pub(crate) chart: Chart<'a>,
+}
+
+/// The course of a run by its report, which has a chart and is one of this script, where one is given.
+pub(crate) fn course_of<'a>(
+    alloc: Global,
+    script: Option<&'a Script>,
+    report: Report<'a>,
+) -> Result<Course<'a>, Fault>
+    requires few { length report.acts.items + length report.objects.items ≤ 33554432 }
+    ensures course { IfOk result (IsCourse (option_map (λ s. s.now) script.entry)) }
+    ensures kept { IfOk result (λ course. course.report ≡ report.entry) }
+    ensures fault { IfErr result (λ fault. (fault.what ≡ Memory) ⊎ (lines_fault (option_map (λ s. s.now) script.entry) (deeds_of report.entry) (things_of report.entry) ≡ Some fault)) }
+{
+    let threads = threads_behind(alloc, script, &report)?;
+    let chart = chart_of(alloc, &threads, &report.acts, &report.objects)?;
+    Ok(Course {
+        report,
+        threads,
+        chart,
+    })
+}
+
 /// The chart of a report, where each object has a name of its own, and each object of the first part stands in the second. The
 /// columns begin with these threads.
-pub(crate) fn chart_of<'a>(
+fn chart_of<'a>(
     alloc: Global,
     threads: &[Thread<'_>],
     acts: &[Act<'a>],

@@ -95,12 +95,7 @@ fn text<'a>(alloc: Global) -> Arg<'a>
 }
 
 /// An option whose value is the number of a row.
-fn numbered<'a>(
-    alloc: Global,
-    name: &'static str,
-    value: &'static str,
-    help: &'static str,
-) -> Arg<'a>
+fn numbered<'a>(alloc: Global, name: &'a str, value: &'a str, help: &'a str) -> Arg<'a>
     ensures { (rule_of result ≡ numbered_rule name.now) × (result.global ≡ false) }
 {
     Arg::new(alloc, name)

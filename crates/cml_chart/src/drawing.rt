@@ -4,8 +4,8 @@ ghost use Rattle.cml_chart.specs.declared.ending.Ending.TheVariants as ending;
 ghost use Rattle.std.specs.Option.{option_map};
 ghost use Rattle.cml_chart.specs.Drawing.{bounds_of, Draws, DrawsGiven, IsDrawnOf, IsGiven, EndsUndrawn, EndsUnread, IsRead};
 
+use crate::chart::{Course, course_of};
 use crate::command_line::Order;
-use crate::course::{Course, course_of};
 use crate::ending::Ending;
 use crate::marks::{add_declared, add_drawn};
 use crate::picture::Picture;
@@ -108,7 +108,12 @@ fn draw_course<'a>(
     order: &Order<'_>,
 ) -> Result<String, AllocError> {
     let bounds = bounds(order, course.chart.rows.len());
-    let mut picture = Picture::new(alloc, course, bounds.0);
+    let mut picture = Picture {
+        course,
+        columns: Vec::new(alloc),
+        rows: Vec::new(alloc),
+        before: bounds.0,
+    };
     picture.add_columns()?;
     let mut open = Vec::new(alloc);
     if let Some(script) = script {

@@ -6,7 +6,7 @@ ghost use Rattle.cml_report.specs.Shown.{texts, shown_act, shown_object, shown_a
 ghost use Rattle.cml_chart.specs.Columns.{names_of};
 ghost use Rattle.cml_chart.specs.Threads.{shown_thread, shown_threads, stands_at, tells, advanced, perform};
 ghost use Rattle.cml_chart.specs.Plan.{shown_made};
-ghost use Rattle.cml_chart.specs.Following.{is_feed, is_made, pass, follow, strange_thing, deeds_of, things_of, threads_behind};
+ghost use Rattle.cml_chart.specs.Following.{is_feed, pass, follow, strange_thing, deeds_of, things_of, threads_behind};
 
 use crate::chart::is_among;
 use crate::plan::{Made, Plan, fill};
@@ -64,12 +64,22 @@ pub(crate) fn threads_behind<'a>(
     let Some(script) = script else {
         return Ok(Vec::new(alloc));
     };
-    let mut plan = Plan::new(alloc);
+    let mut plan = Plan {
+        threads: Vec::new(alloc),
+        feeds: Vec::new(alloc),
+        targets: IndexSet::new(alloc),
+        objects: Vec::new(alloc),
+    };
     fill(alloc, &mut plan, script)?;
-    let (acts, objects) = (report.acts.as_slice(), report.objects.as_slice());
-    follow(alloc, &mut plan.threads, &plan.feeds, &plan.targets, acts)?;
-    compare(&plan.objects, objects, acts.len() + 1)?;
-    let Plan { threads, .. } = plan;
+    let Plan {
+        mut threads,
+        feeds,
+        targets,
+        objects,
+    } = plan;
+    let acts = report.acts.as_slice();
+    follow(alloc, &mut threads, &feeds, &targets, acts)?;
+    compare(&objects, &report.objects, acts.len() + 1)?;
     Ok(threads)
 }
 
@@ -134,10 +144,7 @@ fn is_feed(feeds: &[&str], number: &str, name: &str) -> bool
     ensures { result ≡ is_feed (texts feeds.now) number.now name.now }
 {
     match number_of(number) {
-        Some(at) => match feeds.get(at as usize) {
-            Some(feed) => name == *feed,
-            None => false,
-        },
+        Some(at) => feeds.get(at as usize) == Some(&name),
         None => false,
     }
 }
@@ -151,19 +158,14 @@ fn compare(made: &[Made<'_>], objects: &[Object<'_>], first: usize) -> Result<()
     let mut left = made;
     for (at, object) in objects.iter().enumerate() {
         match left {
-            [next, later @ ..] if is_made(object, next) => left = later,
+            [next, later @ ..] if object.kind == next.kind && object.name == next.name => {
+                left = later;
+            }
             _ => return Err(What::OtherScript.at((first + at) as u64)),
         }
     }
-    if left.is_empty() {
-        return Ok(());
+    match left {
+        [] => Ok(()),
+        _ => Err(What::OtherScript.at((first + objects.len()) as u64)),
     }
-    Err(What::OtherScript.at((first + objects.len()) as u64))
-}
-
-fn is_made(object: &Object<'_>, made: &Made<'_>) -> bool
-    ensures { result ≡ is_made (shown_object object.now) (shown_made made.now) }
-{
-    let (kind, name) = (object.kind == made.kind, object.name == made.name);
-    kind && name
 }

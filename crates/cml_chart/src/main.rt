@@ -3,7 +3,6 @@
 
 mod chart;
 mod command_line;
-mod course;
 mod drawing;
 mod ending;
 mod following;

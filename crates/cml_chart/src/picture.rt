@@ -1,10 +1,8 @@
 //! What is drawn of a run, as lines of text or as SVG: its columns, some rows of its chart, and what is written at them.
-use crate::chart::Added;
-use crate::course::Course;
+use crate::chart::{Added, Course};
 use crate::marks::Drawn;
 use cml_grammar::Verb;
-use cml_report::{Act, Object};
-use std::alloc::Global;
+use cml_report::Act;
 use std::fmt::Write;
 
 /// A column: its name, the kind over that, and what is said of an object under it, with a space in front.
@@ -32,17 +30,7 @@ impl Column<'_> {
     }
 }
 
-impl<'p, 'a> Picture<'p, 'a> {
-    /// A picture without columns and rows.
-    pub(crate) fn new(alloc: Global, course: &'p Course<'a>, before: usize) -> Picture<'p, 'a> {
-        Picture {
-            course,
-            columns: Vec::new(alloc),
-            rows: Vec::new(alloc),
-            before,
-        }
-    }
-
+impl Picture<'_, '_> {
     /// Adds the columns of those who act, and of the objects. The names of lanes and feeds tell their kind.
     pub(crate) fn add_columns(&mut self) -> Added {
         let chart = &self.course.chart;
@@ -56,18 +44,15 @@ impl<'p, 'a> Picture<'p, 'a> {
             })?;
         }
         for object in &self.course.report.objects {
-            self.columns.push(column_of(object))?;
+            let (kind, name) = (object.kind, object.name);
+            let (_, closing) = object.line.split_once(':').unwrap_or(("", ""));
+            self.columns.push(Column {
+                kind,
+                name,
+                closing,
+            })?;
         }
         Ok(())
-    }
-}
-
-fn column_of<'a>(object: &Object<'a>) -> Column<'a> {
-    let (_, closing) = object.line.split_once(':').unwrap_or(("", ""));
-    Column {
-        kind: object.kind,
-        name: object.name,
-        closing,
     }
 }
 

@@ -1,6 +1,5 @@
 //! A chart as lines of text: a column for each thread and object, and a line for each row.
-use crate::chart::Added;
-use crate::course::Course;
+use crate::chart::{Added, Course};
 use crate::marks::Drawn;
 use crate::picture::{
     Picture, is_missed, points_back, points_out, push_label, push_note, push_step,

@@ -1,12 +1,12 @@
 //! What a script says of its reports.
-ghost use Rattle.std.specs.Prelude.{◌≡◌, ◌++◌, [], map, filter_map, slice_get, string_bytes, IfOk, OnOk, Some, None, false, if◌then◌else◌};
+ghost use Rattle.std.specs.Prelude.{◌≡◌, ◌++◌, [], map, filter_map, slice_get, IfOk, OnOk, false};
 ghost use Rattle.std.specs.Option.{option_map, option_map_or, option_and_then, option_to_list};
 ghost use Rattle.cml_grammar.specs.Meaning.{names_of as given_by};
 ghost use Rattle.cml_grammar.specs.Reading.{source_of, ReadsStep};
 ghost use Rattle.cml_report.specs.Shown.{texts};
 ghost use Rattle.cml_chart.specs.Columns.{names_of};
 ghost use Rattle.cml_chart.specs.Threads.{shown_threads};
-ghost use Rattle.cml_chart.specs.Plan.{declared_in, port_in, feed_in, object_in, objects_in, targets_in, thread_in, threads_in, is_feed, is_apart, begins, own_in, own_steps, shown_made, IsPlan};
+ghost use Rattle.cml_chart.specs.Plan.{declared_in, port_in, feed_in, object_in, objects_in, targets_in, thread_in, threads_in, is_feed, is_apart, own_steps, shown_made, IsPlan};
 
 use crate::chart::{Added, add_name};
 use crate::following::Thread;
@@ -31,20 +31,6 @@ pub(crate) struct Plan<'a> {
     pub(crate) targets: IndexSet<String>,
     /// All objects, in the order of a report's second part.
     pub(crate) objects: Vec<Made<'a>>,
-}
-
-impl Plan<'_> {
-    /// A plan that says nothing yet.
-    pub(crate) fn new<'a>(alloc: Global) -> Plan<'a>
-        ensures { (result.threads.items ≡ []) × (result.feeds.items ≡ []) × (result.targets.keys ≡ []) × (result.objects.items ≡ []) }
-    {
-        Plan {
-            threads: Vec::new(alloc),
-            feeds: Vec::new(alloc),
-            targets: IndexSet::new(alloc),
-            objects: Vec::new(alloc),
-        }
-    }
 }
 
 /// Fills an empty plan. What was added when memory is refused goes with the plan.
@@ -147,26 +133,20 @@ fn add_targets(alloc: Global, targets: &mut IndexSet<String>, script: &Script) -
 }
 
 /// The lines of the steps of this thread that have rows of it.
+#[tactic(auto, using(crate::proofs::NameLemmas::words_make_line))]
 fn own_steps<'a>(alloc: Global, script: &'a Script, name: &str) -> Result<Vec<&'a str>, AllocError>
     ensures { IfOk result (λ own. texts own.items ≡ own_steps script.now name.now) }
 {
     let steps = script.steps();
     let mut own = Vec::new(alloc);
     for step in steps {
-        if is_own(alloc, script, name, step)? {
-            own.push(step.line.text.as_str())?;
+        let line = step.line.text.as_str();
+        let words = split_words(alloc, line)?;
+        if words.first() == Some(&name) && !is_apart(script, step) {
+            own.push(line)?;
         }
     }
     Ok(own)
-}
-
-/// Whether a step is one of this thread, and has a row of it.
-fn is_own(alloc: Global, script: &Script, name: &str, step: &Step) -> Result<bool, AllocError>
-    requires { ReadsStep (given_by script.now) step.now }
-    ensures { IfOk result (λ own. (if own then Some (string_bytes step.now.line.text) else None) ≡ own_in script.now name.now (source_of step.now.line)) }
-{
-    let words = split_words(alloc, step.line.text.as_str())?;
-    Ok(words.first() == Some(&name) && !is_apart(script, step))
 }
 
 /// Whether a step goes by a lane of its thread, or polls a feed.
@@ -178,13 +158,7 @@ fn is_apart(script: &Script, step: &Step) -> bool
         Action::Send(at, _) | Action::Multicast(at, _) => {
             script.lane_of(step.seat, *at).is_some()
         }
-        Action::Poll(at) => is_feed_at(script, *at),
+        Action::Poll(at) => { matches!(script.names().get_index(*at), Some((_, Named::Feed(_)))) }
         _ => false,
     }
-}
-
-fn is_feed_at(script: &Script, at: usize) -> bool
-    ensures { result ≡ option_map_or (λ g. is_feed g.1) (slice_get (given_by script.now) at) false }
-{
-    matches!(script.names().get_index(at), Some((_, Named::Feed(_))))
 }

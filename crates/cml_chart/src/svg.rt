@@ -1,7 +1,5 @@
 //! A chart as SVG.
-use crate::chart::Added;
-use crate::course::Course;
-use crate::following::Thread;
+use crate::chart::{Added, Course};
 use crate::marks::Drawn;
 use crate::picture::{
     Picture, is_missed, points_back, points_out, push_label, push_note, push_step,
@@ -15,13 +13,10 @@ use std::fmt::Write;
 const ABOUT: &str =
     " role='img' aria-labelledby='title about'>\n<title id='title'>Sequence chart of a run</title>\n<desc id='about'>A column for each thread, lane, feed and object, and below each other a row for each thing that was done: an arrow between the column of who did it and that of the object.</desc>\n";
 
-/// The style: it needs no font and no script, and follows light and dark.
+/// The style, which needs no font and no script, and follows light and dark; an arrow's head, which is drawn at either end; and the
+/// dot of a mark.
 const STYLE: &str =
-    "<style>svg{font-family:ui-monospace,Menlo,Consolas,monospace;font-size:12px;background:#fff}text{fill:#1c1e21}.kind,.name{text-anchor:middle}.kind{font-size:10px;fill:#5f6670}.name{font-weight:bold}.life{stroke:#c3c8cf}.out,.back,.both{stroke:#1f5fa8;stroke-width:1.5}.out,.both{marker-end:url(#head)}.back,.both{marker-start:url(#head)}.missed{stroke-dasharray:4 3}.told{stroke:#1f5fa8;stroke-opacity:.5;marker-end:url(#dot)}#head path,#dot circle{fill:#1f5fa8}.closing{font-size:11px}.end{font-weight:bold;font-size:14px}.done{fill:#1b7a3d}.stalled{fill:#b3261e}.full{fill:#9a5b00}.held{fill:#6b4fa0}@media(prefers-color-scheme:dark){svg{background:#16181c}text{fill:#e6e8eb}.kind{fill:#9aa2ad}.life{stroke:#434a54}.out,.back,.both,.told{stroke:#7fb2f0}#head path,#dot circle{fill:#7fb2f0}.done{fill:#6fcf97}.stalled{fill:#ff8a80}.full{fill:#f2b35c}.held{fill:#b9a3e8}}</style>\n";
-
-/// An arrow's head, which is drawn at either end, and the dot of a mark.
-const HEAD: &str =
-    "<defs><marker id='head' viewBox='0 0 8 8' refX='8' refY='4' markerWidth='7' markerHeight='7' orient='auto-start-reverse'><path d='M0 0 8 4 0 8z'/></marker><marker id='dot' viewBox='0 0 6 6' refX='3' refY='3' markerWidth='6' markerHeight='6'><circle cx='3' cy='3' r='2.5'/></marker></defs>\n";
+    "<style>svg{font-family:ui-monospace,Menlo,Consolas,monospace;font-size:12px;background:#fff}text{fill:#1c1e21}.kind,.name{text-anchor:middle}.kind{font-size:10px;fill:#5f6670}.name{font-weight:bold}.life{stroke:#c3c8cf}.out,.back,.both{stroke:#1f5fa8;stroke-width:1.5}.out,.both{marker-end:url(#head)}.back,.both{marker-start:url(#head)}.missed{stroke-dasharray:4 3}.told{stroke:#1f5fa8;stroke-opacity:.5;marker-end:url(#dot)}#head path,#dot circle{fill:#1f5fa8}.closing{font-size:11px}.end{font-weight:bold;font-size:14px}.done{fill:#1b7a3d}.stalled{fill:#b3261e}.full{fill:#9a5b00}.held{fill:#6b4fa0}@media(prefers-color-scheme:dark){svg{background:#16181c}text{fill:#e6e8eb}.kind{fill:#9aa2ad}.life{stroke:#434a54}.out,.back,.both,.told{stroke:#7fb2f0}#head path,#dot circle{fill:#7fb2f0}.done{fill:#6fcf97}.stalled{fill:#ff8a80}.full{fill:#f2b35c}.held{fill:#b9a3e8}}</style>\n<defs><marker id='head' viewBox='0 0 8 8' refX='8' refY='4' markerWidth='7' markerHeight='7' orient='auto-start-reverse'><path d='M0 0 8 4 0 8z'/></marker><marker id='dot' viewBox='0 0 6 6' refX='3' refY='3' markerWidth='6' markerHeight='6'><circle cx='3' cy='3' r='2.5'/></marker></defs>\n";
 
 /// How far the columns stand apart, and where their lines end.
 #[derive(Clone, Copy)]
@@ -39,7 +34,9 @@ pub(crate) fn draw_svg(alloc: Global, out: &mut String, picture: &Picture<'_, '_
         .rows
         .iter()
         .map(|drawn| label_length(&drawn.row.act));
-    let steps = picture.course.threads.iter().map(step_length);
+    let steps = picture.course.threads.iter();
+    let steps = steps.filter_map(|thread| thread.step());
+    let steps = steps.map(|step| step.len().saturating_add(1));
     let gap = place_at(12, 8, widths.max().unwrap_or(0));
     let bottom = place_at(84, 26, picture.rows.len());
     // A step's word has at most nine letters.
@@ -49,7 +46,7 @@ pub(crate) fn draw_svg(alloc: Global, out: &mut String, picture: &Picture<'_, '_
     let height = place_at(bottom.saturating_add(60), 5, deepest);
     write!(
         out,
-        "<svg xmlns='http://www.w3.org/2000/svg' viewBox='0 0 {width} {height}'{ABOUT}{STYLE}{HEAD}"
+        "<svg xmlns='http://www.w3.org/2000/svg' viewBox='0 0 {width} {height}'{ABOUT}{STYLE}"
     )?;
     let sheet = Sheet { alloc, gap, bottom };
     sheet.push_columns(out, picture)?;
@@ -57,7 +54,14 @@ pub(crate) fn draw_svg(alloc: Global, out: &mut String, picture: &Picture<'_, '_
         sheet.push_row(out, place_at(80, 26, at), drawn)?;
     }
     sheet.push_steps(out, picture.course)?;
-    push_foot(out, height, picture)
+    let (mut note, end) = (String::new(alloc), picture.course.report.end);
+    push_note(&mut note, picture, "")?;
+    push_text(out, "note", (16, height.saturating_sub(38)), &note)?;
+    let (y, stop, line) = (height.saturating_sub(16), end.stop, end.line);
+    writeln!(
+        out,
+        "<text class='end {stop}' x='16' y='{y}'>{line}</text>\n</svg>"
+    )
 }
 
 impl Sheet {
@@ -124,19 +128,6 @@ impl Sheet {
     }
 }
 
-/// Adds how many rows there are, where not all are drawn, how the run ended, and the end of the whole.
-fn push_foot(out: &mut String, height: u64, picture: &Picture<'_, '_>) -> Added {
-    let y = height.saturating_sub(38);
-    write!(out, "<text class='note' x='16' y='{y}'>")?;
-    push_note(out, picture, "")?;
-    let end = picture.course.report.end;
-    let (y, stop, line) = (height.saturating_sub(16), end.stop, end.line);
-    writeln!(
-        out,
-        "</text>\n<text class='end {stop}' x='16' y='{y}'>{line}</text>\n</svg>"
-    )
-}
-
 /// Adds a line of this class between two points.
 fn push_line(out: &mut String, class: &str, from: (u64, u64), to: (u64, u64)) -> Added {
     let ((x1, y1), (x2, y2)) = (from, to);
@@ -175,11 +166,6 @@ impl fmt::Display for Escaped<'_> {
 /// Where what has this position stands, from this origin in steps of this size.
 fn place_at(origin: u64, step: u64, at: usize) -> u64 {
     step.saturating_mul(at as u64).saturating_add(origin)
-}
-
-/// How many letters the step has at which a thread stands, with a space in front.
-fn step_length(thread: &Thread<'_>) -> usize {
-    thread.step().unwrap_or("").len().saturating_add(1)
 }
 
 /// How many letters the label of a row has, without the word of its step.

@@ -5,19 +5,30 @@ ghost use Rattle.cml_report.specs.declared.faults.What.TheVariants.{Memory};
 use std::alloc::{AllocError, AllocFailed};
 use std::error::Error;
 use std::fmt;
+use thiserror::Error;
 
 /// Why a text is no report, or none of its script, or has no chart, in the order in which the tests are made.
-#[derive(Clone, Copy, Debug, PartialEq, Eq)]
+#[derive(Clone, Copy, Debug, PartialEq, Eq, Error)]
 pub enum What {
+    #[error("no line end")]
     NoLineEnd,
+    #[error("bad bytes")]
     BadBytes,
+    #[error("no line of a report")]
     NoReportLine,
+    #[error("out of place")]
     OutOfPlace,
+    #[error("no end line")]
     NoEndLine,
+    #[error("not of this script")]
     OtherScript,
+    #[error("name taken")]
     NameTaken,
+    #[error("unknown name")]
     UnknownName,
+    #[error("too long")]
     TooLong,
+    #[error("no memory")]
     Memory,
 }
 
@@ -34,21 +45,6 @@ impl What {
         ensures { result ≡ record { line = line; what = self } }
     {
         Fault { line, what: self }
-    }
-
-    fn text(self) -> &'static str {
-        match self {
-            What::NoLineEnd => "no line end",
-            What::BadBytes => "bad bytes",
-            What::NoReportLine => "no line of a report",
-            What::OutOfPlace => "out of place",
-            What::NoEndLine => "no end line",
-            What::OtherScript => "not of this script",
-            What::NameTaken => "name taken",
-            What::UnknownName => "unknown name",
-            What::TooLong => "too long",
-            What::Memory => "no memory",
-        }
     }
 }
 
@@ -86,9 +82,8 @@ impl<T: Drop> From<AllocFailed<T>> for Fault {
 
 impl fmt::Display for Fault {
     fn fmt<W: fmt::Write>(&self, f: &mut fmt::Formatter<W>) -> fmt::Result {
-        let line = self.line;
-        let what = self.what.text();
-        match self.what {
+        let (line, what) = (self.line, self.what);
+        match what {
             What::TooLong | What::Memory => write!(f, "report: {what}"),
             _ => write!(f, "report: line {line}: {what}"),
         }

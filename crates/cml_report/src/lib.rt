@@ -5,7 +5,6 @@ mod faults;
 mod lines;
 mod reading;
 mod report;
-mod words;
 
 pub use faults::{Fault, What};
 pub use reading::read_report;

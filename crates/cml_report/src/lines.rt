@@ -2,11 +2,11 @@
 ghost use Rattle.std.specs.Prelude.{◌≡◌, slice_get};
 ghost use Rattle.std.specs.Option.{option_map};
 ghost use Rattle.cml_grammar.specs.Forms.{step_places};
-ghost use Rattle.cml_report.specs.Lines.{doer_of, may_answer, may_do, is_given_by, behind_step, object_of, deed_by, deed_of, is_closing, thing_of, may_leave, ended_of, line_by};
+ghost use Rattle.cml_grammar.specs.Names.{is_number};
+ghost use Rattle.cml_report.specs.Lines.{doer_of, may_answer, may_do, behind_step, object_of, deed_by, deed_of, is_closing, thing_of, may_leave, ended_of, line_by, before_colon, is_message, is_for, fits};
 ghost use Rattle.cml_report.specs.Shown.{texts, shown_actor, shown_act, shown_object, shown_end, shown_line};
 
 use crate::report::{Act, Actor, End, Line, Object};
-use crate::words::{before_colon, fits, is_message, is_number};
 use cml_grammar::{Place, Verb, is_name, number_of};
 use cml_text::is_text;
 
@@ -93,12 +93,14 @@ fn object_of<'a>(
 ) -> Option<(&'a str, Option<&'a str>)>
     ensures { option_map (λ found. (found.0.now, option_map (λ w. w.now) found.1)) result ≡ object_of (shown_actor actor.entry) (slice_get (step_places verb) 1) (option_map (λ w. w.now) first.entry) last.now }
 {
+    let is_given = match actor {
+        Actor::Lane(_) => is_message(last),
+        Actor::Thread(_) | Actor::Feed(_) => is_text(last.as_bytes()),
+    };
     match (second_place(verb), first) {
         (None, None) => Some((last, None)),
         (Some(Place::Fresh), Some(source)) => Some((last, Some(source))),
-        (Some(Place::Message), Some(object)) if is_given_by(actor, last) => {
-            Some((object, Some(last)))
-        }
+        (Some(Place::Message), Some(object)) if is_given => Some((object, Some(last))),
         _ => None,
     }
 }
@@ -112,15 +114,6 @@ fn second_place(verb: Verb) -> Option<Place>
         Verb::Port | Verb::Copy => Some(Place::Fresh),
         Verb::Recv | Verb::Poll | Verb::Close => None,
         Verb::Get | Verb::GetPoll | Verb::Take | Verb::TakePoll => None,
-    }
-}
-
-fn is_given_by(actor: Actor<'_>, message: &str) -> bool
-    ensures { result ≡ is_given_by (shown_actor actor.entry) message.now }
-{
-    match actor {
-        Actor::Lane(_) => is_message(message),
-        Actor::Thread(_) | Actor::Feed(_) => is_text(message.as_bytes()),
     }
 }
 
@@ -207,5 +200,50 @@ fn may_leave(stop: &str, left: &[&str]) -> bool
         "done" => left.is_empty(),
         "stalled" | "full" | "held" => fits(&["left", "#"], left),
         _ => false,
+    }
+}
+
+/// The word without the colon at its end, where it has one.
+#[tactic(auto, using(crate::proofs::WordLemmas::stripped))]
+fn before_colon(word: &str) -> Option<&str>
+    ensures { option_map (λ front. front.now) result ≡ before_colon word.now }
+{
+    word.strip_suffix(':')
+}
+
+fn is_number(word: &str) -> bool
+    ensures { result ≡ is_number word.now }
+{
+    number_of(word).is_some()
+}
+
+/// Whether the word is a message as replies tell it: a number, or `=` and a text.
+fn is_message(word: &str) -> bool
+    ensures { result ≡ is_message word.now }
+{
+    match word.as_bytes() {
+        [b'=', text @ ..] => is_text(text),
+        _ => is_number(word),
+    }
+}
+
+/// Whether words are as a form has them, where `#` is for a number and `=` for a message.
+fn fits(form: &[&str], words: &[&str]) -> bool
+    ensures { result ≡ fits (texts form.now) (texts words.now) }
+{
+    match (form.split_first(), words.split_first()) {
+        (Some((mark, form)), Some((word, words))) => is_for(mark, word) && fits(form, words),
+        (None, None) => true,
+        _ => false,
+    }
+}
+
+fn is_for(mark: &str, word: &str) -> bool
+    ensures { result ≡ is_for mark.now word.now }
+{
+    match mark {
+        "#" => is_number(word),
+        "=" => is_message(word),
+        _ => word == mark,
     }
 }

@@ -1,4 +1,4 @@
-//! What the lines of a report are. All texts are parts of the report that was read.
+//! What the lines of a report are, each with its line as a whole. All texts are parts of the report that was read.
 use cml_grammar::Verb;
 
 /// Who acts in a line of the first part.
@@ -25,7 +25,6 @@ pub struct Act<'a> {
     pub with: Option<&'a str>,
     /// The reply's word, or the message that came: in version 2 with `=` before it.
     pub reply: &'a str,
-    /// The line as a whole.
     pub line: &'a str,
 }
 
@@ -35,7 +34,6 @@ pub struct Object<'a> {
     /// The kind's word.
     pub kind: &'a str,
     pub name: &'a str,
-    /// The line as a whole.
     pub line: &'a str,
 }
 
@@ -44,7 +42,6 @@ pub struct Object<'a> {
 pub struct End<'a> {
     /// How the run stopped: `done`, `stalled`, `full` or `held`.
     pub stop: &'a str,
-    /// The line as a whole.
     pub line: &'a str,
 }
 
