@@ -1,2 +1,3 @@
 mod NameLemmas
+mod FollowingLemmas
 mod DrawingLemmas

@@ -55,8 +55,11 @@ abbrev pub objects_in : Lines → List Made
 objects_in script = filter_map object_in script.declarations ++ filter_map (λ line. port_in line.words) script.steps
 
 -- the objects that lanes lead to: a lane line names its thread, its object and its room behind its first word
+abbrev pub target_in : SourceLine → Option (List ℕ)
+target_in line = slice_get line.words 2
+
 abbrev pub targets_in : Lines → Words
-targets_in script = each_once [] (map (λ line. slice_get line.words 2) script.lanes)
+targets_in script = each_once [] (map target_in script.lanes)
 
 -- a lane leads from this seat to the object whose name has this position
 abbrev pub has_lane : Lines → Option ℕ → ℕ → Bool
@@ -78,7 +81,8 @@ is_apart script line =
     option_map_or (goes_apart script (seat_of_step (given_by script) line.words)) (action_of (given_by script) line.words) false
 
 abbrev pub begins : List ℕ → Words → Bool
-begins name words = option_map_or (bytes_eq name) (slice_get words 0) false
+begins name [] = false
+begins name (word ∷ rest) = bytes_eq name word
 
 -- the lines of a thread's steps that have rows of it
 abbrev pub own_in : Lines → List ℕ → SourceLine → Option (List ℕ)

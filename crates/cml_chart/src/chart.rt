@@ -63,8 +63,7 @@ pub(crate) fn course_of<'a>(
     })
 }
 
-/// The chart of a report, where each object has a name of its own, and each object of the first part stands in the second. The
-/// columns begin with these threads.
+/// The chart of a report, where each object has a name of its own and the second part tells of it. These threads come first.
 fn chart_of<'a>(
     alloc: Global,
     threads: &[Thread<'_>],

@@ -1,7 +1,7 @@
 //! The words of the command line, by `clap`, which also writes the help.
-ghost use Rattle.std.specs.Prelude.{◌≡◌, map, IfOk, false};
-ghost use Rattle.clap.specs.Words.{app_of, found_of, FailsBy, rows_of, rule_of};
-ghost use Rattle.cml_chart.specs.CommandLine.{usage, faults_of, options_in, text_rule, numbered_rule, script_rule, IsAsked};
+ghost use Rattle.std.specs.Prelude.{◌≡◌, map, codes, IfOk, false};
+ghost use Rattle.clap.specs.Words.{app_of, found_of, new_app, FailsBy, rows_of, rule_of};
+ghost use Rattle.cml_chart.specs.CommandLine.{drawing_usage, usage, faults_of, options_in, text_rule, numbered_rule, script_rule, IsAsked};
 
 use clap::{Arg, ArgAction, ArgMatches, Command, Error, value_parser};
 use std::alloc::{AllocError, Global};
@@ -51,8 +51,15 @@ pub(crate) fn order_of<'a, S: AsStr>(alloc: Global, words: &'a [S]) -> Result<Or
     ensures fails { FailsBy (faults_of (map S.text words.now)) result }
     ensures asked { IfOk result (λ order. IsAsked (options_in (map S.text words.now)) order) }
 {
-    let matches = command(alloc)?.try_get_matches_from(words)?;
+    let matches = matches(alloc, words)?;
     Ok(order_in(&matches))
+}
+
+fn matches<'a, S: AsStr>(alloc: Global, words: &'a [S]) -> Result<ArgMatches<'a>, Error>
+    ensures fails { FailsBy (faults_of (map S.text words.now)) result }
+    ensures found { IfOk result (λ matches. rows_of (found_of matches) ≡ options_in (map S.text words.now)) }
+{
+    command(alloc)?.try_get_matches_from(words)
 }
 
 /// What the program's words ask for, once they are understood.
@@ -70,10 +77,14 @@ fn order_in<'a>(matches: &ArgMatches<'a>) -> Order<'a>
 fn command<'a>(alloc: Global) -> Result<Command<'a>, AllocError>
     ensures { IfOk result (λ command. app_of command ≡ usage) }
 {
-    Command::new(alloc, "cml_chart")
-        .about(ABOUT)
-        .long_about(LONG_ABOUT)
-        .after_help(AFTER_HELP)
+    drawing_command(alloc)?.arg(script(alloc))
+}
+
+/// The program with the options of how a report is to be drawn.
+fn drawing_command<'a>(alloc: Global) -> Result<Command<'a>, AllocError>
+    ensures { IfOk result (λ command. app_of command ≡ drawing_usage) }
+{
+    bare_command(alloc)
         .arg(text(alloc))?
         .arg(numbered(alloc, "from", "K", "The first row that is drawn, from 1"))?
         .arg(numbered(
@@ -81,8 +92,17 @@ fn command<'a>(alloc: Global) -> Result<Command<'a>, AllocError>
             "to",
             "L",
             "The last row that is drawn; without it 500 rows at the most",
-        ))?
-        .arg(script(alloc))
+        ))
+}
+
+/// The program without an option.
+fn bare_command<'a>(alloc: Global) -> Command<'a>
+    ensures { app_of result ≡ new_app (codes "cml_chart") }
+{
+    Command::new(alloc, "cml_chart")
+        .about(ABOUT)
+        .long_about(LONG_ABOUT)
+        .after_help(AFTER_HELP)
 }
 
 fn text<'a>(alloc: Global) -> Arg<'a>

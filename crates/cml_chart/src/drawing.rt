@@ -51,8 +51,7 @@ fn script_in<S: Read>(alloc: Global, reader: &mut S) -> Result<Script, Ending>
     Ok(script)
 }
 
-/// Draws a report, of a script where there is one: it reads the whole report, and then writes the chart of the rows that are asked
-/// for.
+/// Draws a report, of a script where there is one: it reads all of it, and then writes the chart of the rows that are asked for.
 pub(crate) fn draw<R: Read, W: Write>(
     alloc: Global,
     script: Option<&Script>,

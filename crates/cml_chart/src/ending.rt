@@ -7,8 +7,7 @@ use cml_report::{Fault, What};
 use std::alloc::AllocError;
 use thiserror::Error;
 
-/// How the drawing of a report ends. It shows as the line for standard error. A reader that was asked too often has failed, and
-/// where there was no memory nothing was written.
+/// How the drawing of a report ends. It shows as the line for standard error. A reader that was asked too often has failed.
 #[derive(Clone, Copy, Debug, PartialEq, Eq, Error)]
 pub(crate) enum Ending {
     #[error("cml_chart: done")]

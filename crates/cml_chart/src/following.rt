@@ -6,7 +6,7 @@ ghost use Rattle.cml_report.specs.Shown.{texts, shown_act, shown_object, shown_a
 ghost use Rattle.cml_chart.specs.Columns.{names_of};
 ghost use Rattle.cml_chart.specs.Threads.{shown_thread, shown_threads, stands_at, tells, advanced, perform};
 ghost use Rattle.cml_chart.specs.Plan.{shown_made};
-ghost use Rattle.cml_chart.specs.Following.{is_feed, pass, follow, strange_thing, deeds_of, things_of, threads_behind};
+ghost use Rattle.cml_chart.specs.Following.{is_feed, is_made, pass, follow, strange_thing, deeds_of, things_of, threads_behind};
 
 use crate::chart::is_among;
 use crate::plan::{Made, Plan, fill};
@@ -144,7 +144,10 @@ fn is_feed(feeds: &[&str], number: &str, name: &str) -> bool
     ensures { result ≡ is_feed (texts feeds.now) number.now name.now }
 {
     match number_of(number) {
-        Some(at) => feeds.get(at as usize) == Some(&name),
+        Some(at) => match feeds.get(at as usize) {
+            Some(feed) => name == *feed,
+            None => false,
+        },
         None => false,
     }
 }
@@ -155,17 +158,23 @@ fn compare(made: &[Made<'_>], objects: &[Object<'_>], first: usize) -> Result<()
     ensures same { OnOk result (strange_thing first (map shown_object objects.now) (map shown_made made.now) ≡ None) }
     ensures fault { IfErr result (λ fault. (fault.what ≡ OtherScript) × (strange_thing first (map shown_object objects.now) (map shown_made made.now) ≡ Some fault.line)) }
 {
-    let mut left = made;
     for (at, object) in objects.iter().enumerate() {
-        match left {
-            [next, later @ ..] if object.kind == next.kind && object.name == next.name => {
-                left = later;
-            }
-            _ => return Err(What::OtherScript.at((first + at) as u64)),
+        let Some(made) = made.get(at) else {
+            return Err(What::OtherScript.at((first + at) as u64));
+        };
+        if !is_made(object, made) {
+            return Err(What::OtherScript.at((first + at) as u64));
         }
     }
-    match left {
-        [] => Ok(()),
-        _ => Err(What::OtherScript.at((first + objects.len()) as u64)),
+    if made.len() > objects.len() {
+        return Err(What::OtherScript.at((first + objects.len()) as u64));
     }
+    Ok(())
+}
+
+fn is_made(object: &Object<'_>, made: &Made<'_>) -> bool
+    ensures { result ≡ is_made (shown_object object.now) (shown_made made.now) }
+{
+    let (kind, name) = (object.kind == made.kind, object.name == made.name);
+    kind && name
 }

@@ -6,7 +6,7 @@ ghost use Rattle.cml_grammar.specs.Reading.{source_of, ReadsStep};
 ghost use Rattle.cml_report.specs.Shown.{texts};
 ghost use Rattle.cml_chart.specs.Columns.{names_of};
 ghost use Rattle.cml_chart.specs.Threads.{shown_threads};
-ghost use Rattle.cml_chart.specs.Plan.{declared_in, port_in, feed_in, object_in, objects_in, targets_in, thread_in, threads_in, is_feed, is_apart, own_steps, shown_made, IsPlan};
+ghost use Rattle.cml_chart.specs.Plan.{made_at, declared_in, port_in, feed_in, object_in, objects_in, targets_in, thread_in, threads_in, is_feed, is_apart, begins, own_in, own_steps, shown_made, IsPlan};
 
 use crate::chart::{Added, add_name};
 use crate::following::Thread;
@@ -83,10 +83,16 @@ fn declared_in<'a>(words: &[&'a str]) -> Option<Made<'a>>
     ensures { option_map shown_made result ≡ declared_in (texts words.now) }
 {
     let (kind, rest) = words.split_first()?;
-    let name = match *kind {
-        "port" | "feed" => rest.get(1)?,
-        _ => rest.first()?,
-    };
+    if *kind == "port" || *kind == "feed" {
+        return made_at(kind, rest, 1);
+    }
+    made_at(kind, rest, 0)
+}
+
+fn made_at<'a>(kind: &'a str, words: &[&'a str], at: usize) -> Option<Made<'a>>
+    ensures { option_map shown_made result ≡ made_at kind.now (texts words.now) at }
+{
+    let name = words.get(at)?;
     Some(Made { kind, name })
 }
 
@@ -110,11 +116,10 @@ fn port_in<'a>(words: &[&'a str]) -> Option<Made<'a>>
 {
     let (_, rest) = words.split_first()?;
     let (word, rest) = rest.split_first()?;
-    if *word != "port" && *word != "copy" {
-        return None;
+    if *word == "port" || *word == "copy" {
+        return made_at("port", rest, 1);
     }
-    let name = rest.get(1)?;
-    Some(Made { kind: "port", name })
+    None
 }
 
 /// Adds the objects that lanes lead to, each once.
@@ -125,28 +130,63 @@ fn add_targets(alloc: Global, targets: &mut IndexSet<String>, script: &Script) -
     let lanes = script.lanes();
     for lane in lanes {
         let words = split_words(alloc, lane.line.text.as_str())?;
-        if let Some(name) = words.get(2) {
+        if let Some(name) = target_in(&words) {
             add_name(targets, String::from_str(alloc, name)?)?;
         }
     }
     Ok(())
 }
 
+#[tactic(auto, using(crate::proofs::FollowingLemmas::no_third))]
+fn target_in<'a>(words: &[&'a str]) -> Option<&'a str>
+    ensures { option_map (λ n. n.now) result ≡ slice_get (texts words.now) 2 }
+{
+    match words {
+        [_, _, object, ..] => Some(*object),
+        _ => None,
+    }
+}
+
 /// The lines of the steps of this thread that have rows of it.
-#[tactic(auto, using(crate::proofs::NameLemmas::words_make_line))]
 fn own_steps<'a>(alloc: Global, script: &'a Script, name: &str) -> Result<Vec<&'a str>, AllocError>
     ensures { IfOk result (λ own. texts own.items ≡ own_steps script.now name.now) }
 {
     let steps = script.steps();
     let mut own = Vec::new(alloc);
     for step in steps {
-        let line = step.line.text.as_str();
-        let words = split_words(alloc, line)?;
-        if words.first() == Some(&name) && !is_apart(script, step) {
+        if let Some(line) = own_line(alloc, script, name, step)? {
             own.push(line)?;
         }
     }
     Ok(own)
+}
+
+/// The line of a step of this thread that has a row of it.
+#[tactic(auto, using(crate::proofs::NameLemmas::words_make_line))]
+fn own_line<'a>(
+    alloc: Global,
+    script: &Script,
+    name: &str,
+    step: &'a Step,
+) -> Result<Option<&'a str>, AllocError>
+    requires { ReadsStep (given_by script.now) step.now }
+    ensures { IfOk result (λ line. option_map (λ l. l.now) line ≡ own_in script.now name.now (source_of step.now.line)) }
+{
+    let line = step.line.text.as_str();
+    let words = split_words(alloc, line)?;
+    if !begins(&words, name) || is_apart(script, step) {
+        return Ok(None);
+    }
+    Ok(Some(line))
+}
+
+fn begins(words: &[&str], name: &str) -> bool
+    ensures { result ≡ begins name.now (texts words.now) }
+{
+    match words {
+        [first, ..] => name == *first,
+        [] => false,
+    }
 }
 
 /// Whether a step goes by a lane of its thread, or polls a feed.
@@ -158,7 +198,22 @@ fn is_apart(script: &Script, step: &Step) -> bool
         Action::Send(at, _) | Action::Multicast(at, _) => {
             script.lane_of(step.seat, *at).is_some()
         }
-        Action::Poll(at) => { matches!(script.names().get_index(*at), Some((_, Named::Feed(_)))) }
+        Action::Poll(at) => is_feed_at(script, *at),
         _ => false,
     }
+}
+
+fn is_feed_at(script: &Script, at: usize) -> bool
+    ensures { result ≡ option_map_or (λ g. is_feed g.1) (slice_get (given_by script.now) at) false }
+{
+    match script.names().get_index(at) {
+        Some((_, named)) => is_feed(*named),
+        None => false,
+    }
+}
+
+fn is_feed(named: Named) -> bool
+    ensures { result ≡ is_feed named }
+{
+    matches!(named, Named::Feed(_))
 }

@@ -30,10 +30,8 @@ struct Sheet {
 pub(crate) fn draw_svg(alloc: Global, out: &mut String, picture: &Picture<'_, '_>) -> Added {
     let widths = picture.columns.iter().map(|column| column.width());
     let closings = picture.columns.iter().map(|column| column.closing.len());
-    let labels = picture
-        .rows
-        .iter()
-        .map(|drawn| label_length(&drawn.row.act));
+    let labels = picture.rows.iter();
+    let labels = labels.map(|drawn| label_length(&drawn.row.act));
     let steps = picture.course.threads.iter();
     let steps = steps.filter_map(|thread| thread.step());
     let steps = steps.map(|step| step.len().saturating_add(1));
@@ -101,11 +99,9 @@ impl Sheet {
     /// The steps that threads have left, each under its thread's column. Those of the script's threads come first.
     fn push_steps(&self, out: &mut String, course: &Course<'_>) -> Added {
         let stop = course.report.end.stop;
-        let stalled = stop == "stalled";
-        let class = if stalled {
-            "closing stalled"
-        } else {
-            "closing"
+        let class = match stop {
+            "stalled" => "closing stalled",
+            _ => "closing",
         };
         for (at, thread) in course.threads.iter().enumerate() {
             if let Some(step) = thread.step() {

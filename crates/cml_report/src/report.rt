@@ -1,14 +1,11 @@
 //! What the lines of a report are, each with its line as a whole. All texts are parts of the report that was read.
 use cml_grammar::Verb;
 
-/// Who acts in a line of the first part.
+/// Who acts in a line of the first part: a thread by its name, a lane or a feed by its number.
 #[derive(Clone, Copy)]
 pub enum Actor<'a> {
-    /// A thread, by its name.
     Thread(&'a str),
-    /// A lane, by its number.
     Lane(&'a str),
-    /// A feed, by its number.
     Feed(&'a str),
 }
 

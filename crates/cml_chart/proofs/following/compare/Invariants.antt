@@ -1,4 +1,4 @@
-use Rattle.std.proofs.Common.{◌≡◌, ◌+◌, drop, map}
+use Rattle.std.proofs.Common.{◌≡◌, ◌+◌, ◌≤◌, length, drop, map}
 use Rattle.cml_report.specs.Shown.{shown_object}
 use Rattle.cml_chart.specs.Plan.{shown_made}
 use Rattle.cml_chart.specs.Following.{strange_thing}
@@ -6,4 +6,5 @@ use Rattle.cml_chart.proofs.following.compare.Given as goal
 
 abbrev pub invariant-loop-at : goal.invariant-loop-at
 invariant-loop-at l =
-    strange_thing (l.first + l.at) (map shown_object (drop l.at l.objects)) (map shown_made l.left) ≡ strange_thing l.first (map shown_object l.objects) (map shown_made l.made)
+    (strange_thing (l.first + l.at) (map shown_object (drop l.at l.objects)) (map shown_made (drop l.at l.made)) ≡ strange_thing l.first (map shown_object l.objects) (map shown_made l.made))
+    × (l.at ≤ length l.made)

@@ -1,10 +1,10 @@
-use Rattle.std.proofs.Common.{◌≡◌, drop, map, slice_get}
+use Rattle.std.proofs.Common.{◌≡◌, drop, map}
 use Rattle.cml_grammar.specs.Reading.{source_of}
 use Rattle.cml_grammar.specs.declared.script.Lane.{Lane}
 use Rattle.cml_chart.specs.Columns.{names_of, each_once}
-use Rattle.cml_chart.specs.Plan.{targets_in}
+use Rattle.cml_chart.specs.Plan.{target_in, targets_in}
 use Rattle.cml_chart.proofs.plan.add_targets.Given as goal
 
 abbrev pub invariant-loop-lane : goal.invariant-loop-lane
 invariant-loop-lane l =
-    each_once (names_of l.targets.keys) (map (λ (x : Lane). slice_get (source_of x.line).words 2) (drop l.lane-index l.lanes)) ≡ targets_in l.script
+    each_once (names_of l.targets.keys) (map target_in (map (λ (x : Lane). source_of x.line) (drop l.lane-index l.lanes))) ≡ targets_in l.script
