@@ -5,7 +5,6 @@
 # refused in turn; logs and journals that are cut, which are not to grow; threads that wait for each other; scripts, faults and
 # charts; and the libraries for C, which are built, and used from C and from Rust. The last line is `N passed, M failed`.
 cd "$(dirname "$0")/.." || exit 1
-. tests/beside.sh
 
 # The steps behind `rt ci`, those that take longest first.
 steps='libraries refused program waiting memory cuts calls guide chart'
@@ -29,15 +28,7 @@ step() {
     esac
 }
 
-if [ "$1" = --step ]; then
-    work=$2
-    counted "$3"
-    exit
-fi
-
-work=$(mktemp -d) || exit 1
-trap 'rm -rf "$work"' EXIT
-trap 'exit 1' HUP INT TERM
+. tests/beside.sh
 
 # As many proofs at once as there are processors. Without RT_JOBS `rt ci` expects more memory of a proof than it takes, and
 # begins with the largest crate only when nearly all others have ended.

@@ -1,5 +1,6 @@
-# What tests/quick.sh and tests/all.sh share: their steps run side by side, as many at once as there are processors. `work` names
-# a folder for what the steps tell. Each script has a function `step`, which does the step of a name.
+# What tests/quick.sh and tests/all.sh share: their steps run side by side, as many at once as there are processors. A script
+# reads this behind its function `step`, which does the step of a name. With `--step WORK NAME` the script does one step and
+# ends here. Otherwise `work` names a new folder for what the steps tell.
 
 # beside SCRIPT STEP..: has SCRIPT do these steps, and sums what they count. The last line is `N passed, M failed`.
 beside() {
@@ -32,3 +33,13 @@ counted() {
             }
         ' | tee "$work/$1.count"
 }
+
+if [ "$1" = --step ]; then
+    work=$2
+    counted "$3"
+    exit
+fi
+
+work=$(mktemp -d) || exit 1
+trap 'rm -rf "$work"' EXIT
+trap 'exit 1' HUP INT TERM

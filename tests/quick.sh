@@ -9,7 +9,6 @@
 top=$(cd "$(dirname "$0")/.." && pwd) || exit 1
 cd "$top" || exit 1
 kit=$(dirname "$(rt doc)")
-. tests/beside.sh
 . tests/tried.sh
 
 # The steps, those that take longest first. Each prints lines `N passed, M failed`, and before them what failed.
@@ -125,15 +124,7 @@ has_c() {
     return 1
 }
 
-if [ "$1" = --step ]; then
-    work=$2
-    counted "$3"
-    exit
-fi
-
-work=$(mktemp -d) || exit 1
-trap 'rm -rf "$work"' EXIT
-trap 'exit 1' HUP INT TERM
+. tests/beside.sh
 [ $# -gt 0 ] || set -- $(steps)
 echo "This proves nothing. $# steps are tried, and some take minutes:"
 beside tests/quick.sh "$@"
