@@ -1,4 +1,8 @@
+pub mod Queues
+pub mod Places
 pub mod Seats
 pub mod Stalling
+pub mod News
+pub mod Waking
 pub mod Room
 pub mod Asking

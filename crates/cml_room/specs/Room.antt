@@ -1,34 +1,64 @@
 -- What a room shows of itself, and what a seat may do in it.
-use Rattle.std.specs.Prelude.{ℕ, ◌≡◌, List, slice_get, slice_set, Option, Some}
+use Rattle.std.specs.Prelude.{ℕ, ◌≡◌, ◌&&◌, ◌||◌, ◌⊎◌, Bool, true, false, List, slice_get, slice_set, Option, Some, None}
 use Rattle.cml_board.specs.declared.call.Call.{Call}
 use Rattle.cml_board.specs.declared.want.Want.{Want}
 use Rattle.cml_board.specs.Waiting.{want_in}
 use Rattle.cml_board.specs.Shown.{Shown}
 use Rattle.cml_lanes.specs.Sides.{LaneSide, FeedSide}
 use Rattle.cml_lanes.specs.Floor.{FloorShown}
+use Rattle.cml_room.specs.declared.notice.Notice.{Notice}
 use Rattle.cml_room.specs.declared.state.State.{State}
 use Rattle.cml_room.specs.declared.state.State.TheVariants.{Free, Parked}
+use Rattle.cml_room.specs.Places.{is_noted}
 use Rattle.cml_room.specs.Stalling.{IsStalled}
+use Rattle.cml_room.specs.Waking.{WouldWait}
 
--- the board; by its number the floor's end of each lane and of each feed, of open ones alone; and the state of each seat,
--- by number
+-- the board; by its number the floor's end of each lane and of each feed, of open ones alone; the state of each seat, by
+-- number, and its notice; and whether all that wait are due
 pub record RoomShown (M : Type 0) : Type 0 where
   pub board : Shown M
   pub lanes : List (Option (LaneSide M))
   pub feeds : List (Option (FeedSide M))
   pub seats : List State
+  pub notices : List Notice
+  pub all_due : Bool
+
+-- whether it waits
+abbrev pub is_parked : Option State → Bool
+is_parked (Some (Parked on)) = true
+is_parked state = false
+
+abbrev pub has_notice : Option Notice → Bool
+has_notice (Some notice) = is_noted notice
+has_notice None = false
 
 module _ {M : Type 0} where
   -- the board with its lanes and feeds
   abbrev pub floor_of : RoomShown M → FloorShown M
   floor_of room = record { board = room.board; lanes = room.lanes; feeds = room.feeds }
 
-  -- a room with this floor, and the same seats
-  abbrev pub with_floor : RoomShown M → FloorShown M → RoomShown M
-  with_floor room floor = record { board = floor.board; lanes = floor.lanes; feeds = floor.feeds; seats = room.seats }
-
   abbrev pub state_of : RoomShown M → ℕ → Option State
   state_of room number = slice_get room.seats number
+
+  -- the seat waits, and something has come since it last asked for which it may go on
+  abbrev pub is_due : RoomShown M → ℕ → Bool
+  is_due room number = is_parked (state_of room number) && (room.all_due || has_notice (slice_get room.notices number))
+
+  -- another seat that waits for the very same is due
+  pub record HasMate (room : RoomShown M) (on : Want) : Type 0 where
+    pub number : ℕ
+    pub waits : state_of room number ≡ Some (Parked on)
+    pub due : is_due room number ≡ true
+
+  -- a seat that waits for this sleeps rightly: what it waits for isn't there, and the journal has room, or another that waits
+  -- for the very same is due; and somebody can go on
+  pub record SleepsRightly (room : RoomShown M) (on : Want) : Type 0 where
+    pub rests : WouldWait room.board on ⊎ HasMate room on
+    pub moves : ¬ (IsStalled (floor_of room) room.seats)
+
+  -- nobody is left asleep: each seat that waits and isn't due sleeps rightly
+  abbrev pub NobodyLeftAsleep : RoomShown M → Type 0
+  NobodyLeftAsleep room = (number : ℕ) (on : Want) → state_of room number ≡ Some (Parked on) → is_due room number ≡ false → SleepsRightly room on
 
   -- the seats, where this one's state is this, and no other's is changed
   abbrev pub with_state : RoomShown M → ℕ → State → List State

@@ -3,11 +3,18 @@
 #![tactic(auto)]
 
 mod asked;
+mod news;
+mod notice;
+mod place;
+mod queues;
 mod room;
 mod seats;
 mod state;
+mod turns;
 mod waiting;
+mod waking;
 
 pub use asked::Asked;
+pub use notice::Notice;
 pub use room::Room;
 pub use state::State;

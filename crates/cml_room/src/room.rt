@@ -1,16 +1,23 @@
-ghost use Rattle.std.specs.Prelude.{◌≡◌, ◌^◌, ◌<◌, ◌≤◌, [], ◌∷◌, ◌++◌, length, IfOk, IfErr, OnOk};
-ghost use Rattle.std.specs.Borrow.{Lends, sem};
+ghost use Rattle.std.specs.Prelude.{◌≡◌, ℕ, true, false, ◌&&◌, ◌^◌, ◌<◌, ◌≤◌, [], ◌∷◌, ◌++◌, length, slice_get, Some, IfOk, IfErr, OnOk, IfSome, IfNone};
 ghost use Rattle.cml_board.specs.declared.outcome.Refusal.TheVariants.{Gone, NoMemory};
+ghost use Rattle.cml_board.specs.declared.want.Want.{Want};
+ghost use Rattle.cml_room.specs.declared.notice.Notice.TheVariants.{Woken};
 ghost use Rattle.cml_board.specs.History.{no_entries, Lawful};
 ghost use Rattle.cml_board.specs.Since.{KeepsSince};
 ghost use Rattle.cml_board.specs.Shown.{KeepsMailboxes, KeepsPorts, KeepsClosed, KeepsVariables, KeepsLogs};
 ghost use Rattle.cml_lanes.specs.Floor.{KeepsLanes, KeepsFeeds};
-ghost use Rattle.cml_room.specs.Room.{floor_of, with_floor, state_of, MayAsk, with_state};
+ghost use Rattle.cml_room.specs.Room.{floor_of, is_due, state_of, MayAsk, SleepsRightly, with_state};
 
 mod asking;
+mod feeds;
+mod journal;
+mod lanes;
 
+use crate::notice::Notice;
+use crate::place::Place;
 use crate::seats::Seats;
 use crate::state::State;
+use crate::waking::rouse_waiting;
 use cml_board::{Board, Message, Refusal};
 use cml_lanes::Floor;
 use cml_log::MessageLog;
@@ -27,16 +34,17 @@ pub struct Room<M, L: MessageLog<M>> {
 
 impl<M, L: MessageLog<M>> Model for Room<M, L> {
     ghost use Rattle.cml_room.specs.Room.{RoomShown};
+    ghost use Rattle.cml_room.specs.Places.{states_in, notices_in};
+    ghost use Rattle.cml_room.specs.Waking.{IsWatched};
 
     ghost Value = { RoomShown M };
 
-    ghost view = { λ r. record { board = r.floor.board; lanes = r.floor.lanes; feeds = r.floor.feeds; seats = r.seats } };
+    ghost view = { λ r. record { board = r.floor.board; lanes = r.floor.lanes; feeds = r.floor.feeds; seats = states_in r.seats.places; notices = notices_in r.seats.places; all_due = r.seats.all_due } };
+
+    ghost invariant = { λ r. IsWatched r.floor r.seats.places r.seats.all_due };
 }
 
 impl<M: Message, L: MessageLog<M>> Room<M, L> {
-    ghost use Rattle.cml_lanes.specs.contracts.floor.Floor.{the_row as floor_row};
-    ghost use Rattle.cml_room.specs.contracts.room.Room.{the_row};
-
     /// A room with no seats, no lanes and no feeds, on a board with no objects whose journal takes `limit` entries between
     /// two cuts.
     pub fn new(alloc: Global, limit: u64) -> Result<Room<M, L>, AllocError>
@@ -52,7 +60,7 @@ impl<M: Message, L: MessageLog<M>> Room<M, L> {
         let board = Board::new(alloc, limit)?;
         Ok(Room {
             floor: Floor::new(alloc, board),
-            seats: Seats::new(alloc),
+            seats: Seats::new(alloc)?,
         })
     }
 
@@ -101,15 +109,6 @@ impl<M: Message, L: MessageLog<M>> Room<M, L> {
         &self.floor
     }
 
-    /// Lends the board with its lanes and feeds, for the calls that are no seat's: those of lanes and feeds, `reserve` and
-    /// the cuts. What a seat does isn't changed by them.
-    pub fn floor_mut(&mut self) -> &mut Floor<M, L>
-        ensures* writes_back { sem 𝓛 (Lends (the_row M.row L.row L.MessageLog) (floor_row M.row L.row L.MessageLog) self.entry result (with_floor self.old)) }
-        ensures value { result.now ≡ floor_of self.old }
-    {
-        &mut self.floor
-    }
-
     /// The board, for good. Lanes and feeds that are still open are dropped, with what is in their rings.
     pub fn into_board(self) -> Board<M, L>
         ensures { result ≡ self.board }
@@ -130,6 +129,35 @@ impl<M: Message, L: MessageLog<M>> Room<M, L> {
         ensures { result ≡ state_of self.now seat }
     {
         self.seats.state(seat)
+    }
+
+    /// Whether the seat is due: it waits, and something has come since it last asked for which it may go on. A seat that waits
+    /// and isn't due sleeps rightly. So nobody is left asleep by a caller who wakes each seat that `next_due` gives.
+    pub fn is_due(&self, seat: u64) -> bool
+        ensures due { result ≡ is_due self.now seat }
+        ensures asleep { result ≡ false → (on : Want) → state_of self.now seat ≡ Some (State.Parked on) → SleepsRightly self.now on }
+    {
+        match self.seats.place(seat) {
+            Some(Place::Waiting(waiter)) => {
+                self.seats.all_due() || waiter.notice != Notice::Nothing
+            }
+            _ => false,
+        }
+    }
+
+    /// The next seat that is due and wasn't given before since it last asked: wake it, and it asks again. The one that has
+    /// been due the longest comes first. None, where each that is due was given.
+    pub fn next_due(&mut self) -> Option<u64>
+        ensures given { IfSome result (λ number. (is_due self.old number ≡ true) × (slice_get self.new.notices number ≡ Some Woken)) }
+        ensures all { IfNone result ((number : ℕ) → is_due self.new number ≡ true → slice_get self.new.notices number ≡ Some Woken) }
+        ensures same { (number : ℕ) → is_due self.new number ≡ is_due self.old number }
+        ensures floor { floor_of self.new ≡ floor_of self.old }
+        ensures seats { self.new.seats ≡ self.old.seats }
+    {
+        if self.seats.all_due() {
+            rouse_waiting(&mut self.seats);
+        }
+        self.seats.wake_next()
     }
 
     /// A new seat, which is free: its number, which is how many were made before. Only want of memory refuses it.
@@ -161,7 +189,11 @@ impl<M: Message, L: MessageLog<M>> Room<M, L> {
         if self.seats.state(seat) != Some(State::Free) {
             return Err(Refusal::Gone);
         }
-        self.seats.set(seat, State::Left);
+        self.seats.leave(seat);
+        // Those that wait may be stalled now.
+        if self.seats.free() == 0 {
+            self.seats.rouse_all();
+        }
         Ok(())
     }
 }

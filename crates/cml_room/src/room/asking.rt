@@ -1,12 +1,13 @@
 //! A seat's calls.
-ghost use Rattle.std.specs.Prelude.{◌<◌, length, ⊤};
+ghost use Rattle.std.specs.Prelude.{◌≡◌, ◌<◌, length, ⊤};
 ghost use Rattle.cml_room.specs.Room.{MayAsk, MayAskAgain};
 ghost use Rattle.cml_room.specs.Asking.{Asks};
 
 use super::Room;
 use crate::asked::Asked;
+use crate::news::news_in;
 use crate::state::State;
-use crate::waiting::park;
+use crate::turns::{answer_turn, end_turn, park};
 use cml_board::{Call, Message, Outcome, Refusal};
 use cml_log::MessageLog;
 
@@ -44,13 +45,14 @@ impl<M: Message, L: MessageLog<M>> Room<M, L> {
         requires { seat < length self.old.seats }
         ensures { Asks L.CHUNK M.SURE ⊤ self.old self.new seat call result }
     {
+        let news = news_in(&call);
         match self.floor.apply(seat, call) {
             Outcome::Answered(answer) => {
-                self.seats.set(seat, State::Free);
+                answer_turn(&self.floor, &mut self.seats, seat, news);
                 Asked::Answered(answer)
             }
             Outcome::Refused(refusal, call) => {
-                self.seats.set(seat, State::Free);
+                end_turn(&self.floor, &mut self.seats, seat, None);
                 Asked::Refused(refusal, call)
             }
             Outcome::WouldWait(call) => {

@@ -1,0 +1,47 @@
+ghost use Rattle.std.specs.Prelude.{◌≡◌, ◌∷◌, ◌<◌, List, Some};
+ghost use Rattle.cml_board.specs.declared.entry.Entry.{Entry};
+ghost use Rattle.cml_board.specs.History.{entries_in};
+ghost use Rattle.cml_room.specs.News.{news_in};
+
+use cml_board::{Board, Call, Message, Name};
+use cml_log::MessageLog;
+
+/// What an answered call brings to those who wait.
+#[derive(Clone, Copy)]
+pub enum News {
+    /// A message in a mailbox.
+    Message(Name),
+    /// A message on a channel, for each of its ports.
+    Multicast(Name),
+    /// A value in a variable.
+    Value(Name),
+    /// A port has closed.
+    Closed(Name),
+}
+
+/// What the call brings once it is answered.
+pub fn news_in<M>(call: &Call<M>) -> Option<News>
+    ensures { result ≡ news_in call.now }
+{
+    match call {
+        Call::Send(name, _) => Some(News::Message(*name)),
+        Call::Cast(name, _) => Some(News::Multicast(*name)),
+        Call::Put(name, _) => Some(News::Value(*name)),
+        Call::ClosePort(name) => Some(News::Closed(*name)),
+        _ => None,
+    }
+}
+
+/// What the journal's last entry brings, if there are more entries than so many.
+pub fn latest_news<M: Message, L: MessageLog<M>>(board: &Board<M, L>, before: u64) -> Option<News>
+    ensures { (entry : Entry M) (rest : List (Entry M)) → board.now.history ≡ entry ∷ rest → entries_in board.now.past < entries_in board.now.history
+        → before < entries_in board.now.history → result ≡ news_in entry.call }
+{
+    if board.entries() == before {
+        return None;
+    }
+    match board.journal().last() {
+        Some(entry) => news_in(&entry.call),
+        None => None,
+    }
+}

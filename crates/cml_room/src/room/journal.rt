@@ -1,0 +1,47 @@
+//! The calls on the journal. They make nobody due.
+ghost use Rattle.std.specs.Prelude.{◌≡◌, ◌≤◌, ◌++◌, IfOk, MatchResult, reverse};
+ghost use Rattle.cml_lanes.specs.Floor.{KeepsRings};
+ghost use Rattle.cml_lanes.specs.Cutting.{CutsAFloor, CutsFloor, NotCut};
+ghost use Rattle.cml_lanes.specs.Reserving.{Reserves};
+ghost use Rattle.cml_room.specs.Room.{floor_of};
+
+use super::Room;
+use cml_board::{Entry, Message, Refusal};
+use cml_log::MessageLog;
+
+impl<M: Message, L: MessageLog<M>> Room<M, L> {
+    /// Takes memory for `n` more entries, as `Floor::reserve` does.
+    pub fn reserve(&mut self, n: usize) -> Result<(), Refusal>
+        ensures reserves { Reserves (floor_of self.old) (floor_of self.new) n result }
+        ensures rings { KeepsRings (floor_of self.old) (floor_of self.new) }
+        ensures seats { self.new.seats ≡ self.old.seats }
+        ensures notices { self.new.notices ≡ self.old.notices }
+        ensures due { self.new.all_due ≡ self.old.all_due }
+    {
+        self.floor.reserve(n)
+    }
+
+    /// Cuts the board's journal, as `Floor::cut` does.
+    pub fn cut(&mut self) -> Result<(), Refusal>
+        ensures cut { CutsAFloor (floor_of self.old) (floor_of self.new) result }
+        ensures reserved { self.old.board.reserved ≤ self.new.board.reserved }
+        ensures rings { KeepsRings (floor_of self.old) (floor_of self.new) }
+        ensures seats { self.new.seats ≡ self.old.seats }
+        ensures notices { self.new.notices ≡ self.old.notices }
+        ensures due { self.new.all_due ≡ self.old.all_due }
+    {
+        self.floor.cut()
+    }
+
+    /// Cuts the journal and hands over the entries that it had, as `Floor::take_journal` does.
+    pub fn take_journal(&mut self) -> Result<Vec<Entry<M>>, Refusal>
+        ensures taken { IfOk result (λ taken. reverse taken.items ++ self.old.board.past ≡ self.old.board.history) }
+        ensures cut { MatchResult result (λ _. CutsFloor (floor_of self.old) (floor_of self.new)) (NotCut (floor_of self.old) (floor_of self.new)) }
+        ensures rings { KeepsRings (floor_of self.old) (floor_of self.new) }
+        ensures seats { self.new.seats ≡ self.old.seats }
+        ensures notices { self.new.notices ≡ self.old.notices }
+        ensures due { self.new.all_due ≡ self.old.all_due }
+    {
+        self.floor.take_journal()
+    }
+}

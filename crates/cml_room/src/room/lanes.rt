@@ -1,0 +1,99 @@
+//! The calls on lanes. None of them changes what a seat does. Who waits at a lane's target becomes due by what moves there.
+ghost use Rattle.std.specs.Prelude.{ℕ, ◌≡◌, ◌≤◌, ◌<◌, length, count_by, is_some};
+ghost use Rattle.cml_lanes.specs.Floor.{KeepsRings, SameRing, IsOfItsRing};
+ghost use Rattle.cml_lanes.specs.Lanes.{OpensALane, Drains, Closes, ClosesCounted, Drops, Abandons};
+ghost use Rattle.cml_room.specs.Room.{floor_of};
+
+use super::Room;
+use crate::news::latest_news;
+use crate::turns::settle;
+use cml_board::{Message, Name, Refusal};
+use cml_lanes::{Lane, LaneEnd, MAX_CAPACITY};
+use cml_log::MessageLog;
+
+impl<M: Message, L: MessageLog<M>> Room<M, L> {
+    /// How many lanes are open. While it is any, nobody is told of a stall.
+    pub fn open_lanes(&self) -> u64
+        ensures { result ≡ count_by is_some self.now.lanes }
+    {
+        self.floor.open_lanes()
+    }
+
+    /// Opens a lane to a mailbox or a channel, as `Floor::open_lane` does.
+    pub fn open_lane(&mut self, target: Name, capacity: usize) -> Result<(Lane<M>, u64), Refusal>
+        requires least { 1 ≤ capacity }
+        requires most { capacity ≤ MAX_CAPACITY }
+        ensures opens { OpensALane (floor_of self.old) (floor_of self.new) target capacity result }
+        ensures rings { (number : ℕ) → number < length self.old.lanes → SameRing number (floor_of self.old) (floor_of self.new) }
+        ensures seats { self.new.seats ≡ self.old.seats }
+    {
+        self.floor.open_lane(target, capacity)
+    }
+
+    /// Moves the messages that are seen in the lane's ring into the journal, as `Floor::drain` does.
+    pub fn drain(&mut self, lane: u64) -> Result<usize, Refusal>
+        ensures drains { Drains L.CHUNK M.SURE lane (floor_of self.old) (floor_of self.new) result }
+        ensures rings { KeepsRings (floor_of self.old) (floor_of self.new) }
+        ensures seats { self.new.seats ≡ self.old.seats }
+    {
+        let before = self.floor.board().entries();
+        let told = self.floor.drain(lane);
+        let news = latest_news(self.floor.board(), before);
+        settle(&self.floor, &mut self.seats, news);
+        told
+    }
+
+    /// Moves all that is left of a lane that has finished into the journal, and closes the lane, as `Floor::close_lane`
+    /// does.
+    pub fn close_lane(&mut self, end: LaneEnd<M>) -> Result<(), (LaneEnd<M>, Refusal)>
+        requires { IsOfItsRing (floor_of self.old) end }
+        ensures closes { Closes L.CHUNK M.SURE (floor_of self.old) (floor_of self.new) end result }
+        ensures rings { KeepsRings (floor_of self.old) (floor_of self.new) }
+        ensures seats { self.new.seats ≡ self.old.seats }
+    {
+        let before = self.floor.board().entries();
+        let told = self.floor.close_lane(end);
+        let news = latest_news(self.floor.board(), before);
+        settle(&self.floor, &mut self.seats, news);
+        told
+    }
+
+    /// Closes a lane that has finished where as many of its messages stand in the journal as the end tells, as
+    /// `Floor::close_counted` does.
+    pub fn close_counted(&mut self, end: LaneEnd<M>) -> Result<(), (LaneEnd<M>, Refusal)>
+        ensures closes { ClosesCounted L.CHUNK M.SURE (floor_of self.old) (floor_of self.new) end result }
+        ensures rings { KeepsRings (floor_of self.old) (floor_of self.new) }
+        ensures seats { self.new.seats ≡ self.old.seats }
+    {
+        let before = self.floor.board().entries();
+        let told = self.floor.close_counted(end);
+        let news = latest_news(self.floor.board(), before);
+        settle(&self.floor, &mut self.seats, news);
+        told
+    }
+
+    /// Moves what is seen of a lane, and closes it where no message was refused, as `Floor::drop_lane` does: how many
+    /// were moved, and whether it is closed.
+    pub fn drop_lane(&mut self, lane: u64) -> Result<(usize, bool), Refusal>
+        ensures drops { Drops L.CHUNK M.SURE lane (floor_of self.old) (floor_of self.new) result }
+        ensures rings { KeepsRings (floor_of self.old) (floor_of self.new) }
+        ensures seats { self.new.seats ≡ self.old.seats }
+    {
+        let before = self.floor.board().entries();
+        let told = self.floor.drop_lane(lane);
+        let news = latest_news(self.floor.board(), before);
+        settle(&self.floor, &mut self.seats, news);
+        told
+    }
+
+    /// Closes an open lane at once. What is left in its ring is dropped. `NoSuch` where no open lane has the number.
+    pub fn abandon_lane(&mut self, lane: u64) -> Result<(), Refusal>
+        ensures abandons { Abandons lane (floor_of self.old) (floor_of self.new) result }
+        ensures rings { KeepsRings (floor_of self.old) (floor_of self.new) }
+        ensures seats { self.new.seats ≡ self.old.seats }
+    {
+        let told = self.floor.abandon_lane(lane);
+        settle(&self.floor, &mut self.seats, None);
+        told
+    }
+}

@@ -1,0 +1,105 @@
+//! The end of a seat's turn, and of the other calls.
+ghost use Rattle.std.specs.Prelude.{◌≡◌, ◌<◌, ◌⊎◌, ℕ, false, true, Some, IfSome, MatchBool, length, slice_get, slice_set};
+ghost use Rattle.cml_board.specs.Outcome.{HasRoom};
+ghost use Rattle.cml_lanes.specs.Floor.{FloorShown};
+ghost use Rattle.cml_room.specs.declared.place.Place.TheVariants as place;
+ghost use Rattle.cml_room.specs.News.{IsOf};
+ghost use Rattle.cml_room.specs.Places.{states_in};
+ghost use Rattle.cml_room.specs.Stalling.{IsStalled};
+ghost use Rattle.cml_room.specs.Waking.{AreAt, Follows, IsWatched, NoneForgotten, WouldWait};
+
+use crate::news::News;
+use crate::place::Place;
+use crate::seats::Seats;
+use crate::state::State;
+use crate::waiting::is_stalled;
+use crate::waking::{hand_on, object_of, source_of, tell};
+use cml_board::{Message, Want};
+use cml_lanes::Floor;
+use cml_log::MessageLog;
+
+/// The seat's call was answered, and brought these news: the seat is free. All are due where the journal is full now.
+pub fn answer_turn<M: Message, L: MessageLog<M>>(floor: &Floor<M, L>, seats: &mut Seats, number: u64, news: Option<News>)
+    requires within { number < length seats.old.places }
+    requires placed { AreAt floor.now.board.history seats.old.places }
+    requires of { IfSome news (IsOf floor.now.board.history) }
+    ensures states { states_in seats.new.places ≡ slice_set (states_in seats.old.places) number State.Free }
+    ensures kept { (before : FloorShown M) → IsWatched before seats.old.places seats.old.all_due → Follows news before.board floor.now.board
+        → IsWatched floor.now seats.new.places seats.new.all_due }
+{
+    end_turn(floor, seats, number, news);
+    if floor.board().is_full() {
+        seats.rouse_all();
+    }
+}
+
+/// The seat is free. Who may go on by the news becomes due; and where the seat waited, the next that waits for the same has its
+/// turn.
+pub fn end_turn<M: Message, L: MessageLog<M>>(floor: &Floor<M, L>, seats: &mut Seats, number: u64, news: Option<News>)
+    requires within { number < length seats.old.places }
+    requires placed { AreAt floor.now.board.history seats.old.places }
+    requires of { IfSome news (IsOf floor.now.board.history) }
+    ensures states { states_in seats.new.places ≡ slice_set (states_in seats.old.places) number State.Free }
+    ensures placed { AreAt floor.now.board.history seats.new.places }
+    ensures kept { (before : FloorShown M) → IsWatched before seats.old.places seats.old.all_due → Follows news before.board floor.now.board
+        → (HasRoom before.board → HasRoom floor.now.board) → IsWatched floor.now seats.new.places seats.new.all_due }
+{
+    let place = seats.place(number);
+    seats.set_free(number);
+    tell(floor.board(), seats, news);
+    if let Some(Place::Waiting(waiter)) = place {
+        hand_on(floor.board(), seats, waiter);
+    }
+}
+
+/// The seat waits for this, and isn't due. Where then nobody can go on, the seat is set free, and the answer is that it doesn't
+/// wait.
+pub fn park<M: Message, L: MessageLog<M>>(floor: &Floor<M, L>, seats: &mut Seats, number: u64, want: Want) -> bool
+    requires may { (slice_get (states_in seats.old.places) number ≡ Some State.Free) ⊎ (slice_get (states_in seats.old.places) number ≡ Some (State.Parked want)) }
+    requires would { WouldWait floor.now.board want }
+    requires watched { IsWatched floor.now seats.old.places seats.old.all_due }
+    ensures parked { let waiting = slice_set (states_in seats.old.places) number (State.Parked want) in MatchBool result
+        (¬ (IsStalled floor.now waiting) × (states_in seats.new.places ≡ waiting))
+        (IsStalled floor.now waiting × (states_in seats.new.places ≡ slice_set (states_in seats.old.places) number State.Free)) }
+    ensures watched { IsWatched floor.now seats.new.places seats.new.all_due }
+{
+    begin_wait(floor, seats, number, want);
+    if is_stalled(floor, seats) {
+        seats.set_free(number);
+        return false;
+    }
+    true
+}
+
+/// The seat waits for this, and isn't due.
+fn begin_wait<M: Message, L: MessageLog<M>>(floor: &Floor<M, L>, seats: &mut Seats, number: u64, want: Want)
+    requires may { (slice_get (states_in seats.old.places) number ≡ Some State.Free) ⊎ (slice_get (states_in seats.old.places) number ≡ Some (State.Parked want)) }
+    requires would { WouldWait floor.now.board want }
+    requires watched { IsWatched floor.now seats.old.places seats.old.all_due }
+    ensures states { states_in seats.new.places ≡ slice_set (states_in seats.old.places) number (State.Parked want) }
+    ensures placed { AreAt floor.now.board.history seats.new.places }
+    ensures rests { seats.new.all_due ≡ false → NoneForgotten floor.now.board seats.new.places }
+    ensures due { seats.new.all_due ≡ seats.old.all_due }
+{
+    if seats.state(number) == Some(State::Free) {
+        let source = source_of(floor.board(), object_of(want));
+        seats.wait(number, want, source);
+        return;
+    }
+    seats.quiet(number);
+}
+
+/// Others than seats have changed the board, and brought these news. All are due where the journal is full now, and where nobody
+/// can go on.
+pub fn settle<M: Message, L: MessageLog<M>>(floor: &Floor<M, L>, seats: &mut Seats, news: Option<News>)
+    requires placed { AreAt floor.now.board.history seats.old.places }
+    requires of { IfSome news (IsOf floor.now.board.history) }
+    ensures states { states_in seats.new.places ≡ states_in seats.old.places }
+    ensures kept { (before : FloorShown M) → IsWatched before seats.old.places seats.old.all_due → Follows news before.board floor.now.board
+        → IsWatched floor.now seats.new.places seats.new.all_due }
+{
+    tell(floor.board(), seats, news);
+    if floor.board().is_full() || is_stalled(floor, seats) {
+        seats.rouse_all();
+    }
+}
