@@ -1,2 +1,4 @@
 pub mod Idling
 pub mod Turning
+pub mod Listing
+pub mod Resting

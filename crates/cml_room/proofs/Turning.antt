@@ -16,6 +16,7 @@ use Rattle.cml_lanes.specs.Floor.{FloorShown}
 use Rattle.cml_lanes.specs.Barring.{is_barred}
 use Rattle.cml_room.specs.declared.asked.Asked.{Asked}
 use Rattle.cml_room.specs.declared.asked.Asked.TheVariants as asked
+use Rattle.cml_room.specs.declared.notice.Notice.{Notice}
 use Rattle.cml_room.specs.declared.state.State.{State}
 use Rattle.cml_room.specs.declared.state.State.TheVariants.{Free, Parked}
 use Rattle.cml_room.specs.Stalling.{NoneOpen, AreIdle, IsStalled}
@@ -84,33 +85,33 @@ module _ {M : Type 0} where
   )
 
   -- a room of these parts
-  abbrev room_of : FloorShown M → List State → RoomShown M
-  room_of floor seats = record { board = floor.board; lanes = floor.lanes; feeds = floor.feeds; seats = seats }
+  abbrev pub room_of : FloorShown M → List State → List Notice → Bool → RoomShown M
+  room_of floor seats notices all_due = record { board = floor.board; lanes = floor.lanes; feeds = floor.feeds; seats = seats; notices = notices; all_due = all_due }
 
   -- what becomes of the call by what became of it on the floor
-  pub answered_asks : (chunk : ℕ) (sure : Bool) (room : RoomShown M) (floor new : FloorShown M) (seats seats' : List State) (number : ℕ)
-      (call : Call M) (answer : Answer M) → room_of floor seats ≡ room
+  pub answered_asks : (chunk : ℕ) (sure : Bool) (room : RoomShown M) (floor new : FloorShown M) (seats seats' : List State) (notices notices' : List Notice) (all all' : Bool) (number : ℕ)
+      (call : Call M) (answer : Answer M) → room_of floor seats notices all ≡ room
       → (is_barred floor.feeds call ≡ true → (Answered answer ≡ Refused WrongKind call) × (new ≡ floor))
       → (is_barred floor.feeds call ≡ false → Applies chunk sure floor.board new.board (Seat number) call (Answered answer))
       → new.lanes ≡ floor.lanes → new.feeds ≡ floor.feeds → seats' ≡ slice_set seats number Free
-      → Asks chunk sure ⊤ room (room_of new seats') number call (asked.Answered answer)
-  answered_asks chunk sure room floor new seats seats' number call answer view bars applies lanes feeds set =
+      → Asks chunk sure ⊤ room (room_of new seats' notices' all') number call (asked.Answered answer)
+  answered_asks chunk sure room floor new seats seats' notices notices' all all' number call answer view bars applies lanes feeds set =
       let reaches = answered_reaches chunk sure floor new number call answer bars applies in
-      let told : Asks chunk sure ⊤ (room_of floor seats) (room_of new seats') number call (asked.Answered answer) = (tt, reaches, set, lanes, feeds) in
-      subst (λ (r : RoomShown M). Asks chunk sure ⊤ r (room_of new seats') number call (asked.Answered answer)) view told
+      let told : Asks chunk sure ⊤ (room_of floor seats notices all) (room_of new seats' notices' all') number call (asked.Answered answer) = (tt, reaches, set, lanes, feeds) in
+      subst (λ (r : RoomShown M). Asks chunk sure ⊤ r (room_of new seats' notices' all') number call (asked.Answered answer)) view told
 
-  pub parked_asks : (chunk : ℕ) (sure : Bool) (room : RoomShown M) (floor new : FloorShown M) (seats seats' : List State) (number : ℕ)
-      (call back : Call M) (on : Want) → room_of floor seats ≡ room
+  pub parked_asks : (chunk : ℕ) (sure : Bool) (room : RoomShown M) (floor new : FloorShown M) (seats seats' : List State) (notices notices' : List Notice) (all all' : Bool) (number : ℕ)
+      (call back : Call M) (on : Want) → room_of floor seats notices all ≡ room
       → (is_barred floor.feeds call ≡ true → (WouldWait back ≡ Refused WrongKind call) × (new ≡ floor))
       → (is_barred floor.feeds call ≡ false → Applies chunk sure floor.board new.board (Seat number) call (WouldWait back))
       → new.lanes ≡ floor.lanes → new.feeds ≡ floor.feeds → want_in back ≡ Some on
       → ¬ (IsStalled new (slice_set seats number (Parked on))) × (seats' ≡ slice_set seats number (Parked on))
-      → Asks chunk sure ⊤ room (room_of new seats') number call (asked.Parked back)
-  parked_asks chunk sure room floor new seats seats' number call back on view bars applies lanes feeds wants goes_on =
+      → Asks chunk sure ⊤ room (room_of new seats' notices' all') number call (asked.Parked back)
+  parked_asks chunk sure room floor new seats seats' notices notices' all all' number call back on view bars applies lanes feeds wants goes_on =
       let reaches = waiting_reaches chunk sure floor new number call back bars applies in
       let moving : ¬ (IsStalled floor (slice_set seats number (Parked on))) = λ stalled.
       goes_on.0 (still_stalled new floor (slice_set seats number (Parked on)) (sym lanes) (sym reaches.applies.4.history) stalled) in
-      let told : Asks chunk sure ⊤ (room_of floor seats) (room_of new seats') number call (asked.Parked back) = (
+      let told : Asks chunk sure ⊤ (room_of floor seats notices all) (room_of new seats' notices' all') number call (asked.Parked back) = (
         tt,
         reaches,
         on,
@@ -118,20 +119,20 @@ module _ {M : Type 0} where
         moving,
         record { seats = goes_on.1; lanes = lanes; feeds = feeds },
       ) in
-      subst (λ (r : RoomShown M). Asks chunk sure ⊤ r (room_of new seats') number call (asked.Parked back)) view told
+      subst (λ (r : RoomShown M). Asks chunk sure ⊤ r (room_of new seats' notices' all') number call (asked.Parked back)) view told
 
-  pub stalled_asks : (chunk : ℕ) (sure : Bool) (room : RoomShown M) (floor new : FloorShown M) (seats seats' : List State) (number : ℕ)
-      (call back : Call M) (on : Want) → room_of floor seats ≡ room
+  pub stalled_asks : (chunk : ℕ) (sure : Bool) (room : RoomShown M) (floor new : FloorShown M) (seats seats' : List State) (notices notices' : List Notice) (all all' : Bool) (number : ℕ)
+      (call back : Call M) (on : Want) → room_of floor seats notices all ≡ room
       → (is_barred floor.feeds call ≡ true → (WouldWait back ≡ Refused WrongKind call) × (new ≡ floor))
       → (is_barred floor.feeds call ≡ false → Applies chunk sure floor.board new.board (Seat number) call (WouldWait back))
       → new.lanes ≡ floor.lanes → new.feeds ≡ floor.feeds → want_in back ≡ Some on
       → IsStalled new (slice_set seats number (Parked on)) × (seats' ≡ slice_set seats number Free)
-      → Asks chunk sure ⊤ room (room_of new seats') number call (asked.Refused Stalled back)
-  stalled_asks chunk sure room floor new seats seats' number call back on view bars applies lanes feeds wants stuck =
+      → Asks chunk sure ⊤ room (room_of new seats' notices' all') number call (asked.Refused Stalled back)
+  stalled_asks chunk sure room floor new seats seats' notices notices' all all' number call back on view bars applies lanes feeds wants stuck =
       let reaches = waiting_reaches chunk sure floor new number call back bars applies in
       let stalled : IsStalled floor (slice_set seats number (Parked on)) =
       still_stalled floor new (slice_set seats number (Parked on)) lanes reaches.applies.4.history stuck.0 in
-      let told : Asks chunk sure ⊤ (room_of floor seats) (room_of new seats') number call (asked.Refused Stalled back) = (
+      let told : Asks chunk sure ⊤ (room_of floor seats notices all) (room_of new seats' notices' all') number call (asked.Refused Stalled back) = (
         tt,
         reaches,
         on,
@@ -139,7 +140,7 @@ module _ {M : Type 0} where
         stalled,
         record { seats = stuck.1; lanes = lanes; feeds = feeds },
       ) in
-      subst (λ (r : RoomShown M). Asks chunk sure ⊤ r (room_of new seats') number call (asked.Refused Stalled back)) view told
+      subst (λ (r : RoomShown M). Asks chunk sure ⊤ r (room_of new seats' notices' all') number call (asked.Refused Stalled back)) view told
 
   -- neither the board nor a feed gives the refusals of a room
   by_refusal : (chunk : ℕ) (sure : Bool) (old new : RoomShown M) (number : ℕ) (call back : Call M) (refusal : Refusal)
@@ -156,14 +157,14 @@ module _ {M : Type 0} where
   by_refusal chunk sure old new number call back NoMemory why moves = (tt, why, moves)
   by_refusal chunk sure old new number call back Unseen why moves = (tt, why, moves)
 
-  pub refused_asks : (chunk : ℕ) (sure : Bool) (room : RoomShown M) (floor new : FloorShown M) (seats seats' : List State) (number : ℕ)
-      (call back : Call M) (refusal : Refusal) → room_of floor seats ≡ room
+  pub refused_asks : (chunk : ℕ) (sure : Bool) (room : RoomShown M) (floor new : FloorShown M) (seats seats' : List State) (notices notices' : List Notice) (all all' : Bool) (number : ℕ)
+      (call back : Call M) (refusal : Refusal) → room_of floor seats notices all ≡ room
       → (is_barred floor.feeds call ≡ true → (Refused refusal back ≡ Refused WrongKind call) × (new ≡ floor))
       → (is_barred floor.feeds call ≡ false → Applies chunk sure floor.board new.board (Seat number) call (Refused refusal back))
       → new.lanes ≡ floor.lanes → new.feeds ≡ floor.feeds → seats' ≡ slice_set seats number Free
-      → Asks chunk sure ⊤ room (room_of new seats') number call (asked.Refused refusal back)
-  refused_asks chunk sure room floor new seats seats' number call back refusal view bars applies lanes feeds set =
+      → Asks chunk sure ⊤ room (room_of new seats' notices' all') number call (asked.Refused refusal back)
+  refused_asks chunk sure room floor new seats seats' notices notices' all all' number call back refusal view bars applies lanes feeds set =
       let why = refused_reaches chunk sure floor new number call back refusal bars applies in
-      let moves : Moves (room_of floor seats) (room_of new seats') number Free = record { seats = set; lanes = lanes; feeds = feeds } in
-      subst (λ (r : RoomShown M). Asks chunk sure ⊤ r (room_of new seats') number call (asked.Refused refusal back)) view
-      (by_refusal chunk sure (room_of floor seats) (room_of new seats') number call back refusal why moves)
+      let moves : Moves (room_of floor seats notices all) (room_of new seats' notices' all') number Free = record { seats = set; lanes = lanes; feeds = feeds } in
+      subst (λ (r : RoomShown M). Asks chunk sure ⊤ r (room_of new seats' notices' all') number call (asked.Refused refusal back)) view
+      (by_refusal chunk sure (room_of floor seats notices all) (room_of new seats' notices' all') number call back refusal why moves)

@@ -1,4 +1,3 @@
-pub mod Queues
 pub mod Places
 pub mod Seats
 pub mod Stalling

@@ -8,7 +8,7 @@ use Rattle.cml_room.specs.declared.place.Place.TheVariants as place
 use Rattle.cml_room.specs.declared.place.Waiter.{Waiter}
 use Rattle.cml_room.specs.declared.state.State.{State}
 use Rattle.cml_room.specs.declared.state.State.TheVariants as state
-use Rattle.cml_room.specs.Queues.{QueuesShown, is_in}
+use Rattle.cml_queues.specs.Queues.{QueuesShown, is_in}
 
 abbrev pub state_by : Place → State
 state_by place.Free = state.Free
@@ -18,6 +18,10 @@ state_by place.Left = state.Left
 abbrev pub notice_by : Place → Notice
 notice_by (place.Waiting waiter) = waiter.notice
 notice_by place = Nothing
+
+abbrev pub notice_in : Option Place → Notice
+notice_in (Some place) = notice_by place
+notice_in None = Nothing
 
 abbrev pub states_in : List Place → List State
 states_in places = map state_by places

@@ -6,7 +6,6 @@ mod asked;
 mod news;
 mod notice;
 mod place;
-mod queues;
 mod room;
 mod seats;
 mod state;

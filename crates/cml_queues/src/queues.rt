@@ -1,22 +1,12 @@
-//! Queues of numbers, threaded through links.
-ghost use Rattle.std.specs.Prelude.{◌≡◌, ◌≢◌, ◌+◌, ◌<◌, ◌≤◌, ℕ, List, [], ◌∷◌, ◌++◌, true, false, length, slice_get, IfOk, IfSome, OnOk, OnErr};
-ghost use Rattle.cml_room.specs.Queues.{queue_of, is_in};
+ghost use Rattle.std.specs.Prelude.{◌≡◌, ◌≢◌, ℕ, ◌+◌, ◌<◌, ◌≤◌, ◌++◌, List, [], ◌∷◌, length, true, false, slice_get, IfSome, IfOk, OnOk, OnErr};
+ghost use Rattle.cml_queues.specs.Queues.{queue_of, is_in};
 
+use crate::links::{Ends, Link, append, unlink};
 use std::alloc::{AllocError, Global};
 use std::marker::Model;
 
-#[derive(Clone, Copy)]
-struct Ends {
-    first: Option<u64>,
-    last: Option<u64>,
-}
-
-#[derive(Clone, Copy)]
-struct Link {
-    previous: Option<u64>,
-    next: Option<u64>,
-}
-
+/// Queues by their number. No number is a member of two. A call takes the same few steps however long the queues are; only
+/// `new` and `add` allocate memory.
 #[derive(Drop)]
 pub struct Queues {
     ends: Vec<Ends>,
@@ -24,33 +14,34 @@ pub struct Queues {
 }
 
 impl Model for Queues {
-    ghost use Rattle.std.specs.Prelude.{[], length};
-    ghost use Rattle.cml_room.specs.Queues.{QueuesShown};
+    ghost use Rattle.cml_queues.specs.Queues.{QueuesShown};
+    ghost use Rattle.cml_queues.specs.Links.{shown_by, AreLinked};
 
     ghost Value = { QueuesShown };
 
-    ghost view = { λ q. record { queues = []; bound = length q.links.items } };
+    ghost view = { λ q. shown_by q.links.items q.ends.items };
+
+    ghost invariant = { λ q. AreLinked q.links.items q.ends.items };
 }
 
 impl Queues {
+    /// `count` queues, all empty. No number may be pushed before it was added.
     pub fn new(alloc: Global, count: usize) -> Result<Queues, AllocError>
         ensures count { IfOk result (λ queues. length queues.queues ≡ count) }
         ensures empty { IfOk result (λ queues. (row : ℕ) → queue_of queues row ≡ []) }
         ensures bound { IfOk result (λ queues. queues.bound ≡ 0) }
     {
-        let mut ends = Vec::new(alloc);
-        for _ in 0..count {
-            ends.push(Ends {
-                first: None,
-                last: None,
-            })?;
-        }
+        let empty = Ends {
+            first: None,
+            last: None,
+        };
         Ok(Queues {
-            ends,
+            ends: vec![in alloc; empty; count]?,
             links: Vec::new(alloc),
         })
     }
 
+    /// One number more may be pushed: the least that couldn't before.
     pub fn add(&mut self) -> Result<(), AllocError>
         ensures queues { self.new.queues ≡ self.old.queues }
         ensures bound { OnOk result (self.new.bound ≡ self.old.bound + 1) }
@@ -63,6 +54,7 @@ impl Queues {
         Ok(())
     }
 
+    /// The number goes to the end of a queue.
     pub fn push(&mut self, row: usize, number: u64)
         requires row { row < length self.old.queues }
         requires within { number < self.old.bound }
@@ -72,59 +64,40 @@ impl Queues {
         ensures count { length self.new.queues ≡ length self.old.queues }
         ensures bound { self.new.bound ≡ self.old.bound }
     {
-        let previous = self.ends[row].last;
-        self.links[number as usize] = Link {
-            previous,
-            next: None,
-        };
-        self.ends[row].last = Some(number);
-        match previous {
-            Some(last) => self.links[last as usize].next = Some(number),
-            None => self.ends[row].first = Some(number),
-        }
+        append(&mut self.links, &mut self.ends[row], number);
     }
 
+    /// The number leaves its queue.
     pub fn remove(&mut self, row: usize, number: u64)
         requires { is_in self.old row number ≡ true }
         ensures here { (xs ys : List ℕ) → queue_of self.old row ≡ xs ++ number ∷ ys → queue_of self.new row ≡ xs ++ ys }
         ensures gone { is_in self.new row number ≡ false }
+        ensures nowhere { (row : ℕ) → is_in self.new row number ≡ false }
         ensures kept { (other : ℕ) → other ≢ number → is_in self.new row other ≡ is_in self.old row other }
         ensures others { (other : ℕ) → other ≢ row → queue_of self.new other ≡ queue_of self.old other }
         ensures count { length self.new.queues ≡ length self.old.queues }
         ensures bound { self.new.bound ≡ self.old.bound }
     {
-        let link = self.links[number as usize];
-        match link.previous {
-            Some(previous) => self.links[previous as usize].next = link.next,
-            None => self.ends[row].first = link.next,
-        }
-        match link.next {
-            Some(next) => self.links[next as usize].previous = link.previous,
-            None => self.ends[row].last = link.previous,
-        }
+        unlink(&mut self.links, &mut self.ends[row], number);
     }
 
+    /// The oldest member of a queue. It gives `None` where there is none, and where there is no such queue.
     pub fn first(&self, row: usize) -> Option<u64>
         ensures first { result ≡ slice_get (queue_of self.now row) 0 }
         ensures within { IfSome result (λ number. number < self.now.bound) }
     {
-        match self.ends.get(row) {
-            Some(ends) => ends.first,
-            None => None,
-        }
+        self.ends.get(row)?.first
     }
 
+    /// The member behind this one, in its queue. Of a number in no queue it may give any number that was added.
     pub fn after(&self, number: u64) -> Option<u64>
         ensures next { (row : ℕ) (xs ys : List ℕ) → queue_of self.now row ≡ xs ++ number ∷ ys → result ≡ slice_get ys 0 }
         ensures within { IfSome result (λ next. next < self.now.bound) }
     {
-        match self.links.get(number as usize) {
-            Some(link) => link.next,
-            None => None,
-        }
+        self.links.get(number as usize)?.next
     }
 
-    /// How many members a queue may have.
+    /// How many numbers were added. No queue has more members.
     pub fn bound(&self) -> usize
         ensures bound { result ≡ self.now.bound }
         ensures enough { (row : ℕ) → length (queue_of self.now row) ≤ result }

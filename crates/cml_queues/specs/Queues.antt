@@ -1,5 +1,5 @@
--- What queues of numbers show of themselves.
-use Rattle.std.specs.Prelude.{ℕ, ◌==◌, Bool, List, [], slice_get, unwrap_or}
+-- Queues of numbers, and which numbers they hold.
+use Rattle.std.specs.Prelude.{ℕ, Bool, eqb, List, [], unwrap_or, slice_get}
 use Rattle.std.specs.List.{list_any}
 
 -- by number each queue's members, oldest first; and below which number members are
@@ -7,11 +7,14 @@ pub record QueuesShown : Type 0 where
   pub queues : List (List ℕ)
   pub bound : ℕ
 
+-- whether the number is a member of the queue
 abbrev pub has : List ℕ → ℕ → Bool
-has queue number = list_any (λ member. number == member) queue
+has queue number = list_any (eqb number) queue
 
+-- the members of the queue with this number; there are none where there is no such queue
 abbrev pub queue_of : QueuesShown → ℕ → List ℕ
 queue_of shown row = unwrap_or (slice_get shown.queues row) []
 
+-- whether the number is a member of the queue with the number `row`
 abbrev pub is_in : QueuesShown → ℕ → ℕ → Bool
 is_in shown row number = has (queue_of shown row) number

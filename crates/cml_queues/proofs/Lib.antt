@@ -1,0 +1,4 @@
+pub mod Chains
+pub mod Changes
+pub mod Rows
+pub mod Shown

@@ -1,0 +1,28 @@
+use Rattle.std.proofs.Common.{◌≡◌, ℕ, ◌<◌, ◌+◌, ◌≤◌, ◌++◌, [], ◌∷◌, true, false, List, length, get_or, slice_get, slice_set, Some, None, refl, sym, ap, subst, ◌∙◌, arith}
+use Rattle.std.proofs.lemmas.Option.{slice_get_within, slice_get-get_or}
+use Rattle.std.specs.Prelude.{◌==◌}
+use Rattle.cml_room.specs.declared.notice.Notice.{Notice}
+use Rattle.cml_room.specs.declared.notice.Notice.TheVariants as notice
+use Rattle.cml_room.specs.declared.place.Place.{Place}
+use Rattle.cml_room.specs.declared.place.Place.TheVariants as place
+use Rattle.cml_room.specs.Places.{noted_as, row_in, noted_in}
+use Rattle.cml_queues.specs.Queues.{queue_of, is_in}
+use Rattle.cml_room.specs.Seats.{SeatsShown, IsKept}
+use Rattle.cml_room.proofs.Listing.{listed_same, listed_push, listed_remove, has_at, unwoken_waits, not_due, seen_at, kept_set, kept_added, kept_within, one_free}
+use Rattle.cml_room.proofs.seats.Seats.wait.Goals as goal
+
+pub overflow_sub-self : goal.overflow_sub-self
+overflow_sub-self c =
+    one_free c.self.inside.places.items c.self.inside.free c.self.inside.rows c.self.inside.due c.args.number c.self.invariant
+    (subst (λ (v : SeatsShown). slice_get v.places c.args.number ≡ Some place.Free) (sym c.self.view_is) c.requires)
+
+pub invariant_of-self : goal.invariant_of-self
+invariant_of-self c =
+    let was = subst (λ (v : SeatsShown). slice_get v.places c.args.number ≡ Some place.Free) (sym c.self.view_is) c.requires in
+    kept_set c.self.inside.places.items c.self.inside.free _ c.self.inside.rows c.push.new.self c.self.inside.due c.self.inside.due c.args.number
+    place.Free _ was c.self.invariant
+    (omega (arith, one_free c.self.inside.places.items c.self.inside.free c.self.inside.rows c.self.inside.due c.args.number c.self.invariant was))
+    (listed_push c.self.inside.rows c.push.new.self row_in c.self.inside.places.items c.row_of.result c.args.number place.Free _ was c.self.invariant.in_rows
+    (λ r. refl) (λ r. ap (λ (row : ℕ). r == row) (sym c.row_of.ensures.row)) c.push.ensures.here c.push.ensures.others)
+    (listed_same c.self.inside.due noted_in c.self.inside.places.items c.args.number place.Free _ was c.self.invariant.in_due (λ r. refl))
+    c.push.ensures.count refl c.push.ensures.bound refl
