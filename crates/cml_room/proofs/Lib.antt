@@ -1,4 +1,6 @@
 pub mod Idling
 pub mod Turning
 pub mod Listing
+pub mod Walking
+pub mod Rousing
 pub mod Resting

@@ -18,7 +18,7 @@ use Rattle.cml_room.specs.declared.place.Place.TheVariants as place
 use Rattle.cml_room.specs.declared.place.Waiter.{Waiter}
 use Rattle.cml_room.specs.declared.state.State.TheVariants as state
 use Rattle.cml_queues.specs.Queues.{QueuesShown, has, queue_of, is_in}
-use Rattle.cml_room.specs.Places.{state_by, states_in, row_in, notice_by, noted_as, noted_in, quieted, AreListed}
+use Rattle.cml_room.specs.Places.{state_by, states_in, row_of, row_in, notice_by, noted_as, noted_in, quieted, AreListed}
 use Rattle.cml_room.specs.Seats.{free_by, freed, IsKept}
 use Rattle.cml_room.proofs.Idling.{free_within}
 
@@ -239,3 +239,9 @@ pub freed_waiter : (p : Place) (waiter : Waiter) → quieted p ≡ place.Waiting
 freed_waiter (place.Waiting other) waiter is = refl
 freed_waiter place.Free waiter is = refl
 freed_waiter place.Left waiter is = absurd (let clash : place.Left ≡ place.Waiting waiter = is in cc)
+
+-- who waits is in the row of its object
+pub in_row : (rows : QueuesShown) (places : List Place) (k : ℕ) (waiter : Waiter) (source : ℕ) → AreListed rows row_in places → slice_get places k ≡ Some (place.Waiting waiter)
+    → waiter.source ≡ source → is_in rows (row_of source) k ≡ true
+in_row rows places k waiter source listed found same =
+    listed k (row_of source) ∙ (ap (λ (o : Option Place). row_in o (row_of source)) found ∙ eq-eqb (row_of source) (row_of waiter.source) (ap row_of (sym same)))

@@ -3,7 +3,7 @@ ghost use Rattle.std.specs.Prelude.{◌≡◌, ◌≢◌, ◌⊎◌, ℕ, true, 
 ghost use Rattle.cml_room.specs.declared.place.Place.TheVariants as place;
 ghost use Rattle.cml_room.specs.declared.place.Waiter.{Waiter};
 ghost use Rattle.cml_room.specs.News.{object_of, source_of, helps, NoNews, Helps, IsOf};
-ghost use Rattle.cml_room.specs.Places.{AreRoused, IsMate, IsQuiet};
+ghost use Rattle.cml_room.specs.Places.{is_noted, AreRoused, IsMate, IsQuiet};
 ghost use Rattle.cml_room.specs.Waking.{reaches, WouldWait, AreAt};
 
 use crate::news::News;
@@ -124,9 +124,7 @@ fn rouse_each(seats: &mut Seats, object: u64, source: u64)
         let Some(number) = next else {
             return;
         };
-        if is_reached(seats, number, object, source) {
-            seats.rouse(number);
-        }
+        rouse_reached(seats, number, object, source);
         next = seats.after(number);
     }
 }
@@ -141,14 +139,24 @@ fn wants(seats: &Seats, number: u64, want: Want) -> bool
     }
 }
 
-fn is_reached(seats: &Seats, number: u64, object: u64, source: u64) -> bool
-    ensures { MatchBool result ((waiter : Waiter) × (slice_get seats.now.places number ≡ Some (place.Waiting waiter)) × (reaches object source waiter ≡ true))
-        ((waiter : Waiter) → slice_get seats.now.places number ≡ Some (place.Waiting waiter) → reaches object source waiter ≡ false) }
+/// Makes the seat due, if it waits at this object, or at a port of it.
+fn rouse_reached(seats: &mut Seats, number: u64, object: u64, source: u64)
+    ensures roused { AreRoused (λ waiter. reaches object source waiter ≡ true) seats.old.places seats.new.places }
+    ensures this { (waiter : Waiter) → slice_get seats.new.places number ≡ Some (place.Waiting waiter) → reaches object source waiter ≡ true
+        → is_noted waiter.notice ≡ true }
+    ensures rows { seats.new.rows ≡ seats.old.rows }
+    ensures due { seats.new.all_due ≡ seats.old.all_due }
 {
-    match seats.place(number) {
-        Some(Place::Waiting(waiter)) => {
-            waiter.source == source && (object == source || object == object_of(waiter.want).0)
-        }
-        _ => false,
+    let Some(Place::Waiting(waiter)) = seats.place(number) else {
+        return;
+    };
+    if is_reached(waiter, object, source) {
+        seats.rouse(number);
     }
+}
+
+fn is_reached(waiter: Waiter, object: u64, source: u64) -> bool
+    ensures { result ≡ reaches object source waiter }
+{
+    waiter.source == source && (object == source || object == object_of(waiter.want).0)
 }

@@ -1,0 +1,62 @@
+use Rattle.std.proofs.Common.{◌≡◌, ◌≢◌, ℕ, ◌+◌, ◌<◌, ◌≤◌, length, true, false, slice_get, slice_set, get_or, Some, None, refl, sym, ap, subst, ◌∙◌, arith}
+use Rattle.std.proofs.lemmas.Option.{slice_get_within, same_Some}
+use Rattle.std.proofs.lemmas.Bool.{true≢false}
+use Rattle.cml_queues.specs.Queues.{queue_of, is_in}
+use Rattle.cml_room.specs.declared.place.Place.TheVariants.{Free, Waiting}
+use Rattle.cml_room.specs.declared.place.Waiter.{Waiter}
+use Rattle.cml_room.specs.Places.{row_of, row_in, roused, AreRoused, IsMate, IsQuiet}
+use Rattle.cml_room.specs.Seats.{SeatsShown}
+use Rattle.cml_room.specs.Waking.{reaches}
+use Rattle.cml_room.proofs.Listing.{set_here, in_row}
+use Rattle.cml_room.proofs.Walking.{Walked, walk_begins, walk_ends, walk_stops, walk_goes, walk_kept}
+use Rattle.cml_room.proofs.Rousing.{none_roused, one_roused, roused_from, roused_noted, roused_twice, waited, waits_on, quiet_before, set_roused_mate}
+use Rattle.cml_room.proofs.waking.rouse_first.Goals as goal
+
+pub loop-init : goal.loop-init
+loop-init c = (refl, walk_begins _ _ _ c.first_at-next.ensures.first)
+
+pub returns-in_default-clause-roused : goal.returns-in_default-clause-roused
+returns-in_default-clause-roused c =
+    subst (λ (v : SeatsShown). AreRoused (λ waiter. waiter.want ≡ c.args.want) c.args.seats.now.places v.places) (sym c.loop.invariant.0) (none_roused _ c.args.seats.now.places)
+
+pub returns-in_default-clause-first : goal.returns-in_default-clause-first
+returns-in_default-clause-first c = λ number waiter quiet same source.
+    let seen = walk_stops _ _ _ _ c.loop.invariant.1 c.in_default.is number
+    (ap (λ (v : SeatsShown). is_in v.rows (row_of c.args.source) number) c.loop.invariant.0
+    ∙ in_row c.args.seats.now.rows c.args.seats.now.places number waiter c.args.source c.first_at-next.ensures.listed
+    (ap (λ (v : SeatsShown). slice_get v.places number) (sym c.loop.invariant.0) ∙ quiet.here) source) in
+    absurd (seen waiter quiet.here same)
+
+pub rouse-requires : goal.rouse-requires
+rouse-requires c = slice_get_within _ _ _ c.if-wants.ensures.1
+
+pub returns-then-wants-clause-roused : goal.returns-then-wants-clause-roused
+returns-then-wants-clause-roused c =
+    let one = one_roused (λ waiter. waiter.want ≡ c.args.want) c.loop.seats.places c.in-Some.number c.if-wants.ensures.0 c.if-wants.ensures.1 c.if-wants.ensures.2 in
+    subst (λ l. AreRoused (λ waiter. waiter.want ≡ c.args.want) c.args.seats.now.places l) (sym c.rouse.ensures.places)
+    (subst (λ (v : SeatsShown). AreRoused (λ waiter. waiter.want ≡ c.args.want) v.places (slice_set c.loop.seats.places c.in-Some.number (roused (get_or c.loop.seats.places c.in-Some.number Free))))
+    c.loop.invariant.0 one)
+
+pub returns-then-wants-clause-first : goal.returns-then-wants-clause-first
+returns-then-wants-clause-first c = λ number waiter quiet same source.
+    set_roused_mate c.loop.seats.places c.rouse.new.self.places c.in-Some.number c.if-wants.ensures.0 c.args.want c.if-wants.ensures.1 c.if-wants.ensures.2 c.rouse.ensures.places
+
+pub loop-preserved : goal.loop-preserved
+loop-preserved c = (
+  c.loop.invariant.0,
+  walk_goes _ _ _ _ c.in-Some.number _ c.loop.invariant.1 c.in-Some.is c.if-wants.ensures
+  (c.after-next.ensures (row_of c.args.source) c.loop.counter (sym c.loop.invariant.1.next_is ∙ c.in-Some.is)),
+)
+
+pub returns-clause-roused : goal.returns-clause-roused
+returns-clause-roused c =
+    subst (λ (v : SeatsShown). AreRoused (λ waiter. waiter.want ≡ c.args.want) c.args.seats.now.places v.places) (sym c.loop.invariant.0) (none_roused _ c.args.seats.now.places)
+
+pub returns-clause-first : goal.returns-clause-first
+returns-clause-first c = λ number waiter quiet same source.
+    let seen = walk_ends _ _ _ _ c.loop.invariant.1
+    (omega (arith, c.most-end.ensures (row_of c.args.source), ap (λ (v : SeatsShown). length (queue_of v.rows (row_of c.args.source))) c.loop.invariant.0, c.loop-test.false)) number
+    (ap (λ (v : SeatsShown). is_in v.rows (row_of c.args.source) number) c.loop.invariant.0
+    ∙ in_row c.args.seats.now.rows c.args.seats.now.places number waiter c.args.source c.first_at-next.ensures.listed
+    (ap (λ (v : SeatsShown). slice_get v.places number) (sym c.loop.invariant.0) ∙ quiet.here) source) in
+    absurd (seen waiter quiet.here same)
