@@ -4,3 +4,5 @@ pub mod Listing
 pub mod Walking
 pub mod Rousing
 pub mod Resting
+pub mod Unmoved
+pub mod Following

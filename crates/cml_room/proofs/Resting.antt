@@ -52,7 +52,7 @@ module _ {M : Type 0} where
       by_cases None e some = absurd (false≢true some)
       by_cases (Some origin) e some = omega (arith, λ (past : length (made before) ≤ object). none-some _ (sym (slice_get_past (made before) object past) ∙ e))
 
-  fits_kept : (entry : Entry M) (before : List (Entry M)) (object : ℕ) (call : Call M) → IsSome (kind_of before object)
+  pub fits_kept : (entry : Entry M) (before : List (Entry M)) (object : ℕ) (call : Call M) → IsSome (kind_of before object)
       → IfSome (kind_of before object) (λ kind. IsTrue (takes kind call))
       → IsSome (kind_of (entry ∷ before) object) × IfSome (kind_of (entry ∷ before) object) (λ kind. IsTrue (takes kind call))
   fits_kept entry before object call is_made is_taken =
@@ -87,7 +87,7 @@ module _ {M : Type 0} where
         none,
       )
 
-  recv_waits : (entry : Entry M) (before : List (Entry M)) (name : Name) → Fits before (Recv name) → answer before (Recv name) ≡ None
+  pub recv_waits : (entry : Entry M) (before : List (Entry M)) (name : Name) → Fits before (Recv name) → answer before (Recv name) ≡ None
       → NoNews before (news_in entry.call) (want.Recv name) → answer (entry ∷ before) (Recv name) ≡ None
   recv_waits entry before name fits none untold =
       let was = open_none (is_open before name.0) (owed before name.0) none in
