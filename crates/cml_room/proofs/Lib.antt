@@ -6,3 +6,5 @@ pub mod Rousing
 pub mod Resting
 pub mod Unmoved
 pub mod Following
+pub mod Bringing
+pub mod Quiet

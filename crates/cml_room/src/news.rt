@@ -1,4 +1,4 @@
-ghost use Rattle.std.specs.Prelude.{◌≡◌, ◌∷◌, ◌<◌, List, Some};
+ghost use Rattle.std.specs.Prelude.{◌≡◌, ◌∷◌, ◌<◌, ◌≤◌, List, Some, None};
 ghost use Rattle.cml_board.specs.declared.entry.Entry.{Entry};
 ghost use Rattle.cml_board.specs.History.{entries_in};
 ghost use Rattle.cml_room.specs.News.{news_in};
@@ -32,12 +32,23 @@ pub fn news_in<M>(call: &Call<M>) -> Option<News>
     }
 }
 
+/// How many entries the board has. No more were cut away.
+pub fn count_entries<M: Message, L: MessageLog<M>>(board: &Board<M, L>) -> u64
+    ensures count { result ≡ entries_in board.now.history }
+    ensures past { entries_in board.now.past ≤ result }
+{
+    // The journal's reader tells that those that were cut away are a part of all.
+    let _journal = board.journal();
+    board.entries()
+}
+
 /// What the journal's last entry brings, if there are more entries than so many.
 pub fn latest_news<M: Message, L: MessageLog<M>>(board: &Board<M, L>, before: u64) -> Option<News>
-    ensures { (entry : Entry M) (rest : List (Entry M)) → board.now.history ≡ entry ∷ rest → entries_in board.now.past < entries_in board.now.history
+    ensures none { entries_in board.now.history ≤ before → result ≡ None }
+    ensures latest { (entry : Entry M) (rest : List (Entry M)) → board.now.history ≡ entry ∷ rest → entries_in board.now.past < entries_in board.now.history
         → before < entries_in board.now.history → result ≡ news_in entry.call }
 {
-    if board.entries() == before {
+    if board.entries() <= before {
         return None;
     }
     match board.journal().last() {

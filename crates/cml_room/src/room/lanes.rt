@@ -5,7 +5,7 @@ ghost use Rattle.cml_lanes.specs.Lanes.{OpensALane, Drains, Closes, ClosesCounte
 ghost use Rattle.cml_room.specs.Room.{floor_of};
 
 use super::Room;
-use crate::news::latest_news;
+use crate::news::{count_entries, latest_news};
 use crate::turns::settle;
 use cml_board::{Message, Name, Refusal};
 use cml_lanes::{Lane, LaneEnd, MAX_CAPACITY};
@@ -36,7 +36,7 @@ impl<M: Message, L: MessageLog<M>> Room<M, L> {
         ensures rings { KeepsRings (floor_of self.old) (floor_of self.new) }
         ensures seats { self.new.seats ≡ self.old.seats }
     {
-        let before = self.floor.board().entries();
+        let before = count_entries(self.floor.board());
         let told = self.floor.drain(lane);
         let news = latest_news(self.floor.board(), before);
         settle(&self.floor, &mut self.seats, news);
@@ -51,7 +51,7 @@ impl<M: Message, L: MessageLog<M>> Room<M, L> {
         ensures rings { KeepsRings (floor_of self.old) (floor_of self.new) }
         ensures seats { self.new.seats ≡ self.old.seats }
     {
-        let before = self.floor.board().entries();
+        let before = count_entries(self.floor.board());
         let told = self.floor.close_lane(end);
         let news = latest_news(self.floor.board(), before);
         settle(&self.floor, &mut self.seats, news);
@@ -65,7 +65,7 @@ impl<M: Message, L: MessageLog<M>> Room<M, L> {
         ensures rings { KeepsRings (floor_of self.old) (floor_of self.new) }
         ensures seats { self.new.seats ≡ self.old.seats }
     {
-        let before = self.floor.board().entries();
+        let before = count_entries(self.floor.board());
         let told = self.floor.close_counted(end);
         let news = latest_news(self.floor.board(), before);
         settle(&self.floor, &mut self.seats, news);
@@ -79,7 +79,7 @@ impl<M: Message, L: MessageLog<M>> Room<M, L> {
         ensures rings { KeepsRings (floor_of self.old) (floor_of self.new) }
         ensures seats { self.new.seats ≡ self.old.seats }
     {
-        let before = self.floor.board().entries();
+        let before = count_entries(self.floor.board());
         let told = self.floor.drop_lane(lane);
         let news = latest_news(self.floor.board(), before);
         settle(&self.floor, &mut self.seats, news);

@@ -1,0 +1,13 @@
+use Rattle.std.proofs.Common.{None}
+use Rattle.cml_room.proofs.Bringing.{placed_on, abandoned_follows}
+use Rattle.cml_room.proofs.room.Room.abandon_lane.Goals as goal
+
+pub settle-requires-clause-placed : goal.settle-requires-clause-placed
+settle-requires-clause-placed g c =
+    let next = abandoned_follows c.args.lane c.self.inside.floor c.abandon_lane-told.new.self c.abandon_lane-told.result None c.abandon_lane-told.ensures.abandons in
+    placed_on c.self.inside.floor c.abandon_lane-told.new.self c.self.inside.seats.places c.self.inside.seats.all_due None c.self.invariant next
+
+pub invariant_of-self : goal.invariant_of-self
+invariant_of-self g c =
+    let next = abandoned_follows c.args.lane c.self.inside.floor c.abandon_lane-told.new.self c.abandon_lane-told.result None c.abandon_lane-told.ensures.abandons in
+    c.settle.ensures.kept c.self.inside.floor c.self.invariant next
