@@ -1,5 +1,5 @@
 -- The news of what a lane added, and who waits where it did.
-use Rattle.std.proofs.Common.{◌≡◌, ℕ, ◌+◌, ◌<◌, ◌≤◌, ◌⊎◌, inl, inr, Bool, true, false, List, [], ◌∷◌, length, Option, Some, None, IsTrue, IsSome, IfSome, Result, Ok, Err, refl, sym, ap, subst, ◌∙◌, arith}
+use Rattle.std.proofs.Common.{◌≡◌, ℕ, ◌<◌, ◌≤◌, inl, inr, Bool, true, false, List, [], ◌∷◌, length, Option, Some, None, IsTrue, IsSome, IfSome, Result, Ok, Err, refl, sym, ap, subst, ◌∙◌, arith}
 use Rattle.std.specs.Option.{option_map}
 use Rattle.std.specs.Prelude.{⊤}
 use Rattle.cml_board.specs.declared.call.Name.{Name}
@@ -22,11 +22,11 @@ use Rattle.cml_lanes.specs.Sides.{LaneSide, way_call, way_kind}
 use Rattle.cml_lanes.specs.Laned.{lane_entry, with_lane}
 use Rattle.cml_lanes.specs.Moving.{Looks}
 use Rattle.cml_lanes.specs.Floor.{FloorShown, KeepsLanes, FindsNoLane, GivesAll, stays, goes}
-use Rattle.cml_lanes.specs.Lanes.{EmptiesLane, HoldsUp, HoldsUpSome, StopsLate, DrainsLane, Drains, DropsLane, Drops, Abandons, Closes, CountRefused, ClosesCounted}
+use Rattle.cml_lanes.specs.Lanes.{EmptiesLane, HoldsUp, HoldsUpSome, Drains, DropsLane, Drops, Abandons, Closes, CountRefused, ClosesCounted}
 use Rattle.cml_lanes.proofs.Laning.{kind_more}
 use Rattle.cml_room.specs.declared.news.News.{News}
 use Rattle.cml_room.specs.declared.place.Place.{Place}
-use Rattle.cml_room.specs.News.{object_of, news_in, source_of, IsOf}
+use Rattle.cml_room.specs.News.{object_of, news_in, IsOf}
 use Rattle.cml_room.specs.Waking.{AreAt, Follows, IsWatched}
 use Rattle.cml_room.proofs.Following.{way_news, lanes_lead, follows, same_follows}
 use Rattle.cml_room.proofs.Unmoved.{by_reason}
@@ -48,7 +48,7 @@ module _ {M : Type 0} where
       → before ≡ entries_in shown.history → entries_in shown.past ≤ before
       → (entries_in looked.history ≤ before → news ≡ None)
       → ((entry : Entry M) (rest : List (Entry M)) → looked.history ≡ entry ∷ rest → entries_in looked.past < entries_in looked.history
-          → before < entries_in looked.history → news ≡ news_in entry.call)
+      → before < entries_in looked.history → news ≡ news_in entry.call)
       → Tells old new news
   tells before shown old looked new news was is count past none latest =
       let first : Tells shown looked news = record {

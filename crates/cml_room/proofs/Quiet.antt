@@ -1,5 +1,5 @@
 -- What feeds add brings no news.
-use Rattle.std.proofs.Common.{◌≡◌, ℕ, ◌⊎◌, inl, inr, Bool, List, ◌∷◌, Option, None, Result, Ok, Err, ap, ◌∙◌}
+use Rattle.std.proofs.Common.{ℕ, inl, inr, Bool, ◌∷◌, None, Result, Ok, Err, ap, ◌∙◌}
 use Rattle.cml_board.specs.declared.call.Name.{Name}
 use Rattle.cml_board.specs.declared.call.Call.TheVariants.{NewPort}
 use Rattle.cml_board.specs.declared.entry.Who.TheVariants.{Feed}

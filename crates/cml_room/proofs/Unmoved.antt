@@ -1,6 +1,6 @@
 -- Who sleeps rightly still does, where the entries are the same, the journal has room still, and no lane was closed.
-use Rattle.std.proofs.Common.{◌≡◌, ℕ, ◌+◌, ◌<◌, ◌≤◌, ◌⊎◌, inl, inr, Bool, cond, List, [], ◌∷◌, ◌++◌, length, Option, Some, Result, Ok, Err, subst, sym, ap, ◌∙◌, arith, length-append}
-use Rattle.std.specs.Prelude.{⊤, min, is_some, count_by, reverse, MatchResult}
+use Rattle.std.proofs.Common.{◌≡◌, ℕ, ◌+◌, ◌≤◌, ◌⊎◌, inl, inr, Bool, cond, List, [], ◌∷◌, ◌++◌, length, Option, Some, Result, Ok, Err, subst, sym, ap, ◌∙◌, arith, length-append}
+use Rattle.std.specs.Prelude.{⊤, min, is_some, count_by, MatchResult}
 use Rattle.std.proofs.lemmas.List.Sums.{sum_by-append}
 use Rattle.cml_board.specs.declared.entry.Entry.{Entry}
 use Rattle.cml_board.specs.declared.call.Name.{Name}
@@ -9,7 +9,6 @@ use Rattle.cml_board.specs.declared.outcome.Refusal.TheVariants.{NoSuch}
 use Rattle.cml_board.specs.History.{entries_in}
 use Rattle.cml_board.specs.Outcome.{HasRoom, IsAsBefore}
 use Rattle.cml_board.specs.Shown.{Shown, full_at}
-use Rattle.cml_lanes.specs.Sides.{LaneSide}
 use Rattle.cml_lanes.specs.Ends.{LaneShown, Ended}
 use Rattle.cml_lanes.specs.Floor.{FloorShown, NoSuchOr, FindsNoFeed}
 use Rattle.cml_lanes.specs.Lanes.{OpensALane}
