@@ -2,8 +2,10 @@ pub mod Idling
 pub mod Turning
 pub mod Listing
 pub mod Walking
+pub mod Stilling
 pub mod Rousing
 pub mod Resting
+pub mod Hearing
 pub mod Unmoved
 pub mod Following
 pub mod Bringing

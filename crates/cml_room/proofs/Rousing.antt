@@ -156,9 +156,9 @@ roused_states So olds news are =
       get_or-map state_by news k Free ∙ (same ∙ sym (get_or-map state_by olds k Free)))
 
 -- first some were roused, and then others
-pub roused_twice : (So To : Waiter → Type 0) (olds mids news : List Place) → ((one other : Waiter) → one.want ≡ other.want → one.source ≡ other.source → So one → So other)
+pub roused_twice : (So : Waiter → Type 0) (olds mids news : List Place) → ((one other : Waiter) → one.want ≡ other.want → one.source ≡ other.source → So one → So other)
     → AreRoused So olds mids → AreRoused So mids news → AreRoused So olds news
-roused_twice So To olds mids news fits first second = record {
+roused_twice So olds mids news fits first second = record {
   each = second.each ∙ first.each;
   now = λ k old new was is.
     let mid = roused_to So olds mids k old first was in

