@@ -51,7 +51,7 @@ fn open_in(
     let Ok(mut handle) = Handle::new(alloc, Kept::Spent) else {
         return Code::NoMemory.number();
     };
-    match room.floor_mut().open_feed(channel, capacity) {
+    match room.open_feed(channel, capacity) {
         Ok((opened, number)) => {
             *handle.as_mut() = Kept::Feed(opened);
             *feed = handle.into_slot();
@@ -76,7 +76,7 @@ pub extern "C" fn seryugo_feed_pump(room: &mut Handle, feed_number: u64, count: 
 fn pump_in(room: &mut NumberRoom, feed: u64, count: &mut u64) -> u32
     ensures { Counts (Pumps chunk true feed) result count.old count.new room.old room.new }
 {
-    tell_count(room.floor_mut().pump(feed), count)
+    tell_count(room.pump(feed), count)
 }
 
 /// Takes the next message that was pumped, without a lock. It is told `Nothing` where none is seen.
@@ -124,7 +124,7 @@ pub extern "C" fn seryugo_feed_end(room: &mut Handle, feed_number: u64) -> u32
 fn end_in(room: &mut NumberRoom, feed: u64) -> u32
     ensures { EndsIn feed result room.old room.new }
 {
-    match room.floor_mut().end_feed(feed) {
+    match room.end_feed(feed) {
         Ok(_) => Code::Done.number(),
         Err(refusal) => Code::of_refusal(refusal).number(),
     }

@@ -25,7 +25,7 @@ pub extern "C" fn seryugo_reserve(room: &mut Handle, entries: usize) -> u32
 fn reserve_in(room: &mut NumberRoom, entries: usize) -> u32
     ensures { Does (ReservesSome entries) result room.old room.new }
 {
-    code_of(room.floor_mut().reserve(entries))
+    code_of(room.reserve(entries))
 }
 
 /// Cuts the journal: what it has is dropped, and it has room for as many entries again. Nothing of what was reserved is lost.
@@ -42,7 +42,7 @@ pub extern "C" fn seryugo_cut(room: &mut Handle) -> u32
 fn cut_in(room: &mut NumberRoom) -> u32
     ensures { Does CutsReserved result room.old room.new }
 {
-    code_of(room.floor_mut().cut())
+    code_of(room.cut())
 }
 
 /// Cuts the journal, and writes a handle to the entries that it had and how many they are. What was reserved goes with them.
@@ -68,7 +68,7 @@ fn take_in(alloc: Global, room: &mut NumberRoom, journal: &mut Slot, count: &mut
     let Ok(mut handle) = Handle::new(alloc, Kept::Spent) else {
         return Code::NoMemory.number();
     };
-    match room.floor_mut().take_journal() {
+    match room.take_journal() {
         Ok(entries) => {
             *count = entries.len() as u64;
             *handle.as_mut() = Kept::Journal(entries);

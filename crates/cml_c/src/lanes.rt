@@ -51,7 +51,7 @@ fn open_in(
     let Ok(mut handle) = Handle::new(alloc, Kept::Spent) else {
         return Code::NoMemory.number();
     };
-    match room.floor_mut().open_lane(target, capacity) {
+    match room.open_lane(target, capacity) {
         Ok((opened, number)) => {
             *handle.as_mut() = Kept::Lane(opened);
             *lane = handle.into_slot();
@@ -118,7 +118,7 @@ fn close_in(room: &mut NumberRoom, lane: &mut Kept) -> u32
     ensures { ClosesIn room.old room.new lane.old lane.new result }
 {
     match mem::replace(lane, Kept::Spent) {
-        Kept::LaneEnd(end) => match room.floor_mut().close_counted(end) {
+        Kept::LaneEnd(end) => match room.close_counted(end) {
             Ok(()) => Code::Done.number(),
             Err((end, refusal)) => {
                 *lane = Kept::LaneEnd(end);
@@ -146,7 +146,7 @@ pub extern "C" fn seryugo_lane_drain(room: &mut Handle, lane_number: u64, count:
 fn drain_in(room: &mut NumberRoom, lane: u64, count: &mut u64) -> u32
     ensures { Counts (Drains chunk true lane) result count.old count.new room.old room.new }
 {
-    tell_count(room.floor_mut().drain(lane), count)
+    tell_count(room.drain(lane), count)
 }
 
 /// Moves what is seen of an open lane, writes how many messages, and closes it where none was refused. It is told
@@ -164,7 +164,7 @@ pub extern "C" fn seryugo_lane_drop(room: &mut Handle, lane_number: u64, count: 
 fn drop_in(room: &mut NumberRoom, lane: u64, count: &mut u64) -> u32
     ensures { DropsIn lane result count.old count.new room.old room.new }
 {
-    match room.floor_mut().drop_lane(lane) {
+    match room.drop_lane(lane) {
         Ok((moved, true)) => {
             *count = moved as u64;
             Code::Done.number()
@@ -191,7 +191,7 @@ pub extern "C" fn seryugo_lane_abandon(room: &mut Handle, lane_number: u64) -> u
 fn abandon_in(room: &mut NumberRoom, lane: u64) -> u32
     ensures { Does (Abandons lane) result room.old room.new }
 {
-    code_of(room.floor_mut().abandon_lane(lane))
+    code_of(room.abandon_lane(lane))
 }
 
 /// The code of a call that gives a count, which is written.
