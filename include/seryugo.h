@@ -30,14 +30,14 @@ extern "C" {
 enum seryugo_code {
     /* It was done, and what it gives, if it gives anything, is written. */
     SERYUGO_DONE = 0,
-    /* A poll found nothing, or a variable is empty. Nothing is written. */
+    /* A poll found nothing, a variable is empty, or no seat is due. Nothing is written. */
     SERYUGO_NOTHING = 1,
     /* The variable was full before, and stays as it was. */
     SERYUGO_PUT = 2,
     /* The port is closed. Nothing is written. */
     SERYUGO_CLOSED = 3,
-    /* The call would wait: its seat is parked, and does nothing but to make the same call again with is_again, once
-     * something has changed. Nothing is written. */
+    /* The call would wait: its seat is parked. It makes the same call again with is_again once it is due, and no other
+     * call. Nothing is written. */
     SERYUGO_PARKED = 4,
     /* The seat can't make this call: it was never made, or has left; it waits, and this isn't its call made again with is_again;
      * or is_again is true, and it doesn't wait. Of a lane: its room has let go of it. */
@@ -85,8 +85,8 @@ void seryugo_close(struct seryugo handle);
  * a seat is free nobody is told of a stall: make all seats before the first one waits, and leave with each. */
 uint32_t seryugo_new_seat(struct seryugo *room, uint64_t *seat);
 
-/* A free seat leaves: it makes no more calls. SERYUGO_GONE where it may make none. Then wake all who wait: they may be
- * stalled. */
+/* A free seat leaves: it makes no more calls. SERYUGO_GONE where it may make none. Then call seryugo_next_due: those who wait
+ * may be stalled. */
 uint32_t seryugo_leave(struct seryugo *room, uint64_t seat);
 
 /*
@@ -97,9 +97,9 @@ uint32_t seryugo_leave(struct seryugo *room, uint64_t seat);
  * and nothing else is changed. What is answered adds one entry to the journal. A name is told by the call that makes the
  * object; it is never given again.
  *
- * Those with `is_again` may wait. Make such a call with false; where it is told SERYUGO_PARKED, let the lock go until
- * something has changed, and make it again with true, until it is told something else. Whoever's call is answered wakes those
- * who wait.
+ * Those with `is_again` may wait. Make such a call with false. Where it returns SERYUGO_PARKED, let the lock go and sleep until
+ * the seat is woken. Then make the call again with true, until it returns something else. After each call, also after one that
+ * returned SERYUGO_PARKED, ask seryugo_next_due whom to wake.
  */
 
 /* Makes a mailbox, and writes its name. */
@@ -151,6 +151,37 @@ uint32_t seryugo_take_poll(struct seryugo *room, uint64_t seat, uint64_t variabl
 
 /* Stores a message in a full m-variable, and writes what that held. */
 uint32_t seryugo_swap(struct seryugo *room, uint64_t seat, uint64_t variable, uint64_t message, bool is_again, uint64_t *held);
+
+/*
+ * ---- who is woken ----
+ *
+ * The room knows which parked seats may go on: these are due. A message makes one seat due that waits at the mailbox, and a
+ * value one of each kind of call that waits at the m-variable. All become due that wait at a port of the channel, at the
+ * i-variable or at the port that closes. Where the journal becomes full, and where nobody can go on, all parked seats are due.
+ *
+ * Call seryugo_next_due before you let the lock go that you took for one of these:
+ *
+ * - a seat's call, whether it was answered, refused or parked, and seryugo_leave;
+ * - seryugo_lane_close, seryugo_lane_drain, seryugo_lane_drop and seryugo_lane_abandon;
+ * - seryugo_feed_open and seryugo_feed_pump.
+ *
+ * The other calls make no seat due. Let the lock go, and then wake the thread of the seat that was written. A woken thread takes
+ * the lock, makes its seat's call again with is_again, and calls seryugo_next_due as after any call. So one seryugo_next_due for
+ * each of these calls is enough: a woken thread wakes the next. A caller may also call it until it returns SERYUGO_NOTHING, and
+ * wake all these threads.
+ *
+ * Keep three rules, or a thread sleeps for ever. Each seat that was written asks again. A wake that comes before its thread
+ * sleeps isn't lost: keep a flag for each seat, or ask seryugo_is_due under the lock before each sleep. And a thread that woke
+ * without being woken may ask again at once, or sleep on.
+ */
+
+/* Writes the next seat that is due and wasn't written before since it last asked. The seat that has been due the longest comes
+ * first. SERYUGO_NOTHING: each seat that is due was written before. */
+uint32_t seryugo_next_due(struct seryugo *room, uint64_t *seat);
+
+/* Whether a seat is due: SERYUGO_DONE, or SERYUGO_NOTHING where it may sleep on, and where it doesn't wait. It changes
+ * nothing. */
+uint32_t seryugo_is_due(struct seryugo *room, uint64_t seat);
 
 /*
  * ---- lanes ----

@@ -72,6 +72,7 @@ static void try_mailboxes(uint64_t one, uint64_t two)
 {
     uint64_t mailbox = 77;
     uint64_t message = 77;
+    uint64_t due = 77;
 
     TOLD(GONE, seryugo_new_mailbox(&room, 2, &mailbox));
     IS(77, mailbox);
@@ -84,9 +85,20 @@ static void try_mailboxes(uint64_t one, uint64_t two)
     TOLD(GONE, seryugo_send(&room, two, mailbox, 5));
     TOLD(STALLED, seryugo_recv(&room, one, mailbox, false, &message));
     IS(77, message);
+    TOLD(NOTHING, seryugo_is_due(&room, two));
+    TOLD(NOTHING, seryugo_next_due(&room, &due));
+    IS(77, due);
     TOLD(DONE, seryugo_send(&room, one, mailbox, 5));
+    TOLD(NOTHING, seryugo_is_due(&room, one));
+    TOLD(DONE, seryugo_is_due(&room, two));
+    TOLD(DONE, seryugo_next_due(&room, &due));
+    IS(two, due);
+    TOLD(NOTHING, seryugo_next_due(&room, &due));
+    TOLD(DONE, seryugo_is_due(&room, two));
     TOLD(DONE, seryugo_recv(&room, two, mailbox, true, &message));
     IS(5, message);
+    TOLD(NOTHING, seryugo_is_due(&room, two));
+    TOLD(NOTHING, seryugo_is_due(&room, 2));
 }
 
 static void try_channels(uint64_t seat)
@@ -179,6 +191,8 @@ static void try_lanes(void)
     TOLD(WRONG_HANDLE, seryugo_lane_close(&lane, &room));
     TOLD(WRONG_HANDLE, seryugo_lane_send(&room, 22));
     TOLD(WRONG_HANDLE, seryugo_send(&lane, 0, 0, 22));
+    TOLD(WRONG_HANDLE, seryugo_next_due(&lane, &count));
+    TOLD(WRONG_HANDLE, seryugo_is_due(&lane, 0));
     TOLD(DONE, seryugo_lane_finish(&lane));
     TOLD(WRONG_HANDLE, seryugo_lane_send(&lane, 23));
     TOLD(DONE, seryugo_lane_close(&room, &lane));

@@ -1,5 +1,5 @@
-/* Threads on one room: four that send and one that receives, first from seats, then on lanes; and two that both wait, who are
- * told that they are stalled. The lock and the condition variable are the program's own, since the library never waits. */
+/* Threads on one room: four that send and one that receives, first from seats, then on lanes; and two that both wait, whose
+ * calls return that they are stalled. The lock and the condition variables are the program's, since the library never waits. */
 #include "seryugo.h"
 
 #include <pthread.h>
@@ -9,12 +9,13 @@
 #define SENDERS 4
 #define EACH 20000
 #define CAPACITY 64
+#define SEATS (SENDERS + 1)
 
-/* A room under its lock, and what those who wait are woken by. */
+/* A room under its lock, and by the number of each seat what wakes its thread. */
 struct board {
     struct seryugo room;
     pthread_mutex_t lock;
-    pthread_cond_t changed;
+    pthread_cond_t due[SEATS];
     uint64_t mailbox;
 };
 
@@ -40,14 +41,18 @@ static void open_board(struct board *board)
 {
     require(seryugo_room_open((uint64_t)1 << 32, &board->room) == SERYUGO_DONE, "a room is opened");
     pthread_mutex_init(&board->lock, NULL);
-    pthread_cond_init(&board->changed, NULL);
+    for (int i = 0; i < SEATS; i++) {
+        pthread_cond_init(&board->due[i], NULL);
+    }
 }
 
 static void close_board(struct board *board)
 {
     seryugo_close(board->room);
     pthread_mutex_destroy(&board->lock);
-    pthread_cond_destroy(&board->changed);
+    for (int i = 0; i < SEATS; i++) {
+        pthread_cond_destroy(&board->due[i]);
+    }
 }
 
 static uint64_t new_seat(struct board *board)
@@ -58,7 +63,28 @@ static uint64_t new_seat(struct board *board)
     return seat;
 }
 
-/* Receives, and waits while there is nothing: the call is made again after each change. Whoever is answered wakes the others. */
+/* Lets the lock go after a call, and then wakes the thread of the next seat that is due. That thread wakes the one after. */
+static void let_go(struct board *board)
+{
+    uint64_t seat;
+    uint32_t told = seryugo_next_due(&board->room, &seat);
+
+    pthread_mutex_unlock(&board->lock);
+    if (told == SERYUGO_DONE) {
+        pthread_cond_signal(&board->due[seat]);
+    }
+}
+
+/* Sleeps until the seat is due, and has the lock then. The room keeps in mind that the seat is due, so no wake is lost. */
+static void sleep_until_due(struct board *board, uint64_t seat)
+{
+    pthread_mutex_lock(&board->lock);
+    while (seryugo_is_due(&board->room, seat) == SERYUGO_NOTHING) {
+        pthread_cond_wait(&board->due[seat], &board->lock);
+    }
+}
+
+/* Receives, and waits while there is nothing: the call is made again when the seat is due. */
 static uint32_t receive(struct board *board, uint64_t seat, uint64_t source, uint64_t *message)
 {
     uint32_t told;
@@ -66,13 +92,11 @@ static uint32_t receive(struct board *board, uint64_t seat, uint64_t source, uin
     pthread_mutex_lock(&board->lock);
     told = seryugo_recv(&board->room, seat, source, false, message);
     while (told == SERYUGO_PARKED) {
-        pthread_cond_wait(&board->changed, &board->lock);
+        let_go(board);
+        sleep_until_due(board, seat);
         told = seryugo_recv(&board->room, seat, source, true, message);
     }
-    pthread_mutex_unlock(&board->lock);
-    if (told == SERYUGO_DONE) {
-        pthread_cond_broadcast(&board->changed);
-    }
+    let_go(board);
     return told;
 }
 
@@ -82,8 +106,7 @@ static uint32_t send_message(struct board *board, uint64_t seat, uint64_t messag
 
     pthread_mutex_lock(&board->lock);
     told = seryugo_send(&board->room, seat, board->mailbox, message);
-    pthread_mutex_unlock(&board->lock);
-    pthread_cond_broadcast(&board->changed);
+    let_go(board);
     return told;
 }
 
@@ -91,8 +114,7 @@ static void leave(struct board *board, uint64_t seat)
 {
     pthread_mutex_lock(&board->lock);
     seryugo_leave(&board->room, seat);
-    pthread_mutex_unlock(&board->lock);
-    pthread_cond_broadcast(&board->changed);
+    let_go(board);
 }
 
 static void *send_from_a_seat(void *given)
@@ -113,8 +135,7 @@ static void drain(struct board *board, uint64_t lane)
 
     pthread_mutex_lock(&board->lock);
     require(seryugo_lane_drain(&board->room, lane, &count) == SERYUGO_DONE, "a lane is drained");
-    pthread_mutex_unlock(&board->lock);
-    pthread_cond_broadcast(&board->changed);
+    let_go(board);
 }
 
 /* Only where the lane is full does its thread take the lock. */
@@ -130,8 +151,7 @@ static void *send_on_a_lane(void *given)
     require(seryugo_lane_finish(&part->lane) == SERYUGO_DONE, "a lane ends");
     pthread_mutex_lock(&part->board->lock);
     require(seryugo_lane_close(&part->board->room, &part->lane) == SERYUGO_DONE, "a lane is closed");
-    pthread_mutex_unlock(&part->board->lock);
-    pthread_cond_broadcast(&part->board->changed);
+    let_go(part->board);
     seryugo_close(part->lane);
     return NULL;
 }
@@ -152,7 +172,7 @@ static void *receive_all(void *given)
 
 static void run(struct board *board, struct part *parts, void *(*send)(void *))
 {
-    pthread_t threads[SENDERS + 1];
+    pthread_t threads[SEATS];
     uint64_t count = 0;
 
     for (int i = 0; i < SENDERS; i++) {
@@ -169,7 +189,7 @@ static void run(struct board *board, struct part *parts, void *(*send)(void *))
 static void by_seats(void)
 {
     struct board board;
-    struct part parts[SENDERS + 1] = {{0}};
+    struct part parts[SEATS] = {{0}};
 
     open_board(&board);
     for (int i = 0; i <= SENDERS; i++) {
@@ -186,7 +206,7 @@ static void by_seats(void)
 static void by_lanes(void)
 {
     struct board board;
-    struct part parts[SENDERS + 1] = {{0}};
+    struct part parts[SEATS] = {{0}};
 
     open_board(&board);
     parts[SENDERS].board = &board;
@@ -229,7 +249,7 @@ static void both_wait(void)
     }
     for (int i = 0; i < 2; i++) {
         pthread_join(threads[i], NULL);
-        require(parts[i].told == SERYUGO_STALLED, "each is told of the stall");
+        require(parts[i].told == SERYUGO_STALLED, "each call returns that it is stalled");
     }
     close_board(&board);
     puts("two that both wait: stalled");

@@ -5,6 +5,7 @@ pub mod Rooms
 pub mod Asking
 pub mod Opening
 pub mod Seats
+pub mod Due
 pub mod Floors
 pub mod Reserved
 pub mod Lanes

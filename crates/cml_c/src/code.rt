@@ -8,7 +8,7 @@ use cml_board::Refusal;
 pub enum Code {
     /// It was done; what it gives, if it gives anything, is written.
     Done,
-    /// A poll found nothing.
+    /// A poll found nothing, or no seat is due.
     Nothing,
     /// The variable was full before, and stays as it was.
     Put,

@@ -5,6 +5,7 @@
 mod asking;
 mod channels;
 mod code;
+mod due;
 mod entries;
 mod feeds;
 mod handle;

@@ -1,0 +1,51 @@
+-- What C is told of who is due.
+use Rattle.std.specs.Prelude.{ℕ, ◌≡◌, ◌⊎◌, true, false, Some, slice_get, ⊤}
+use Rattle.cml_board.specs.declared.want.Want.{Want}
+use Rattle.cml_room.specs.declared.notice.Notice.TheVariants.{Woken}
+use Rattle.cml_room.specs.declared.state.State.TheVariants.{Parked}
+use Rattle.cml_room.specs.Room.{RoomShown, floor_of, state_of, is_due, SleepsRightly}
+use Rattle.cml_c.specs.declared.code.Code.TheVariants.{Done, Nothing}
+use Rattle.cml_c.specs.declared.kept.Kept.{Kept}
+use Rattle.cml_c.specs.Codes.{number}
+use Rattle.cml_c.specs.Rooms.{OnRoom}
+
+-- the same seats are due, no seat's state is changed, and nothing else in the room
+pub record KeepsDue (old new : RoomShown ℕ) : Type 0 where
+  pub due : (seat : ℕ) → is_due new seat ≡ is_due old seat
+  pub seats : new.seats ≡ old.seats
+  pub floor : floor_of new ≡ floor_of old
+
+-- a seat that is due is written, and counts as woken; or each that is due was woken before since it last asked
+pub record GivesASeat (code after : ℕ) (old new : RoomShown ℕ) : Type 0 where
+  pub told : code ≡ number Done
+  pub due : is_due old after ≡ true
+  pub woken : slice_get new.notices after ≡ Some Woken
+  pub kept : KeepsDue old new
+
+pub record GivesNoSeat (code before after : ℕ) (old new : RoomShown ℕ) : Type 0 where
+  pub told : code ≡ number Nothing
+  pub written : after ≡ before
+  pub woken : (seat : ℕ) → is_due new seat ≡ true → slice_get new.notices seat ≡ Some Woken
+  pub kept : KeepsDue old new
+
+abbrev pub GivesNext : ℕ → ℕ → ℕ → RoomShown ℕ → RoomShown ℕ → Type 0
+GivesNext code before after old new = GivesASeat code after old new ⊎ GivesNoSeat code before after old new
+
+abbrev pub GivesNextOn : Kept → Kept → ℕ → ℕ → ℕ → Type 0
+GivesNextOn old new code before after = OnRoom (GivesNext code before after) (after ≡ before) code old new
+
+-- the seat is due; or it isn't, and sleeps rightly if it waits
+pub record IsToldDue (seat code : ℕ) (room : RoomShown ℕ) : Type 0 where
+  pub told : code ≡ number Done
+  pub due : is_due room seat ≡ true
+
+pub record IsNotToldDue (seat code : ℕ) (room : RoomShown ℕ) : Type 0 where
+  pub told : code ≡ number Nothing
+  pub due : is_due room seat ≡ false
+  pub asleep : (on : Want) → state_of room seat ≡ Some (Parked on) → SleepsRightly room on
+
+abbrev pub TellsDue : ℕ → ℕ → RoomShown ℕ → Type 0
+TellsDue seat code room = IsToldDue seat code room ⊎ IsNotToldDue seat code room
+
+abbrev pub DueOn : ℕ → Kept → Kept → ℕ → Type 0
+DueOn seat old new code = OnRoom (λ from to. (to ≡ from) × TellsDue seat code from) ⊤ code old new
