@@ -1,8 +1,8 @@
 //! Buffered Concurrent ML for Rust, by a library that is proved.
 //!
 //! A [`Switchboard`] has mailboxes, channels and variables of 64-bit messages, and a journal of every call that was accepted.
-//! Threads call from [`Seat`]s, and wait by a lock and a condition variable of this crate; [`Lane`]s and [`Feed`]s keep senders
-//! and subscribers off the lock. With the feature `scripts`, `replay` plays scripts of threads.
+//! Threads call from [`Seat`]s under a lock of this crate. A call that can't go on waits, and is woken once its seat is due.
+//! [`Lane`]s and [`Feed`]s keep senders and subscribers off the lock. With the feature `scripts`, `replay` plays scripts of threads.
 
 mod entry;
 mod error;
@@ -14,6 +14,7 @@ mod raw;
 #[cfg(feature = "scripts")]
 mod script;
 mod seat;
+mod sleeper;
 mod switchboard;
 
 pub use entry::{Call, Entry, Reply, Who};

@@ -120,6 +120,7 @@ extern "C" {
     pub fn seryugo_room_open(limit: u64, room: *mut Handle) -> u32;
     pub fn seryugo_new_seat(room: *mut Handle, seat: *mut u64) -> u32;
     pub fn seryugo_leave(room: *mut Handle, seat: u64) -> u32;
+    pub fn seryugo_next_due(room: *mut Handle, seat: *mut u64) -> u32;
     pub fn seryugo_new_mailbox(room: *mut Handle, seat: u64, mailbox: *mut u64) -> u32;
     pub fn seryugo_send(room: *mut Handle, seat: u64, mailbox: u64, message: u64) -> u32;
     pub fn seryugo_recv(room: *mut Handle, seat: u64, source: u64, is_again: bool, message: *mut u64) -> u32;

@@ -3,7 +3,9 @@
 use crate::error::Error;
 use crate::names::{Channel, IVar, MVar, Mailbox, Port, Source, Variable};
 use crate::raw::{self, done, told, written, Handle, Told};
+use crate::sleeper::Sleeper;
 use crate::switchboard::Switchboard;
+use std::sync::Arc;
 
 /// A seat at a switchboard, for one thread at a time. It leaves when it is dropped.
 ///
@@ -27,11 +29,12 @@ use crate::switchboard::Switchboard;
 pub struct Seat<'a> {
     board: &'a Switchboard,
     number: u64,
+    sleeper: Arc<Sleeper>,
 }
 
 impl<'a> Seat<'a> {
-    pub(crate) fn new(board: &'a Switchboard, number: u64) -> Seat<'a> {
-        Seat { board, number }
+    pub(crate) fn new(board: &'a Switchboard, number: u64, sleeper: Arc<Sleeper>) -> Seat<'a> {
+        Seat { board, number, sleeper }
     }
 
     /// The seat's number, by which the journal tells its calls.
@@ -161,7 +164,7 @@ impl<'a> Seat<'a> {
     }
 
     fn wait(&mut self, mut call: impl FnMut(&mut Handle, u64, bool) -> u32) -> Result<Told, Error> {
-        self.board.wait(|room, again| call(room, self.number, again))
+        self.board.wait(&self.sleeper, |room, again| call(room, self.number, again))
     }
 }
 

@@ -8,7 +8,8 @@ use crate::lane::Lane;
 use crate::names::{Channel, Object, Port, Target, Variable};
 use crate::raw::{self, done, polled, told, written, Handle, RawEntry, Told};
 use crate::seat::Seat;
-use std::sync::{Condvar, Mutex, MutexGuard, PoisonError};
+use crate::sleeper::Sleeper;
+use std::sync::{Arc, Mutex, MutexGuard, PoisonError};
 
 /// Objects, the journal of every call that was accepted, and the seats from which threads call.
 ///
@@ -32,30 +33,46 @@ use std::sync::{Condvar, Mutex, MutexGuard, PoisonError};
 /// ```
 pub struct Switchboard {
     room: Mutex<Room>,
-    changed: Condvar,
 }
 
 /// What the lock guards.
-pub(crate) struct Room {
+struct Room {
     handle: Handle,
-    /// How many threads wait for a change. Where none does nobody is to be woken, which would take a call of the system.
-    waiting: usize,
+    /// By its number what the thread of each seat waits by.
+    sleepers: Vec<Arc<Sleeper>>,
+}
+
+impl Room {
+    /// What the thread of the next seat that is due waits by. Each seat that is due is given once.
+    #[inline]
+    fn next_due(&mut self) -> Option<Arc<Sleeper>> {
+        let mut seat = 0;
+        match told(unsafe { raw::seryugo_next_due(&mut self.handle, &mut seat) }) {
+            Ok(Told::Done) => Some(Arc::clone(&self.sleepers[seat as usize])),
+            Ok(Told::Nothing) => None,
+            other => unreachable!("told {other:?}"),
+        }
+    }
 }
 
 impl Switchboard {
     /// A switchboard with no objects, whose journal takes `limit` entries between two cuts, from 1 to 2^32.
     pub fn new(limit: u64) -> Result<Switchboard, Error> {
         let handle = Handle::opened(|room| unsafe { raw::seryugo_room_open(limit, room) })?;
+        let sleepers = Vec::new();
         Ok(Switchboard {
-            room: Mutex::new(Room { handle, waiting: 0 }),
-            changed: Condvar::new(),
+            room: Mutex::new(Room { handle, sleepers }),
         })
     }
 
     /// A new seat. Make all seats before the first thread waits: while one is free nobody is told of a stall.
     pub fn seat(&self) -> Result<Seat<'_>, Error> {
-        let number = self.read(|room, seat| unsafe { raw::seryugo_new_seat(room, seat) })?;
-        Ok(Seat::new(self, number))
+        let mut room = self.lock();
+        let number = written(|seat| unsafe { raw::seryugo_new_seat(&mut room.handle, seat) })?;
+        debug_assert_eq!(number, room.sleepers.len() as u64);
+        let sleeper = Arc::new(Sleeper::new());
+        room.sleepers.push(Arc::clone(&sleeper));
+        Ok(Seat::new(self, number, sleeper))
     }
 
     /// Opens a lane to a mailbox or a channel, whose ring has room for `capacity` messages, from 1 to 1024.
@@ -173,46 +190,28 @@ impl Switchboard {
         self.room.lock().unwrap_or_else(PoisonError::into_inner)
     }
 
-    /// Lets the lock go, and then wakes those who wait.
-    #[inline]
-    fn wake(&self, room: MutexGuard<'_, Room>) {
-        let is_awaited = room.waiting > 0;
-        drop(room);
-        if is_awaited {
-            self.changed.notify_all();
-        }
-    }
-
-    /// Makes a call that changes something, and wakes those who wait.
+    /// Makes a call under the lock, lets the lock go, and then wakes the thread of the next seat that is due. That thread
+    /// makes a call too, by which it wakes the one after.
     #[inline]
     pub(crate) fn change<T>(&self, call: impl FnOnce(&mut Handle) -> T) -> T {
         let mut room = self.lock();
         let answer = call(&mut room.handle);
-        self.wake(room);
+        let due = room.next_due();
+        drop(room);
+        if let Some(sleeper) = due {
+            sleeper.wake();
+        }
         answer
     }
 
-    /// Makes a call that may wait. While it is parked this waits for a change, and makes it again; once it is answered, those
-    /// who wait are woken.
+    /// Makes a call that may wait. Where its seat is parked this waits until somebody wakes the seat, and makes the call again.
     #[inline]
-    pub(crate) fn wait(&self, mut call: impl FnMut(&mut Handle, bool) -> u32) -> Result<Told, Error> {
-        let mut room = self.lock();
-        let mut answer = told(call(&mut room.handle, false));
+    pub(crate) fn wait(&self, sleeper: &Sleeper, mut call: impl FnMut(&mut Handle, bool) -> u32) -> Result<Told, Error> {
+        let mut answer = self.change(|room| told(call(room, false)));
         while answer == Ok(Told::Parked) {
-            room = self.sleep(room);
-            answer = told(call(&mut room.handle, true));
-        }
-        if answer.is_ok() {
-            self.wake(room);
+            sleeper.wait();
+            answer = self.change(|room| told(call(room, true)));
         }
         answer
-    }
-
-    /// Lets the lock go until something has changed.
-    fn sleep<'a>(&self, mut room: MutexGuard<'a, Room>) -> MutexGuard<'a, Room> {
-        room.waiting += 1;
-        room = self.changed.wait(room).unwrap_or_else(PoisonError::into_inner);
-        room.waiting -= 1;
-        room
     }
 }

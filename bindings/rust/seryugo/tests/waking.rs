@@ -1,0 +1,311 @@
+//! Threads that wait, each woken by one of the others: where a wake is lost a test here doesn't end.
+
+use seryugo::{Error, MVar, Mailbox, Seat, Switchboard};
+use std::sync::atomic::{AtomicU64, Ordering};
+use std::sync::mpsc::{self, RecvTimeoutError};
+use std::thread;
+use std::time::Duration;
+
+/// Fails where the test hasn't ended within a minute.
+fn within_a_minute(test: impl FnOnce() + Send + 'static) {
+    let (ended, ends) = mpsc::channel();
+    let tested = thread::spawn(move || {
+        test();
+        ended.send(())
+    });
+    match ends.recv_timeout(Duration::from_secs(60)) {
+        Err(RecvTimeoutError::Timeout) => panic!("a thread sleeps though its seat is due"),
+        _ => tested.join().unwrap().unwrap(),
+    }
+}
+
+fn seats(board: &Switchboard, count: usize) -> Vec<Seat<'_>> {
+    (0..count).map(|_| board.seat().unwrap()).collect()
+}
+
+fn mailboxes(seat: &mut Seat<'_>, count: usize) -> Vec<Mailbox> {
+    (0..count).map(|_| seat.mailbox().unwrap()).collect()
+}
+
+#[test]
+fn a_token_goes_round() {
+    const THREADS: usize = 16;
+    const ROUNDS: u64 = 1_000;
+
+    within_a_minute(|| {
+        let board = Switchboard::new(1 << 32).unwrap();
+        let mut first = board.seat().unwrap();
+        let mailboxes = &mailboxes(&mut first, THREADS);
+        thread::scope(|scope| {
+            for (at, mut seat) in seats(&board, THREADS).into_iter().enumerate() {
+                scope.spawn(move || {
+                    for _ in 0..ROUNDS {
+                        let token = seat.recv(mailboxes[at]).unwrap().unwrap();
+                        seat.send(mailboxes[(at + 1) % THREADS], token + 1).unwrap();
+                    }
+                });
+            }
+            first.send(mailboxes[0], 0).unwrap();
+        });
+        assert_eq!(first.recv_poll(mailboxes[0]), Ok(Some(THREADS as u64 * ROUNDS)));
+    });
+}
+
+/// Uses these variables as locks round a count, and gives how much of the count it took out.
+fn count_in(seat: &mut Seat<'_>, variables: &[MVar], at: usize, times: usize) -> u64 {
+    let mut out = 0;
+    for n in 0..times {
+        let variable = variables[(at + n) % variables.len()];
+        let count = seat.take(variable).unwrap();
+        seat.put(variable, count + 1).unwrap();
+        seat.get(variables[n % variables.len()]).unwrap();
+        out += seat.swap(variable, 0).unwrap();
+    }
+    out
+}
+
+#[test]
+fn variables_are_locks() {
+    const THREADS: usize = 8;
+    const TIMES: usize = 2_000;
+
+    within_a_minute(|| {
+        let board = Switchboard::new(1 << 32).unwrap();
+        let mut first = board.seat().unwrap();
+        let variables = &[(); 3].map(|()| first.mvar_init(0).unwrap());
+        let out = &AtomicU64::new(0);
+        thread::scope(|scope| {
+            for (at, mut seat) in seats(&board, THREADS).into_iter().enumerate() {
+                scope.spawn(move || out.fetch_add(count_in(&mut seat, variables, at, TIMES), Ordering::Relaxed));
+            }
+        });
+        let left: u64 = variables.iter().map(|&variable| first.take(variable).unwrap()).sum();
+        assert_eq!(left + out.load(Ordering::Relaxed), (THREADS * TIMES) as u64);
+    });
+}
+
+/// Each message is answered by all before the next one is sent, so that each port is waited at again and again. Two threads
+/// wait at each port in the end, and both return as it closes.
+#[test]
+fn a_channel_has_eight_ports() {
+    const PORTS: usize = 8;
+    const MESSAGES: u64 = 1_000;
+
+    within_a_minute(|| {
+        let board = Switchboard::new(1 << 32).unwrap();
+        let mut first = board.seat().unwrap();
+        let (channel, answers) = (first.channel().unwrap(), first.mailbox().unwrap());
+        let ports = &[(); PORTS].map(|()| first.port(channel).unwrap());
+        let late = seats(&board, PORTS);
+        thread::scope(|scope| {
+            for (&port, mut seat) in ports.iter().zip(seats(&board, PORTS)) {
+                scope.spawn(move || {
+                    for n in 0..MESSAGES {
+                        assert_eq!(seat.recv(port), Ok(Some(n)));
+                        seat.send(answers, n).unwrap();
+                    }
+                    assert_eq!(seat.recv(port), Ok(None));
+                });
+            }
+            for n in 0..MESSAGES {
+                first.multicast(channel, n).unwrap();
+                for _ in 0..PORTS {
+                    assert_eq!(first.recv(answers), Ok(Some(n)));
+                }
+            }
+            for (&port, mut seat) in ports.iter().zip(late) {
+                scope.spawn(move || assert_eq!(seat.recv(port), Ok(None)));
+            }
+            thread::sleep(Duration::from_millis(5));
+            for &port in ports {
+                assert_eq!(first.close(port), Ok(true));
+            }
+        });
+    });
+}
+
+#[test]
+fn all_that_read_a_variable_are_woken() {
+    const THREADS: usize = 8;
+
+    within_a_minute(|| {
+        for n in 0..200 {
+            let board = Switchboard::new(100).unwrap();
+            let mut first = board.seat().unwrap();
+            let variable = first.ivar().unwrap();
+            thread::scope(|scope| {
+                for mut seat in seats(&board, THREADS) {
+                    scope.spawn(move || assert_eq!(seat.get(variable), Ok(n)));
+                }
+                assert_eq!(first.put(variable, n), Ok(true));
+            });
+        }
+    });
+}
+
+/// Makes a call until the journal has room for it. Where it has none this thread cuts it.
+fn with_room<T>(board: &Switchboard, full: &AtomicU64, mut call: impl FnMut() -> Result<T, Error>) -> T {
+    loop {
+        match call() {
+            Err(Error::JournalFull) => {
+                full.fetch_add(1, Ordering::Relaxed);
+                board.cut().unwrap();
+            }
+            told => return told.unwrap(),
+        }
+    }
+}
+
+/// Four threads send and four receive, by a journal that takes so many entries between two cuts: how often it was full.
+fn four_send_and_four_receive(limit: u64) -> u64 {
+    const EACH: u64 = 3_000;
+
+    let board = &Switchboard::new(limit).unwrap();
+    let mut first = board.seat().unwrap();
+    let mailbox = first.mailbox().unwrap();
+    let (sum, full) = (&AtomicU64::new(0), &AtomicU64::new(0));
+    let (senders, receivers) = (seats(board, 4), seats(board, 4));
+    drop(first);
+    thread::scope(|scope| {
+        for (sender, mut seat) in (0..).zip(senders) {
+            scope.spawn(move || {
+                for n in 0..EACH {
+                    with_room(board, full, || seat.send(mailbox, 4 * n + sender));
+                }
+            });
+        }
+        for mut seat in receivers {
+            scope.spawn(move || {
+                let mut last = [None; 4];
+                for _ in 0..EACH {
+                    let message = with_room(board, full, || seat.recv(mailbox)).unwrap();
+                    let last = &mut last[(message % 4) as usize];
+                    assert!(last.replace(message) < Some(message));
+                    sum.fetch_add(message, Ordering::Relaxed);
+                }
+            });
+        }
+    });
+    assert_eq!(board.owed(mailbox), Ok(0));
+    assert_eq!(sum.load(Ordering::Relaxed), (0..4 * EACH).sum());
+    full.load(Ordering::Relaxed)
+}
+
+#[test]
+fn four_send_to_four() {
+    within_a_minute(|| assert_eq!(four_send_and_four_receive(1 << 32), 0));
+}
+
+#[test]
+fn the_journal_is_cut_while_others_wait() {
+    within_a_minute(|| {
+        for limit in [1, 2, 3, 50] {
+            assert!(four_send_and_four_receive(limit) > 0);
+        }
+    });
+}
+
+/// Where the journal is full each that waits is refused, though nobody calls after that.
+#[test]
+fn all_that_wait_are_refused_where_the_journal_is_full() {
+    within_a_minute(|| {
+        for _ in 0..200 {
+            let board = Switchboard::new(4).unwrap();
+            let mut first = board.seat().unwrap();
+            let (mailbox, variable) = (first.mailbox().unwrap(), first.mvar().unwrap());
+            thread::scope(|scope| {
+                for mut seat in seats(&board, 3) {
+                    scope.spawn(move || assert_eq!(seat.recv(mailbox), Err(Error::JournalFull)));
+                }
+                for mut seat in seats(&board, 3) {
+                    scope.spawn(move || assert_eq!(seat.take(variable), Err(Error::JournalFull)));
+                }
+                assert_eq!(first.get_poll(variable), Ok(None));
+                assert_eq!(first.get_poll(variable), Ok(None));
+                thread::sleep(Duration::from_micros(100));
+            });
+        }
+    });
+}
+
+/// Several threads wait, each at an object of another kind or with others, and the last that could go on leaves.
+#[test]
+fn all_that_wait_are_refused_where_they_are_stalled() {
+    within_a_minute(|| {
+        for _ in 0..200 {
+            let board = Switchboard::new(100).unwrap();
+            let mut first = board.seat().unwrap();
+            let mailbox = first.mailbox().unwrap();
+            let channel = first.channel().unwrap();
+            let port = first.port(channel).unwrap();
+            let (once, often) = (first.ivar().unwrap(), first.mvar().unwrap());
+            let waiting = seats(&board, 10);
+            thread::scope(|scope| {
+                for (n, mut seat) in waiting.into_iter().enumerate() {
+                    scope.spawn(move || {
+                        let told = match n {
+                            0..=2 => seat.recv(mailbox).map(drop),
+                            3..=4 => seat.recv(port).map(drop),
+                            5..=6 => seat.get(once).map(drop),
+                            7 => seat.get(often).map(drop),
+                            8 => seat.take(often).map(drop),
+                            _ => seat.swap(often, 1).map(drop),
+                        };
+                        assert_eq!(told, Err(Error::Stalled));
+                    });
+                }
+                drop(first);
+            });
+        }
+    });
+}
+
+/// A lane holds off the stall. As it is dropped, all that wait are refused.
+#[test]
+fn the_last_lane_leaves_all_stalled() {
+    within_a_minute(|| {
+        for _ in 0..200 {
+            let board = Switchboard::new(100).unwrap();
+            let mut waiting = seats(&board, 6);
+            let mailbox = waiting[0].mailbox().unwrap();
+            let mut lane = board.lane(mailbox, 2).unwrap();
+            let received = &AtomicU64::new(0);
+            thread::scope(|scope| {
+                for mut seat in waiting {
+                    scope.spawn(move || match seat.recv(mailbox) {
+                        Ok(Some(message)) => assert_eq!(received.fetch_add(1, Ordering::Relaxed), message),
+                        told => assert_eq!(told, Err(Error::Stalled)),
+                    });
+                }
+                lane.send(0).unwrap();
+                drop(lane);
+            });
+            assert_eq!(received.load(Ordering::Relaxed), 1);
+        }
+    });
+}
+
+/// Who is refused goes on to send, and the other receives that.
+#[test]
+fn who_is_refused_wakes_the_other() {
+    within_a_minute(|| {
+        for _ in 0..500 {
+            let board = Switchboard::new(100).unwrap();
+            let mut waiting = seats(&board, 2);
+            let mailbox = waiting[0].mailbox().unwrap();
+            let stalled = &AtomicU64::new(0);
+            thread::scope(|scope| {
+                for mut seat in waiting {
+                    scope.spawn(move || {
+                        if seat.recv(mailbox) == Err(Error::Stalled) {
+                            stalled.fetch_add(1, Ordering::Relaxed);
+                            seat.send(mailbox, 7).unwrap();
+                        }
+                    });
+                }
+            });
+            assert_eq!(stalled.load(Ordering::Relaxed), 1);
+            assert_eq!(board.got(mailbox), Ok(1));
+        }
+    });
+}
