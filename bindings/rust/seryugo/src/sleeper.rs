@@ -5,9 +5,10 @@ use std::sync::atomic::{AtomicU8, Ordering};
 use std::sync::{Mutex, PoisonError};
 use std::thread::{self, Thread};
 
-/// How often a thread looks whether it was woken before it sleeps. Behind each of the later looks it yields.
+/// How often a thread looks whether it was woken before it sleeps, and how often it looks once more and yields. Where many
+/// threads wait, more yields cost more than sleep does.
 const LOOKS: u32 = 100;
-const YIELDS: u32 = 20;
+const YIELDS: u32 = 3;
 
 /// What the thread does, or that it was woken.
 const AWAKE: u8 = 0;
