@@ -1,8 +1,9 @@
 //! Threads that wait, each woken by one of the others: where a wake is lost a test here doesn't end.
 
-use seryugo::{Error, MVar, Mailbox, Seat, Switchboard};
+use seryugo::{Channel, Error, Feed, Lane, MVar, Mailbox, Seat, Switchboard};
 use std::sync::atomic::{AtomicU64, Ordering};
 use std::sync::mpsc::{self, RecvTimeoutError};
+use std::sync::Barrier;
 use std::thread;
 use std::time::Duration;
 
@@ -17,6 +18,11 @@ fn within_a_minute(test: impl FnOnce() + Send + 'static) {
         Err(RecvTimeoutError::Timeout) => panic!("a thread sleeps though its seat is due"),
         _ => tested.join().unwrap().unwrap(),
     }
+}
+
+/// Waits until the other threads most likely wait. No test needs that it is so.
+fn let_them_wait() {
+    thread::sleep(Duration::from_micros(200));
 }
 
 fn seats(board: &Switchboard, count: usize) -> Vec<Seat<'_>> {
@@ -84,8 +90,8 @@ fn variables_are_locks() {
     });
 }
 
-/// Each message is answered by all before the next one is sent, so that each port is waited at again and again. Two threads
-/// wait at each port in the end, and both return as it closes.
+/// Each message is answered by all before the next one is sent, so that each port is waited at again and again; and none
+/// answers before all have received it. Two threads wait at each port in the end, and both return as it closes.
 #[test]
 fn a_channel_has_eight_ports() {
     const PORTS: usize = 8;
@@ -97,11 +103,13 @@ fn a_channel_has_eight_ports() {
         let (channel, answers) = (first.channel().unwrap(), first.mailbox().unwrap());
         let ports = &[(); PORTS].map(|()| first.port(channel).unwrap());
         let late = seats(&board, PORTS);
+        let all = &Barrier::new(PORTS);
         thread::scope(|scope| {
             for (&port, mut seat) in ports.iter().zip(seats(&board, PORTS)) {
                 scope.spawn(move || {
                     for n in 0..MESSAGES {
                         assert_eq!(seat.recv(port), Ok(Some(n)));
+                        all.wait();
                         seat.send(answers, n).unwrap();
                     }
                     assert_eq!(seat.recv(port), Ok(None));
@@ -116,7 +124,7 @@ fn a_channel_has_eight_ports() {
             for (&port, mut seat) in ports.iter().zip(late) {
                 scope.spawn(move || assert_eq!(seat.recv(port), Ok(None)));
             }
-            thread::sleep(Duration::from_millis(5));
+            let_them_wait();
             for &port in ports {
                 assert_eq!(first.close(port), Ok(true));
             }
@@ -124,6 +132,7 @@ fn a_channel_has_eight_ports() {
     });
 }
 
+/// None calls again before all have read it.
 #[test]
 fn all_that_read_a_variable_are_woken() {
     const THREADS: usize = 8;
@@ -133,10 +142,15 @@ fn all_that_read_a_variable_are_woken() {
             let board = Switchboard::new(100).unwrap();
             let mut first = board.seat().unwrap();
             let variable = first.ivar().unwrap();
+            let all = &Barrier::new(THREADS);
             thread::scope(|scope| {
                 for mut seat in seats(&board, THREADS) {
-                    scope.spawn(move || assert_eq!(seat.get(variable), Ok(n)));
+                    scope.spawn(move || {
+                        assert_eq!(seat.get(variable), Ok(n));
+                        all.wait();
+                    });
                 }
+                let_them_wait();
                 assert_eq!(first.put(variable, n), Ok(true));
             });
         }
@@ -205,24 +219,112 @@ fn the_journal_is_cut_while_others_wait() {
     });
 }
 
-/// Where the journal is full each that waits is refused, though nobody calls after that.
+/// A call that makes the journal full, on a board with this channel, and this mailbox that has a message. A feed that it opens
+/// comes back, since its end is a call too.
+type Filling = for<'a> fn(&'a Switchboard, &mut Seat<'_>, Channel, Mailbox) -> Option<Feed<'a>>;
+
+const FILLINGS: [Filling; 5] = [
+    |_, seat, _, mailbox| seat.recv(mailbox).map(|_| None).unwrap(),
+    |_, seat, _, mailbox| seat.send(mailbox, 2).map(|()| None).unwrap(),
+    |_, seat, channel, _| seat.port(channel).map(|_| None).unwrap(),
+    |board, _, channel, _| board.feed(channel, 1).map(Some).unwrap(),
+    |board, _, _, mailbox| {
+        let mut lane = board.lane(mailbox, 1).unwrap();
+        lane.send(2).unwrap();
+        assert_eq!(lane.drain(), Ok(1));
+        None
+    },
+];
+
+/// Whichever call makes the journal full, each that waits is refused. Nobody calls again before all are refused.
 #[test]
 fn all_that_wait_are_refused_where_the_journal_is_full() {
     within_a_minute(|| {
-        for _ in 0..200 {
-            let board = Switchboard::new(4).unwrap();
+        for fill in FILLINGS.iter().cycle().take(200) {
+            let board = Switchboard::new(6).unwrap();
             let mut first = board.seat().unwrap();
-            let (mailbox, variable) = (first.mailbox().unwrap(), first.mvar().unwrap());
+            let (channel, full, empty) = (first.channel().unwrap(), first.mailbox().unwrap(), first.mailbox().unwrap());
+            let variable = first.mvar().unwrap();
+            first.send(full, 1).unwrap();
+            let all = &Barrier::new(6);
+            let _open = thread::scope(|scope| {
+                for (n, mut seat) in seats(&board, 6).into_iter().enumerate() {
+                    scope.spawn(move || {
+                        let told = match n {
+                            0..=2 => seat.recv(empty).map(drop),
+                            _ => seat.take(variable).map(drop),
+                        };
+                        assert_eq!(told, Err(Error::JournalFull));
+                        all.wait();
+                    });
+                }
+                let_them_wait();
+                fill(&board, &mut first, channel, full)
+            });
+        }
+    });
+}
+
+/// A pump too may make the journal full.
+#[test]
+fn all_that_wait_are_refused_where_a_pump_fills_the_journal() {
+    within_a_minute(|| {
+        for _ in 0..50 {
+            let board = Switchboard::new(5).unwrap();
+            let mut first = board.seat().unwrap();
+            let (channel, mailbox) = (first.channel().unwrap(), first.mailbox().unwrap());
+            let mut feed = board.feed(channel, 1).unwrap();
+            first.multicast(channel, 7).unwrap();
+            let all = &Barrier::new(3);
             thread::scope(|scope| {
                 for mut seat in seats(&board, 3) {
-                    scope.spawn(move || assert_eq!(seat.recv(mailbox), Err(Error::JournalFull)));
+                    scope.spawn(move || {
+                        assert_eq!(seat.recv(mailbox), Err(Error::JournalFull));
+                        all.wait();
+                    });
                 }
+                let_them_wait();
+                assert_eq!(feed.pump(), Ok(1));
+            });
+            assert_eq!(feed.recv(), Some(7));
+        }
+    });
+}
+
+/// What moves the three messages of a lane into the journal. A lane that is still open comes back, since its end is a call too.
+type Moving = for<'a> fn(Lane<'a>) -> Option<Lane<'a>>;
+
+const MOVINGS: [Moving; 3] = [
+    |mut lane| {
+        assert_eq!(lane.drain(), Ok(3));
+        Some(lane)
+    },
+    |lane| lane.close().map_err(|(_, error)| error).map(|()| None).unwrap(),
+    |_| None,
+];
+
+/// Three receive from a lane what moves at once, and none calls again before all have received.
+#[test]
+fn messages_of_a_lane_wake_all_that_receive_them() {
+    within_a_minute(|| {
+        for moves in MOVINGS.iter().cycle().take(150) {
+            let board = Switchboard::new(100).unwrap();
+            let mut first = board.seat().unwrap();
+            let mailbox = first.mailbox().unwrap();
+            let mut lane = board.lane(mailbox, 3).unwrap();
+            let all = &Barrier::new(3);
+            let _open = thread::scope(|scope| {
                 for mut seat in seats(&board, 3) {
-                    scope.spawn(move || assert_eq!(seat.take(variable), Err(Error::JournalFull)));
+                    scope.spawn(move || {
+                        assert_eq!(seat.recv(mailbox), Ok(Some(7)));
+                        all.wait();
+                    });
                 }
-                assert_eq!(first.get_poll(variable), Ok(None));
-                assert_eq!(first.get_poll(variable), Ok(None));
-                thread::sleep(Duration::from_micros(100));
+                for _ in 0..3 {
+                    lane.send(7).unwrap();
+                }
+                let_them_wait();
+                moves(lane)
             });
         }
     });
@@ -254,6 +356,7 @@ fn all_that_wait_are_refused_where_they_are_stalled() {
                         assert_eq!(told, Err(Error::Stalled));
                     });
                 }
+                let_them_wait();
                 drop(first);
             });
         }
@@ -264,7 +367,7 @@ fn all_that_wait_are_refused_where_they_are_stalled() {
 #[test]
 fn the_last_lane_leaves_all_stalled() {
     within_a_minute(|| {
-        for _ in 0..200 {
+        for n in 0..200 {
             let board = Switchboard::new(100).unwrap();
             let mut waiting = seats(&board, 6);
             let mailbox = waiting[0].mailbox().unwrap();
@@ -278,6 +381,10 @@ fn the_last_lane_leaves_all_stalled() {
                     });
                 }
                 lane.send(0).unwrap();
+                if n % 2 == 0 {
+                    assert_eq!(lane.drain(), Ok(1));
+                }
+                let_them_wait();
                 drop(lane);
             });
             assert_eq!(received.load(Ordering::Relaxed), 1);
