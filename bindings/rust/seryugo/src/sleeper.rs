@@ -16,7 +16,9 @@ const WOKEN: u8 = 1;
 const ASLEEP: u8 = 2;
 
 /// What the thread of a seat waits by. Between two waits somebody wakes it exactly once: the room gives a parked seat as due
-/// only once, and its thread asks again only when it was woken.
+/// only once, and its thread asks again only when it was woken. Each has lines of memory for itself, so that a thread that looks
+/// slows no other one.
+#[repr(align(128))]
 pub(crate) struct Sleeper {
     state: AtomicU8,
     /// The thread that sleeps, or was the last to sleep.
