@@ -55,8 +55,7 @@ impl<'a> Feed<'a> {
     /// Receives what the feed is owed, under the lock, while there is room for it: how many messages.
     pub fn pump(&mut self) -> Result<u64, Error> {
         let number = self.number;
-        self.board
-            .change(|room| written(|count| unsafe { raw::seryugo_feed_pump(room, number, count) }))
+        self.board.change(|room| written(|count| unsafe { raw::seryugo_feed_pump(room, number, count) }))
     }
 
     /// The next message that was pumped.

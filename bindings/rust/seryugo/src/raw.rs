@@ -16,7 +16,9 @@ impl Handle {
     /// A handle that is opened by a call which writes it.
     pub fn opened(open: impl FnOnce(*mut Handle) -> u32) -> Result<Handle, Error> {
         // Until it is opened it must not be closed.
-        let mut handle = std::mem::ManuallyDrop::new(Handle { at: std::ptr::null_mut() });
+        let mut handle = std::mem::ManuallyDrop::new(Handle {
+            at: std::ptr::null_mut(),
+        });
         done(open(&mut *handle))?;
         Ok(std::mem::ManuallyDrop::into_inner(handle))
     }

@@ -92,16 +92,7 @@ pub fn replay(script: &[u8], limit: u64) -> Result<Replayed, BadLimit> {
 
 fn call(script: &[u8], limit: u64, report: &mut [u8], end: &mut RawEnd) -> u32 {
     // Both slices and `end` are this caller's own, and the call keeps none of them.
-    unsafe {
-        seryugo_replay(
-            script.as_ptr(),
-            script.len(),
-            limit,
-            report.as_mut_ptr(),
-            report.len(),
-            end,
-        )
-    }
+    unsafe { seryugo_replay(script.as_ptr(), script.len(), limit, report.as_mut_ptr(), report.len(), end) }
 }
 
 impl RawEnd {

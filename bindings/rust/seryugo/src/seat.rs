@@ -97,9 +97,8 @@ impl<'a> Seat<'a> {
     /// Receives the next message of a mailbox or a port, and waits while there is none; `None` where the port is closed.
     pub fn recv(&mut self, source: impl Source) -> Result<Option<u64>, Error> {
         let mut message = 0;
-        let told = self.wait(|room, seat, again| unsafe {
-            raw::seryugo_recv(room, seat, source.number(), again, &mut message)
-        })?;
+        let told =
+            self.wait(|room, seat, again| unsafe { raw::seryugo_recv(room, seat, source.number(), again, &mut message) })?;
         Ok((told == Told::Done).then_some(message))
     }
 
@@ -119,9 +118,7 @@ impl<'a> Seat<'a> {
     /// Reads a variable, which keeps what it holds, and waits while it is empty.
     pub fn get(&mut self, variable: impl Variable) -> Result<u64, Error> {
         let mut message = 0;
-        self.wait(|room, seat, again| unsafe {
-            raw::seryugo_get(room, seat, variable.number(), again, &mut message)
-        })?;
+        self.wait(|room, seat, again| unsafe { raw::seryugo_get(room, seat, variable.number(), again, &mut message) })?;
         Ok(message)
     }
 
@@ -149,9 +146,7 @@ impl<'a> Seat<'a> {
     /// Stores a message in a full m-variable and gives what that held, and waits while it is empty.
     pub fn swap(&mut self, variable: MVar, message: u64) -> Result<u64, Error> {
         let mut held = 0;
-        self.wait(|room, seat, again| unsafe {
-            raw::seryugo_swap(room, seat, variable.0, message, again, &mut held)
-        })?;
+        self.wait(|room, seat, again| unsafe { raw::seryugo_swap(room, seat, variable.0, message, again, &mut held) })?;
         Ok(held)
     }
 

@@ -111,9 +111,8 @@ impl Switchboard {
     /// Cuts the journal, and hands over the entries that it had. What was reserved goes with them.
     pub fn take_journal(&self) -> Result<Journal, Error> {
         let mut count = 0;
-        let handle = Handle::opened(|journal| unsafe {
-            raw::seryugo_take_journal(&mut self.lock().handle, journal, &mut count)
-        })?;
+        let handle =
+            Handle::opened(|journal| unsafe { raw::seryugo_take_journal(&mut self.lock().handle, journal, &mut count) })?;
         Ok(Journal::new(handle, count as usize))
     }
 
