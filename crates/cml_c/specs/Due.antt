@@ -1,4 +1,4 @@
--- What C is told of who is due.
+-- Which seat C wakes next, and whether a seat is due.
 use Rattle.std.specs.Prelude.{ℕ, ◌≡◌, ◌⊎◌, true, false, Some, slice_get, ⊤}
 use Rattle.cml_board.specs.declared.want.Want.{Want}
 use Rattle.cml_room.specs.declared.notice.Notice.TheVariants.{Woken}
@@ -35,17 +35,17 @@ abbrev pub GivesNextOn : Kept → Kept → ℕ → ℕ → ℕ → Type 0
 GivesNextOn old new code before after = OnRoom (GivesNext code before after) (after ≡ before) code old new
 
 -- the seat is due; or it isn't, and sleeps rightly if it waits
-pub record IsToldDue (seat code : ℕ) (room : RoomShown ℕ) : Type 0 where
+pub record SeatIsDue (seat code : ℕ) (room : RoomShown ℕ) : Type 0 where
   pub told : code ≡ number Done
   pub due : is_due room seat ≡ true
 
-pub record IsNotToldDue (seat code : ℕ) (room : RoomShown ℕ) : Type 0 where
+pub record SeatIsNotDue (seat code : ℕ) (room : RoomShown ℕ) : Type 0 where
   pub told : code ≡ number Nothing
   pub due : is_due room seat ≡ false
   pub asleep : (on : Want) → state_of room seat ≡ Some (Parked on) → SleepsRightly room on
 
 abbrev pub TellsDue : ℕ → ℕ → RoomShown ℕ → Type 0
-TellsDue seat code room = IsToldDue seat code room ⊎ IsNotToldDue seat code room
+TellsDue seat code room = SeatIsDue seat code room ⊎ SeatIsNotDue seat code room
 
 abbrev pub DueOn : ℕ → Kept → Kept → ℕ → Type 0
 DueOn seat old new code = OnRoom (λ from to. (to ≡ from) × TellsDue seat code from) ⊤ code old new

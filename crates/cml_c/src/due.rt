@@ -5,8 +5,8 @@ use crate::code::Code;
 use crate::handle::Handle;
 use crate::kept::{Kept, NumberRoom};
 
-/// Writes the next seat that is due and wasn't given before since it last asked: who has it is woken, and asks again. It is
-/// told `Nothing` where each that is due was given.
+/// Writes the next seat that is due and wasn't given before since it last asked: its thread is to be woken, and asks again.
+/// Gives `Nothing` where each seat that is due was given.
 #[unsafe(no_mangle)]
 pub extern "C" fn seryugo_next_due(room: &mut Handle, seat: &mut u64) -> u32
     ensures { GivesNextOn room.old.kept room.new.kept result seat.old seat.new }

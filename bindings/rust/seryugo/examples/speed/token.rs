@@ -20,7 +20,7 @@ fn pass_on<const THREADS: usize>(mut hop: impl FnMut() -> u64) {
     while hop() >= THREADS as u64 {}
 }
 
-/// How many hops it makes. It comes to each thread at least once.
+/// How many hops it makes: enough for each thread to receive it.
 fn hops<const THREADS: usize>(messages: u64) -> u64 {
     messages.max(THREADS as u64)
 }
