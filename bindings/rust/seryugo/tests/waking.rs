@@ -1,6 +1,6 @@
 //! Threads that wait, each woken by one of the others: where a wake is lost a test here doesn't end.
 
-use seryugo::{Channel, Error, Feed, Lane, MVar, Mailbox, Seat, Switchboard};
+use seryugo::{Channel, Error, Feed, Lane, MVar, Mailbox, Port, Seat, Switchboard};
 use std::sync::atomic::{AtomicU64, Ordering};
 use std::sync::mpsc::{self, RecvTimeoutError};
 use std::sync::Barrier;
@@ -413,6 +413,79 @@ fn who_is_refused_wakes_the_other() {
             });
             assert_eq!(stalled.load(Ordering::Relaxed), 1);
             assert_eq!(board.got(mailbox), Ok(1));
+        }
+    });
+}
+
+/// What the threads of the next test share.
+struct Shared {
+    board: Switchboard,
+    mailboxes: Vec<Mailbox>,
+    variables: Vec<MVar>,
+    channel: Channel,
+    ports: Vec<Port>,
+}
+
+impl Shared {
+    fn new(limit: u64) -> Shared {
+        let board = Switchboard::new(limit).unwrap();
+        let mut first = board.seat().unwrap();
+        let mailboxes = mailboxes(&mut first, 3);
+        let variables = (0..3).map(|_| first.mvar().unwrap()).collect();
+        let channel = first.channel().unwrap();
+        let ports = (0..3).map(|_| first.port(channel).unwrap()).collect();
+        drop(first);
+        Shared {
+            board,
+            mailboxes,
+            variables,
+            channel,
+            ports,
+        }
+    }
+
+    /// Makes the call that this number says. Where the journal is full this thread cuts it.
+    fn call(&self, seat: &mut Seat<'_>, number: usize) {
+        let at = number / 9 % 3;
+        let (mailbox, variable, port) = (self.mailboxes[at], self.variables[at], self.ports[at]);
+        let told = match number % 9 {
+            0 => seat.send(mailbox, 1),
+            1..=2 => seat.recv(mailbox).map(drop),
+            3 => seat.put(variable, 1).map(drop),
+            4 => seat.take(variable).map(drop),
+            5 => seat.swap(variable, 2).map(drop),
+            6 => seat.get(variable).map(drop),
+            7 => seat.multicast(self.channel, 1),
+            _ => seat.recv(port).map(drop),
+        };
+        match told {
+            Ok(()) | Err(Error::Stalled) => {}
+            Err(Error::JournalFull) => self.board.cut().unwrap(),
+            Err(error) => panic!("{error}"),
+        }
+    }
+}
+
+/// Whatever the threads call, all of them end: one that waits is answered or refused.
+#[test]
+fn threads_that_call_at_random_end() {
+    const THREADS: usize = 8;
+    const CALLS: usize = 2_000;
+
+    within_a_minute(|| {
+        for limit in [12, 50, 1 << 32] {
+            let shared = &Shared::new(limit);
+            thread::scope(|scope| {
+                for (at, mut seat) in seats(&shared.board, THREADS).into_iter().enumerate() {
+                    scope.spawn(move || {
+                        let mut random = at as u64;
+                        for _ in 0..CALLS {
+                            random = random.wrapping_mul(6_364_136_223_846_793_005).wrapping_add(1_442_695_040_888_963_407);
+                            shared.call(&mut seat, (random >> 33) as usize);
+                        }
+                    });
+                }
+            });
         }
     });
 }
