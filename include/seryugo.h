@@ -170,9 +170,9 @@ uint32_t seryugo_swap(struct seryugo *room, uint64_t seat, uint64_t variable, ui
  * each of these calls is enough: a woken thread wakes the next. A caller may also call it until it returns SERYUGO_NOTHING, and
  * wake all these threads.
  *
- * Keep three rules, or a thread sleeps for ever. Each seat that was written asks again. A wake that comes before its thread
- * sleeps isn't lost: keep a flag for each seat, or ask seryugo_is_due under the lock before each sleep. And a thread that woke
- * without being woken may ask again at once, or sleep on.
+ * Keep two rules, or a thread sleeps for ever. Each seat that was written asks again. A wake that comes before the sleep isn't
+ * lost: keep a flag for each seat, or call seryugo_is_due under the lock before each sleep. A thread that nobody woke may sleep
+ * on, or ask again at once.
  */
 
 /* Writes the next seat that is due and wasn't written before since it last asked. The seat that has been due the longest comes
