@@ -1,5 +1,5 @@
 -- How many entries a call on lanes or feeds adds, and that all of them are of lanes and feeds.
-use Rattle.std.proofs.Common.{◌≡◌, ℕ, ◌+◌, ◌≤◌, List, [], ◌∷◌, length, ap, subst, ◌∙◌, arith}
+use Rattle.std.proofs.Common.{◌≡◌, ℕ, ◌+◌, ◌≤◌, List, [], ◌∷◌, length, ap, sym, subst, ◌∙◌, arith}
 use Rattle.cml_board.specs.declared.call.Name.{Name}
 use Rattle.cml_board.specs.declared.entry.Entry.{Entry}
 use Rattle.cml_board.specs.History.{entries_in, rings_in}
@@ -10,6 +10,7 @@ use Rattle.cml_lanes.specs.Fed.{feed_entry, with_feed}
 use Rattle.cml_lanes.specs.Floor.{FloorShown}
 use Rattle.cml_lanes.proofs.Deeds.{Deed, as_it_was, lane_drained, lane_gone, lane_opened, feed_pumped, feed_gone, feed_opened}
 use Rattle.cml_lanes.proofs.Reserving.{lane_entries, feed_entries}
+use Rattle.cml_room.specs.declared.state.State.{State}
 use Rattle.cml_room.specs.Room.{RoomShown, floor_of}
 use Rattle.cml_threads.specs.Hosting.{IsCounted}
 
@@ -91,17 +92,16 @@ module _ {M : Type 0} where
         own_parts = omega (arith, same_parts, counted.own_parts);
       }
 
-  -- the same where a room lent its floor for the call
-  pub grown_in : (room : RoomShown M) (lent new : FloorShown M) (seen now : Shown M) (before : ℕ) → before ≡ entries_in seen.history → seen ≡ room.board → now ≡ new.board
-      → lent ≡ floor_of room → Deed lent new → before ≤ entries_in now.history
-  grown_in room lent new seen now before is same same_now lends deed =
-      grown_at (floor_of room) new seen now before is same same_now (subst (λ (f : FloorShown M). Deed f new) lends deed)
+  -- the same of a room
+  pub grown_in : (old new : RoomShown M) (seen now : Shown M) (before : ℕ) → before ≡ entries_in seen.history → seen ≡ old.board → now ≡ new.board
+      → Deed (floor_of old) (floor_of new) → before ≤ entries_in now.history
+  grown_in old new seen now before is same same_now deed = grown_at (floor_of old) (floor_of new) seen now before is same same_now deed
 
-  pub counted_in : (room : RoomShown M) (lent new : FloorShown M) (seen now : Shown M) (before book own parts whole book' own' parts' : ℕ)
-      → IsCounted room.board (length room.seats) book own parts whole → before ≡ entries_in seen.history → seen ≡ room.board → now ≡ new.board
-      → lent ≡ floor_of room → Deed lent new
+  pub counted_in : (old new : RoomShown M) (seen now : Shown M) (before book own parts whole book' own' parts' : ℕ)
+      → IsCounted old.board (length old.seats) book own parts whole → before ≡ entries_in seen.history → seen ≡ old.board → now ≡ new.board
+      → Deed (floor_of old) (floor_of new) → new.seats ≡ old.seats
       → book' + before ≡ book + entries_in now.history → own' + before ≡ own + entries_in now.history → parts' ≡ parts
-      → IsCounted new.board (length room.seats) book' own' parts' whole
-  counted_in room lent new seen now before book own parts whole book' own' parts' counted is same same_now lends deed =
-      counted_at (floor_of room) new seen now before (length room.seats) book own parts whole book' own' parts' counted is same same_now
-      (subst (λ (f : FloorShown M). Deed f new) lends deed)
+      → IsCounted new.board (length new.seats) book' own' parts' whole
+  counted_in old new seen now before book own parts whole book' own' parts' counted is same same_now deed seats total amount same_parts =
+      subst (λ (s : List State). IsCounted new.board (length s) book' own' parts' whole) (sym seats)
+      (counted_at (floor_of old) (floor_of new) seen now before (length old.seats) book own parts whole book' own' parts' counted is same same_now deed total amount same_parts)

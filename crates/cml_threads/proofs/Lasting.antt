@@ -20,7 +20,7 @@ use Rattle.cml_threads.specs.Hosting.{Hosted, floor_of}
 use Rattle.cml_room.specs.Room as room
 use Rattle.cml_room.specs.Asking.{Reaches, IsBarred}
 use Rattle.cml_threads.specs.Asking.{Asks}
-use Rattle.cml_threads.specs.Running.{HallCall, Ask, AskAgain, NewSeat, Leave, OnFloor, IsMade, AreMade, hands_over, keeps_entries}
+use Rattle.cml_threads.specs.Running.{HallCall, Ask, AskAgain, NewSeat, Leave, NextDue, OnFloor, IsMade, AreMade, hands_over, keeps_entries}
 
 module _ {M : Type 0} where
   -- calls of the floor that do to it what the hall's did, and keep the journal if those do
@@ -107,6 +107,7 @@ module _ {M : Type 0} where
   made_under chunk sure (AskAgain before after call told) old new made = asked_under chunk sure _ old new before after call told made
   made_under chunk sure NewSeat old new made = ([], same_floor old new made.board made.lanes made.feeds, λ keeps. keeps)
   made_under chunk sure Leave old new made = ([], same_floor old new made.board made.lanes made.feeds, λ keeps. keeps)
+  made_under chunk sure NextDue old new made = ([], same_floor old new made.board made.lanes made.feeds, λ keeps. keeps)
   made_under chunk sure (OnFloor call) old new made = one_under chunk sure old new call made.0
 
   -- over a run

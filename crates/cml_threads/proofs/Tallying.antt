@@ -12,7 +12,7 @@ use Rattle.cml_threads.specs.Hosting.{Hosted, room_of}
 module _ {M : Type 0} where
   -- a hall of a room and a book
   abbrev hall_of : RoomShown M → ℕ → Hosted M
-  hall_of room book = record { board = room.board; lanes = room.lanes; feeds = room.feeds; seats = room.seats; book = book }
+  hall_of room book = record { board = room.board; lanes = room.lanes; feeds = room.feeds; seats = room.seats; notices = room.notices; all_due = room.all_due; book = book }
 
   -- what became of the call in the room, told of the hall
   pub told_asks : (chunk : ℕ) (sure : Bool) (may : RoomShown M → ℕ → Type 0) (hall : Hosted M) (room new : RoomShown M) (book book' : ℕ) (before after : Sitting) (number : ℕ)

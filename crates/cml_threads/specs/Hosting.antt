@@ -1,26 +1,29 @@
 -- What a hall shows of itself, and what always holds of it.
-use Rattle.std.specs.Prelude.{ℕ, ◌≡◌, ◌+◌, ◌^◌, ◌<◌, List, Option}
+use Rattle.std.specs.Prelude.{ℕ, ◌≡◌, ◌+◌, ◌^◌, ◌<◌, Bool, List, Option}
 use Rattle.cml_board.specs.declared.call.Call.{Call}
 use Rattle.cml_board.specs.History.{entries_in, rings_in}
 use Rattle.cml_board.specs.Shown.{Shown}
 use Rattle.cml_lanes.specs.Sides.{LaneSide, FeedSide}
 use Rattle.cml_lanes.specs.Floor.{FloorShown}
+use Rattle.cml_room.specs.declared.notice.Notice.{Notice}
 use Rattle.cml_room.specs.declared.state.State.{State}
 use Rattle.cml_room.specs.Room as room
 
 -- the board; by its number the floor's end of each lane and of each feed, of open ones alone; the state of each seat, by
--- number; and the total of the ledger's book
+-- number, and its notice; whether all that wait are due; and the total of the ledger's book
 pub record Hosted (M : Type 0) : Type 0 where
   pub board : Shown M
   pub lanes : List (Option (LaneSide M))
   pub feeds : List (Option (FeedSide M))
   pub seats : List State
+  pub notices : List Notice
+  pub all_due : Bool
   pub book : ℕ
 
 module _ {M : Type 0} where
   -- all but the book
   abbrev pub room_of : Hosted M → room.RoomShown M
-  room_of hall = record { board = hall.board; lanes = hall.lanes; feeds = hall.feeds; seats = hall.seats }
+  room_of hall = record { board = hall.board; lanes = hall.lanes; feeds = hall.feeds; seats = hall.seats; notices = hall.notices; all_due = hall.all_due }
 
   -- the board with its lanes and feeds
   abbrev pub floor_of : Hosted M → FloorShown M

@@ -8,16 +8,18 @@ use Rattle.cml_threads.specs.Hosting.{Hosted, floor_of, MayAsk, MayAskAgain}
 use Rattle.cml_threads.specs.Asking.{Asks}
 
 -- a call of a hall: that of a seat, with what the seat shows before and after it, what was asked for and what it told; the
--- same made again; a new seat; a seat that leaves; or a call that is its floor's, and of no seat
+-- same made again; a new seat; a seat that leaves; one that is due and was given; or a call that is its floor's, and of no
+-- seat
 pub data HallCall (M : Type 0) : Type 0 where
   Ask : Sitting → Sitting → Call M → Asked M → HallCall M
   AskAgain : Sitting → Sitting → Call M → Asked M → HallCall M
   NewSeat : HallCall M
   Leave : HallCall M
+  NextDue : HallCall M
   OnFloor : FloorCall M → HallCall M
 
 module _ {M : Type 0} where
-  -- only what seats do has changed
+  -- only what seats do, or who is due, has changed
   pub record KeepsFloor (old new : Hosted M) : Type 0 where
     pub board : new.board ≡ old.board
     pub lanes : new.lanes ≡ old.lanes
@@ -30,6 +32,7 @@ module _ {M : Type 0} where
   IsMade chunk sure (AskAgain before after call told) old new = Asks chunk sure (MayAskAgain old before.number call) old new before after call told
   IsMade chunk sure NewSeat old new = KeepsFloor old new
   IsMade chunk sure Leave old new = KeepsFloor old new
+  IsMade chunk sure NextDue old new = KeepsFloor old new
   IsMade chunk sure (OnFloor call) old new = IsCalled chunk sure call (floor_of old) (floor_of new) × (new.seats ≡ old.seats)
 
   -- the call hands the journal over

@@ -11,6 +11,7 @@ ghost use Rattle.cml_threads.specs.Hosting.{floor_of, MayAsk, with_state};
 
 mod asking;
 mod counting;
+mod due;
 mod feeds;
 mod lanes;
 mod settling;
@@ -41,7 +42,7 @@ impl<M, L: MessageLog<M>, Led: Ledger> Model for Hall<M, L, Led> {
 
     ghost Value = { Hosted M };
 
-    ghost view = { λ h. record { board = h.room.board; lanes = h.room.lanes; feeds = h.room.feeds; seats = h.room.seats; book = h.book.total } };
+    ghost view = { λ h. record { board = h.room.board; lanes = h.room.lanes; feeds = h.room.feeds; seats = h.room.seats; notices = h.room.notices; all_due = h.room.all_due; book = h.book.total } };
 
     ghost invariant = { λ h. IsCounted h.room.board (length h.room.seats) h.book.total h.rest.amount h.rest.parts Led.parts };
 }
@@ -111,7 +112,7 @@ impl<M: Message, L: MessageLog<M>, Led: Ledger> Hall<M, L, Led> {
         ensures seats { self.new.seats ≡ self.old.seats }
         ensures book { self.new.book ≡ self.old.book }
     {
-        self.room.floor_mut().reserve(n)
+        self.room.reserve(n)
     }
 
     /// Cuts the journal, as `Floor::cut` does: a seat that waits goes on waiting, and what each was answered stays counted.
@@ -123,7 +124,7 @@ impl<M: Message, L: MessageLog<M>, Led: Ledger> Hall<M, L, Led> {
         ensures seats { self.new.seats ≡ self.old.seats }
         ensures book { self.new.book ≡ self.old.book }
     {
-        self.room.floor_mut().cut()
+        self.room.cut()
     }
 
     /// Cuts the journal and hands over the entries that it had, as `Floor::take_journal` does; refused as `cut` is.
@@ -134,7 +135,7 @@ impl<M: Message, L: MessageLog<M>, Led: Ledger> Hall<M, L, Led> {
         ensures seats { self.new.seats ≡ self.old.seats }
         ensures book { self.new.book ≡ self.old.book }
     {
-        self.room.floor_mut().take_journal()
+        self.room.take_journal()
     }
 
     /// A new seat, which is free and has the next number. Only want of memory refuses it.

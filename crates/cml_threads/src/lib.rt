@@ -1,12 +1,12 @@
 //! Threads that share one room: its lock, their seats, how they wait for each other, and a ledger of their answers.
 #![tactic(auto)]
 
+mod bells;
 mod hall;
 mod laws;
 mod seat;
 mod settled;
 mod switchboard;
-mod turns;
 
 pub use cml_room::{Asked, State};
 pub use hall::{Hall, PARTS};

@@ -11,21 +11,22 @@ mod lanes;
 mod mailboxes;
 mod variables;
 
+use crate::bells::Bells;
 use crate::hall::Hall;
 use crate::seat::{Left, Seat};
 use crate::settled::Settled;
-use crate::turns::Turns;
 use cml_board::{Answer, Call, Entry, Message, Refusal, Reply};
 use cml_log::MessageLog;
 use cml_room::Asked;
 use crossbeam_utils::CachePadded;
 use std::alloc::{AllocError, Global};
 use std::sync::ledger::{Blank, Ledger};
-use std::sync::{Condvar, Mutex, MutexGuard, Wait};
+use std::sync::{Mutex, MutexGuard, Wait};
 
 /// What threads share: a hall under one lock. Each thread makes its calls by a seat of its own. A call that would wait
-/// waits, and is made again each time that something has changed. While the lock is held none of a caller's code runs
-/// but a message's own `share` and its end.
+/// waits, and is made again when its seat is due. Each call wakes one seat at most, of those that are due, and a thread that
+/// is woken makes a call, which wakes the next. While the lock is held none of a caller's code runs but a message's own
+/// `share` and its end.
 ///
 /// A contract here can tell of what the caller holds, the call, the answer and the seat, but not of the board: another
 /// thread may change it before the caller looks. What holds whenever the lock is free is what `Hall::board` tells, and
@@ -33,37 +34,8 @@ use std::sync::{Condvar, Mutex, MutexGuard, Wait};
 #[derive(Drop)]
 pub struct Switchboard<M, L: MessageLog<M>, Led: Ledger> {
     // Apart from the lock's own word, which those who wait for the lock look at while its holder writes.
-    locked: Mutex<CachePadded<Locked<M, L, Led>>>,
-    turns: Turns,
-    changed: Condvar,
-}
-
-/// What the lock holds.
-#[derive(Drop)]
-struct Locked<M, L: MessageLog<M>, Led: Ledger> {
-    hall: Hall<M, L, Led>,
-    waiters: Waiters,
-}
-
-/// Who has begun to wait since those who waited were last told that something has changed.
-#[derive(Clone, Copy)]
-enum Waiters {
-    Nobody,
-    /// Some thread looks at the turns, and none sleeps.
-    Looking,
-    /// Some thread sleeps.
-    Sleeping,
-}
-
-impl<M, L: MessageLog<M>, Led: Ledger> Locked<M, L, Led> {
-    /// Who is to be told that something has changed, after which nobody is.
-    fn take_waiters(&mut self) -> Waiters {
-        let waiters = self.waiters;
-        if !matches!(waiters, Waiters::Nobody) {
-            self.waiters = Waiters::Nobody;
-        }
-        waiters
-    }
+    hall: Mutex<CachePadded<Hall<M, L, Led>>>,
+    bells: Bells,
 }
 
 impl<M: Message, L: MessageLog<M>, Led: Ledger> Switchboard<M, L, Led> {
@@ -81,12 +53,8 @@ impl<M: Message, L: MessageLog<M>, Led: Ledger> Switchboard<M, L, Led> {
         requires enough { blank.parts ≡ 2 ^ 63 }
     {
         Ok(Switchboard {
-            locked: Mutex::new(CachePadded::new(Locked {
-                hall: Hall::new(alloc, limit, blank)?,
-                waiters: Waiters::Nobody,
-            })),
-            turns: Turns::new(),
-            changed: Condvar::new(),
+            hall: Mutex::new(CachePadded::new(Hall::new(alloc, limit, blank)?)),
+            bells: Bells::new(alloc)?,
         })
     }
 
@@ -96,7 +64,11 @@ impl<M: Message, L: MessageLog<M>, Led: Ledger> Switchboard<M, L, Led> {
         ensures share { IfOk result (λ seat. seat.share ≡ 0) }
         ensures refused { IfErr result (λ refusal. refusal ≡ NoMemory) }
     {
-        self.locked.lock(rt).hall.new_seat()
+        let mut hall = self.hall.lock(rt);
+        if self.bells.hang(rt, hall.seats()).is_err() {
+            return Err(Refusal::NoMemory);
+        }
+        hall.new_seat()
     }
 
     /// Takes memory for `n` more entries, as `Hall::reserve` does: it may be refused, `NoMemory`, and for nothing else. Who
@@ -105,7 +77,7 @@ impl<M: Message, L: MessageLog<M>, Led: Ledger> Switchboard<M, L, Led> {
     pub fn reserve<R: Wait>(&self, rt: &R, n: usize) -> Result<(), Refusal>
         ensures { IfErr result (λ refusal. refusal ≡ NoMemory) }
     {
-        self.locked.lock(rt).hall.reserve(n)
+        self.hall.lock(rt).reserve(n)
     }
 
     /// Cuts the journal, as `Hall::cut` does: it may be refused, `Busy`, where a lane or a feed is open, and for nothing
@@ -114,7 +86,7 @@ impl<M: Message, L: MessageLog<M>, Led: Ledger> Switchboard<M, L, Led> {
     pub fn cut<R: Wait>(&self, rt: &R) -> Result<(), Refusal>
         ensures { IfErr result (λ refusal. refusal ≡ Busy) }
     {
-        self.locked.lock(rt).hall.cut()
+        self.hall.lock(rt).cut()
     }
 
     /// Cuts the journal and hands over the entries that it had, oldest first, as `Hall::take_journal` does; refused as `cut`
@@ -122,7 +94,7 @@ impl<M: Message, L: MessageLog<M>, Led: Ledger> Switchboard<M, L, Led> {
     pub fn take_journal<R: Wait>(&self, rt: &R) -> Result<Vec<Entry<M>>, Refusal>
         ensures { IfErr result (λ refusal. refusal ≡ Busy) }
     {
-        self.locked.lock(rt).hall.take_journal()
+        self.hall.lock(rt).take_journal()
     }
 
     /// Makes a call, and waits until it is answered or refused: it may never return, if nobody ever sends what it waits
@@ -130,7 +102,7 @@ impl<M: Message, L: MessageLog<M>, Led: Ledger> Switchboard<M, L, Led> {
     ///
     /// `Stalled` means that the call would wait, that each other seat waits too or has left, and that no lane is open, so
     /// that nobody who has a seat or a lane by then could ever answer it. The seat is free then: make another call, which may
-    /// let others go on, or leave. Those who wait are told the same when next something changes, unless they can go on by then.
+    /// let others go on, or leave. Once no seat is free, those who wait are told the same, unless they can go on by then.
     ///
     /// Close your own lanes before you wait: while one is open nobody is told of a stall, and who waits may wait for ever.
     pub fn call<R: Wait>(
@@ -144,41 +116,28 @@ impl<M: Message, L: MessageLog<M>, Led: Ledger> Switchboard<M, L, Led> {
         ensures counted { OnOk result (seat.new ≡ raised seat.old) }
         ensures back { IfErr result (λ back. MayRefuse (want_in call) back.0 × (back.1 ≡ call) × (seat.new ≡ seat.old)) }
     {
-        let mut locked = self.locked.lock(rt);
-        let mut asked = ask(&mut locked.hall, seat, call);
-        let mut may_look = true;
+        let mut asked = self.ask(rt, seat, call);
         for _ in rt.forever() {
             match asked {
-                Asked::Answered(answer) => {
-                    let waiters = locked.take_waiters();
-                    drop(locked);
-                    self.tell(waiters);
-                    return Ok(answer);
-                }
+                Asked::Answered(answer) => return Ok(answer),
                 Asked::Refused(refusal, call) => return Err((refusal, call)),
                 Asked::Parked(call) => {
-                    // It sleeps only where it was parked by an ask under this very lock. That the turns had not changed a
-                    // moment ago would not do: what it waits for may have come, and all been woken, since that look.
-                    locked = if may_look {
-                        self.look(rt, locked)
-                    } else {
-                        self.sleep(rt, locked)
-                    };
-                    may_look = !may_look;
-                    asked = ask_again(&mut locked.hall, seat, call);
+                    self.bells.wait(rt, seat.number());
+                    asked = self.ask_again(rt, seat, call);
                 }
             }
         }
         unreachable!()
     }
 
-    /// The seat leaves, and all who wait look again whether they can go on: they may be stalled now. A thread leaves
-    /// whatever became of its calls, since nobody is told of a stall while its seat is free.
+    /// The seat leaves. Where no seat is free then, all who wait look again whether they can go on: they may be stalled now. A
+    /// thread leaves whatever became of its calls, since nobody is told of a stall while its seat is free.
     pub fn leave<R: Wait>(&self, rt: &R, seat: Seat<Led>) -> Left<Led>
         ensures { result ≡ seat }
     {
-        let _ = self.locked.lock(rt).hall.leave(&seat);
-        self.wake();
+        let mut hall = self.hall.lock(rt);
+        let _ = hall.leave(&seat);
+        self.let_go(hall);
         seat.into_left()
     }
 
@@ -194,22 +153,12 @@ impl<M: Message, L: MessageLog<M>, Led: Ledger> Switchboard<M, L, Led> {
         ensures total { IfOk result (λ settled. settled.seats + settled.rings ≡ entries_in settled.board.history) }
         ensures back { IfErr result (λ back. back.1 ≡ lefts) }
     {
-        let Switchboard {
-            locked,
-            turns,
-            changed,
-        } = self;
-        let Locked { hall, waiters } = locked.into_inner().into_inner();
-        match hall.settle(lefts) {
+        let Switchboard { hall, bells } = self;
+        match hall.into_inner().into_inner().settle(lefts) {
             Ok(settled) => Ok(settled),
             Err((hall, lefts)) => {
-                let locked = Mutex::new(CachePadded::new(Locked { hall, waiters }));
-                let board = Switchboard {
-                    locked,
-                    turns,
-                    changed,
-                };
-                Err((board, lefts))
+                let hall = Mutex::new(CachePadded::new(hall));
+                Err((Switchboard { hall, bells }, lefts))
             }
         }
     }
@@ -217,55 +166,40 @@ impl<M: Message, L: MessageLog<M>, Led: Ledger> Switchboard<M, L, Led> {
     /// What the lock held. Where a seat was lost, so that it can't be settled, the board is still to be read: its clauses
     /// are those of `Hall::board`.
     pub fn into_hall(self) -> Hall<M, L, Led> {
-        let Switchboard {
-            locked,
-            turns: _,
-            changed: _,
-        } = self;
-        let Locked { hall, waiters: _ } = locked.into_inner().into_inner();
-        hall
+        let Switchboard { hall, bells: _ } = self;
+        hall.into_inner().into_inner()
     }
 
-    /// Lets the lock go, looks for a while whether something changes, and takes the lock again. The seat stays parked.
-    fn look<'a, R: Wait>(
-        &'a self,
-        rt: &R,
-        locked: MutexGuard<'a, CachePadded<Locked<M, L, Led>>>,
-    ) -> MutexGuard<'a, CachePadded<Locked<M, L, Led>>> {
-        let mut locked = locked;
-        if let Waiters::Nobody = locked.waiters {
-            locked.waiters = Waiters::Looking;
+    /// Makes the seat's call, and wakes one that is due. Parked, the seat waits at its bell next: what comes for it from now on
+    /// has it rung, and the ring is kept.
+    fn ask<R: Wait>(&self, rt: &R, seat: &mut Seat<Led>, call: Call<M>) -> Asked<M>
+        ensures { Tells seat.old seat.new call result }
+    {
+        let mut hall = self.hall.lock(rt);
+        let asked = ask(&mut hall, seat, call);
+        self.let_go(hall);
+        asked
+    }
+
+    /// The same where the seat is parked.
+    fn ask_again<R: Wait>(&self, rt: &R, seat: &mut Seat<Led>, call: Call<M>) -> Asked<M>
+        ensures { Tells seat.old seat.new call result }
+    {
+        let mut hall = self.hall.lock(rt);
+        let asked = ask_again(&mut hall, seat, call);
+        self.let_go(hall);
+        asked
+    }
+
+    /// Lets the lock go, and then wakes one seat that is due, if there is one that wasn't woken. It is taken under the lock. Its
+    /// thread takes the lock next, makes its call, and comes by here too.
+    fn let_go(&self, hall: MutexGuard<'_, CachePadded<Hall<M, L, Led>>>) {
+        let mut hall = hall;
+        let due = hall.next_due();
+        drop(hall);
+        if let Some(seat) = due {
+            self.bells.ring(seat);
         }
-        let seen = self.turns.count();
-        drop(locked);
-        self.turns.look(seen);
-        self.locked.lock(rt)
-    }
-
-    /// Sleeps until something has changed. The lock is let go meanwhile.
-    fn sleep<'a, R: Wait>(
-        &'a self,
-        rt: &R,
-        locked: MutexGuard<'a, CachePadded<Locked<M, L, Led>>>,
-    ) -> MutexGuard<'a, CachePadded<Locked<M, L, Led>>> {
-        let mut locked = locked;
-        locked.waiters = Waiters::Sleeping;
-        self.changed.wait(rt, locked)
-    }
-
-    /// Tells those who wait that something has changed. It is done without the lock, which they take next.
-    fn tell(&self, waiters: Waiters) {
-        match waiters {
-            Waiters::Nobody => {}
-            Waiters::Looking => self.turns.raise(),
-            Waiters::Sleeping => self.wake(),
-        }
-    }
-
-    /// Tells all who wait, whether they look or sleep.
-    fn wake(&self) {
-        self.turns.raise();
-        self.changed.notify_all();
     }
 
     /// Makes a call, and gives what its answer replies.

@@ -16,7 +16,7 @@ impl<M: Message, L: MessageLog<M>, Led: Ledger> Hall<M, L, Led> {
     pub fn open_feeds(&self) -> u64
         ensures { result ≡ count_by is_some self.now.feeds }
     {
-        self.room.floor().open_feeds()
+        self.room.open_feeds()
     }
 
     /// Opens a feed of what is multicast on a channel from now on, as `Floor::open_feed` does. The entry that makes its
@@ -29,7 +29,7 @@ impl<M: Message, L: MessageLog<M>, Led: Ledger> Hall<M, L, Led> {
         ensures seats { self.new.seats ≡ self.old.seats }
     {
         let before = self.room.board().entries();
-        let told = self.room.floor_mut().open_feed(channel, capacity);
+        let told = self.room.open_feed(channel, capacity);
         count_since(before, self.room.board(), &mut self.book, &mut self.rest);
         told
     }
@@ -42,7 +42,7 @@ impl<M: Message, L: MessageLog<M>, Led: Ledger> Hall<M, L, Led> {
         ensures seats { self.new.seats ≡ self.old.seats }
     {
         let before = self.room.board().entries();
-        let told = self.room.floor_mut().pump(feed);
+        let told = self.room.pump(feed);
         count_since(before, self.room.board(), &mut self.book, &mut self.rest);
         told
     }
@@ -53,6 +53,6 @@ impl<M: Message, L: MessageLog<M>, Led: Ledger> Hall<M, L, Led> {
         ensures rings { KeepsRings (floor_of self.old) (floor_of self.new) }
         ensures seats { self.new.seats ≡ self.old.seats }
     {
-        self.room.floor_mut().end_feed(feed)
+        self.room.end_feed(feed)
     }
 }

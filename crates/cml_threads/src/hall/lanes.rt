@@ -16,7 +16,7 @@ impl<M: Message, L: MessageLog<M>, Led: Ledger> Hall<M, L, Led> {
     pub fn open_lanes(&self) -> u64
         ensures { result ≡ count_by is_some self.now.lanes }
     {
-        self.room.floor().open_lanes()
+        self.room.open_lanes()
     }
 
     /// Opens a lane to a mailbox or a channel, as `Floor::open_lane` does.
@@ -27,7 +27,7 @@ impl<M: Message, L: MessageLog<M>, Led: Ledger> Hall<M, L, Led> {
         ensures rings { (number : ℕ) → number < length self.old.lanes → SameRing number (floor_of self.old) (floor_of self.new) }
         ensures seats { self.new.seats ≡ self.old.seats }
     {
-        self.room.floor_mut().open_lane(target, capacity)
+        self.room.open_lane(target, capacity)
     }
 
     /// Moves the messages that are seen in the lane's ring into the journal, as `Floor::drain` does. Each entry is
@@ -38,7 +38,7 @@ impl<M: Message, L: MessageLog<M>, Led: Ledger> Hall<M, L, Led> {
         ensures seats { self.new.seats ≡ self.old.seats }
     {
         let before = self.room.board().entries();
-        let told = self.room.floor_mut().drain(lane);
+        let told = self.room.drain(lane);
         count_since(before, self.room.board(), &mut self.book, &mut self.rest);
         told
     }
@@ -52,7 +52,7 @@ impl<M: Message, L: MessageLog<M>, Led: Ledger> Hall<M, L, Led> {
         ensures seats { self.new.seats ≡ self.old.seats }
     {
         let before = self.room.board().entries();
-        let told = self.room.floor_mut().close_lane(end);
+        let told = self.room.close_lane(end);
         count_since(before, self.room.board(), &mut self.book, &mut self.rest);
         told
     }
@@ -65,7 +65,7 @@ impl<M: Message, L: MessageLog<M>, Led: Ledger> Hall<M, L, Led> {
         ensures seats { self.new.seats ≡ self.old.seats }
     {
         let before = self.room.board().entries();
-        let told = self.room.floor_mut().close_counted(end);
+        let told = self.room.close_counted(end);
         count_since(before, self.room.board(), &mut self.book, &mut self.rest);
         told
     }
@@ -78,7 +78,7 @@ impl<M: Message, L: MessageLog<M>, Led: Ledger> Hall<M, L, Led> {
         ensures seats { self.new.seats ≡ self.old.seats }
     {
         let before = self.room.board().entries();
-        let told = self.room.floor_mut().drop_lane(lane);
+        let told = self.room.drop_lane(lane);
         count_since(before, self.room.board(), &mut self.book, &mut self.rest);
         told
     }
@@ -89,6 +89,6 @@ impl<M: Message, L: MessageLog<M>, Led: Ledger> Hall<M, L, Led> {
         ensures rings { KeepsRings (floor_of self.old) (floor_of self.new) }
         ensures seats { self.new.seats ≡ self.old.seats }
     {
-        self.room.floor_mut().abandon_lane(lane)
+        self.room.abandon_lane(lane)
     }
 }

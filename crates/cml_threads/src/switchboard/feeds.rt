@@ -13,7 +13,7 @@ use std::sync::ledger::Ledger;
 impl<M: Message, L: MessageLog<M>, Led: Ledger> Switchboard<M, L, Led> {
     /// Opens a feed of what is multicast on a channel from now on, whose ring has room for `capacity` messages, and tells
     /// its number. Its port is the feed's own while it is open: what a seat would receive from it, and what would close
-    /// it, is refused `WrongKind`. All who wait look again, unless it is refused.
+    /// it, is refused `WrongKind`.
     pub fn open_feed<R: Wait>(
         &self,
         rt: &R,
@@ -25,24 +25,21 @@ impl<M: Message, L: MessageLog<M>, Led: Ledger> Switchboard<M, L, Led> {
         ensures feed { IfOk result (λ feed. feed.0 ≡ record { ring = feed.0.ring; number = feed.1; port = feed.0.port; taken = [] }) }
         ensures refused { IfErr result MayRefuseFeed }
     {
-        let told = self.locked.lock(rt).hall.open_feed(channel, capacity);
-        if told.is_ok() {
-            self.wake();
-        }
+        let mut hall = self.hall.lock(rt);
+        let told = hall.open_feed(channel, capacity);
+        self.let_go(hall);
         told
     }
 
     /// Receives from an open feed's port what it is owed, in order, each by a call of the feed's own, and puts it into the
     /// ring while a slot is known to be free: how many messages. It stops where one is refused, and is itself refused,
-    /// `JournalFull` or `NoMemory`, only where that was the first; `NoSuch` where no open feed has the number. Where
-    /// something was pumped all who wait look again.
+    /// `JournalFull` or `NoMemory`, only where that was the first; `NoSuch` where no open feed has the number.
     pub fn pump<R: Wait>(&self, rt: &R, feed: u64) -> Result<usize, Refusal>
         ensures { IfErr result MayRefuseDrain }
     {
-        let told = self.locked.lock(rt).hall.pump(feed);
-        if !matches!(&told, Ok(0) | Err(_)) {
-            self.wake();
-        }
+        let mut hall = self.hall.lock(rt);
+        let told = hall.pump(feed);
+        self.let_go(hall);
         told
     }
 
@@ -52,6 +49,9 @@ impl<M: Message, L: MessageLog<M>, Led: Ledger> Switchboard<M, L, Led> {
         ensures end { IfOk result (λ end. IfSome end (λ whole. whole.number ≡ feed)) }
         ensures refused { IfErr result (λ refusal. refusal ≡ NoSuch) }
     {
-        self.locked.lock(rt).hall.end_feed(feed)
+        let mut hall = self.hall.lock(rt);
+        let told = hall.end_feed(feed);
+        self.let_go(hall);
+        told
     }
 }

@@ -1,5 +1,4 @@
 use Rattle.std.proofs.Common.{subst}
-use Rattle.cml_lanes.specs.Floor.{FloorShown}
 use Rattle.cml_lanes.specs.Lanes.{ClosesCounted}
 use Rattle.cml_lanes.proofs.Deeds.{closes_counted}
 use Rattle.cml_room.specs.Room as room
@@ -9,21 +8,20 @@ use Rattle.cml_threads.proofs.hall.Hall.close_counted.Goals as goal
 
 pub count_since-requires-clause-grown : goal.count_since-requires-clause-grown
 count_since-requires-clause-grown g c =
-    grown_in c.self.inside.room c.floor_mut.result.now c.close_counted-told.new.self c.board.result.now c.board-2.result.now c.entries-before.result
-    c.entries-before.ensures c.board.ensures.board c.board-2.ensures.board c.floor_mut.ensures.value
-    (closes_counted g.L.MessageLog.CHUNK g.M.Message.SURE c.floor_mut.result.now c.close_counted-told.new.self c.args.end c.close_counted-told.result c.close_counted-told.ensures.closes)
+    grown_in c.self.inside.room c.close_counted-told.new.self c.board.result.now c.board-2.result.now c.entries-before.result
+    c.entries-before.ensures c.board.ensures.board c.board-2.ensures.board
+    (closes_counted g.L.MessageLog.CHUNK g.M.Message.SURE (room.floor_of c.self.inside.room) (room.floor_of c.close_counted-told.new.self) c.args.end c.close_counted-told.result c.close_counted-told.ensures.closes)
 
 pub invariant_of-self : goal.invariant_of-self
 invariant_of-self g c =
-    counted_in c.self.inside.room c.floor_mut.result.now c.close_counted-told.new.self c.board.result.now c.board-2.result.now c.entries-before.result
+    counted_in c.self.inside.room c.close_counted-told.new.self c.board.result.now c.board-2.result.now c.entries-before.result
     c.self.inside.book.total c.self.inside.rest.amount c.self.inside.rest.parts g.Led.Ledger.parts
     c.count_since.new.book.total c.count_since.new.rest.amount c.count_since.new.rest.parts
-    c.self.invariant c.entries-before.ensures c.board.ensures.board c.board-2.ensures.board c.floor_mut.ensures.value
-    (closes_counted g.L.MessageLog.CHUNK g.M.Message.SURE c.floor_mut.result.now c.close_counted-told.new.self c.args.end c.close_counted-told.result c.close_counted-told.ensures.closes)
+    c.self.invariant c.entries-before.ensures c.board.ensures.board c.board-2.ensures.board
+    (closes_counted g.L.MessageLog.CHUNK g.M.Message.SURE (room.floor_of c.self.inside.room) (room.floor_of c.close_counted-told.new.self) c.args.end c.close_counted-told.result c.close_counted-told.ensures.closes)
+    c.close_counted-told.ensures.seats
     c.count_since.ensures.total c.count_since.ensures.amount c.count_since.ensures.parts
 
 pub returns-clause-closes : goal.returns-clause-closes
 returns-clause-closes g c =
-    let here : ClosesCounted g.L.MessageLog.CHUNK g.M.Message.SURE (room.floor_of c.self.inside.room) c.close_counted-told.new.self c.args.end c.close_counted-told.result =
-    subst (λ (f : FloorShown g.row.M.Denot). ClosesCounted g.L.MessageLog.CHUNK g.M.Message.SURE f c.close_counted-told.new.self c.args.end c.close_counted-told.result) c.floor_mut.ensures.value c.close_counted-told.ensures.closes in
-    subst (λ (h : Hosted g.row.M.Denot). ClosesCounted g.L.MessageLog.CHUNK g.M.Message.SURE (floor_of h) c.close_counted-told.new.self c.args.end c.close_counted-told.result) c.self.view_is here
+    subst (λ (h : Hosted g.row.M.Denot). ClosesCounted g.L.MessageLog.CHUNK g.M.Message.SURE (floor_of h) (room.floor_of c.close_counted-told.new.self) c.args.end c.close_counted-told.result) c.self.view_is c.close_counted-told.ensures.closes

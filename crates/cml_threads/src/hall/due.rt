@@ -1,0 +1,43 @@
+//! Who is due, of the seats that wait.
+ghost use Rattle.std.specs.Prelude.{◌≡◌, ℕ, true, false, Some, IfSome, IfNone, length, slice_get};
+ghost use Rattle.cml_board.specs.declared.want.Want.{Want};
+ghost use Rattle.cml_room.specs.declared.notice.Notice.TheVariants.{Woken};
+ghost use Rattle.cml_room.specs.Room.{is_due, state_of, SleepsRightly};
+ghost use Rattle.cml_threads.specs.Hosting.{floor_of, room_of};
+
+use super::Hall;
+use cml_board::Message;
+use cml_log::MessageLog;
+use cml_room::State;
+use std::sync::ledger::Ledger;
+
+impl<M: Message, L: MessageLog<M>, Led: Ledger> Hall<M, L, Led> {
+    /// How many seats were made.
+    pub fn seats(&self) -> usize
+        ensures { result ≡ length self.now.seats }
+    {
+        self.room.seats()
+    }
+
+    /// Whether the seat is due: it waits, and something has come since it last asked for which it may go on. A seat that waits
+    /// and isn't due sleeps rightly. So nobody is left asleep by a caller who wakes each seat that `next_due` gives.
+    pub fn is_due(&self, seat: u64) -> bool
+        ensures due { result ≡ is_due (room_of self.now) seat }
+        ensures asleep { result ≡ false → (on : Want) → state_of (room_of self.now) seat ≡ Some (State.Parked on) → SleepsRightly (room_of self.now) on }
+    {
+        self.room.is_due(seat)
+    }
+
+    /// The next seat that is due and wasn't given before since it last asked: wake it, and it asks again. The one that has
+    /// been due the longest comes first. None, where each that is due was given.
+    pub fn next_due(&mut self) -> Option<u64>
+        ensures given { IfSome result (λ number. (is_due (room_of self.old) number ≡ true) × (slice_get self.new.notices number ≡ Some Woken)) }
+        ensures all { IfNone result ((number : ℕ) → is_due (room_of self.new) number ≡ true → slice_get self.new.notices number ≡ Some Woken) }
+        ensures same { (number : ℕ) → is_due (room_of self.new) number ≡ is_due (room_of self.old) number }
+        ensures floor { floor_of self.new ≡ floor_of self.old }
+        ensures seats { self.new.seats ≡ self.old.seats }
+        ensures book { self.new.book ≡ self.old.book }
+    {
+        self.room.next_due()
+    }
+}
