@@ -6,9 +6,9 @@ use std::alloc::{AllocError, Global};
 use std::sync::Wait;
 use std::sync::atomic::{AtomicU64, Ordering};
 
-/// How often a thread looks before it sleeps, each time after a longer pause: first it spins, and the last times it lets
-/// other threads run.
-const LOOKS: u32 = 11;
+/// How often a thread looks before it sleeps, each time after a longer pause. It spins in all but the last pause, for about as
+/// long as it takes to sleep and be woken. In the last it lets other threads run, of which one may ring it.
+const LOOKS: u32 = 8;
 
 // What the word of a bell is.
 const QUIET: u64 = 0;
