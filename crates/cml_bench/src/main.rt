@@ -84,7 +84,7 @@ const WORKS: &[(&str, Work)] = &[
     ("soak1", Work::Soak),
 ];
 
-/// What a workload came to: a sum over the messages that were received, and how many calls took which time.
+/// What a workload came to: a sum over the messages that were received, and how many calls, hops or requests took which time.
 #[derive(Clone, Copy)]
 pub struct Tally {
     pub sum: u64,
@@ -297,7 +297,7 @@ fn print_tally<R: Print>(rt: &R, telling: Telling, name: &str, tally: Tally) -> 
     }
 }
 
-/// Nanoseconds that each of so many calls took, and a tenth's digit.
+/// Nanoseconds that each of so many took, and a tenth's digit.
 fn print_time<R: Print>(
     rt: &R,
     name: &str,

@@ -2,17 +2,18 @@
 ghost use Rattle.std.specs.Prelude.{◌≡◌, ◌^◌};
 
 mod crew;
+mod crowds;
 mod feeds;
 mod filling;
 mod lanes;
 mod rounds;
 mod soak;
-mod watched;
 
 use crate::{LIMIT, Tally};
 use cml_board::BoardLog;
 use cml_threads::{Left, PARTS, Switchboard};
 use crew::{Job, run};
+use crowds::rounds_each;
 use filling::{fill, make_objects};
 use std::alloc::Global;
 use std::io;
@@ -43,8 +44,10 @@ pub enum Workload {
     Feeds,
     Variables,
     Soak,
-    WatchedVariables,
-    WatchedFanIn,
+    /// A token goes round so many threads.
+    Token(u64),
+    /// So many clients ask, and wait for the answer.
+    Server(u64),
 }
 
 pub const WORKLOADS: &[(&str, Workload)] = &[
@@ -56,8 +59,10 @@ pub const WORKLOADS: &[(&str, Workload)] = &[
     ("feed8", Workload::Feeds),
     ("var2", Workload::Variables),
     ("soak2", Workload::Soak),
-    ("var2_watched", Workload::WatchedVariables),
-    ("fanin4_watched", Workload::WatchedFanIn),
+    ("token8", Workload::Token(8)),
+    ("token63", Workload::Token(63)),
+    ("server32", Workload::Server(32)),
+    ("server128", Workload::Server(128)),
 ];
 
 /// Does a workload so many times, on a switchboard of its own.
@@ -87,7 +92,7 @@ fn perform<Led: Ledger + Send + Sync, R: Clock + Threads + Wait + Sync>(
     let Ok(settled) = shared.settle(lefts) else {
         return Err(io::ErrorKind::InvalidData.into());
     };
-    if settled.count().total != tally.calls {
+    if settled.count().total != workload.entries(count) {
         return Err(io::ErrorKind::InvalidData.into());
     }
     Ok(tally)
@@ -109,7 +114,7 @@ fn work<Led: Ledger + Send + Sync, R: Clock + Threads + Wait + Sync>(
     let sum = run(rt, shared, workload, jobs, lefts, count)?;
     Ok(Tally {
         sum,
-        calls: workload.entries(count),
+        calls: workload.timed(count),
         time: start.elapsed(rt)?,
     })
 }
@@ -119,28 +124,39 @@ impl Workload {
     fn entries(self, count: u64) -> u64 {
         match self {
             Workload::Pairs | Workload::Pipe => count.saturating_mul(2).saturating_add(1),
-            Workload::FanIn | Workload::WatchedFanIn | Workload::Lanes => (count / SENDERS)
+            Workload::FanIn | Workload::Lanes => (count / SENDERS)
                 .saturating_mul(2 * SENDERS)
                 .saturating_add(1),
             Workload::Ports | Workload::Feeds => count
                 .saturating_add(1)
                 .saturating_mul(READERS + 1),
-            Workload::Variables | Workload::WatchedVariables => count
-                .saturating_mul(4)
-                .saturating_add(2),
+            Workload::Variables => count.saturating_mul(4).saturating_add(2),
             Workload::Soak => soak::entries(count),
+            Workload::Token(threads) => self
+                .timed(count)
+                .saturating_mul(2)
+                .saturating_add(threads)
+                .saturating_add(1),
+            Workload::Server(clients) => self
+                .timed(count)
+                .saturating_mul(4)
+                .saturating_add(clients)
+                .saturating_add(1),
         }
     }
 
-    fn is_watched(self) -> bool {
-        matches!(self, Workload::WatchedVariables | Workload::WatchedFanIn)
+    /// How many hops a token makes, or requests a server answers; and else how many calls are made.
+    fn timed(self, count: u64) -> u64 {
+        match self {
+            Workload::Token(threads) | Workload::Server(threads) => {
+                rounds_each(count, threads).saturating_mul(threads)
+            }
+            _ => self.entries(count),
+        }
     }
 
     /// Whether two of its threads wait for each other, so that there is no doing it with one.
     fn is_to_and_fro(self) -> bool {
-        matches!(
-            self,
-            Workload::Variables | Workload::WatchedVariables | Workload::Soak
-        )
+        matches!(self, Workload::Variables | Workload::Soak)
     }
 }

@@ -3,7 +3,6 @@ use super::feeds::{take, tell_and_pump};
 use super::lanes::{drain_all, send_on};
 use super::rounds::Rounds;
 use super::soak::{receive_and_take, send_windows};
-use super::watched::{Progress, watch};
 use super::{Shared, Workload};
 use cml_lanes::{Feed, Lane, LaneEnd};
 use cml_threads::{Left, Seat};
@@ -25,13 +24,11 @@ pub enum Job<Led: Ledger> {
 /// What a thread with a seat does.
 #[derive(Clone, Copy)]
 pub enum Part {
-    /// Whether they are watched.
-    Rounds(Rounds, bool),
+    Rounds(Rounds),
     DrainAll,
     TellAndPump,
     SendWindows,
     ReceiveAndTake,
-    Watch,
 }
 
 /// What a thread hands back.
@@ -86,11 +83,10 @@ fn work_all<Led: Ledger + Send + Sync, R: Clock + Threads + Wait + Sync>(
     jobs: Vec<Job<Led>>,
     count: u64,
 ) -> io::Result<Vec<Done<Led>>> {
-    let progress = Progress::new();
     if workload.is_to_and_fro() {
-        work_beside_last(rt, shared, jobs, count, &progress)
+        work_beside_last(rt, shared, jobs, count)
     } else {
-        work_each(rt, shared, jobs, count, &progress)
+        work_each(rt, shared, jobs, count)
     }
 }
 
@@ -101,13 +97,8 @@ fn work_each<Led: Ledger + Send + Sync, R: Clock + Threads + Wait + Sync>(
     shared: &Shared<Led>,
     jobs: Vec<Job<Led>>,
     count: u64,
-    progress: &Progress,
 ) -> io::Result<Vec<Done<Led>>> {
-    let done = thread::map_vec(
-        rt,
-        jobs,
-        &|job: Job<Led>| { work(rt, shared, job, count, progress) },
-    )?;
+    let done = thread::map_vec(rt, jobs, &|job: Job<Led>| { work(rt, shared, job, count) })?;
     Ok(done)
 }
 
@@ -117,7 +108,6 @@ fn work_beside_last<Led: Ledger + Send + Sync, R: Clock + Threads + Wait + Sync>
     shared: &Shared<Led>,
     jobs: Vec<Job<Led>>,
     count: u64,
-    progress: &Progress,
 ) -> io::Result<Vec<Done<Led>>> {
     let mut jobs = jobs;
     let Some(last) = jobs.pop() else {
@@ -127,8 +117,8 @@ fn work_beside_last<Led: Ledger + Send + Sync, R: Clock + Threads + Wait + Sync>
         thread::scope_env(),
         rt,
         move |scope| -> io::Result<Vec<Done<Led>>> {
-            let thread = scope.spawn(move || work(rt, shared, last, count, progress))?;
-            let mut done = work_each(rt, shared, jobs, count, progress)?;
+            let thread = scope.spawn(move || work(rt, shared, last, count))?;
+            let mut done = work_each(rt, shared, jobs, count)?;
             done.push(thread.join(rt))?;
             Ok(done)
         },
@@ -140,12 +130,11 @@ fn work<Led: Ledger, R: Clock + Wait>(
     shared: &Shared<Led>,
     job: Job<Led>,
     count: u64,
-    progress: &Progress,
 ) -> Done<Led> {
     match job {
         Job::BySeat(seat, part) => {
             let mut seat = seat;
-            let sum = part.perform(rt, shared, &mut seat, count, progress);
+            let sum = part.perform(rt, shared, &mut seat, count);
             Done::Left(shared.leave(rt, seat), sum)
         }
         Job::ByLane(lane, start, end) => Done::Sent(send_on(rt, lane, start, end)),
@@ -161,17 +150,13 @@ impl Part {
         shared: &Shared<Led>,
         seat: &mut Seat<Led>,
         count: u64,
-        progress: &Progress,
     ) -> u64 {
         match self {
-            Part::Rounds(rounds, is_watched) => {
-                rounds.perform(rt, shared, seat, is_watched.then_some(progress))
-            }
+            Part::Rounds(rounds) => rounds.perform(rt, shared, seat),
             Part::DrainAll => drain_all(rt, shared, seat, count),
             Part::TellAndPump => tell_and_pump(rt, shared, seat, count),
             Part::SendWindows => send_windows(rt, shared, seat, count),
             Part::ReceiveAndTake => receive_and_take(rt, shared, seat, count),
-            Part::Watch => watch(rt, shared, seat, progress),
         }
     }
 }

@@ -1,5 +1,6 @@
 //! What a workload needs before its threads are started: its objects, and a job for each thread with its seat, lane or feed.
 use super::crew::{Job, Part};
+use super::crowds::{add_ring, add_server};
 use super::rounds::{Adding, FIRST, Rounds, SECOND, Verb};
 use super::{READERS, SENDERS, Shared, Workload};
 use cml_board::Name;
@@ -11,9 +12,10 @@ use std::sync::ledger::Ledger;
 /// For how many messages a lane or a feed has room.
 const ROOM: usize = 1_024;
 
-type Added = Result<(), io::ErrorKind>;
+pub type Added = Result<(), io::ErrorKind>;
 
-/// Makes the objects by a seat of its own. Where one is refused there are too few entries at the end.
+/// Makes the objects by a seat of its own, and sends a token on its way. Where one is refused there are too few entries at
+/// the end.
 pub fn make_objects<Led: Ledger, R: Wait>(
     rt: &R,
     shared: &Shared<Led>,
@@ -28,6 +30,9 @@ pub fn make_objects<Led: Ledger, R: Wait>(
     for _ in 0..others {
         other.make(rt, shared, &mut seat, 0);
     }
+    if let Workload::Token(_) = workload {
+        Verb::Send(FIRST).make(rt, shared, &mut seat, 1);
+    }
     Ok(shared.leave(rt, seat))
 }
 
@@ -36,8 +41,14 @@ fn objects(workload: Workload) -> (Verb, Verb, u64) {
     match workload {
         Workload::Ports => (Verb::NewChannel, Verb::NewPort(FIRST), READERS),
         Workload::Feeds => (Verb::NewChannel, Verb::NewPort(FIRST), 0),
-        Workload::Variables | Workload::WatchedVariables => (Verb::NewMVar, Verb::NewMVar, 1),
+        Workload::Variables => (Verb::NewMVar, Verb::NewMVar, 1),
         Workload::Soak => (Verb::NewMailbox, Verb::NewMailbox, 1),
+        Workload::Token(threads) => (
+            Verb::NewMailbox,
+            Verb::NewMailbox,
+            threads.saturating_sub(1),
+        ),
+        Workload::Server(clients) => (Verb::NewMailbox, Verb::NewMailbox, clients),
         _ => (Verb::NewMailbox, Verb::NewMailbox, 0),
     }
 }
@@ -50,53 +61,40 @@ pub fn fill<Led: Ledger, R: Wait>(
     count: u64,
     jobs: &mut Vec<Job<Led>>,
 ) -> Added {
-    if workload.is_watched() {
-        add(rt, shared, jobs, Part::Watch)?;
-    }
     match workload {
         Workload::Feeds => add_feeds(rt, shared, jobs)?,
         Workload::Ports => add_readers(rt, shared, jobs, count)?,
+        Workload::Token(threads) => return add_ring(rt, shared, jobs, threads, count),
+        Workload::Server(clients) => return add_server(rt, shared, jobs, clients, count),
         _ => add(rt, shared, jobs, receiver(workload, count))?,
     }
     match workload {
         Workload::Pairs => Ok(()),
         Workload::Lanes => add_lanes(rt, shared, jobs, count / SENDERS),
         Workload::Pipe => add_senders(rt, shared, jobs, 1, count),
-        Workload::FanIn | Workload::WatchedFanIn => {
-            add_senders(rt, shared, jobs, SENDERS, count / SENDERS)
-        }
+        Workload::FanIn => { add_senders(rt, shared, jobs, SENDERS, count / SENDERS) }
         _ => add(rt, shared, jobs, partner(workload, count)),
     }
 }
 
 /// What the one thread does that receives.
 fn receiver(workload: Workload, count: u64) -> Part {
-    let is_watched = workload.is_watched();
     let all = (count / SENDERS).saturating_mul(SENDERS);
     match workload {
         Workload::Lanes => Part::DrainAll,
         Workload::Soak => Part::ReceiveAndTake,
         Workload::Pairs => {
             let (first, second) = (Verb::Send(FIRST), Some(Verb::Recv(FIRST)));
-            Part::Rounds(Rounds::new(first, second, Adding::InOrder, count), false)
+            Part::Rounds(Rounds::new(first, second, Adding::InOrder, count))
         }
-        Workload::Variables | Workload::WatchedVariables => {
+        Workload::Variables => {
             let (first, second) = (Verb::Put(FIRST), Some(Verb::Take(SECOND)));
-            Part::Rounds(
-                Rounds::new(first, second, Adding::InOrder, count),
-                is_watched,
-            )
+            Part::Rounds(Rounds::new(first, second, Adding::InOrder, count))
         }
-        Workload::FanIn | Workload::WatchedFanIn => {
-            Part::Rounds(
-                Rounds::new(Verb::Recv(FIRST), None, Adding::InAnyOrder, all),
-                is_watched,
-            )
+        Workload::FanIn => {
+            Part::Rounds(Rounds::new(Verb::Recv(FIRST), None, Adding::InAnyOrder, all))
         }
-        _ => Part::Rounds(
-            Rounds::new(Verb::Recv(FIRST), None, Adding::InOrder, count),
-            false,
-        ),
+        _ => Part::Rounds(Rounds::new(Verb::Recv(FIRST), None, Adding::InOrder, count)),
     }
 }
 
@@ -106,20 +104,17 @@ fn partner(workload: Workload, count: u64) -> Part {
         Workload::Feeds => Part::TellAndPump,
         Workload::Soak => Part::SendWindows,
         Workload::Ports => {
-            Part::Rounds(
-                Rounds::new(Verb::Cast(FIRST), None, Adding::Nothing, count),
-                false,
-            )
+            Part::Rounds(Rounds::new(Verb::Cast(FIRST), None, Adding::Nothing, count))
         }
         _ => {
             let (first, second) = (Verb::Take(FIRST), Some(Verb::Put(SECOND)));
-            Part::Rounds(Rounds::new(first, second, Adding::Nothing, count), false)
+            Part::Rounds(Rounds::new(first, second, Adding::Nothing, count))
         }
     }
 }
 
 /// A job for a thread with a new seat.
-fn add<Led: Ledger, R: Wait>(
+pub fn add<Led: Ledger, R: Wait>(
     rt: &R,
     shared: &Shared<Led>,
     jobs: &mut Vec<Job<Led>>,
@@ -152,7 +147,7 @@ fn add_senders<Led: Ledger, R: Wait>(
             end: sender.saturating_add(1).saturating_mul(each),
             ..Rounds::new(Verb::Send(FIRST), None, Adding::Nothing, each)
         };
-        add(rt, shared, jobs, Part::Rounds(rounds, false))?;
+        add(rt, shared, jobs, Part::Rounds(rounds))?;
     }
     Ok(())
 }
@@ -186,7 +181,7 @@ fn add_readers<Led: Ledger, R: Wait>(
 ) -> Added {
     for port in 1..=READERS {
         let rounds = Rounds::new(Verb::Recv(Name(port)), None, Adding::InAnyOrder, count);
-        add(rt, shared, jobs, Part::Rounds(rounds, false))?;
+        add(rt, shared, jobs, Part::Rounds(rounds))?;
     }
     Ok(())
 }

@@ -1,13 +1,12 @@
 //! What most threads of a workload do: the same calls in turn, round after round. A call that is refused ends them, and then
 //! whoever waits for it is told that all are stalled.
 use super::Shared;
-use super::watched::Progress;
 use cml_board::{Call, Name, Reply};
 use cml_threads::Seat;
 use std::sync::Wait;
 use std::sync::ledger::Ledger;
 
-/// The mailbox or the channel, or the variable that the asking thread puts into.
+/// The mailbox or the channel, the variable that the asking thread puts into, or where a server is asked.
 pub const FIRST: Name = Name(0);
 
 /// The variable that the asking thread takes from, or the mailbox by which the sender is told to go on.
@@ -25,6 +24,10 @@ pub enum Verb {
     Recv(Name),
     Put(Name),
     Take(Name),
+    /// Sends the number of this mailbox, at which the answer is waited for.
+    Ask(Name),
+    /// Sends to the mailbox whose number was got.
+    Answer,
 }
 
 /// How the messages that were received are added up.
@@ -59,6 +62,8 @@ impl Verb {
             Verb::Recv(name) => Call::Recv(name),
             Verb::Put(name) => Call::Put(name, message),
             Verb::Take(name) => Call::Take(name),
+            Verb::Ask(name) => Call::Send(FIRST, name.0),
+            Verb::Answer => Call::Send(Name(message), message),
         }
     }
 
@@ -102,13 +107,12 @@ impl Rounds {
         }
     }
 
-    /// A sum over the messages. Where these rounds are watched, each is noted, and their end.
+    /// A sum over the messages.
     pub fn perform<Led: Ledger, R: Wait>(
         self,
         rt: &R,
         shared: &Shared<Led>,
         seat: &mut Seat<Led>,
-        progress: Option<&Progress>,
     ) -> u64 {
         let mut sum = 0u64;
         for number in self.start..self.end {
@@ -116,12 +120,6 @@ impl Rounds {
                 break;
             };
             sum = self.adding.add(sum, message);
-            if let Some(progress) = progress {
-                progress.raise();
-            }
-        }
-        if let Some(progress) = progress {
-            progress.end();
         }
         sum
     }
