@@ -13,7 +13,8 @@ use Rattle.cml_script.specs.declared.stop.Stop.{Stop}
 use Rattle.cml_script.specs.declared.stop.Stop.TheVariants.{Done, Stalled, Full}
 use Rattle.cml_script.specs.Schedule.{History, Schedule, Follows, Ends, NoneReady, declared_count, left, is_called, performed, positions_from, step_call}
 use Rattle.cml_script.specs.Stage.{IsLeast}
-use Rattle.cml_script.specs.Laws.{ScriptsHaveASchedule, StalledThreadsWait, SomeThreadWaits, WaitsAtNext, steps_of_seat}
+use Rattle.cml_script.specs.Laws.{ScriptsHaveASchedule, StalledThreadsWait, SomeThreadWaits, steps_of_seat}
+use Rattle.cml_script.specs.Stalling.{WaitsAtNext}
 use Rattle.cml_grammar.specs.Rings.{first_ring}
 use Rattle.cml_script.proofs.LineLemmas.{stands}
 use Rattle.cml_script.proofs.PlainLemmas.{plain_maker, plain_count}

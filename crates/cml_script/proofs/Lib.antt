@@ -32,5 +32,6 @@ pub mod WorkLemmas
 pub mod TurnLemmas
 pub mod DeclareLemmas
 pub mod HeldLemmas
+pub mod StallingLemmas
 pub mod ConcludingLemmas
 pub mod WholeLemmas

@@ -1,14 +1,12 @@
 -- What the definitions come to.
-use Rattle.std.specs.Prelude.{ℕ, ◌≡◌, ◌<◌, List, Some, None}
-use Rattle.cml_board.specs.declared.call.Call.{Call}
-use Rattle.cml_board.specs.declared.entry.Who.TheVariants.{Seat}
-use Rattle.cml_board.specs.History.{Fits, answer}
+use Rattle.std.specs.Prelude.{ℕ, ◌≡◌, ◌<◌, List, None}
 use Rattle.cml_grammar.specs.Script.{Lines, IsScript}
 use Rattle.cml_grammar.specs.Rings.{first_ring}
 use Rattle.cml_script.specs.declared.stop.Stop.{Stop}
 use Rattle.cml_script.specs.declared.stop.Stop.TheVariants.{Stalled}
 use Rattle.cml_script.specs.Counting.{how_many}
-use Rattle.cml_script.specs.Schedule.{History, Schedule, is_seated, performed, next_position, step_call, left}
+use Rattle.cml_script.specs.Schedule.{History, Schedule, is_seated, performed, left}
+use Rattle.cml_script.specs.Stalling.{WaitsAtNext}
 use Rattle.cml_script.specs.Report.{no_rings, unperformed}
 
 -- under a limit a script has one history at most, and it ends in one way
@@ -26,15 +24,6 @@ ScriptsHaveASchedule =
 -- how many steps the thread with this seat has
 abbrev pub steps_of_seat : Lines → ℕ → ℕ
 steps_of_seat script seat = how_many (is_seated script seat) script.steps
-
--- the thread with this seat has a next step, whose call fits and would wait
-pub record WaitsAtNext (script : Lines) (history : History) (seat : ℕ) : Type 0 where
-  pub step : ℕ
-  pub asked : Call (List ℕ)
-  pub next : next_position script history (Seat seat) ≡ Some step
-  pub calls : step_call script history step ≡ Some asked
-  pub fits : Fits history asked
-  pub waits : answer history asked ≡ None
 
 -- where a script's history ends stalled, each thread with steps left waits at its next one
 abbrev pub StalledThreadsWait : Type 0

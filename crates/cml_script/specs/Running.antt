@@ -12,14 +12,15 @@ use Rattle.cml_script.specs.Schedule.{History, apart_count, feed_count, feed_at,
 use Rattle.cml_script.specs.Audit.{IsOfScript, IsFirstForeign}
 use Rattle.cml_script.specs.Report.{Tallied, taken_by, unperformed, report}
 use Rattle.cml_script.specs.Left.{HasLeft}
+use Rattle.cml_script.specs.Stalling.{NobodyGoesOn}
 use Rattle.cml_script.specs.Replay.{IsFaulty}
 use Rattle.cml_board.specs.Checking.{IsFirstUnlawful}
 
--- what is left where a run ends so: no step where it is done, and one at least where it is stalled or held; where it is full the
--- journal is at its limit, and something is left
+-- what is left where a run ends so: no step where it is done, and one at least where it is stalled or held; where it is stalled
+-- nobody could go on; where it is full the journal is at its limit, and something is left
 abbrev pub Leaves : Lines → ℕ → History → Tallied → Stop → Type 0
 Leaves script limit history tally stop.Done = unperformed script history tally ≡ 0
-Leaves script limit history tally stop.Stalled = 0 < unperformed script history tally
+Leaves script limit history tally stop.Stalled = (0 < unperformed script history tally) × NobodyGoesOn script limit history
 Leaves script limit history tally stop.Held = 0 < unperformed script history tally
 Leaves script limit history tally stop.Full = (entries_in history ≡ limit) × HasLeft script history tally
 

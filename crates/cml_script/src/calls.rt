@@ -1,10 +1,11 @@
 //! The calls that steps ask for.
-ghost use Rattle.std.specs.Prelude.{◌≡◌, ◌↔◌, IsTrue, IfOk};
+ghost use Rattle.std.specs.Prelude.{◌≡◌, ◌↔◌, None, IsTrue, IfOk};
+ghost use Rattle.cml_board.specs.History.{Fits, answer};
 ghost use Rattle.cml_board.specs.Waiting.{want_in};
 ghost use Rattle.cml_grammar.specs.Reading.{used_by};
 ghost use Rattle.cml_script.specs.Stage.{call_on};
 
-use cml_board::{Call, Message, Name, Text, Want};
+use cml_board::{Board, BoardLog, Call, Message, Name, Text, Want, calls_wait_by_want};
 use cml_grammar::Action;
 use std::alloc::AllocError;
 
@@ -56,6 +57,18 @@ pub fn want_on(action: &Action, object: Name) -> Option<Want>
         Action::Send(_, _) | Action::Multicast(_, _) | Action::Put(_, _) => None,
         Action::Poll(_) | Action::GetPoll(_) | Action::TakePoll(_) => None,
         Action::Port(_) | Action::Copy(_) | Action::Close(_) => None,
+    }
+}
+
+/// Whether that call fits the object, and would wait.
+pub fn would_wait(board: &Board<Text, BoardLog<Text>>, action: &Action, object: Name) -> bool
+    ensures { IsTrue result ↔ (Fits board.now.history (call_on action.now object) × (answer board.now.history (call_on action.now object) ≡ None)) }
+{
+    // A call waits just where one with its want does.
+    calls_wait_by_want::<Text>();
+    match want_on(action, object) {
+        Some(want) => board.waits(want),
+        None => false,
     }
 }
 

@@ -8,6 +8,7 @@ mod crew;
 mod declaring;
 mod gate;
 mod rings;
+mod stalling;
 mod worker;
 
 use crate::ending::Ending;

@@ -14,9 +14,9 @@ ghost use Rattle.cml_script.specs.Plan.{IsObject, IsObjectAt};
 ghost use Rattle.cml_script.specs.Stage.{with_entry, IsNextObject, IsNext, IsNextStep, IsBound, WaitsIf, earlier_of, IsLeast, IsReadyOf, NoneReadyOf, IsStepAt};
 
 use crate::binding::{Binding, bind};
-use crate::calls::{call_on, used_by, want_on};
+use crate::calls::{call_on, used_by, would_wait};
 use crate::plan::{Plan, THREADS};
-use cml_board::{Board, BoardLog, Call, Name, Outcome, Refusal, Text, Who, calls_wait_by_want};
+use cml_board::{Board, BoardLog, Call, Name, Outcome, Refusal, Text, Who};
 use cml_grammar::{Action, Makes, Script};
 use std::alloc::{AllocError, Global};
 use std::marker::Model;
@@ -197,13 +197,8 @@ impl<'a> Stage<'a> {
         requires bound { IsBound self.now (used_by action.now) }
         ensures { WaitsIf self.now.history (call_of (object_of self.now.script self.now.history) action.now) result }
     {
-        // A call waits just where one with its want does.
-        calls_wait_by_want::<Text>();
         let object = self.bound_object(used_by(action));
-        match want_on(action, object) {
-            Some(want) => self.board.waits(want),
-            None => false,
-        }
+        would_wait(&self.board, action, object)
     }
 
     /// The call of the i-th step, which is its thread's next.

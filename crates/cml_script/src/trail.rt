@@ -1,5 +1,5 @@
 //! How far the threads of a script are in a journal.
-ghost use Rattle.std.specs.Prelude.{◌≡◌, ◌↔◌, ℕ, ◌<◌, ◌≤◌, Some, None, length, filter, slice_get, IfOk, IfSome, IsTrue, MatchOption};
+ghost use Rattle.std.specs.Prelude.{◌≡◌, ◌↔◌, ℕ, ◌+◌, ◌<◌, ◌≤◌, Some, None, length, filter, slice_get, IfOk, IfSome, IsTrue, MatchOption};
 ghost use Rattle.std.specs.Option.{option_map, option_and_then};
 ghost use Rattle.cml_board.specs.History.{entries_in};
 ghost use Rattle.cml_grammar.specs.Meaning.{names_of};
@@ -8,13 +8,14 @@ ghost use Rattle.cml_script.specs.Plan.{IsKnown, IsObject};
 ghost use Rattle.cml_script.specs.Audit.{IsOwn, IsOfCaller, IsOfLane, IsOfFeed, sent_to};
 ghost use Rattle.cml_script.specs.Makes.{IsMadeOfDeclared};
 ghost use Rattle.cml_script.specs.Report.{given_word};
+ghost use Rattle.cml_script.specs.Stalling.{WaitsOrIsDone};
 ghost use Rattle.cml_script.specs.Trail.{history_of, with_next, next_text, IsThread, IsNoThread, AreSmallCounts, CountsOneMore, next_given, next_call, declared_call};
 
 use crate::binding::{Binding, bind};
-use crate::calls::{is_call_on, used_by};
+use crate::calls::{is_call_on, used_by, would_wait};
 use crate::objects::Objects;
 use crate::plan::{Plan, THREADS};
-use cml_board::{Call, Entry, Message, Name, Text, Who};
+use cml_board::{Board, BoardLog, Call, Entry, Message, Name, Text, Who};
 use cml_grammar::{Makes, Script};
 use std::alloc::{AllocError, Global};
 use std::marker::Model;
@@ -177,6 +178,35 @@ impl<'a> Trail<'a> {
     {
         match self.objects.feed_place(feed) {
             Some(at) => call.same(&Call::Recv(self.plan.number(at))),
+            None => false,
+        }
+    }
+
+    /// Whether on the board with these entries each thread whose seat has steps left would wait at the next of them.
+    pub fn all_wait(&self, board: &Board<Text, BoardLog<Text>>) -> bool
+        requires { board.now.history ≡ history_of self.now }
+        ensures { IsTrue result ↔ ((seat : ℕ) → WaitsOrIsDone self.now.script (history_of self.now) seat) }
+    {
+        for thread in 0..self.counts.len() {
+            if !self.waits(board, thread) {
+                return false;
+            }
+        }
+        true
+    }
+
+    /// The same of one thread.
+    fn waits(&self, board: &Board<Text, BoardLog<Text>>, thread: usize) -> bool
+        requires thread { thread < 64 }
+        requires board { board.now.history ≡ history_of self.now }
+        ensures { IsTrue result ↔ WaitsOrIsDone self.now.script (history_of self.now) (thread + 1) }
+    {
+        let Some(step) = self.next_step(Who::Seat(thread as u64 + 1)) else {
+            return true;
+        };
+        let action = &self.plan.script().steps()[step].action;
+        match self.object(used_by(action)) {
+            Some(object) => would_wait(board, action, object),
             None => false,
         }
     }

@@ -3,8 +3,10 @@ ghost use Rattle.std.specs.Prelude.{◌≡◌, ◌↔◌, ◌<◌, ℕ, length, 
 ghost use Rattle.cml_board.specs.History.{no_entries};
 ghost use Rattle.cml_script.specs.Audit.{IsOfScript};
 ghost use Rattle.cml_script.specs.Left.{HasLeft};
+ghost use Rattle.cml_script.specs.Stalling.{NobodyGoesOn};
 ghost use Rattle.cml_script.specs.Running.{IsReportOf, IsRefused, IsUnsettled, IsTakenAt, Leaves, MayEnd};
 
+use super::stalling::nobody_goes_on;
 use crate::auditing::audit;
 use crate::ending::Ending;
 use crate::perform::Played;
@@ -17,7 +19,7 @@ use crate::verdict::Verdict;
 use crate::whole::journal;
 use cml_board::{Board, BoardLog, Text};
 use cml_grammar::Script;
-use std::alloc::Global;
+use std::alloc::{AllocError, Global};
 
 /// The report of a script's journal that nobody cut, once it is audited, and where it may end so with this tally.
 pub fn conclude(
@@ -76,7 +78,7 @@ fn tell(
     // That the history is lawful and within the limit is what the journal's reader tells.
     let entries = journal(board).len();
     let plan = Plan::new(alloc, script)?;
-    if !may_end(&plan, board, tally, stop) {
+    if !may_end(alloc, &plan, board, tally, stop)? {
         return Err(Ending::NotLawful(entries));
     }
     let report = report(alloc, script, board, tally, stop)?;
@@ -84,32 +86,62 @@ fn tell(
 }
 
 /// Whether a run may end so with this journal and this tally.
-fn may_end(plan: &Plan<'_>, board: &Board<Text, BoardLog<Text>>, tally: &Tally, stop: Stop) -> bool
+fn may_end(
+    alloc: Global,
+    plan: &Plan<'_>,
+    board: &Board<Text, BoardLog<Text>>,
+    tally: &Tally,
+    stop: Stop,
+) -> Result<bool, AllocError>
     requires { board.now.past ≡ no_entries }
-    ensures { IsTrue result ↔ MayEnd plan.now board.now.limit board.now.history tally.now stop }
+    ensures { IfOk result (λ may. IsTrue may ↔ MayEnd plan.now board.now.limit board.now.history tally.now stop) }
 {
-    if !leaves(plan, board, tally, stop) {
-        return false;
+    if !leaves(alloc, plan, board, tally, stop)? {
+        return Ok(false);
     }
     if tally.apart > plan.apart() {
-        return false;
+        return Ok(false);
     }
     if tally.taken.len() != count_feeds(plan.script()) {
-        return false;
+        return Ok(false);
     }
-    takes_what_was_got(plan, board, tally)
+    Ok(takes_what_was_got(plan, board, tally))
 }
 
-/// Whether so much is left.
-fn leaves(plan: &Plan<'_>, board: &Board<Text, BoardLog<Text>>, tally: &Tally, stop: Stop) -> bool
+/// Whether so much is left, and where it is stalled nobody could go on.
+fn leaves(
+    alloc: Global,
+    plan: &Plan<'_>,
+    board: &Board<Text, BoardLog<Text>>,
+    tally: &Tally,
+    stop: Stop,
+) -> Result<bool, AllocError>
     requires { board.now.past ≡ no_entries }
-    ensures { IsTrue result ↔ Leaves plan.now board.now.limit board.now.history tally.now stop }
+    ensures { IfOk result (λ may. IsTrue may ↔ Leaves plan.now board.now.limit board.now.history tally.now stop) }
 {
+    let left = unperformed(plan.script(), board, tally);
     match stop {
-        Stop::Done => unperformed(plan.script(), board, tally) == 0,
-        Stop::Stalled | Stop::Held => 0 < unperformed(plan.script(), board, tally),
-        Stop::Full => board.entries() == board.limit() && has_left(plan, board, tally),
+        Stop::Done => Ok(left == 0),
+        Stop::Stalled => stalls(alloc, plan.script(), board, left),
+        Stop::Held => Ok(0 < left),
+        Stop::Full => Ok(board.entries() == board.limit() && has_left(plan, board, tally)),
     }
+}
+
+/// Whether a step is left, and nobody could go on.
+fn stalls(
+    alloc: Global,
+    script: &Script,
+    board: &Board<Text, BoardLog<Text>>,
+    left: usize,
+) -> Result<bool, AllocError>
+    requires { board.now.past ≡ no_entries }
+    ensures { IfOk result (λ stalls. IsTrue stalls ↔ ((0 < left) × NobodyGoesOn script.now board.now.limit board.now.history)) }
+{
+    if left == 0 {
+        return Ok(false);
+    }
+    nobody_goes_on(alloc, script, board)
 }
 
 /// Whether a declared object was not made, a step was not performed, or a message sent by a lane was not moved.

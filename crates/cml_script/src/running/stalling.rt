@@ -1,0 +1,47 @@
+//! Whether nobody could go on where a run ends.
+ghost use Rattle.std.specs.Prelude.{◌≡◌, ◌↔◌, reverse, IsTrue, IfOk};
+ghost use Rattle.cml_board.specs.History.{no_entries};
+ghost use Rattle.cml_script.specs.Stalling.{NobodyGoesOn};
+ghost use Rattle.cml_script.specs.Trail.{history_of};
+
+use crate::trail::Trail;
+use crate::whole::journal;
+use cml_board::{Board, BoardLog, Entry, Text};
+use cml_grammar::Script;
+use std::alloc::{AllocError, Global};
+
+/// Whether nobody could go on behind a board's journal that nobody cut. It takes time and memory in proportion to the script and
+/// the journal.
+pub fn nobody_goes_on(
+    alloc: Global,
+    script: &Script,
+    board: &Board<Text, BoardLog<Text>>,
+) -> Result<bool, AllocError>
+    requires { board.now.past ≡ no_entries }
+    ensures { IfOk result (λ stuck. IsTrue stuck ↔ NobodyGoesOn script.now board.now.limit board.now.history) }
+{
+    let trail = follow_all(alloc, script, journal(board))?;
+    if board.entries() >= board.limit() {
+        return Ok(false);
+    }
+    if !trail.has_begun() {
+        return Ok(false);
+    }
+    Ok(trail.all_wait(board))
+}
+
+/// A trail that has followed a journal to its end.
+fn follow_all<'a>(
+    alloc: Global,
+    script: &'a Script,
+    journal: &'a [Entry<Text>],
+) -> Result<Trail<'a>, AllocError>
+    ensures script { IfOk result (λ trail. trail.script ≡ script.now) }
+    ensures followed { IfOk result (λ trail. history_of trail ≡ reverse journal.now) }
+{
+    let mut trail = Trail::new(alloc, script, journal)?;
+    for _ in 0..journal.len() {
+        trail.follow();
+    }
+    Ok(trail)
+}
