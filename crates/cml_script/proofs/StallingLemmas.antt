@@ -1,30 +1,71 @@
--- When each thread waits at its next step.
-use Rattle.std.proofs.Common.{◌≡◌, ℕ, ◌+◌, ◌-◌, ◌<◌, ◌≤◌, List, length, Some, None, Bool, sym, ap, subst, ◌∙◌, arith, inl, inr}
+-- When nobody could go on.
+use Rattle.std.proofs.Common.{◌≡◌, ℕ, ◌+◌, ◌-◌, ◌<◌, ◌≤◌, Bool, true, false, cond, ◌&&◌, List, [], ◌∷◌, length, map, take, slice_get, Some, None, refl, sym, ap, subst, ◌∙◌, arith, inl, inr}
 use Rattle.std.specs.Prelude.{◌↔◌, IsTrue}
-use Rattle.std.specs.Option.{option_and_then}
-use Rattle.std.proofs.lemmas.Option.{same_Some, none-some}
+use Rattle.std.specs.Option.{option_map_or, option_and_then}
+use Rattle.std.proofs.lemmas.Option.{same_Some, none-some, slice_get_within}
+use Rattle.std.proofs.lemmas.List.{length-map, length-take-le}
 use Rattle.std.proofs.lemmas.Bool.{cases_lt}
 use Rattle.cml_board.specs.declared.call.Call.{Call}
 use Rattle.cml_board.specs.declared.entry.Who.TheVariants.{Seat}
 use Rattle.cml_board.specs.History.{Fits, answer}
-use Rattle.cml_grammar.specs.Script.{Lines}
-use Rattle.cml_script.specs.Schedule.{History, declared_count, is_called, next_position, performed, step_call}
-use Rattle.cml_script.specs.Plan.{HasSeats}
-use Rattle.cml_script.specs.Stalling.{WaitsOrIsDone, NobodyGoesOn}
-use Rattle.cml_script.specs.Trail.{next_call}
-use Rattle.cml_script.proofs.QueueLemmas.{position_is}
+use Rattle.cml_grammar.specs.declared.script.Step.{Step}
+use Rattle.cml_grammar.specs.Script.{SourceLine, Lines}
+use Rattle.cml_grammar.specs.Reading.{source_of}
+use Rattle.cml_script.specs.declared.route.Route.TheVariants as route
+use Rattle.cml_script.specs.Counting.{one_if, how_many}
+use Rattle.cml_script.specs.Schedule.{History, declared_count, is_apart, is_by_ring, is_called, next_position, performed, positions_where, route_of_line, step_call}
+use Rattle.cml_script.specs.Report.{Tallied}
+use Rattle.cml_script.specs.Left.{is_by_lane, is_laid}
+use Rattle.cml_script.specs.Plan.{HasSeats, route_at}
+use Rattle.cml_script.specs.Stalling.{WaitsOrIsDone, IsAllMoved, NobodyGoesOn}
+use Rattle.cml_script.specs.Trail.{Progress, next_call}
+use Rattle.cml_script.proofs.ListLemmas.{how_many-append, taken_more}
+use Rattle.cml_script.proofs.QueueLemmas.{position_is, positions_pushed}
 use Rattle.cml_script.proofs.LineLemmas.{called_seated}
 
 pub one_more : (P : ℕ → Type 0) (n : ℕ) → ((k : ℕ) → k < n → P k) → P n → (k : ℕ) → k < n + 1 → P k
 one_more P n each last k lt = elim (cases_lt k n) [ inl before ↦ each k before | inr ge ↦ let same : n ≡ k = omega (arith, lt, ge) in subst P same last ]
 
+pub all_moved : (script told : Lines) (history kept : History) (tally : Tallied) → told ≡ script → kept ≡ history → IsAllMoved told kept tally → IsAllMoved script history tally
+all_moved script told history kept tally one same moved =
+    subst (λ (h : History). IsAllMoved script h tally) same (subst (λ (s : Lines). IsAllMoved s kept tally) one moved)
+
 -- the tests that are made at a board's end
-pub stuck_iff : (script told : Lines) (limit : ℕ) (history kept : History) (t : Bool) → told ≡ script → kept ≡ history → declared_count told ≤ length kept → length history < limit
-    → IsTrue t ↔ ((seat : ℕ) → WaitsOrIsDone told kept seat) → IsTrue t ↔ NobodyGoesOn script limit history
-stuck_iff script told limit history kept t one same made room test =
+pub stuck_iff : (script told : Lines) (limit : ℕ) (history kept : History) (tally : Tallied) (t : Bool) → told ≡ script → kept ≡ history → declared_count told ≤ length kept → length history < limit
+    → IsAllMoved told kept tally → IsTrue t ↔ ((seat : ℕ) → WaitsOrIsDone told kept seat) → IsTrue t ↔ NobodyGoesOn script limit history tally
+stuck_iff script told limit history kept tally t one same made room moved test =
     let here = subst (λ (h : History). IsTrue t ↔ ((seat : ℕ) → WaitsOrIsDone script h seat)) same (subst (λ (s : Lines). IsTrue t ↔ ((seat : ℕ) → WaitsOrIsDone s kept seat)) one test) in
     let begun = subst (λ (h : History). declared_count script ≤ length h) same (subst (λ (s : Lines). declared_count s ≤ length kept) one made) in
-    (λ yes. record { made = begun; room = room; waits = here.0 yes }, λ stuck. here.1 stuck.waits)
+    let apart = all_moved script told history kept tally one same moved in
+    (λ yes. record { made = begun; room = room; waits = here.0 yes; apart = apart }, λ stuck. here.1 stuck.waits)
+
+-- one more step
+pub passed_more : (test : SourceLine → Bool) (passed : ℕ → Bool) (lines : List SourceLine) (i : ℕ) (line : SourceLine) → slice_get lines i ≡ Some line
+    → how_many passed (positions_where test 0 (take (i + 1) lines)) ≡ how_many passed (positions_where test 0 (take i lines)) + one_if (test line && passed i)
+passed_more test passed lines i line found =
+    ap (λ l. how_many passed (positions_where test 0 l)) (taken_more lines i line found)
+    ∙ ap (how_many passed) (positions_pushed test 0 (take i lines) line)
+    ∙ how_many-append passed (positions_where test 0 (take i lines)) (cond (test line) ((0 + length (take i lines)) ∷ []) [])
+    ∙ ap (λ n. how_many passed (positions_where test 0 (take i lines)) + n) (by_test (test line) (0 + length (take i lines)) here)
+  where
+    here : 0 + length (take i lines) ≡ i
+    here = omega (arith, length-take-le i lines (omega (arith, slice_get_within lines i line found)))
+
+    by_test : (t : Bool) (n : ℕ) → n ≡ i → how_many passed (cond t (n ∷ []) []) ≡ one_if (t && passed i)
+    by_test true n same = let one : how_many passed (n ∷ []) ≡ one_if (passed n) = omega arith in one ∙ ap (λ m. one_if (passed m)) same
+    by_test false n same = refl
+
+-- how the step at a place goes
+pub apart_at : (script : Lines) (i : ℕ) (line : SourceLine) → slice_get script.steps i ≡ Some line → is_by_ring (route_at script i) ≡ is_apart script line
+apart_at script i line found = ap (λ o. is_by_ring (option_map_or (route_of_line script) o route.Seat)) found
+
+pub laid_at : (script : Lines) (i : ℕ) (line : SourceLine) → slice_get script.steps i ≡ Some line → is_by_lane (route_at script i) ≡ is_laid script line
+laid_at script i line found = ap (λ o. is_by_lane (option_map_or (route_of_line script) o route.Seat)) found
+
+-- a step that is kept is one of the script's
+pub kept_within : (p q : Progress) (items : List Step) (i : ℕ) → p ≡ q → map (λ x. source_of x.line) items ≡ p.script.steps → i < length items → i < length q.script.steps
+kept_within p q items i e lines within =
+    omega (arith, within, ap (λ (x : Progress). length x.script.steps) e, ap length lines, length-map items (λ (x : Step). source_of x.line))
 
 module _ (script : Lines) (history : History) where
   pub done_waits : (seat : ℕ) → next_position script history (Seat seat) ≡ None → WaitsOrIsDone script history seat

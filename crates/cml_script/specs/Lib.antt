@@ -8,9 +8,9 @@ pub use Rattle.cml_board.specs.Positions
 pub use Rattle.cml_board.specs.Checking
 pub mod Counting
 pub mod Schedule
-pub mod Stalling
 pub mod Report
 pub mod Left
+pub mod Stalling
 pub mod Play
 pub mod Plan
 pub mod Bindings

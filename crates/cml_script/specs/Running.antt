@@ -20,7 +20,7 @@ use Rattle.cml_board.specs.Checking.{IsFirstUnlawful}
 -- nobody could go on; where it is full the journal is at its limit, and something is left
 abbrev pub Leaves : Lines → ℕ → History → Tallied → Stop → Type 0
 Leaves script limit history tally stop.Done = unperformed script history tally ≡ 0
-Leaves script limit history tally stop.Stalled = (0 < unperformed script history tally) × NobodyGoesOn script limit history
+Leaves script limit history tally stop.Stalled = (0 < unperformed script history tally) × NobodyGoesOn script limit history tally
 Leaves script limit history tally stop.Held = 0 < unperformed script history tally
 Leaves script limit history tally stop.Full = (entries_in history ≡ limit) × HasLeft script history tally
 

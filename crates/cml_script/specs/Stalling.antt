@@ -1,10 +1,15 @@
 -- When nobody could go on with a script.
-use Rattle.std.specs.Prelude.{ℕ, ◌≡◌, ◌<◌, ◌≤◌, List, Some, None}
+use Rattle.std.specs.Prelude.{ℕ, ◌≡◌, ◌<◌, ◌≤◌, Bool, true, false, nat_lt, List, slice_get, Option, Some, None}
+use Rattle.std.specs.Option.{option_map_or}
 use Rattle.cml_board.specs.declared.call.Call.{Call}
 use Rattle.cml_board.specs.declared.entry.Who.TheVariants.{Seat}
 use Rattle.cml_board.specs.History.{entries_in, Fits, answer}
-use Rattle.cml_grammar.specs.Script.{Lines}
-use Rattle.cml_script.specs.Schedule.{History, declared_count, next_position, step_call}
+use Rattle.cml_grammar.specs.Script.{SourceLine, Lines}
+use Rattle.cml_grammar.specs.Meaning.{names_of, seat_of_step}
+use Rattle.cml_script.specs.Counting.{how_many}
+use Rattle.cml_script.specs.Schedule.{History, declared_count, is_apart, next_position, positions_where, step_call}
+use Rattle.cml_script.specs.Report.{Tallied}
+use Rattle.cml_script.specs.Left.{is_laid, is_moved}
 
 -- the thread with this seat has a next step, whose call fits and would wait
 pub record WaitsAtNext (script : Lines) (history : History) (seat : ℕ) : Type 0 where
@@ -19,9 +24,28 @@ pub record WaitsAtNext (script : Lines) (history : History) (seat : ℕ) : Type 
 abbrev pub WaitsOrIsDone : Lines → History → ℕ → Type 0
 WaitsOrIsDone script history seat = (step : ℕ) → next_position script history (Seat seat) ≡ Some step → WaitsAtNext script history seat
 
--- nobody could go on: the declared objects are made, the journal has room, and each thread whose seat has steps left would
--- wait at the next of them
-pub record NobodyGoesOn (script : Lines) (limit : ℕ) (history : History) : Type 0 where
+-- the step at this position stands before the next of those that its thread's seat performs, or that seat has none left
+abbrev pub is_before : ℕ → Option ℕ → Bool
+is_before i None = true
+is_before i (Some next) = nat_lt i next
+
+abbrev pub is_passed : Lines → History → ℕ → Bool
+is_passed script history i =
+    option_map_or (λ (line : SourceLine). option_map_or (λ seat. is_before i (next_position script history (Seat seat))) (seat_of_step (names_of script) line.words) false) (slice_get script.steps i) false
+
+-- how many of the steps that pass a test
+abbrev pub passed_count : (SourceLine → Bool) → Lines → History → ℕ
+passed_count test script history = how_many (is_passed script history) (positions_where test 0 script.steps)
+
+-- the steps that went by lanes and feeds are all that stand so, and what was sent by lanes was moved
+pub record IsAllMoved (script : Lines) (history : History) (tally : Tallied) : Type 0 where
+  pub apart : tally.apart ≡ passed_count (is_apart script) script history
+  pub moved : how_many is_moved history ≡ passed_count (is_laid script) script history
+
+-- nobody could go on: the declared objects are made, the journal has room, each thread whose seat has steps left would wait
+-- at the next of them, and what goes before that by lanes and feeds is done
+pub record NobodyGoesOn (script : Lines) (limit : ℕ) (history : History) (tally : Tallied) : Type 0 where
   pub made : declared_count script ≤ entries_in history
   pub room : entries_in history < limit
   pub waits : (seat : ℕ) → WaitsOrIsDone script history seat
+  pub apart : IsAllMoved script history tally

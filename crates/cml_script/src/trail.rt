@@ -1,14 +1,15 @@
 //! How far the threads of a script are in a journal.
-ghost use Rattle.std.specs.Prelude.{◌≡◌, ◌↔◌, ℕ, ◌+◌, ◌<◌, ◌≤◌, Some, None, length, filter, slice_get, IfOk, IfSome, IsTrue, MatchOption};
+ghost use Rattle.std.specs.Prelude.{◌≡◌, ◌↔◌, ◌&&◌, ℕ, ◌+◌, ◌<◌, ◌≤◌, Some, None, length, filter, slice_get, IfOk, IfSome, IsTrue, MatchOption};
 ghost use Rattle.std.specs.Option.{option_map, option_and_then};
 ghost use Rattle.cml_board.specs.History.{entries_in};
 ghost use Rattle.cml_grammar.specs.Meaning.{names_of};
-ghost use Rattle.cml_script.specs.Schedule.{declared_count, declared_object, object_of, made_of, making_call, maker, next_position, objects_of, is_feed, feed_at, IsDeclaration};
-ghost use Rattle.cml_script.specs.Plan.{IsKnown, IsObject};
+ghost use Rattle.cml_script.specs.Schedule.{declared_count, declared_object, object_of, made_of, making_call, maker, next_position, objects_of, is_feed, feed_at, is_apart, is_by_ring, IsDeclaration};
+ghost use Rattle.cml_script.specs.Plan.{IsKnown, IsObject, route_at};
 ghost use Rattle.cml_script.specs.Audit.{IsOwn, IsOfCaller, IsOfLane, IsOfFeed, sent_to};
 ghost use Rattle.cml_script.specs.Makes.{IsMadeOfDeclared};
 ghost use Rattle.cml_script.specs.Report.{given_word};
-ghost use Rattle.cml_script.specs.Stalling.{WaitsOrIsDone};
+ghost use Rattle.cml_script.specs.Left.{is_by_lane, is_laid};
+ghost use Rattle.cml_script.specs.Stalling.{WaitsOrIsDone, is_passed, passed_count};
 ghost use Rattle.cml_script.specs.Trail.{history_of, with_next, next_text, IsThread, IsNoThread, AreSmallCounts, CountsOneMore, next_given, next_call, declared_call};
 
 use crate::binding::{Binding, bind};
@@ -208,6 +209,57 @@ impl<'a> Trail<'a> {
         match self.object(used_by(action)) {
             Some(object) => would_wait(board, action, object),
             None => false,
+        }
+    }
+
+    /// How many steps that go by lanes and feeds are passed.
+    pub fn passed_apart(&self) -> usize
+        ensures { result ≡ passed_count (is_apart self.now.script) self.now.script (history_of self.now) }
+    {
+        let mut passed = 0;
+        for i in 0..self.plan.script().steps().len() {
+            passed += usize::from(self.is_passed_apart(i));
+        }
+        passed
+    }
+
+    /// How many steps that send by lanes are passed.
+    pub fn passed_laid(&self) -> usize
+        ensures { result ≡ passed_count (is_laid self.now.script) self.now.script (history_of self.now) }
+    {
+        let mut passed = 0;
+        for i in 0..self.plan.script().steps().len() {
+            passed += usize::from(self.is_passed_laid(i));
+        }
+        passed
+    }
+
+    /// Whether the step at this position goes by a lane or a feed, and is passed.
+    fn is_passed_apart(&self, i: usize) -> bool
+        requires { i < length self.now.script.steps }
+        ensures { result ≡ (is_by_ring (route_at self.now.script i) && is_passed self.now.script (history_of self.now) i) }
+    {
+        self.plan.route(i).is_by_ring() && self.is_passed(i)
+    }
+
+    /// Whether the step at this position sends by a lane, and is passed.
+    fn is_passed_laid(&self, i: usize) -> bool
+        requires { i < length self.now.script.steps }
+        ensures { result ≡ (is_by_lane (route_at self.now.script i) && is_passed self.now.script (history_of self.now) i) }
+    {
+        self.plan.route(i).is_by_lane() && self.is_passed(i)
+    }
+
+    /// Whether the step at this position stands before the next of those that its thread's seat performs, or that seat has
+    /// none left.
+    fn is_passed(&self, i: usize) -> bool
+        requires { i < length self.now.script.steps }
+        ensures { result ≡ is_passed self.now.script (history_of self.now) i }
+    {
+        let seat = self.plan.script().steps()[i].seat;
+        match self.next_step(Who::Seat(seat)) {
+            Some(next) => i < next,
+            None => true,
         }
     }
 

@@ -122,7 +122,7 @@ fn leaves(
     let left = unperformed(plan.script(), board, tally);
     match stop {
         Stop::Done => Ok(left == 0),
-        Stop::Stalled => stalls(alloc, plan.script(), board, left),
+        Stop::Stalled => stalls(alloc, plan.script(), board, tally, left),
         Stop::Held => Ok(0 < left),
         Stop::Full => Ok(board.entries() == board.limit() && has_left(plan, board, tally)),
     }
@@ -133,15 +133,16 @@ fn stalls(
     alloc: Global,
     script: &Script,
     board: &Board<Text, BoardLog<Text>>,
+    tally: &Tally,
     left: usize,
 ) -> Result<bool, AllocError>
     requires { board.now.past ≡ no_entries }
-    ensures { IfOk result (λ stalls. IsTrue stalls ↔ ((0 < left) × NobodyGoesOn script.now board.now.limit board.now.history)) }
+    ensures { IfOk result (λ stalls. IsTrue stalls ↔ ((0 < left) × NobodyGoesOn script.now board.now.limit board.now.history tally.now)) }
 {
     if left == 0 {
         return Ok(false);
     }
-    nobody_goes_on(alloc, script, board)
+    nobody_goes_on(alloc, script, board, tally)
 }
 
 /// Whether a declared object was not made, a step was not performed, or a message sent by a lane was not moved.
