@@ -22,6 +22,7 @@ pub mod ScheduleLemmas
 pub mod JournalLemmas
 pub mod TrailLemmas
 pub mod NextLemmas
+pub mod StallingLemmas
 pub mod WaitingLemmas
 pub mod LeftLemmas
 pub mod ReplayLemmas
@@ -32,6 +33,5 @@ pub mod WorkLemmas
 pub mod TurnLemmas
 pub mod DeclareLemmas
 pub mod HeldLemmas
-pub mod StallingLemmas
 pub mod ConcludingLemmas
 pub mod WholeLemmas

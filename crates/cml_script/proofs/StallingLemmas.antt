@@ -1,6 +1,6 @@
 -- When nobody could go on.
-use Rattle.std.proofs.Common.{◌≡◌, ℕ, ◌+◌, ◌-◌, ◌<◌, ◌≤◌, Bool, true, false, cond, ◌&&◌, List, [], ◌∷◌, length, map, take, slice_get, Some, None, refl, sym, ap, subst, ◌∙◌, arith, inl, inr}
-use Rattle.std.specs.Prelude.{◌↔◌, IsTrue}
+use Rattle.std.proofs.Common.{◌≡◌, ℕ, ◌+◌, ◌-◌, ◌<◌, ◌≤◌, Bool, true, false, cond, ◌&&◌, List, [], ◌∷◌, length, map, take, slice_get, Option, Some, None, refl, sym, ap, subst, ◌∙◌, arith, inl, inr}
+use Rattle.std.specs.Prelude.{◌↔◌, IsTrue, All}
 use Rattle.std.specs.Option.{option_map_or, option_and_then}
 use Rattle.std.proofs.lemmas.Option.{same_Some, none-some, slice_get_within}
 use Rattle.std.proofs.lemmas.List.{length-map, length-take-le}
@@ -10,18 +10,19 @@ use Rattle.cml_board.specs.declared.entry.Who.TheVariants.{Seat}
 use Rattle.cml_board.specs.History.{Fits, answer}
 use Rattle.cml_grammar.specs.declared.script.Step.{Step}
 use Rattle.cml_grammar.specs.Script.{SourceLine, Lines}
-use Rattle.cml_grammar.specs.Reading.{source_of}
+use Rattle.cml_grammar.specs.Meaning.{names_of, seat_of_step}
+use Rattle.cml_grammar.specs.Reading.{source_of, ReadsStep}
 use Rattle.cml_script.specs.declared.route.Route.TheVariants as route
 use Rattle.cml_script.specs.Counting.{one_if, how_many}
 use Rattle.cml_script.specs.Schedule.{History, declared_count, is_apart, is_by_ring, is_called, next_position, performed, positions_where, route_of_line, step_call}
 use Rattle.cml_script.specs.Report.{Tallied}
 use Rattle.cml_script.specs.Left.{is_by_lane, is_laid}
 use Rattle.cml_script.specs.Plan.{HasSeats, route_at}
-use Rattle.cml_script.specs.Stalling.{WaitsOrIsDone, IsAllMoved, NobodyGoesOn}
+use Rattle.cml_script.specs.Stalling.{WaitsOrIsDone, is_before, is_passed, IsAllMoved, NobodyGoesOn}
 use Rattle.cml_script.specs.Trail.{Progress, next_call}
-use Rattle.cml_script.proofs.ListLemmas.{how_many-append, taken_more}
+use Rattle.cml_script.proofs.ListLemmas.{how_many-append, mapped_at, taken_more}
 use Rattle.cml_script.proofs.QueueLemmas.{position_is, positions_pushed}
-use Rattle.cml_script.proofs.LineLemmas.{called_seated}
+use Rattle.cml_script.proofs.LineLemmas.{all_at, called_seated}
 
 pub one_more : (P : ℕ → Type 0) (n : ℕ) → ((k : ℕ) → k < n → P k) → P n → (k : ℕ) → k < n + 1 → P k
 one_more P n each last k lt = elim (cases_lt k n) [ inl before ↦ each k before | inr ge ↦ let same : n ≡ k = omega (arith, lt, ge) in subst P same last ]
@@ -61,6 +62,14 @@ apart_at script i line found = ap (λ o. is_by_ring (option_map_or (route_of_lin
 
 pub laid_at : (script : Lines) (i : ℕ) (line : SourceLine) → slice_get script.steps i ≡ Some line → is_by_lane (route_at script i) ≡ is_laid script line
 laid_at script i line found = ap (λ o. is_by_lane (option_map_or (route_of_line script) o route.Seat)) found
+
+-- whether a step is passed, by the next one of its thread
+pub passed_is : (script : Lines) (history : History) (items : List Step) (i : ℕ) (s : Step) (next : Option ℕ) → map (λ x. source_of x.line) items ≡ script.steps → All (ReadsStep (names_of script)) items → slice_get items i ≡ Some s
+    → next ≡ next_position script history (Seat s.seat) → is_passed script history i ≡ is_before i next
+passed_is script history items i s next lines reads found is =
+    ap (λ o. option_map_or (λ (line : SourceLine). option_map_or (λ seat. is_before i (next_position script history (Seat seat))) (seat_of_step (names_of script) line.words) false) o false) (mapped_at (λ x. source_of x.line) items script.steps i s lines found)
+    ∙ ap (λ o. option_map_or (λ seat. is_before i (next_position script history (Seat seat))) o false) (all_at (ReadsStep (names_of script)) items i s reads found).seat
+    ∙ ap (is_before i) (sym is)
 
 -- a step that is kept is one of the script's
 pub kept_within : (p q : Progress) (items : List Step) (i : ℕ) → p ≡ q → map (λ x. source_of x.line) items ≡ p.script.steps → i < length items → i < length q.script.steps

@@ -1,22 +1,27 @@
--- Where a script's history ends stalled, some thread has steps left.
-use Rattle.std.proofs.Common.{◌≡◌, ℕ, zero, suc, ◌+◌, ◌-◌, ◌<◌, ◌≤◌, ◌⊎◌, false, eqb, List, [], ◌∷◌, length, map, refl, ap, ◌∙◌, arith, inl, inr}
+-- Where a script's history ends stalled, and where nobody could go on, some thread has steps left.
+use Rattle.std.proofs.Common.{◌≡◌, ℕ, zero, suc, ◌+◌, ◌-◌, ◌<◌, ◌≤◌, ◌⊎◌, Bool, true, false, eqb, List, [], ◌∷◌, length, map, slice_get, Option, Some, None, refl, sym, ap, subst, ◌∙◌, arith, inl, inr}
 use Rattle.std.specs.Prelude.{All}
 use Rattle.std.proofs.lemmas.List.{length-map}
 use Rattle.std.proofs.lemmas.List.Elements.{All-head, All-tail}
-use Rattle.std.proofs.lemmas.Bool.{cases_lt, cases_eq, eq-eqb, ne_eqb}
-use Rattle.cml_board.specs.declared.entry.Who.TheVariants.{Seat}
+use Rattle.std.proofs.lemmas.Bool.{cases_lt, cases_eq, eq-eqb, ne_eqb, false≢true}
+use Rattle.std.proofs.lemmas.Option.{none-some, slice_get_within}
+use Rattle.cml_board.specs.declared.entry.Who.{Who}
+use Rattle.cml_board.specs.declared.entry.Who.TheVariants.{Seat, Lane, Feed}
 use Rattle.cml_board.specs.declared.entry.Entry.{Entry}
 use Rattle.cml_grammar.specs.declared.script.Step.{Step}
 use Rattle.cml_grammar.specs.Names.{thread_count}
 use Rattle.cml_grammar.specs.Script.{Lines}
 use Rattle.cml_grammar.specs.Meaning.{names_of}
 use Rattle.cml_grammar.specs.Reading.{source_of, ReadsStep}
-use Rattle.cml_grammar.proofs.ReadableLemmas.{CanBeRead}
+use Rattle.cml_grammar.proofs.ReadableLemmas.{CanBeRead, can_be_read}
 use Rattle.cml_script.specs.Counting.{one_if, how_many}
-use Rattle.cml_script.specs.Schedule.{History, Follows, is_seated, is_seat, performed, declared_count, left}
-use Rattle.cml_script.specs.Laws.{steps_of_seat}
-use Rattle.cml_script.specs.Report.{is_of_thread}
-use Rattle.cml_script.proofs.LineLemmas.{step_seated}
+use Rattle.cml_script.specs.Schedule.{History, Follows, is_apart, is_by_ring, is_called, is_seated, is_seat, performed, declared_count, left, next_position, positions_from, positions_where}
+use Rattle.cml_script.specs.Stalling.{is_passed, passed_count}
+use Rattle.cml_script.specs.Laws.{steps_of_seat, SomeThreadIsStuck}
+use Rattle.cml_script.specs.Report.{Tallied, is_of_thread, is_step_entry, unperformed}
+use Rattle.cml_script.proofs.LineLemmas.{all_at, stands, step_called, step_route, step_seated}
+use Rattle.cml_script.proofs.QueueLemmas.{position_is, positions_count}
+use Rattle.cml_script.proofs.StallingLemmas.{passed_is}
 use Rattle.cml_script.proofs.BindingLemmas.{none_seated, maker_is_none}
 use Rattle.cml_script.proofs.ScheduleLemmas.{declares, steps}
 
@@ -127,3 +132,126 @@ module _ (script : Lines) where
           length-map read.steps (λ (x : Step). source_of x.line),
         ))
   ]
+
+  -- each step is one that a seat performs, or goes by a ring
+  one_asks : (x : Step) → ReadsStep (names_of script) x → 1 ≤ total (λ s. one_if (is_called script s (source_of x.line))) threads + one_if (is_apart script (source_of x.line))
+  unfolding threads
+  one_asks x read = by_test (is_apart script (source_of x.line)) refl
+    where
+      by_test : (t : Bool) → is_apart script (source_of x.line) ≡ t → 1 ≤ total (λ s. one_if (is_called script s (source_of x.line))) (thread_count (names_of script)) + one_if (is_apart script (source_of x.line))
+      by_test true e = omega (arith, ap one_if e)
+      by_test false e =
+          let seated = sym (ap is_by_ring (step_route script x read)) ∙ e in
+          omega (
+            arith,
+            total_same (λ s. one_if (is_called script s (source_of x.line))) (λ s. one_if (eqb x.seat s)) (thread_count (names_of script)) (λ s. ap one_if (step_called script x s read seated)),
+            total_least x.seat (thread_count (names_of script)) read.seated.0 read.seated.1,
+          )
+
+  all_asked : (items : List Step) → All (ReadsStep (names_of script)) items
+      → length items ≤ total (λ s. how_many (is_called script s) (map (λ x. source_of x.line) items)) threads + how_many (is_apart script) (map (λ x. source_of x.line) items)
+  all_asked [] reads = omega arith
+  all_asked (x ∷ xs) reads =
+      let later = all_asked xs (All-tail (ReadsStep (names_of script)) x xs reads) in
+      let own = λ (s : ℕ). one_if (is_called script s (source_of x.line)) in
+      let others = λ (s : ℕ). how_many (is_called script s) (map (λ (y : Step). source_of y.line) xs) in
+      omega (arith, later, total_sum own others threads, one_asks x (All-head (ReadsStep (names_of script)) x xs reads))
+
+  -- no entry is of two seats
+  none_of : (who : Who) → is_of_thread who ≡ false → (n : ℕ) → total (λ s. one_if (is_seat s who)) n ≡ 0
+  none_of who none zero = refl
+  none_of who none (suc n) = omega (arith, none_of who none n, ap one_if (none_seated (suc n) (omega arith) who none))
+
+  one_of : (who : Who) (n : ℕ) (t : Bool) → is_of_thread who ≡ t → total (λ s. one_if (is_seat s who)) n ≤ one_if t
+  one_of who n false e = omega (arith, none_of who e n)
+  one_of (Seat seat) n true e = total_most seat n
+  one_of (Lane lane) n true e = absurd (false≢true e)
+  one_of (Feed feed) n true e = absurd (false≢true e)
+
+  seats_performed : (n : ℕ) (history : History) → total (performed history) n ≤ how_many is_step_entry history
+  seats_performed n [] = omega (arith, none_performed n)
+  seats_performed n (entry ∷ before) =
+      let own = λ (s : ℕ). one_if (is_seat s entry.who) in
+      omega (arith, seats_performed n before, total_sum own (performed before) n, one_of entry.who n (is_of_thread entry.who) refl)
+
+  -- a seat that has no next step performed all that it has
+  all_called : (history : History) (seat : ℕ) → next_position script history (Seat seat) ≡ None → how_many (is_called script seat) script.steps ≤ performed history seat
+  all_called history seat none = elim (cases_lt (performed history seat) (how_many (is_called script seat) script.steps)) [
+    | inl lt ↦
+        let there = stands (positions_from script seat 0 script.steps) (performed history seat) (omega (arith, lt, positions_count (is_called script seat) 0 script.steps)) in
+        absurd (none-some there.0 (sym none ∙ there.1))
+    | inr ge ↦ ge
+  ]
+
+  all_by_seats : (history : History) (n : ℕ) → ((s : ℕ) → s ≤ n → next_position script history (Seat s) ≡ None) → total (λ s. how_many (is_called script s) script.steps) n ≤ total (performed history) n
+  all_by_seats history zero none = omega arith
+  all_by_seats history (suc n) none =
+      omega (arith, all_by_seats history n (λ s le. none s (omega (arith, le))), all_called history (suc n) (none (suc n) (omega arith)))
+
+  -- and then all that it has by rings is passed
+  all_pass : (p : ℕ → Bool) (xs : List ℕ) → ((k x : ℕ) → slice_get xs k ≡ Some x → p x ≡ true) → how_many p xs ≡ length xs
+  all_pass p [] each = refl
+  all_pass p (x ∷ xs) each = omega (arith, ap one_if (each 0 x refl), all_pass p xs (λ k y found. each (suc k) y found))
+
+  passed_there : CanBeRead script → (history : History) → ((s : ℕ) → s ≤ threads → next_position script history (Seat s) ≡ None) → (i : ℕ) → i < length script.steps → is_passed script history i ≡ true
+  unfolding threads
+  passed_there read history none i within =
+      let there = stands read.steps i (omega (arith, within, ap length read.asked, length-map read.steps (λ (x : Step). source_of x.line))) in
+      let seat = (all_at (ReadsStep (names_of script)) read.steps i there.0 read.reading.steps there.1).seated in
+      passed_is script history read.steps i there.0 None read.asked read.reading.steps there.1 (sym (none there.0.seat seat.1))
+
+  all_passed : CanBeRead script → (history : History) → ((s : ℕ) → s ≤ threads → next_position script history (Seat s) ≡ None) → passed_count (is_apart script) script history ≡ how_many (is_apart script) script.steps
+  all_passed read history none =
+      all_pass (is_passed script history) (positions_where (is_apart script) 0 script.steps) (λ k i found.
+      let there = position_is (is_apart script) 0 script.steps k i found in
+      passed_there read history none i (omega (arith, there.at, slice_get_within script.steps there.place there.line there.found)))
+      ∙ positions_count (is_apart script) 0 script.steps
+
+  -- some thread has a next step, or none has
+  decided : (history : History) (seat : ℕ) → ((step : ℕ) × (next_position script history (Seat seat) ≡ Some step)) ⊎ (next_position script history (Seat seat) ≡ None)
+  decided history seat = by_option (next_position script history (Seat seat)) refl
+    where
+      by_option : (o : Option ℕ) → next_position script history (Seat seat) ≡ o → ((step : ℕ) × (next_position script history (Seat seat) ≡ Some step)) ⊎ (next_position script history (Seat seat) ≡ None)
+      by_option None e = inr e
+      by_option (Some step) e = inl (step, e)
+
+  next_or_none : (history : History) (n : ℕ) → ((seat : ℕ) × (step : ℕ) × (next_position script history (Seat seat) ≡ Some step)) ⊎ ((s : ℕ) → s ≤ n → next_position script history (Seat s) ≡ None)
+  next_or_none history zero = elim (decided history zero) [
+    | inl next ↦ inl (zero, next.0, next.1)
+    | inr none ↦ inr (λ s le. let same : zero ≡ s = omega (arith, le) in subst (λ k. next_position script history (Seat k) ≡ None) same none)
+  ]
+  next_or_none history (suc n) = elim (decided history (suc n)) [
+    | inl next ↦ inl (suc n, next.0, next.1)
+    | inr none ↦ elim (next_or_none history n) [
+      | inl some ↦ inl some
+      | inr all ↦ inr (λ s le. elim (cases_lt s (suc n)) [
+        | inl lt ↦ all s (omega (arith, lt))
+        | inr ge ↦ let same : suc n ≡ s = omega (arith, le, ge) in subst (λ k. next_position script history (Seat k) ≡ None) same none
+      ])
+    ]
+  ]
+
+  some_next : CanBeRead script → (history : History) (tally : Tallied) → tally.apart ≡ passed_count (is_apart script) script history → 0 < unperformed script history tally
+      → (seat : ℕ) × (step : ℕ) × (next_position script history (Seat seat) ≡ Some step)
+  some_next read history tally apart more = elim (next_or_none history threads) [
+    | inl next ↦ next
+    | inr none ↦
+        absurd (omega (
+          arith,
+          more,
+          apart,
+          all_passed read history none,
+          seats_performed threads history,
+          all_by_seats history threads none,
+          all_asked read.steps read.reading.steps,
+          total_same (λ s. how_many (is_called script s) (map (λ x. source_of x.line) read.steps)) (λ s. how_many (is_called script s) script.steps) threads (λ s. ap (how_many (is_called script s)) read.asked),
+          ap (how_many (is_apart script)) read.asked,
+          ap length read.asked,
+          length-map read.steps (λ (x : Step). source_of x.line),
+        ))
+  ]
+
+pub some_stuck : SomeThreadIsStuck
+some_stuck text script limit history tally is stuck more =
+    let next = some_next script (can_be_read text script is) history tally stuck.apart.apart more in
+    (next.0, stuck.waits next.0 next.1 next.2)

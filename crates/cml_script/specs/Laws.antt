@@ -6,8 +6,8 @@ use Rattle.cml_script.specs.declared.stop.Stop.{Stop}
 use Rattle.cml_script.specs.declared.stop.Stop.TheVariants.{Stalled}
 use Rattle.cml_script.specs.Counting.{how_many}
 use Rattle.cml_script.specs.Schedule.{History, Schedule, is_seated, performed, left}
-use Rattle.cml_script.specs.Stalling.{WaitsAtNext}
-use Rattle.cml_script.specs.Report.{no_rings, unperformed}
+use Rattle.cml_script.specs.Stalling.{WaitsAtNext, NobodyGoesOn}
+use Rattle.cml_script.specs.Report.{Tallied, no_rings, unperformed}
 
 -- under a limit a script has one history at most, and it ends in one way
 abbrev pub SchedulesAreOne : Type 0
@@ -37,6 +37,12 @@ abbrev pub SomeThreadWaits : Type 0
 SomeThreadWaits =
     (text : List ℕ) (script : Lines) (limit : ℕ) (history : History)
     → IsScript text script → Schedule script limit history Stalled → (seat : ℕ) × WaitsAtNext script history seat
+
+-- where nobody could go on and a step is left, there is such a thread too
+abbrev pub SomeThreadIsStuck : Type 0
+SomeThreadIsStuck =
+    (text : List ℕ) (script : Lines) (limit : ℕ) (history : History) (tally : Tallied)
+    → IsScript text script → NobodyGoesOn script limit history tally → 0 < unperformed script history tally → (seat : ℕ) × WaitsAtNext script history seat
 
 -- what a replay's report tells as left is what its schedule has left
 abbrev pub ReportsTellWhatIsLeft : Type 0

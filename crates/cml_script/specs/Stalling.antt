@@ -33,17 +33,17 @@ abbrev pub is_passed : Lines → History → ℕ → Bool
 is_passed script history i =
     option_map_or (λ (line : SourceLine). option_map_or (λ seat. is_before i (next_position script history (Seat seat))) (seat_of_step (names_of script) line.words) false) (slice_get script.steps i) false
 
--- how many of the steps that pass a test
+-- how many of the steps that pass a test stand so
 abbrev pub passed_count : (SourceLine → Bool) → Lines → History → ℕ
 passed_count test script history = how_many (is_passed script history) (positions_where test 0 script.steps)
 
--- the steps that went by lanes and feeds are all that stand so, and what was sent by lanes was moved
+-- as many steps went by lanes and feeds as stand so, and lanes moved as many messages as those of them sent
 pub record IsAllMoved (script : Lines) (history : History) (tally : Tallied) : Type 0 where
   pub apart : tally.apart ≡ passed_count (is_apart script) script history
   pub moved : how_many is_moved history ≡ passed_count (is_laid script) script history
 
 -- nobody could go on: the declared objects are made, the journal has room, each thread whose seat has steps left would wait
--- at the next of them, and what goes before that by lanes and feeds is done
+-- at the next of them, and what goes by lanes and feeds before that is done
 pub record NobodyGoesOn (script : Lines) (limit : ℕ) (history : History) (tally : Tallied) : Type 0 where
   pub made : declared_count script ≤ entries_in history
   pub room : entries_in history < limit
