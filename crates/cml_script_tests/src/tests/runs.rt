@@ -93,6 +93,7 @@ const SCENES: &[(Scene, &str)] = &[
     (Scene::OneAfterTheOther, "held"),
     (Scene::Answers, "as many as steps"),
     (Scene::Foreign, "not lawful at 2"),
+    (Scene::GoesOn, "not lawful at 2"),
 ];
 
 #[test]

@@ -26,6 +26,8 @@ pub enum Scene {
     Answers,
     /// A journal with an entry that is none of the script's.
     Foreign,
+    /// The script's journal told as stalled, though a thread could go on.
+    GoesOn,
 }
 
 /// What the scene comes to.
@@ -48,7 +50,8 @@ fn played_in<Led: Ledger + Send + Sync, R: Threads + Wait + Sync>(
     match scene {
         Scene::OneAfterTheOther => one_after_the_other(rt, alloc, &script, &board),
         Scene::Answers => answers(rt, alloc, &script, board),
-        Scene::Foreign => foreign(alloc, &script),
+        Scene::Foreign => told_as(alloc, &script, 2, Stop::Done),
+        Scene::GoesOn => told_as(alloc, &script, 1, Stop::Stalled),
     }
 }
 
@@ -119,28 +122,31 @@ fn entries_of(journal: &[Entry<Text>], seat: u64) -> u64 {
     count
 }
 
-fn foreign(alloc: Global, script: &Script) -> Option<&'static str> {
+/// What a run comes to that tells this end, and whose first thread's seat has sent so often: its script has it send once.
+fn told_as(alloc: Global, script: &Script, sends: usize, stop: Stop) -> Option<&'static str> {
     let mut board: Board<Text, BoardLog<Text>> = Board::new(alloc, LIMIT).ok()?;
-    sends_twice(alloc, &mut board)?;
+    send_so_often(alloc, &mut board, sends)?;
     // What is concluded is a board's whole history, and nothing tells it of a board but this.
     if board.cut_at() != 0 {
         return Some("cut");
     }
-    match conclude(alloc, script, &board, &Tally::no_rings(alloc), Stop::Done) {
+    match conclude(alloc, script, &board, &Tally::no_rings(alloc), stop) {
         Err(Ending::NotLawful(2)) => Some("not lawful at 2"),
         Err(_) => Some("another ending"),
         Ok(_) => Some("told"),
     }
 }
 
-/// Seat 1 sends twice, where its script has it send once.
-fn sends_twice(alloc: Global, board: &mut Board<Text, BoardLog<Text>>) -> Option<()> {
-    let (first, again) = (
-        Text::of_number(alloc, 5).ok()?,
-        Text::of_number(alloc, 5).ok()?,
-    );
+/// Seat 1 sends so often on a mailbox that seat 0 makes.
+fn send_so_often(
+    alloc: Global,
+    board: &mut Board<Text, BoardLog<Text>>,
+    sends: usize,
+) -> Option<()> {
     board.apply(Who::Seat(0), Call::NewMailbox);
-    board.apply(Who::Seat(1), Call::Send(Name(0), first));
-    board.apply(Who::Seat(1), Call::Send(Name(0), again));
+    for _ in 0..sends {
+        let message = Text::of_number(alloc, 5).ok()?;
+        board.apply(Who::Seat(1), Call::Send(Name(0), message));
+    }
     Some(())
 }
