@@ -122,7 +122,7 @@ fn entries_of(journal: &[Entry<Text>], seat: u64) -> u64 {
     count
 }
 
-/// What a run comes to that tells this end, and whose first thread's seat has sent so often: its script has it send once.
+/// How `conclude` takes a run that ended so, and whose first thread has sent so often. Its script has it send once.
 fn told_as(alloc: Global, script: &Script, sends: usize, stop: Stop) -> Option<&'static str> {
     let mut board: Board<Text, BoardLog<Text>> = Board::new(alloc, LIMIT).ok()?;
     send_so_often(alloc, &mut board, sends)?;
