@@ -6,6 +6,7 @@ pub mod Stilling
 pub mod Rousing
 pub mod Resting
 pub mod Hearing
+pub mod Noting
 pub mod Unmoved
 pub mod Following
 pub mod Bringing

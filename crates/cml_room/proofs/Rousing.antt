@@ -117,6 +117,15 @@ waits_on So olds news number old are was =
       | inr one ↦ (record old { notice = roused_notice old.notice }, to.1 ∙ ap Some one.3, refl, λ due. roused_noted old.notice)
     ]
 
+pub woken_on : (So : Waiter → Type 0) (olds news : List Place) (number : ℕ) (old : Waiter) → AreRoused So olds news → slice_get olds number ≡ Some (Waiting old)
+    → old.notice ≡ Woken → (waiter : Waiter) × (slice_get news number ≡ Some (Waiting waiter)) × (waiter.notice ≡ Woken)
+woken_on So olds news number old are was woken =
+    let to = roused_to So olds news number (Waiting old) are was in
+    elim to.2 [
+      | inl same ↦ (old, to.1 ∙ ap Some same, woken)
+      | inr one ↦ (record old { notice = roused_notice old.notice }, to.1 ∙ ap Some one.3, ap roused_notice woken)
+    ]
+
 pub quiet_before : (So : Waiter → Type 0) (olds news : List Place) (number : ℕ) (waiter : Waiter) → AreRoused So olds news → IsQuiet news number waiter
     → IsQuiet olds number waiter
 quiet_before So olds news number waiter are quiet =

@@ -11,7 +11,7 @@ pub record Walked (queue : List ℕ) (next : Option ℕ) (count : ℕ) (Seen : �
   pub next_is : next ≡ slice_get queue count
   pub seen : (i k : ℕ) → i < count → slice_get queue i ≡ Some k → Seen k
 
-past_none : {X : Type 0} (xs : List X) (n : ℕ) → slice_get xs n ≡ None → length xs ≤ n
+pub past_none : {X : Type 0} (xs : List X) (n : ℕ) → slice_get xs n ≡ None → length xs ≤ n
 past_none [] n none = omega arith
 past_none (x ∷ xs) zero none = absurd (none-some x (sym none))
 past_none (x ∷ xs) (suc n) none = omega (arith, past_none xs n none)

@@ -1,5 +1,5 @@
 -- What a room knows of its seats.
-use Rattle.std.specs.Prelude.{ℕ, ◌≡◌, ◌==◌, ◌%◌, ◌⊎◌, Bool, true, false, List, map, length, slice_get, Option, Some, None}
+use Rattle.std.specs.Prelude.{ℕ, ◌≡◌, ◌==◌, ◌||◌, ◌%◌, ◌⊎◌, Bool, true, false, List, map, length, slice_get, Option, Some, None}
 use Rattle.cml_board.specs.declared.want.Want.{Want}
 use Rattle.cml_room.specs.declared.notice.Notice.{Notice}
 use Rattle.cml_room.specs.declared.notice.Notice.TheVariants.{Nothing, Due, Woken}
@@ -89,3 +89,19 @@ pub record IsMate (places : List Place) (on : Want) : Type 0 where
 pub record IsQuiet (places : List Place) (number : ℕ) (waiter : Waiter) : Type 0 where
   pub here : slice_get places number ≡ Some (place.Waiting waiter)
   pub nothing : waiter.notice ≡ Nothing
+
+-- whether a seat is due, where all that wait are or not
+abbrev pub place_due : Bool → Option Place → Bool
+place_due all (Some (place.Waiting waiter)) = all || is_noted waiter.notice
+place_due all place = false
+
+-- each seat does what it did, and wants the same; who was due still is, and who isn't wasn't
+pub record AreAlike (olds news : List Place) : Type 0 where
+  pub states : states_in news ≡ states_in olds
+  pub back : (number : ℕ) (waiter : Waiter) → slice_get news number ≡ Some (place.Waiting waiter)
+      → (old : Waiter) × (slice_get olds number ≡ Some (place.Waiting old)) × (old.want ≡ waiter.want) × (old.source ≡ waiter.source)
+        × (waiter.notice ≡ Nothing → old.notice ≡ Nothing)
+  pub on : (number : ℕ) (old : Waiter) → slice_get olds number ≡ Some (place.Waiting old)
+      → (waiter : Waiter) × (slice_get news number ≡ Some (place.Waiting waiter)) × (waiter.want ≡ old.want) × (is_noted old.notice ≡ true → is_noted waiter.notice ≡ true)
+  pub woken : (number : ℕ) (old : Waiter) → slice_get olds number ≡ Some (place.Waiting old) → old.notice ≡ Woken
+      → (waiter : Waiter) × (slice_get news number ≡ Some (place.Waiting waiter)) × (waiter.notice ≡ Woken)

@@ -1,4 +1,4 @@
-ghost use Rattle.std.specs.Prelude.{◌≡◌, ℕ, true, false, ◌&&◌, ◌^◌, ◌<◌, ◌≤◌, [], ◌∷◌, ◌++◌, length, slice_get, Some, IfOk, IfErr, OnOk, IfSome, IfNone};
+ghost use Rattle.std.specs.Prelude.{◌≡◌, ◌≢◌, ℕ, true, false, ◌^◌, ◌<◌, ◌≤◌, [], ◌∷◌, ◌++◌, length, slice_get, Some, IfOk, IfErr, OnOk, IfSome, IfNone};
 ghost use Rattle.cml_board.specs.declared.outcome.Refusal.TheVariants.{Gone, NoMemory};
 ghost use Rattle.cml_board.specs.declared.want.Want.{Want};
 ghost use Rattle.cml_room.specs.declared.notice.Notice.TheVariants.{Woken};
@@ -13,11 +13,9 @@ mod feeds;
 mod journal;
 mod lanes;
 
-use crate::notice::Notice;
-use crate::place::Place;
 use crate::seats::Seats;
 use crate::state::State;
-use crate::waking::rouse_waiting;
+use crate::waking::rouse_due;
 use cml_board::{Board, Message, Refusal};
 use cml_lanes::Floor;
 use cml_log::MessageLog;
@@ -137,26 +135,20 @@ impl<M: Message, L: MessageLog<M>> Room<M, L> {
         ensures due { result ≡ is_due self.now seat }
         ensures asleep { result ≡ false → (on : Want) → state_of self.now seat ≡ Some (State.Parked on) → SleepsRightly self.now on }
     {
-        match self.seats.place(seat) {
-            Some(Place::Waiting(waiter)) => {
-                self.seats.all_due() || waiter.notice != Notice::Nothing
-            }
-            _ => false,
-        }
+        self.seats.is_due(seat)
     }
 
     /// The next seat that is due and wasn't given before since it last asked: wake it, and it asks again. The one that has
     /// been due the longest comes first. None, where each that is due was given.
     pub fn next_due(&mut self) -> Option<u64>
-        ensures given { IfSome result (λ number. (is_due self.old number ≡ true) × (slice_get self.new.notices number ≡ Some Woken)) }
+        ensures given { IfSome result (λ number. (is_due self.old number ≡ true) × (slice_get self.old.notices number ≢ Some Woken) × (slice_get self.new.notices number ≡ Some Woken)) }
+        ensures woken { (number : ℕ) → slice_get self.old.notices number ≡ Some Woken → slice_get self.new.notices number ≡ Some Woken }
         ensures all { IfNone result ((number : ℕ) → is_due self.new number ≡ true → slice_get self.new.notices number ≡ Some Woken) }
         ensures same { (number : ℕ) → is_due self.new number ≡ is_due self.old number }
         ensures floor { floor_of self.new ≡ floor_of self.old }
         ensures seats { self.new.seats ≡ self.old.seats }
     {
-        if self.seats.all_due() {
-            rouse_waiting(&mut self.seats);
-        }
+        rouse_due(&mut self.seats);
         self.seats.wake_next()
     }
 

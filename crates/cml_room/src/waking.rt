@@ -3,7 +3,7 @@ ghost use Rattle.std.specs.Prelude.{◌≡◌, ◌≢◌, ◌⊎◌, ℕ, true, 
 ghost use Rattle.cml_room.specs.declared.place.Place.TheVariants as place;
 ghost use Rattle.cml_room.specs.declared.place.Waiter.{Waiter};
 ghost use Rattle.cml_room.specs.News.{object_of, source_of, helps, NoNews, IsOf};
-ghost use Rattle.cml_room.specs.Places.{is_noted, AreRoused, IsMate, IsQuiet};
+ghost use Rattle.cml_room.specs.Places.{is_noted, place_due, AreAlike, AreRoused, IsMate, IsQuiet};
 ghost use Rattle.cml_room.specs.Waking.{reaches, WouldWait, AreAt};
 
 use crate::news::News;
@@ -85,8 +85,20 @@ pub fn object_of(want: Want) -> Name
     }
 }
 
-/// Makes due each seat that waits, where all were due.
-pub fn rouse_waiting(seats: &mut Seats)
+/// Rouses each seat that waits, where all are due: then each that is due has a notice.
+pub fn rouse_due(seats: &mut Seats)
+    ensures alike { AreAlike seats.old.places seats.new.places }
+    ensures quiet { (number : ℕ) (waiter : Waiter) → IsQuiet seats.new.places number waiter → seats.old.all_due ≡ false }
+    ensures same { (number : ℕ) → place_due false (slice_get seats.new.places number) ≡ place_due seats.old.all_due (slice_get seats.old.places number) }
+    ensures due { seats.new.all_due ≡ false }
+{
+    if seats.all_due() {
+        rouse_waiting(seats);
+    }
+}
+
+/// Rouses each seat that waits.
+fn rouse_waiting(seats: &mut Seats)
     ensures roused { AreRoused (λ waiter. ⊤) seats.old.places seats.new.places }
     ensures none { (number : ℕ) (waiter : Waiter) → ¬ (IsQuiet seats.new.places number waiter) }
     ensures due { seats.new.all_due ≡ false }

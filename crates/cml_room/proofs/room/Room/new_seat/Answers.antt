@@ -1,0 +1,13 @@
+use Rattle.std.proofs.Common.{rules, ◌≡◌, ◌++◌, [], ◌∷◌, Bool, List, sym, subst}
+use Rattle.cml_room.specs.declared.place.Place.{Place}
+use Rattle.cml_room.specs.declared.place.Place.TheVariants.{Free}
+use Rattle.cml_room.specs.Waking.{IsWatched}
+use Rattle.cml_room.proofs.Noting.{added_watched}
+use Rattle.cml_room.proofs.room.Room.new_seat.Goals as goal
+
+pub invariant_of-self-2 : goal.invariant_of-self-2
+invariant_of-self-2 g c =
+    let added : c.add.new.self.places ≡ c.self.inside.seats.places ++ Free ∷ [] = search rules in
+    subst (λ (l : List Place). IsWatched c.self.inside.floor l c.add.new.self.all_due) (sym added)
+    (subst (λ (all : Bool). IsWatched c.self.inside.floor (c.self.inside.seats.places ++ Free ∷ []) all) (sym c.add.ensures.due)
+    (added_watched c.self.inside.floor c.self.inside.seats.places c.self.inside.seats.all_due c.self.invariant))
