@@ -15,16 +15,16 @@ use Rattle.cml_room.proofs.room.Room.leave.Goals as goal
 
 pub invariant_of-self : goal.invariant_of-self
 invariant_of-self g c =
-    let state : slice_get (states_in c.self.inside.seats.places) c.args.seat ≡ Some state.Free = search rules in
-    let free = free_place c.self.inside.seats.places c.args.seat state in
+    let free_state : slice_get (states_in c.self.inside.seats.places) c.args.seat ≡ Some state.Free = search rules in
+    let free = free_place c.self.inside.seats.places c.args.seat free_state in
     subst (λ (l : List Place). IsWatched c.self.inside.floor l c.rouse_all.new.self.all_due) (sym (c.rouse_all.ensures.places ∙ c.leave.ensures.places))
     (left_watched c.self.inside.floor c.self.inside.seats.places c.args.seat c.self.inside.seats.all_due c.rouse_all.new.self.all_due free c.self.invariant
     (λ now. absurd (true≢false (sym c.rouse_all.ensures.due ∙ now))))
 
 pub invariant_of-self-else-free-eq0 : goal.invariant_of-self-else-free-eq0
 invariant_of-self-else-free-eq0 g c =
-    let state : slice_get (states_in c.self.inside.seats.places) c.args.seat ≡ Some state.Free = search rules in
-    let free = free_place c.self.inside.seats.places c.args.seat state in
+    let free_state : slice_get (states_in c.self.inside.seats.places) c.args.seat ≡ Some state.Free = search rules in
+    let free = free_place c.self.inside.seats.places c.args.seat free_state in
     subst (λ (l : List Place). IsWatched c.self.inside.floor l c.leave.new.self.all_due) (sym c.leave.ensures.places)
     (left_watched c.self.inside.floor c.self.inside.seats.places c.args.seat c.self.inside.seats.all_due c.leave.new.self.all_due free c.self.invariant
     (λ now. (
@@ -34,8 +34,8 @@ invariant_of-self-else-free-eq0 g c =
 
 pub returns-then-free-eq0-clause-left : goal.returns-then-free-eq0-clause-left
 returns-then-free-eq0-clause-left g c =
-    let state : slice_get (states_in c.self.inside.seats.places) c.args.seat ≡ Some state.Free = search rules in
-    let free = free_place c.self.inside.seats.places c.args.seat state in
+    let free_state : slice_get (states_in c.self.inside.seats.places) c.args.seat ≡ Some state.Free = search rules in
+    let free = free_place c.self.inside.seats.places c.args.seat free_state in
     let states : states_in c.rouse_all.new.self.places ≡ slice_set (states_in c.self.inside.seats.places) c.args.seat state.Left =
     ap states_in (c.rouse_all.ensures.places ∙ c.leave.ensures.places) ∙ map-set state_by c.self.inside.seats.places c.args.seat Left in
     subst (λ (r : RoomShown g.row.M.Denot). MayAsk r c.args.seat × (states_in c.rouse_all.new.self.places ≡ with_state r c.args.seat state.Left)) c.self.view_is
@@ -43,8 +43,8 @@ returns-then-free-eq0-clause-left g c =
 
 pub returns-else-free-eq0-clause-left : goal.returns-else-free-eq0-clause-left
 returns-else-free-eq0-clause-left g c =
-    let state : slice_get (states_in c.self.inside.seats.places) c.args.seat ≡ Some state.Free = search rules in
-    let free = free_place c.self.inside.seats.places c.args.seat state in
+    let free_state : slice_get (states_in c.self.inside.seats.places) c.args.seat ≡ Some state.Free = search rules in
+    let free = free_place c.self.inside.seats.places c.args.seat free_state in
     let states : states_in c.leave.new.self.places ≡ slice_set (states_in c.self.inside.seats.places) c.args.seat state.Left =
     ap states_in c.leave.ensures.places ∙ map-set state_by c.self.inside.seats.places c.args.seat Left in
     subst (λ (r : RoomShown g.row.M.Denot). MayAsk r c.args.seat × (states_in c.leave.new.self.places ≡ with_state r c.args.seat state.Left)) c.self.view_is
