@@ -4,6 +4,8 @@ pub mod Listing
 pub mod Walking
 pub mod Stilling
 pub mod Rousing
+pub mod Ending
+pub mod Parking
 pub mod Resting
 pub mod Hearing
 pub mod Noting

@@ -1,15 +1,17 @@
 //! The end of a seat's turn, and of the other calls.
-ghost use Rattle.std.specs.Prelude.{◌≡◌, ◌<◌, ◌⊎◌, ℕ, false, true, Some, IfSome, MatchBool, length, slice_get, slice_set};
+ghost use Rattle.std.specs.Prelude.{◌≡◌, ◌≢◌, ◌⊎◌, false, Some, IfSome, MatchBool, MatchOption, slice_get, slice_set};
+ghost use Rattle.cml_board.specs.declared.want.Want.{Want};
 ghost use Rattle.cml_board.specs.Outcome.{HasRoom};
 ghost use Rattle.cml_lanes.specs.Floor.{FloorShown};
 ghost use Rattle.cml_room.specs.declared.place.Place.TheVariants as place;
+ghost use Rattle.cml_room.specs.declared.place.Waiter.{Waiter};
 ghost use Rattle.cml_room.specs.News.{IsOf};
 ghost use Rattle.cml_room.specs.Places.{states_in};
 ghost use Rattle.cml_room.specs.Stalling.{IsStalled};
 ghost use Rattle.cml_room.specs.Waking.{AreAt, Follows, IsWatched, NoneForgotten, WouldWait};
 
 use crate::news::News;
-use crate::place::Place;
+use crate::place::{Place, Waiter};
 use crate::seats::Seats;
 use crate::state::State;
 use crate::waiting::is_stalled;
@@ -20,7 +22,7 @@ use cml_log::MessageLog;
 
 /// The seat's call was answered, and brought these news: the seat is free. All are due where the journal is full now.
 pub fn answer_turn<M: Message, L: MessageLog<M>>(floor: &Floor<M, L>, seats: &mut Seats, number: u64, news: Option<News>)
-    requires within { number < length seats.old.places }
+    requires may { (slice_get (states_in seats.old.places) number ≡ Some State.Free) ⊎ ((on : Want) × (slice_get (states_in seats.old.places) number ≡ Some (State.Parked on))) }
     requires placed { AreAt floor.now.board.history seats.old.places }
     requires of { IfSome news (IsOf floor.now.board.history) }
     ensures states { states_in seats.new.places ≡ slice_set (states_in seats.old.places) number State.Free }
@@ -36,7 +38,7 @@ pub fn answer_turn<M: Message, L: MessageLog<M>>(floor: &Floor<M, L>, seats: &mu
 /// The seat is free. Who may go on by the news becomes due; and where the seat waited, the next that waits for the same has its
 /// turn.
 pub fn end_turn<M: Message, L: MessageLog<M>>(floor: &Floor<M, L>, seats: &mut Seats, number: u64, news: Option<News>)
-    requires within { number < length seats.old.places }
+    requires may { (slice_get (states_in seats.old.places) number ≡ Some State.Free) ⊎ ((on : Want) × (slice_get (states_in seats.old.places) number ≡ Some (State.Parked on))) }
     requires placed { AreAt floor.now.board.history seats.old.places }
     requires of { IfSome news (IsOf floor.now.board.history) }
     ensures states { states_in seats.new.places ≡ slice_set (states_in seats.old.places) number State.Free }
@@ -44,11 +46,22 @@ pub fn end_turn<M: Message, L: MessageLog<M>>(floor: &Floor<M, L>, seats: &mut S
     ensures kept { (before : FloorShown M) → IsWatched before seats.old.places seats.old.all_due → Follows news before.board floor.now.board
         → (HasRoom before.board → HasRoom floor.now.board) → IsWatched floor.now seats.new.places seats.new.all_due }
 {
-    let place = seats.place(number);
+    let waited = waiter_at(seats, number);
     seats.set_free(number);
     tell(floor.board(), seats, news);
-    if let Some(Place::Waiting(waiter)) = place {
+    if let Some(waiter) = waited {
         hand_on(floor.board(), seats, waiter);
+    }
+}
+
+/// For what the seat waits, if it does.
+fn waiter_at(seats: &Seats, number: u64) -> Option<Waiter>
+    ensures { MatchOption result ((waiter : Waiter) → slice_get seats.now.places number ≢ Some (place.Waiting waiter))
+        (λ waiter. slice_get seats.now.places number ≡ Some (place.Waiting waiter)) }
+{
+    match seats.place(number) {
+        Some(Place::Waiting(waiter)) => Some(waiter),
+        _ => None,
     }
 }
 

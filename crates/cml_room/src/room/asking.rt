@@ -1,5 +1,5 @@
 //! A seat's calls.
-ghost use Rattle.std.specs.Prelude.{◌≡◌, ◌<◌, length, ⊤};
+ghost use Rattle.std.specs.Prelude.{◌⊎◌, ⊤};
 ghost use Rattle.cml_room.specs.Room.{MayAsk, MayAskAgain};
 ghost use Rattle.cml_room.specs.Asking.{Asks};
 
@@ -42,7 +42,7 @@ impl<M: Message, L: MessageLog<M>> Room<M, L> {
 
     /// Makes the call of a seat that may make it.
     fn take_turn(&mut self, seat: u64, call: Call<M>) -> Asked<M>
-        requires { seat < length self.old.seats }
+        requires { MayAsk self.old seat ⊎ MayAskAgain self.old seat call }
         ensures { Asks L.CHUNK M.SURE ⊤ self.old self.new seat call result }
     {
         let news = news_in(&call);

@@ -1,0 +1,54 @@
+use Rattle.std.proofs.Common.{rules, ◌≡◌, ℕ, slice_get, inl, inr, Some, refl, sym, ap, ◌∙◌}
+use Rattle.cml_room.specs.declared.state.State.TheVariants.{Free, Parked}
+use Rattle.cml_room.specs.Places.{states_in}
+use Rattle.cml_room.proofs.Ending.{free_place, parked_within}
+use Rattle.cml_room.proofs.Parking.{Begun, MayWait, free_begun, waits_begun, waits_unless_free}
+use Rattle.cml_room.proofs.turns.begin_wait.Goals as goal
+
+pub returns-then-eq-clause-states : goal.returns-then-eq-clause-states
+returns-then-eq-clause-states g c =
+    let free : slice_get (states_in c.args.seats.now.places) c.args.number ≡ Some Free = search rules in
+    (free_begun c.args.floor.now.board c.board.result.now c.args.seats.now.places c.wait.new.self.places c.args.number c.args.want c.object_of.result.0 c.source_of-source.result
+    (free_place c.args.seats.now.places c.args.number free) c.wait.ensures.places c.board.ensures.board c.object_of.ensures c.source_of-source.ensures
+    c.requires.would c.requires.watched.placed).states
+
+pub returns-then-eq-clause-placed : goal.returns-then-eq-clause-placed
+returns-then-eq-clause-placed g c =
+    let free : slice_get (states_in c.args.seats.now.places) c.args.number ≡ Some Free = search rules in
+    (free_begun c.args.floor.now.board c.board.result.now c.args.seats.now.places c.wait.new.self.places c.args.number c.args.want c.object_of.result.0 c.source_of-source.result
+    (free_place c.args.seats.now.places c.args.number free) c.wait.ensures.places c.board.ensures.board c.object_of.ensures c.source_of-source.ensures
+    c.requires.would c.requires.watched.placed).placed
+
+pub returns-then-eq-clause-rests : goal.returns-then-eq-clause-rests
+returns-then-eq-clause-rests g c = λ none.
+    let free : slice_get (states_in c.args.seats.now.places) c.args.number ≡ Some Free = search rules in
+    (free_begun c.args.floor.now.board c.board.result.now c.args.seats.now.places c.wait.new.self.places c.args.number c.args.want c.object_of.result.0 c.source_of-source.result
+    (free_place c.args.seats.now.places c.args.number free) c.wait.ensures.places c.board.ensures.board c.object_of.ensures c.source_of-source.ensures
+    c.requires.would c.requires.watched.placed).rests (c.requires.watched.rests (sym c.wait.ensures.due ∙ none))
+
+pub quiet-requires : goal.quiet-requires
+quiet-requires g c =
+    let other : ¬ (slice_get (states_in c.args.seats.now.places) c.args.number ≡ Some Free) = search rules in
+    parked_within c.args.seats.now.places c.args.number c.args.want
+    (waits_unless_free (states_in c.args.seats.now.places) c.args.number c.args.want c.requires.may other)
+
+pub returns-clause-states : goal.returns-clause-states
+returns-clause-states g c =
+    let other : ¬ (slice_get (states_in c.args.seats.now.places) c.args.number ≡ Some Free) = search rules in
+    (waits_begun c.args.floor.now.board c.args.seats.now.places c.quiet.new.self.places c.args.number c.args.want
+    (waits_unless_free (states_in c.args.seats.now.places) c.args.number c.args.want c.requires.may other) c.quiet.ensures.places
+    c.requires.would c.requires.watched.placed).states
+
+pub returns-clause-placed : goal.returns-clause-placed
+returns-clause-placed g c =
+    let other : ¬ (slice_get (states_in c.args.seats.now.places) c.args.number ≡ Some Free) = search rules in
+    (waits_begun c.args.floor.now.board c.args.seats.now.places c.quiet.new.self.places c.args.number c.args.want
+    (waits_unless_free (states_in c.args.seats.now.places) c.args.number c.args.want c.requires.may other) c.quiet.ensures.places
+    c.requires.would c.requires.watched.placed).placed
+
+pub returns-clause-rests : goal.returns-clause-rests
+returns-clause-rests g c = λ none.
+    let other : ¬ (slice_get (states_in c.args.seats.now.places) c.args.number ≡ Some Free) = search rules in
+    (waits_begun c.args.floor.now.board c.args.seats.now.places c.quiet.new.self.places c.args.number c.args.want
+    (waits_unless_free (states_in c.args.seats.now.places) c.args.number c.args.want c.requires.may other) c.quiet.ensures.places
+    c.requires.would c.requires.watched.placed).rests (c.requires.watched.rests (sym c.quiet.ensures.due ∙ none))
