@@ -6,6 +6,7 @@ pub mod Stilling
 pub mod Rousing
 pub mod Ending
 pub mod Parking
+pub mod Calling
 pub mod Resting
 pub mod Hearing
 pub mod Noting

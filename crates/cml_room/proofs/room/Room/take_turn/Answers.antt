@@ -1,0 +1,93 @@
+use Rattle.std.proofs.Common.{None, sym, ap, ◌∙◌}
+use Rattle.cml_board.specs.declared.entry.Who.TheVariants.{Seat}
+use Rattle.cml_board.specs.Waiting.{want_in}
+use Rattle.cml_room.specs.Places.{states_in, notices_in}
+use Rattle.cml_room.proofs.Turning.{answered_asks, parked_asks, stalled_asks, refused_asks, answered_reaches, waiting_reaches}
+use Rattle.cml_room.proofs.Unmoved.{room_kept}
+use Rattle.cml_room.proofs.Bringing.{placed_on}
+use Rattle.cml_room.proofs.Calling.{answered_brings, refused_before, before_follows, before_watched, call_would, waits_wants}
+use Rattle.cml_room.proofs.room.Room.take_turn.Goals as goal
+
+pub answer_turn-requires-clause-placed : goal.answer_turn-requires-clause-placed
+answer_turn-requires-clause-placed g c =
+    let reaches = answered_reaches g.L.MessageLog.CHUNK g.M.Message.SURE c.self.inside.floor c.apply.new.self c.args.seat c.args.call c.in-Answered.answer
+    c.in-Answered.ensures.barred c.in-Answered.ensures.applied in
+    placed_on c.self.inside.floor c.apply.new.self c.self.inside.seats.places c.self.inside.seats.all_due c.news_in-news.result c.self.invariant
+    (answered_brings g.L.MessageLog.CHUNK g.M.Message.SURE c.self.inside.floor.board c.apply.new.self.board (Seat c.args.seat) c.args.call c.in-Answered.answer
+    c.news_in-news.result c.news_in-news.ensures reaches.applies).follows
+
+pub answer_turn-requires-clause-of : goal.answer_turn-requires-clause-of
+answer_turn-requires-clause-of g c =
+    let reaches = answered_reaches g.L.MessageLog.CHUNK g.M.Message.SURE c.self.inside.floor c.apply.new.self c.args.seat c.args.call c.in-Answered.answer
+    c.in-Answered.ensures.barred c.in-Answered.ensures.applied in
+    (answered_brings g.L.MessageLog.CHUNK g.M.Message.SURE c.self.inside.floor.board c.apply.new.self.board (Seat c.args.seat) c.args.call c.in-Answered.answer
+    c.news_in-news.result c.news_in-news.ensures reaches.applies).of
+
+pub invariant_of-self : goal.invariant_of-self
+invariant_of-self g c =
+    let reaches = answered_reaches g.L.MessageLog.CHUNK g.M.Message.SURE c.self.inside.floor c.apply.new.self c.args.seat c.args.call c.in-Answered.answer
+    c.in-Answered.ensures.barred c.in-Answered.ensures.applied in
+    c.answer_turn.ensures.kept c.self.inside.floor c.self.invariant
+    (answered_brings g.L.MessageLog.CHUNK g.M.Message.SURE c.self.inside.floor.board c.apply.new.self.board (Seat c.args.seat) c.args.call c.in-Answered.answer
+    c.news_in-news.result c.news_in-news.ensures reaches.applies).follows
+
+pub end_turn-requires-clause-placed : goal.end_turn-requires-clause-placed
+end_turn-requires-clause-placed g c =
+    placed_on c.self.inside.floor c.apply.new.self c.self.inside.seats.places c.self.inside.seats.all_due None c.self.invariant
+    (before_follows None c.self.inside.floor.board c.apply.new.self.board
+    (refused_before g.L.MessageLog.CHUNK g.M.Message.SURE c.self.inside.floor c.apply.new.self c.args.seat c.args.call c.in-Refused.call c.in-Refused.refusal
+    c.in-Refused.ensures.barred c.in-Refused.ensures.applied))
+
+pub invariant_of-self-in-Refused : goal.invariant_of-self-in-Refused
+invariant_of-self-in-Refused g c =
+    let same = refused_before g.L.MessageLog.CHUNK g.M.Message.SURE c.self.inside.floor c.apply.new.self c.args.seat c.args.call c.in-Refused.call c.in-Refused.refusal
+    c.in-Refused.ensures.barred c.in-Refused.ensures.applied in
+    c.end_turn.ensures.kept c.self.inside.floor c.self.invariant (before_follows None c.self.inside.floor.board c.apply.new.self.board same)
+    (room_kept c.self.inside.floor.board c.apply.new.self.board same)
+
+pub unreachable-requires : goal.unreachable-requires
+unreachable-requires g c =
+    let reaches = waiting_reaches g.L.MessageLog.CHUNK g.M.Message.SURE c.self.inside.floor c.apply.new.self c.args.seat c.args.call c.in-WouldWait.call
+    c.in-WouldWait.ensures.barred c.in-WouldWait.ensures.applied in
+    waits_wants c.self.inside.floor.board.history c.args.call (ap want_in (sym reaches.applies.3) ∙ (sym c.want.ensures ∙ c.in_default.is)) reaches.applies.2
+
+pub park-requires-clause-would : goal.park-requires-clause-would
+park-requires-clause-would g c =
+    let reaches = waiting_reaches g.L.MessageLog.CHUNK g.M.Message.SURE c.self.inside.floor c.apply.new.self c.args.seat c.args.call c.in-WouldWait.call
+    c.in-WouldWait.ensures.barred c.in-WouldWait.ensures.applied in
+    call_would g.L.MessageLog.CHUNK g.M.Message.SURE c.self.inside.floor.board c.apply.new.self.board (Seat c.args.seat) c.args.call c.in-WouldWait.call c.in-Some.want
+    (sym c.want.ensures ∙ c.in-Some.is) reaches.applies
+
+pub park-requires-clause-watched : goal.park-requires-clause-watched
+park-requires-clause-watched g c =
+    let reaches = waiting_reaches g.L.MessageLog.CHUNK g.M.Message.SURE c.self.inside.floor c.apply.new.self c.args.seat c.args.call c.in-WouldWait.call
+    c.in-WouldWait.ensures.barred c.in-WouldWait.ensures.applied in
+    before_watched c.self.inside.floor c.apply.new.self c.self.inside.seats.places c.self.inside.seats.all_due c.self.invariant reaches.applies.4 c.apply.ensures.lanes
+
+pub returns-then-park : goal.returns-then-park
+returns-then-park g c =
+    parked_asks g.L.MessageLog.CHUNK g.M.Message.SURE c.args.self.now c.self.inside.floor c.apply.new.self (states_in c.self.inside.seats.places)
+    (states_in c.park.new.seats.places) (notices_in c.self.inside.seats.places) (notices_in c.park.new.seats.places) c.self.inside.seats.all_due c.park.new.seats.all_due
+    c.args.seat c.args.call c.in-WouldWait.call c.in-Some.want c.self.view_is c.in-WouldWait.ensures.barred c.in-WouldWait.ensures.applied
+    c.apply.ensures.lanes c.apply.ensures.feeds (sym c.want.ensures ∙ c.in-Some.is) c.if-park.ensures.parked
+
+pub returns-in-Answered : goal.returns-in-Answered
+returns-in-Answered g c =
+    answered_asks g.L.MessageLog.CHUNK g.M.Message.SURE c.args.self.now c.self.inside.floor c.apply.new.self (states_in c.self.inside.seats.places)
+    (states_in c.answer_turn.new.seats.places) (notices_in c.self.inside.seats.places) (notices_in c.answer_turn.new.seats.places) c.self.inside.seats.all_due
+    c.answer_turn.new.seats.all_due c.args.seat c.args.call c.in-Answered.answer c.self.view_is c.in-Answered.ensures.barred c.in-Answered.ensures.applied
+    c.apply.ensures.lanes c.apply.ensures.feeds c.answer_turn.ensures.states
+
+pub returns-in-Refused : goal.returns-in-Refused
+returns-in-Refused g c =
+    refused_asks g.L.MessageLog.CHUNK g.M.Message.SURE c.args.self.now c.self.inside.floor c.apply.new.self (states_in c.self.inside.seats.places)
+    (states_in c.end_turn.new.seats.places) (notices_in c.self.inside.seats.places) (notices_in c.end_turn.new.seats.places) c.self.inside.seats.all_due
+    c.end_turn.new.seats.all_due c.args.seat c.args.call c.in-Refused.call c.in-Refused.refusal c.self.view_is c.in-Refused.ensures.barred c.in-Refused.ensures.applied
+    c.apply.ensures.lanes c.apply.ensures.feeds c.end_turn.ensures.states
+
+pub returns-else-park : goal.returns-else-park
+returns-else-park g c =
+    stalled_asks g.L.MessageLog.CHUNK g.M.Message.SURE c.args.self.now c.self.inside.floor c.apply.new.self (states_in c.self.inside.seats.places)
+    (states_in c.park.new.seats.places) (notices_in c.self.inside.seats.places) (notices_in c.park.new.seats.places) c.self.inside.seats.all_due c.park.new.seats.all_due
+    c.args.seat c.args.call c.in-WouldWait.call c.in-Some.want c.self.view_is c.in-WouldWait.ensures.barred c.in-WouldWait.ensures.applied
+    c.apply.ensures.lanes c.apply.ensures.feeds (sym c.want.ensures ∙ c.in-Some.is) c.if-park.ensures.parked
