@@ -1,5 +1,5 @@
 -- What the call of a seat brings to those who wait.
-use Rattle.std.proofs.Common.{◌≡◌, ℕ, ◌⊎◌, inl, inr, Bool, true, false, cond, List, ◌∷◌, Option, Some, None, IsTrue, IsSome, IfSome, refl, sym, ap, subst, ◌∙◌}
+use Rattle.std.proofs.Common.{◌≡◌, ℕ, inl, inr, Bool, true, false, cond, List, ◌∷◌, Option, Some, None, IsTrue, IsSome, IfSome, refl, sym, ap, subst, ◌∙◌}
 use Rattle.std.proofs.lemmas.Bool.{false≢true}
 use Rattle.std.proofs.lemmas.Option.{none-some, same_Some}
 use Rattle.cml_board.specs.declared.call.Kind.{Kind}
@@ -19,7 +19,7 @@ use Rattle.cml_board.specs.Objects.{is_mailbox, is_channel, is_port}
 use Rattle.cml_board.specs.History.{Fits, answer, is_open}
 use Rattle.cml_board.specs.Waiting.{want_in, Waits}
 use Rattle.cml_board.specs.Shown.{Shown}
-use Rattle.cml_board.specs.Outcome.{Applies, HasRoom, IsAsBefore}
+use Rattle.cml_board.specs.Outcome.{Applies, IsAsBefore}
 use Rattle.cml_lanes.specs.Floor.{FloorShown}
 use Rattle.cml_lanes.specs.Barring.{is_barred}
 use Rattle.cml_lanes.proofs.Moves.{unchanged}
@@ -27,8 +27,7 @@ use Rattle.cml_room.specs.declared.news.News.{News}
 use Rattle.cml_room.specs.declared.place.Place.{Place}
 use Rattle.cml_room.specs.News.{news_in, IsOf}
 use Rattle.cml_room.specs.Stalling.{NoneOpen}
-use Rattle.cml_room.specs.Asking.{Reaches}
-use Rattle.cml_room.specs.Waking.{WouldWait, AreAt, Follows, IsWatched}
+use Rattle.cml_room.specs.Waking.{WouldWait, Follows, IsWatched}
 use Rattle.cml_room.proofs.Resting.{fits_kept}
 use Rattle.cml_room.proofs.Following.{one_leads, follows, same_follows}
 use Rattle.cml_room.proofs.Unmoved.{room_kept, same_watched}

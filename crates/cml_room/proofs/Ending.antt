@@ -1,5 +1,5 @@
 -- What stays of seats of which one doesn't wait any more, and who is told then.
-use Rattle.std.proofs.Common.{◌≡◌, ◌≢◌, ℕ, ◌<◌, ◌⊎◌, inl, inr, Bool, true, false, List, length, get_or, slice_get, slice_set, map, Option, Some, None, refl, sym, ap, subst, ◌∙◌, arith}
+use Rattle.std.proofs.Common.{◌≡◌, ◌≢◌, ℕ, ◌<◌, ◌⊎◌, inl, inr, Bool, true, List, length, get_or, slice_get, slice_set, Option, Some, refl, sym, ap, subst, ◌∙◌, arith}
 use Rattle.std.specs.Option.{option_map}
 use Rattle.std.proofs.lemmas.Option.{same_Some, slice_get_within, slice_get-get_or, slice_get-map, get_or_from_slice_get}
 use Rattle.std.proofs.lemmas.Bool.{true≢false}
@@ -20,8 +20,8 @@ use Rattle.cml_room.specs.declared.state.State.TheVariants as state
 use Rattle.cml_room.specs.News.{object_of, source_of, NoNews}
 use Rattle.cml_room.specs.Places.{state_by, states_in, AreRoused, IsMate, IsQuiet}
 use Rattle.cml_room.specs.Seats.{freed}
-use Rattle.cml_room.specs.Stalling.{AreIdle, IsStalled}
-use Rattle.cml_room.specs.Waking.{WouldWait, AreAt, NoneForgotten, Follows, IsWatched}
+use Rattle.cml_room.specs.Stalling.{IsStalled}
+use Rattle.cml_room.specs.Waking.{WouldWait, AreAt, Follows, IsWatched}
 use Rattle.cml_room.proofs.Idling.{idle_at}
 use Rattle.cml_room.proofs.Listing.{set_here}
 use Rattle.cml_room.proofs.Rousing.{quiet_before, mate_on, free_kept, at_kept}

@@ -1,5 +1,5 @@
 -- A seat that begins to wait, or waits on.
-use Rattle.std.proofs.Common.{◌≡◌, ℕ, ◌⊎◌, inl, inr, Bool, true, false, List, get_or, slice_get, slice_set, map, Option, Some, refl, sym, ap, subst, ◌∙◌}
+use Rattle.std.proofs.Common.{◌≡◌, ℕ, ◌⊎◌, inl, inr, Bool, false, List, get_or, slice_get, slice_set, Some, refl, sym, ap, subst, ◌∙◌}
 use Rattle.std.proofs.lemmas.Option.{same_Some, get_or_from_slice_get}
 use Rattle.std.proofs.lemmas.List.{map-set, set-set}
 use Rattle.cml_board.specs.declared.entry.Entry.{Entry}
@@ -19,7 +19,6 @@ use Rattle.cml_room.specs.declared.state.State.TheVariants as state
 use Rattle.cml_room.specs.News.{object_of, source_of}
 use Rattle.cml_room.specs.Places.{state_by, states_in, quieted, IsMate, IsQuiet}
 use Rattle.cml_room.specs.Seats.{freed}
-use Rattle.cml_room.specs.Stalling.{IsStalled}
 use Rattle.cml_room.specs.Waking.{WouldWait, AreAt, NoneForgotten, IsWatched}
 use Rattle.cml_room.proofs.Listing.{set_here}
 use Rattle.cml_room.proofs.Ending.{with_freed, parked_place, freed_at, freed_here, freed_states, freed_quiet, mate_stays, would_same, free_moves}
@@ -66,9 +65,10 @@ module _ {M : Type 0} where
   begun_at history places number want own wants source fits at = λ k waiter found. elim (this_or_other k number) [
     | inl here ↦
         let is = waiting_here places number k own waiter here found in
-        let same : waiter.want ≡ want = ap (λ (w : Waiter). w.want) (sym is) ∙ wants in
-        (subst (λ w. Fits history (wanting w)) (sym same) fits,
-        ap (λ (w : Waiter). w.source) (sym is) ∙ (source ∙ ap (λ w. source_of history (object_of w)) (sym same)))
+        let same : waiter.want ≡ want = ap (λ (w : Waiter). w.want) (sym is) ∙ wants in (
+          subst (λ w. Fits history (wanting w)) (sym same) fits,
+          ap (λ (w : Waiter). w.source) (sym is) ∙ (source ∙ ap (λ w. source_of history (object_of w)) (sym same)),
+        )
     | inr other ↦ at k waiter (sym (slice_get-set_other places number k (Waiting own) other) ∙ found)
   ]
 
@@ -128,9 +128,9 @@ module _ {M : Type 0} where
       begun board places news number want (record place.0 { notice = Nothing }) (set ∙ quieted_is places number place.0 place.1) place.2
       ((at number place.0 place.1).1 ∙ ap (λ w. source_of board.history (object_of w)) place.2)
       (λ waiter found.
-        let is : Waiting place.0 ≡ Waiting waiter = same_Some (Waiting place.0) (Waiting waiter) (sym place.1 ∙ found) in
-        let same : waiter.want ≡ place.0.want = cc in
-        same ∙ place.2) would at
+      let is : Waiting place.0 ≡ Waiting waiter = same_Some (Waiting place.0) (Waiting waiter) (sym place.1 ∙ found) in
+      let same : waiter.want ≡ place.0.want = cc in
+      same ∙ place.2) would at
 
   -- and nobody is forgotten then
   unparked_rests : (board : Shown M) (waiting : List Place) (number : ℕ) (want : Want) → slice_get (states_in waiting) number ≡ Some (state.Parked want) → WouldWait board want
@@ -142,9 +142,9 @@ module _ {M : Type 0} where
         | inr mate ↦
             mate_or_would board waiting (with_freed waiting number) number want waiter.want would
             (λ own found.
-              let is : Waiting place.0 ≡ Waiting own = same_Some (Waiting place.0) (Waiting own) (sym place.1 ∙ found) in
-              let same : own.want ≡ place.0.want = cc in
-              same ∙ place.2)
+            let is : Waiting place.0 ≡ Waiting own = same_Some (Waiting place.0) (Waiting own) (sym place.1 ∙ found) in
+            let same : own.want ≡ place.0.want = cc in
+            same ∙ place.2)
             (mate_stays waiting number (freed (get_or waiting number Free)) waiter.want mate)
       ]
 

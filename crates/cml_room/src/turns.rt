@@ -21,7 +21,12 @@ use cml_lanes::Floor;
 use cml_log::MessageLog;
 
 /// The seat's call was answered, and brought these news: the seat is free. All are due where the journal is full now.
-pub fn answer_turn<M: Message, L: MessageLog<M>>(floor: &Floor<M, L>, seats: &mut Seats, number: u64, news: Option<News>)
+pub fn answer_turn<M: Message, L: MessageLog<M>>(
+    floor: &Floor<M, L>,
+    seats: &mut Seats,
+    number: u64,
+    news: Option<News>,
+)
     requires may { (slice_get (states_in seats.old.places) number ≡ Some State.Free) ⊎ ((on : Want) × (slice_get (states_in seats.old.places) number ≡ Some (State.Parked on))) }
     requires placed { AreAt floor.now.board.history seats.old.places }
     requires of { IfSome news (IsOf floor.now.board.history) }
@@ -37,7 +42,12 @@ pub fn answer_turn<M: Message, L: MessageLog<M>>(floor: &Floor<M, L>, seats: &mu
 
 /// The seat is free. Who may go on by the news becomes due; and where the seat waited, the next that waits for the same has its
 /// turn.
-pub fn end_turn<M: Message, L: MessageLog<M>>(floor: &Floor<M, L>, seats: &mut Seats, number: u64, news: Option<News>)
+pub fn end_turn<M: Message, L: MessageLog<M>>(
+    floor: &Floor<M, L>,
+    seats: &mut Seats,
+    number: u64,
+    news: Option<News>,
+)
     requires may { (slice_get (states_in seats.old.places) number ≡ Some State.Free) ⊎ ((on : Want) × (slice_get (states_in seats.old.places) number ≡ Some (State.Parked on))) }
     requires placed { AreAt floor.now.board.history seats.old.places }
     requires of { IfSome news (IsOf floor.now.board.history) }
@@ -67,7 +77,12 @@ fn waiter_at(seats: &Seats, number: u64) -> Option<Waiter>
 
 /// The seat waits for this, and isn't due. Where then nobody can go on, the seat is set free, and the answer is that it doesn't
 /// wait.
-pub fn park<M: Message, L: MessageLog<M>>(floor: &Floor<M, L>, seats: &mut Seats, number: u64, want: Want) -> bool
+pub fn park<M: Message, L: MessageLog<M>>(
+    floor: &Floor<M, L>,
+    seats: &mut Seats,
+    number: u64,
+    want: Want,
+) -> bool
     requires may { (slice_get (states_in seats.old.places) number ≡ Some State.Free) ⊎ (slice_get (states_in seats.old.places) number ≡ Some (State.Parked want)) }
     requires would { WouldWait floor.now.board want }
     requires watched { IsWatched floor.now seats.old.places seats.old.all_due }
@@ -85,7 +100,12 @@ pub fn park<M: Message, L: MessageLog<M>>(floor: &Floor<M, L>, seats: &mut Seats
 }
 
 /// The seat waits for this, and isn't due.
-fn begin_wait<M: Message, L: MessageLog<M>>(floor: &Floor<M, L>, seats: &mut Seats, number: u64, want: Want)
+fn begin_wait<M: Message, L: MessageLog<M>>(
+    floor: &Floor<M, L>,
+    seats: &mut Seats,
+    number: u64,
+    want: Want,
+)
     requires may { (slice_get (states_in seats.old.places) number ≡ Some State.Free) ⊎ (slice_get (states_in seats.old.places) number ≡ Some (State.Parked want)) }
     requires would { WouldWait floor.now.board want }
     requires watched { IsWatched floor.now seats.old.places seats.old.all_due }
@@ -104,7 +124,11 @@ fn begin_wait<M: Message, L: MessageLog<M>>(floor: &Floor<M, L>, seats: &mut Sea
 
 /// Others than seats have changed the board, and brought these news. All are due where the journal is full now, and where nobody
 /// can go on.
-pub fn settle<M: Message, L: MessageLog<M>>(floor: &Floor<M, L>, seats: &mut Seats, news: Option<News>)
+pub fn settle<M: Message, L: MessageLog<M>>(
+    floor: &Floor<M, L>,
+    seats: &mut Seats,
+    news: Option<News>,
+)
     requires placed { AreAt floor.now.board.history seats.old.places }
     requires of { IfSome news (IsOf floor.now.board.history) }
     ensures states { states_in seats.new.places ≡ states_in seats.old.places }

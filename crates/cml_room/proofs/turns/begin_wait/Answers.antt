@@ -1,8 +1,8 @@
-use Rattle.std.proofs.Common.{rules, ◌≡◌, ℕ, slice_get, inl, inr, Some, refl, sym, ap, ◌∙◌}
-use Rattle.cml_room.specs.declared.state.State.TheVariants.{Free, Parked}
+use Rattle.std.proofs.Common.{rules, ◌≡◌, slice_get, Some, sym, ◌∙◌}
+use Rattle.cml_room.specs.declared.state.State.TheVariants.{Free}
 use Rattle.cml_room.specs.Places.{states_in}
 use Rattle.cml_room.proofs.Ending.{free_place, parked_within}
-use Rattle.cml_room.proofs.Parking.{Begun, MayWait, free_begun, waits_begun, waits_unless_free}
+use Rattle.cml_room.proofs.Parking.{free_begun, waits_begun, waits_unless_free}
 use Rattle.cml_room.proofs.turns.begin_wait.Goals as goal
 
 pub returns-then-eq-clause-states : goal.returns-then-eq-clause-states

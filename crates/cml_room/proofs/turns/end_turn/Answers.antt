@@ -1,4 +1,4 @@
-use Rattle.std.proofs.Common.{sym, refl, ap, subst, ◌∙◌}
+use Rattle.std.proofs.Common.{sym, ap, subst, ◌∙◌}
 use Rattle.cml_board.specs.Shown.{Shown}
 use Rattle.cml_room.specs.Places.{states_in}
 use Rattle.cml_room.specs.Waking.{AreAt}

@@ -1,4 +1,4 @@
-use Rattle.std.proofs.Common.{refl, sym, ap, subst, ◌∙◌}
+use Rattle.std.proofs.Common.{subst}
 use Rattle.cml_room.specs.Stalling.{IsStalled}
 use Rattle.cml_room.specs.Places.{states_in}
 use Rattle.cml_room.proofs.Ending.{parked_within}
@@ -11,10 +11,11 @@ set_free-requires g c =
     (parked_then (states_in c.args.seats.now.places) c.begin_wait.new.seats.places c.args.number c.args.want c.requires.may c.begin_wait.ensures.states)
 
 pub returns-then-is_stalled-clause-parked : goal.returns-then-is_stalled-clause-parked
-returns-then-is_stalled-clause-parked g c =
-    (subst (IsStalled c.args.floor.now) c.begin_wait.ensures.states (c.is_stalled.ensures.all c.if-is_stalled.true c.begin_wait.ensures.rests),
-    unparked_states (states_in c.args.seats.now.places) c.begin_wait.new.seats.places c.set_free.new.self.places c.args.number c.args.want c.requires.may
-    c.begin_wait.ensures.states c.set_free.ensures.places)
+returns-then-is_stalled-clause-parked g c = (
+  subst (IsStalled c.args.floor.now) c.begin_wait.ensures.states (c.is_stalled.ensures.all c.if-is_stalled.true c.begin_wait.ensures.rests),
+  unparked_states (states_in c.args.seats.now.places) c.begin_wait.new.seats.places c.set_free.new.self.places c.args.number c.args.want c.requires.may
+      c.begin_wait.ensures.states c.set_free.ensures.places,
+)
 
 pub returns-then-is_stalled-clause-watched : goal.returns-then-is_stalled-clause-watched
 returns-then-is_stalled-clause-watched g c =
