@@ -1,5 +1,5 @@
 -- What the call of a seat brings to those who wait.
-use Rattle.std.proofs.Common.{◌≡◌, ℕ, inl, inr, Bool, true, false, cond, List, ◌∷◌, Option, Some, None, IsTrue, IsSome, IfSome, refl, sym, ap, subst, ◌∙◌}
+use Rattle.std.proofs.Common.{◌≡◌, ℕ, ◌⊎◌, inl, inr, Bool, true, false, cond, List, ◌∷◌, slice_get, Option, Some, None, IsTrue, IsSome, IfSome, refl, sym, ap, subst, ◌∙◌}
 use Rattle.std.proofs.lemmas.Bool.{false≢true}
 use Rattle.std.proofs.lemmas.Option.{none-some, same_Some}
 use Rattle.cml_board.specs.declared.call.Kind.{Kind}
@@ -25,14 +25,18 @@ use Rattle.cml_lanes.specs.Barring.{is_barred}
 use Rattle.cml_lanes.proofs.Moves.{unchanged}
 use Rattle.cml_room.specs.declared.news.News.{News}
 use Rattle.cml_room.specs.declared.place.Place.{Place}
+use Rattle.cml_room.specs.declared.state.State.{State}
+use Rattle.cml_room.specs.declared.state.State.TheVariants.{Parked}
 use Rattle.cml_room.specs.News.{news_in, IsOf}
 use Rattle.cml_room.specs.Stalling.{NoneOpen}
+use Rattle.cml_room.specs.Room.{RoomShown, MayAsk, MayAskAgain}
 use Rattle.cml_room.specs.Waking.{WouldWait, Follows, IsWatched}
 use Rattle.cml_room.proofs.Resting.{fits_kept}
 use Rattle.cml_room.proofs.Following.{one_leads, follows, same_follows}
 use Rattle.cml_room.proofs.Unmoved.{room_kept, same_watched}
 use Rattle.cml_room.proofs.Bringing.{Brings}
 use Rattle.cml_room.proofs.Turning.{refused_reaches}
+use Rattle.cml_room.proofs.Parking.{MayWait}
 
 -- what takes a message is a mailbox, and so on
 mailbox_is : (kind : Option Kind) → IsSome kind → IfSome kind (λ k. IsTrue (is_mailbox k)) → kind ≡ Some Mailbox
@@ -103,6 +107,14 @@ module _ {M : Type 0} where
         (call_waits old.history call on (ap want_in (sym applies.3) ∙ wants) applies.0 applies.2);
     room = room_kept old new applies.4 applies.1;
   }
+
+  -- a seat that may make the call is free, or waits for what it wants
+  pub may_wait : (room : RoomShown M) (states : List State) (number : ℕ) (call back : Call M) (on : Want) → states ≡ room.seats
+      → MayAsk room number ⊎ MayAskAgain room number call → back ≡ call → want_in back ≡ Some on → MayWait states number on
+  may_wait room states number call back on same (inl free) is wants = inl (ap (λ l. slice_get l number) same ∙ free)
+  may_wait room states number call back on same (inr again) is wants =
+      let one : again.0 ≡ on = same_Some again.0 on (sym again.1 ∙ (ap want_in (sym is) ∙ wants)) in
+      inr (ap (λ l. slice_get l number) same ∙ (again.2 ∙ ap (λ w. Some (Parked w)) one))
 
   pub before_watched : (old new : FloorShown M) (places : List Place) (all_due : Bool) → IsWatched old places all_due → IsAsBefore old.board new.board
       → new.lanes ≡ old.lanes → IsWatched new places all_due

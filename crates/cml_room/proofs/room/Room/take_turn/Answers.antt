@@ -2,10 +2,11 @@ use Rattle.std.proofs.Common.{None, sym, ap, ◌∙◌}
 use Rattle.cml_board.specs.declared.entry.Who.TheVariants.{Seat}
 use Rattle.cml_board.specs.Waiting.{want_in}
 use Rattle.cml_room.specs.Places.{states_in, notices_in}
+use Rattle.cml_room.specs.Room.{RoomShown}
 use Rattle.cml_room.proofs.Turning.{answered_asks, parked_asks, stalled_asks, refused_asks, answered_reaches, waiting_reaches}
 use Rattle.cml_room.proofs.Unmoved.{room_kept}
 use Rattle.cml_room.proofs.Bringing.{placed_on}
-use Rattle.cml_room.proofs.Calling.{answered_brings, refused_before, before_follows, before_watched, call_would, waits_wants}
+use Rattle.cml_room.proofs.Calling.{answered_brings, refused_before, before_follows, before_watched, call_would, may_wait, waits_wants}
 use Rattle.cml_room.proofs.room.Room.take_turn.Goals as goal
 
 pub answer_turn-requires-clause-placed : goal.answer_turn-requires-clause-placed
@@ -50,6 +51,13 @@ unreachable-requires g c =
     let reaches = waiting_reaches g.L.MessageLog.CHUNK g.M.Message.SURE c.self.inside.floor c.apply.new.self c.args.seat c.args.call c.in-WouldWait.call
     c.in-WouldWait.ensures.barred c.in-WouldWait.ensures.applied in
     waits_wants c.self.inside.floor.board.history c.args.call (ap want_in (sym reaches.applies.3) ∙ (sym c.want.ensures ∙ c.in_default.is)) reaches.applies.2
+
+pub park-requires-clause-may : goal.park-requires-clause-may
+park-requires-clause-may g c =
+    let reaches = waiting_reaches g.L.MessageLog.CHUNK g.M.Message.SURE c.self.inside.floor c.apply.new.self c.args.seat c.args.call c.in-WouldWait.call
+    c.in-WouldWait.ensures.barred c.in-WouldWait.ensures.applied in
+    may_wait c.args.self.now (states_in c.self.inside.seats.places) c.args.seat c.args.call c.in-WouldWait.call c.in-Some.want
+    (ap (λ (r : RoomShown g.row.M.Denot). r.seats) c.self.view_is) c.requires reaches.applies.3 (sym c.want.ensures ∙ c.in-Some.is)
 
 pub park-requires-clause-would : goal.park-requires-clause-would
 park-requires-clause-would g c =
