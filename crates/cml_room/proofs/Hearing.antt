@@ -1,5 +1,5 @@
 -- Who is reached by news, by the kinds of objects.
-use Rattle.std.proofs.Common.{◌≡◌, ◌≢◌, ℕ, zero, suc, ◌+◌, ◌-◌, ◌<◌, ◌≤◌, ◌⊎◌, inl, inr, Bool, true, false, eqb, List, [], ◌∷◌, ◌++◌, length, slice_get, Option, Some, None, IsTrue, IsSome, IfSome, refl, sym, ap, subst, ◌∙◌, arith}
+use Rattle.std.proofs.Common.{◌≡◌, ℕ, zero, suc, ◌+◌, ◌≤◌, ◌⊎◌, inl, inr, Bool, true, false, List, [], ◌∷◌, ◌++◌, length, slice_get, Option, Some, None, IsTrue, IsSome, IfSome, refl, sym, ap, subst, ◌∙◌, arith}
 use Rattle.std.specs.Prelude.{◌==◌, ◌&&◌, ◌||◌}
 use Rattle.std.specs.Option.{option_map}
 use Rattle.std.proofs.lemmas.Option.{none-some, same_Some}
@@ -17,7 +17,6 @@ use Rattle.cml_board.specs.declared.want.Want.TheVariants.{Recv, Get, Take, Swap
 use Rattle.cml_board.specs.Origins.{Origin, mailbox, channel, port, ivar, mvar, kind_by, source_by, copy_of}
 use Rattle.cml_board.specs.Objects.{takes, is_channel, is_variable}
 use Rattle.cml_board.specs.History.{Lawful, Fits, made, if_made, begun_by, origin_of, kind_of, sent, got}
-use Rattle.cml_board.specs.Waiting.{wanting}
 use Rattle.cml_board.proofs.Closing.{kind_kept}
 use Rattle.cml_board.proofs.Received.{slice_get-append_within}
 use Rattle.cml_room.specs.declared.news.News.{News}
@@ -27,7 +26,7 @@ use Rattle.cml_room.specs.declared.place.Waiter.{Waiter}
 use Rattle.cml_room.specs.News.{object_of, source_of, helps, NoNews, IsOf}
 use Rattle.cml_room.specs.Places.{AreRoused, IsMate, IsQuiet}
 use Rattle.cml_room.specs.Waking.{reaches, AreAt}
-use Rattle.cml_room.proofs.Rousing.{mate_on, quiet_before, at_kept}
+use Rattle.cml_room.proofs.Rousing.{mate_on, quiet_before}
 
 -- what stands behind the first list is in the second
 behind : {X : Type 0} (xs ys : List X) (k : ℕ) (x : X) → length xs ≤ k → slice_get (xs ++ ys) k ≡ Some x → (i : ℕ) × (slice_get ys i ≡ Some x)

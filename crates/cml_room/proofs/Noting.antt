@@ -1,15 +1,14 @@
 -- Who sleeps rightly, over what is done with a seat.
-use Rattle.std.proofs.Common.{◌≡◌, ◌≢◌, ℕ, ◌+◌, ◌<◌, ◌≤◌, ◌⊎◌, inl, inr, Bool, true, false, List, [], ◌∷◌, ◌++◌, length, get_or, slice_get, slice_set, map, Option, Some, None, IfSome, IfNone, refl, sym, ap, subst, ◌∙◌, arith, length-append}
-use Rattle.std.specs.Prelude.{◌&&◌, ◌||◌, ⊤}
+use Rattle.std.proofs.Common.{◌≡◌, ◌≢◌, ℕ, inl, inr, Bool, true, false, List, [], ◌∷◌, ◌++◌, length, slice_get, slice_set, Option, Some, None, IfSome, IfNone, refl, sym, ap, subst, ◌∙◌, arith}
+use Rattle.std.specs.Prelude.{◌&&◌, ◌||◌}
 use Rattle.std.specs.Option.{option_map}
-use Rattle.std.proofs.lemmas.Option.{none-some, same_Some, slice_get_within, slice_get-get_or, slice_get-map, slice_get_past, get_or_from_slice_get}
+use Rattle.std.proofs.lemmas.Option.{none-some, same_Some, slice_get-map, slice_get_past, get_or_from_slice_get}
 use Rattle.std.proofs.lemmas.Bool.{true≢false, false≢true}
 use Rattle.std.proofs.lemmas.List.{map-set, set-get_or}
 use Rattle.cml_board.specs.declared.entry.Entry.{Entry}
 use Rattle.cml_board.specs.declared.want.Want.{Want}
 use Rattle.cml_board.specs.History.{Fits}
 use Rattle.cml_board.specs.Waiting.{wanting}
-use Rattle.cml_board.specs.Shown.{Shown}
 use Rattle.cml_board.proofs.ListLemmas.{slice_get-set_same, slice_get-set_other, slice_get-append_some, pushed_cases, slice_get_pushed}
 use Rattle.cml_lanes.specs.Floor.{FloorShown}
 use Rattle.cml_lanes.proofs.Slots.{this_or_other}
@@ -24,7 +23,7 @@ use Rattle.cml_room.specs.News.{object_of, source_of}
 use Rattle.cml_room.specs.Places.{state_by, states_in, notice_by, notices_in, is_noted, place_due, AreAlike, AreRoused, IsMate, IsQuiet}
 use Rattle.cml_room.specs.Seats.{free_in, WakesNext}
 use Rattle.cml_room.specs.Stalling.{IsStalled}
-use Rattle.cml_room.specs.Room.{RoomShown, floor_of, state_of, is_parked, has_notice, is_due, HasMate, SleepsRightly}
+use Rattle.cml_room.specs.Room.{is_parked, has_notice, is_due, SleepsRightly}
 use Rattle.cml_room.specs.Waking.{WouldWait, AreAt, IsWatched}
 use Rattle.cml_room.proofs.Idling.{idle_none, idle_at}
 use Rattle.cml_room.proofs.Listing.{set_here}

@@ -1,9 +1,9 @@
 -- Who waits goes on waiting over an entry that brings no news for them.
-use Rattle.std.proofs.Common.{◌≡◌, ℕ, ◌+◌, ◌-◌, ◌<◌, ◌≤◌, Bool, true, false, not, cond, eqb, ◌&&◌, List, [], ◌∷◌, ◌++◌, length, drop, slice_get, Option, Some, None, unwrap_or, IsTrue, IsSome, IfSome, refl, sym, ap, subst, ◌∙◌, arith, length-append, length-drop}
+use Rattle.std.proofs.Common.{◌≡◌, ℕ, ◌<◌, ◌≤◌, Bool, true, false, cond, eqb, List, [], ◌∷◌, length, drop, Option, Some, None, unwrap_or, IsTrue, IsSome, IfSome, refl, sym, ap, subst, ◌∙◌, arith, length-append, length-drop}
 use Rattle.std.specs.Prelude.{⊤}
 use Rattle.std.specs.Option.{option_map}
 use Rattle.std.proofs.lemmas.Option.{none-some, same_Some, slice_get_past}
-use Rattle.std.proofs.lemmas.Bool.{false≢true, true≢false, ne_eqb, eqb-true}
+use Rattle.std.proofs.lemmas.Bool.{false≢true, ne_eqb, eqb-true}
 use Rattle.cml_board.specs.declared.call.Name.{Name}
 use Rattle.cml_board.specs.declared.call.Kind.{Kind}
 use Rattle.cml_board.specs.declared.call.Call.{Call}
@@ -15,14 +15,14 @@ use Rattle.cml_board.specs.declared.want.Want.{Want}
 use Rattle.cml_board.specs.declared.want.Want.TheVariants as want
 use Rattle.cml_board.specs.Origins.{Origin, kind_by, source_by, start_by}
 use Rattle.cml_board.specs.Objects.{takes}
-use Rattle.cml_board.specs.Held.{only_at, left_by, held}
-use Rattle.cml_board.specs.History.{Fits, made, if_made, begun_by, origin_of, kind_of, sent, sent_by, got, got_by, closes, is_done, is_open, due, owed, received, given, where_open, answer}
-use Rattle.cml_board.specs.Waiting.{wanting, Waits}
+use Rattle.cml_board.specs.Held.{left_by, held}
+use Rattle.cml_board.specs.History.{Fits, made, if_made, begun_by, origin_of, kind_of, sent, sent_by, got, got_by, closes, is_done, is_open, due, owed, received, given, answer}
+use Rattle.cml_board.specs.Waiting.{Waits}
 use Rattle.cml_board.proofs.Closing.{kind_kept}
 use Rattle.cml_board.proofs.Telling.{stays_open, none_sent}
 use Rattle.cml_board.proofs.Received.{slice_get-append_within}
 use Rattle.cml_board.proofs.Unmade.{none_at}
-use Rattle.cml_room.specs.News.{object_of, news_in, source_of, NoNews}
+use Rattle.cml_room.specs.News.{news_in, source_of, NoNews}
 
 module _ {M : Type 0} where
   -- a receive that waits is on what is open and owes nothing

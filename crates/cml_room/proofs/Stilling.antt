@@ -1,5 +1,5 @@
 -- Whether anybody can go on, told by those that are due alone.
-use Rattle.std.proofs.Common.{◌≡◌, ℕ, ◌<◌, ◌⊎◌, inl, inr, Bool, true, false, MatchBool, List, length, get_or, slice_get, slice_set, map, sum_by, Some, refl, sym, ap, subst, ◌∙◌, arith}
+use Rattle.std.proofs.Common.{◌≡◌, ℕ, ◌<◌, inl, inr, Bool, true, false, MatchBool, List, length, get_or, slice_get, Some, refl, ap, subst, ◌∙◌, arith}
 use Rattle.std.specs.Option.{option_map}
 use Rattle.std.proofs.lemmas.Option.{slice_get-map, slice_get_within, get_or_from_slice_get}
 use Rattle.std.proofs.lemmas.List.{length-map}
@@ -15,7 +15,7 @@ use Rattle.cml_room.specs.declared.place.Place.{Place}
 use Rattle.cml_room.specs.declared.place.Place.TheVariants.{Free, Waiting, Left}
 use Rattle.cml_room.specs.declared.place.Waiter.{Waiter}
 use Rattle.cml_room.specs.declared.state.State.TheVariants as state
-use Rattle.cml_room.specs.Places.{state_by, states_in, is_noted, noted_as, IsMate, IsQuiet}
+use Rattle.cml_room.specs.Places.{state_by, states_in, is_noted, noted_as}
 use Rattle.cml_room.specs.Seats.{free_by, free_in}
 use Rattle.cml_room.specs.Stalling.{IsIdle, AreIdle}
 use Rattle.cml_room.specs.Waking.{NoneForgotten}

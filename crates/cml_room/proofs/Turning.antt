@@ -10,7 +10,6 @@ use Rattle.cml_board.specs.declared.outcome.Refusal.{Refusal}
 use Rattle.cml_board.specs.declared.outcome.Refusal.TheVariants.{Gone, Busy, NoSuch, WrongKind, JournalFull, Stalled, NoMemory, Unseen}
 use Rattle.cml_board.specs.declared.want.Want.{Want}
 use Rattle.cml_board.specs.Waiting.{want_in}
-use Rattle.cml_board.specs.Shown.{Shown}
 use Rattle.cml_board.specs.Outcome.{Applies}
 use Rattle.cml_lanes.specs.Floor.{FloorShown}
 use Rattle.cml_lanes.specs.Barring.{is_barred}

@@ -1,11 +1,8 @@
-use Rattle.std.proofs.Common.{◌≡◌, ℕ, Option, Some, slice_get, sym, ap, ◌∙◌, arith}
+use Rattle.std.proofs.Common.{Option, sym, ap, ◌∙◌, arith}
 use Rattle.std.specs.Option.{option_map}
 use Rattle.std.proofs.lemmas.Option.{slice_get-map}
-use Rattle.cml_board.specs.Waiting.{Waits}
 use Rattle.cml_queues.specs.Queues.{queue_of}
 use Rattle.cml_room.specs.declared.place.Place.{Place}
-use Rattle.cml_room.specs.declared.place.Place.TheVariants.{Waiting}
-use Rattle.cml_room.specs.declared.place.Waiter.{Waiter}
 use Rattle.cml_room.specs.declared.state.State.TheVariants.{Parked}
 use Rattle.cml_room.specs.Places.{state_by, noted_in}
 use Rattle.cml_room.proofs.Idling.{idle_state}

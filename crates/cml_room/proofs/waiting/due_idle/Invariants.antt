@@ -1,4 +1,4 @@
-use Rattle.std.proofs.Common.{◌≡◌, ℕ, slice_get, Some}
+use Rattle.std.proofs.Common.{◌≡◌, slice_get, Some}
 use Rattle.cml_board.specs.Waiting.{Waits}
 use Rattle.cml_queues.specs.Queues.{queue_of}
 use Rattle.cml_room.specs.declared.place.Place.TheVariants.{Waiting}

@@ -1,4 +1,4 @@
-use Rattle.std.proofs.Common.{rules, ap, sym, subst}
+use Rattle.std.proofs.Common.{rules, sym, subst}
 use Rattle.cml_board.specs.Shown.{Shown}
 use Rattle.cml_room.specs.Places.{states_in}
 use Rattle.cml_room.specs.Stalling.{AreIdle}

@@ -1,4 +1,4 @@
-use Rattle.std.proofs.Common.{◌≡◌, Bool, true, slice_get, sym, ap, subst, ◌∙◌}
+use Rattle.std.proofs.Common.{Bool, slice_get, sym, ap, ◌∙◌}
 use Rattle.std.specs.Prelude.{⊤}
 use Rattle.cml_room.specs.Places.{place_due}
 use Rattle.cml_room.proofs.Noting.{roused_alike, roused_due}

@@ -1,16 +1,12 @@
-use Rattle.std.proofs.Common.{◌≡◌, ◌≢◌, ℕ, List, ◌+◌, ◌<◌, ◌≤◌, length, true, false, slice_get, slice_set, get_or, Some, None, refl, sym, ap, subst, ◌∙◌, arith}
-use Rattle.std.proofs.lemmas.Option.{slice_get_within, same_Some}
-use Rattle.std.proofs.lemmas.Bool.{true≢false}
+use Rattle.std.proofs.Common.{◌≡◌, ℕ, List, ◌+◌, length, true, slice_get, Some, refl, sym, ap, subst, ◌∙◌, arith}
 use Rattle.cml_queues.specs.Queues.{QueuesShown, queue_of, is_in}
 use Rattle.cml_room.specs.declared.place.Place.{Place}
-use Rattle.cml_room.specs.declared.place.Place.TheVariants.{Free, Waiting}
+use Rattle.cml_room.specs.declared.place.Place.TheVariants.{Waiting}
 use Rattle.cml_room.specs.declared.place.Waiter.{Waiter}
-use Rattle.cml_room.specs.Places.{row_of, row_in, is_noted, roused, AreRoused, IsMate, IsQuiet}
-use Rattle.cml_room.specs.Seats.{SeatsShown}
+use Rattle.cml_room.specs.Places.{row_of, is_noted}
 use Rattle.cml_room.specs.Waking.{reaches}
-use Rattle.cml_room.proofs.Listing.{set_here, in_row}
 use Rattle.cml_room.proofs.Walking.{Walked, walk_begins, walk_ends, walk_stops, walk_goes, walk_kept}
-use Rattle.cml_room.proofs.Rousing.{none_roused, one_roused, roused_from, roused_noted, roused_twice, waited, waits_on, quiet_before, set_roused_mate, still_noted, reaches_same, not_reached}
+use Rattle.cml_room.proofs.Rousing.{none_roused, roused_twice, still_noted, reaches_same, not_reached}
 use Rattle.cml_room.proofs.waking.rouse_each.Goals as goal
 
 pub loop-init : goal.loop-init

@@ -1,15 +1,12 @@
-use Rattle.std.proofs.Common.{◌≡◌, ◌≢◌, ℕ, ◌+◌, ◌<◌, ◌≤◌, length, true, false, slice_get, slice_set, get_or, Some, None, refl, sym, ap, subst, ◌∙◌, arith}
-use Rattle.std.proofs.lemmas.Option.{slice_get_within, same_Some}
-use Rattle.std.proofs.lemmas.Bool.{true≢false}
+use Rattle.std.proofs.Common.{◌≡◌, length, slice_get, slice_set, get_or, refl, sym, ap, subst, ◌∙◌, arith}
+use Rattle.std.proofs.lemmas.Option.{slice_get_within}
 use Rattle.cml_queues.specs.Queues.{queue_of, is_in}
-use Rattle.cml_room.specs.declared.place.Place.TheVariants.{Free, Waiting}
-use Rattle.cml_room.specs.declared.place.Waiter.{Waiter}
-use Rattle.cml_room.specs.Places.{row_of, row_in, roused, AreRoused, IsMate, IsQuiet}
+use Rattle.cml_room.specs.declared.place.Place.TheVariants.{Free}
+use Rattle.cml_room.specs.Places.{row_of, roused, AreRoused}
 use Rattle.cml_room.specs.Seats.{SeatsShown}
-use Rattle.cml_room.specs.Waking.{reaches}
-use Rattle.cml_room.proofs.Listing.{set_here, in_row}
-use Rattle.cml_room.proofs.Walking.{Walked, walk_begins, walk_ends, walk_stops, walk_goes, walk_kept}
-use Rattle.cml_room.proofs.Rousing.{none_roused, one_roused, roused_from, roused_noted, roused_twice, waited, waits_on, quiet_before, set_roused_mate}
+use Rattle.cml_room.proofs.Listing.{in_row}
+use Rattle.cml_room.proofs.Walking.{walk_begins, walk_ends, walk_stops, walk_goes}
+use Rattle.cml_room.proofs.Rousing.{none_roused, one_roused, set_roused_mate}
 use Rattle.cml_room.proofs.waking.rouse_first.Goals as goal
 
 pub loop-init : goal.loop-init

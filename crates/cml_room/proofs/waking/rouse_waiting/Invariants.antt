@@ -1,4 +1,4 @@
-use Rattle.std.proofs.Common.{◌≡◌, ℕ, ◌<◌, length}
+use Rattle.std.proofs.Common.{ℕ, ◌<◌}
 use Rattle.std.specs.Prelude.{⊤}
 use Rattle.cml_room.specs.declared.place.Waiter.{Waiter}
 use Rattle.cml_room.specs.Places.{AreRoused, IsQuiet}

@@ -1,9 +1,7 @@
-use Rattle.std.proofs.Common.{Option, ◌≡◌, ◌⊎◌, ap, subst, sym, Some}
+use Rattle.std.proofs.Common.{subst, sym}
 use Rattle.std.specs.Prelude.{⊤}
 use Rattle.cml_room.specs.declared.news.News.{News}
-use Rattle.cml_room.specs.declared.place.Waiter.{Waiter}
-use Rattle.cml_room.specs.News.{NoNews, IsOf}
-use Rattle.cml_room.specs.Places.{IsMate}
+use Rattle.cml_room.specs.News.{IsOf}
 use Rattle.cml_room.proofs.Hearing.{AreTold, message_told, multicast_told, closed_told, told_news, news_of}
 use Rattle.cml_room.proofs.Rousing.{roused_so, at_kept}
 use Rattle.cml_room.proofs.waking.tell.Goals as goal

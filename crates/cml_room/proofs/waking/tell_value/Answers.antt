@@ -1,4 +1,4 @@
-use Rattle.std.proofs.Common.{◌≡◌, subst}
+use Rattle.std.proofs.Common.{◌≡◌}
 use Rattle.cml_room.specs.declared.place.Waiter.{Waiter}
 use Rattle.std.specs.Prelude.{⊤}
 use Rattle.cml_room.proofs.Hearing.{value_told, values_told}

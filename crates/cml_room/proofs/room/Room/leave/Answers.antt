@@ -1,10 +1,10 @@
-use Rattle.std.proofs.Common.{rules, ◌≡◌, List, Some, slice_get, slice_set, map, sym, ap, subst, ◌∙◌, arith}
+use Rattle.std.proofs.Common.{rules, ◌≡◌, List, Some, slice_get, slice_set, sym, ap, subst, ◌∙◌, arith}
 use Rattle.std.specs.Option.{option_map}
 use Rattle.std.proofs.lemmas.Option.{slice_get-map}
 use Rattle.std.proofs.lemmas.List.{map-set}
 use Rattle.std.proofs.lemmas.Bool.{true≢false}
 use Rattle.cml_room.specs.declared.place.Place.{Place}
-use Rattle.cml_room.specs.declared.place.Place.TheVariants.{Free, Left}
+use Rattle.cml_room.specs.declared.place.Place.TheVariants.{Left}
 use Rattle.cml_room.specs.declared.state.State.TheVariants as state
 use Rattle.cml_room.specs.Places.{state_by, states_in}
 use Rattle.cml_room.specs.Room.{RoomShown, MayAsk, with_state}

@@ -1,10 +1,8 @@
-use Rattle.std.proofs.Common.{◌≡◌, ◌≢◌, ℕ, Bool, true, false, List, Option, Some, None, IfSome, IfNone, slice_get, refl, sym, ap, subst, ◌∙◌}
-use Rattle.cml_room.specs.declared.notice.Notice.{Notice}
+use Rattle.std.proofs.Common.{◌≡◌, ◌≢◌, true, false, Some, IfSome, slice_get, refl, ap, subst, ◌∙◌}
 use Rattle.cml_room.specs.declared.notice.Notice.TheVariants.{Woken}
-use Rattle.cml_room.specs.declared.state.State.{State}
-use Rattle.cml_room.specs.Places.{states_in, notices_in, place_due}
+use Rattle.cml_room.specs.Places.{notices_in}
 use Rattle.cml_room.specs.Room.{RoomShown, is_due}
-use Rattle.cml_room.proofs.Noting.{due_is, wakes_alike, alike_watched, alike_quiet, next_given, next_woken, next_all, next_same}
+use Rattle.cml_room.proofs.Noting.{wakes_alike, alike_watched, next_given, next_woken, next_all, next_same}
 use Rattle.cml_room.proofs.room.Room.next_due.Goals as goal
 
 pub invariant_of-self : goal.invariant_of-self

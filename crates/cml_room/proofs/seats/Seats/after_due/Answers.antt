@@ -1,13 +1,7 @@
-use Rattle.std.proofs.Common.{◌≡◌, ℕ, ◌<◌, ◌+◌, ◌≤◌, ◌++◌, [], ◌∷◌, true, false, List, length, get_or, slice_get, slice_set, Some, None, refl, sym, ap, subst, ◌∙◌, arith}
-use Rattle.std.proofs.lemmas.Option.{slice_get_within, slice_get-get_or}
-use Rattle.cml_room.specs.declared.notice.Notice.{Notice}
-use Rattle.cml_room.specs.declared.notice.Notice.TheVariants as notice
-use Rattle.cml_room.specs.declared.place.Place.{Place}
-use Rattle.cml_room.specs.declared.place.Place.TheVariants as place
-use Rattle.cml_room.specs.Places.{noted_as, row_in, noted_in}
-use Rattle.cml_queues.specs.Queues.{queue_of, is_in}
-use Rattle.cml_room.specs.Seats.{SeatsShown, IsKept}
-use Rattle.cml_room.proofs.Listing.{split_at, listed_same, listed_push, listed_remove, has_at, unwoken_waits, not_due, seen_at, kept_set, kept_added, kept_within, one_free}
+use Rattle.std.proofs.Common.{◌≡◌, ◌+◌, slice_get, Some, sym, subst, ◌∙◌}
+use Rattle.cml_queues.specs.Queues.{queue_of}
+use Rattle.cml_room.specs.Seats.{SeatsShown}
+use Rattle.cml_room.proofs.Listing.{split_at}
 use Rattle.cml_room.proofs.seats.Seats.after_due.Goals as goal
 
 pub returns : goal.returns

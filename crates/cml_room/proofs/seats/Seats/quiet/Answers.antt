@@ -1,13 +1,8 @@
-use Rattle.std.proofs.Common.{◌≡◌, ℕ, ◌<◌, ◌+◌, ◌≤◌, ◌++◌, [], ◌∷◌, true, false, List, length, get_or, slice_get, slice_set, Some, None, refl, sym, ap, subst, ◌∙◌, arith}
-use Rattle.std.proofs.lemmas.Option.{slice_get_within, slice_get-get_or}
-use Rattle.cml_room.specs.declared.notice.Notice.{Notice}
-use Rattle.cml_room.specs.declared.notice.Notice.TheVariants as notice
-use Rattle.cml_room.specs.declared.place.Place.{Place}
+use Rattle.std.proofs.Common.{◌<◌, length, refl, sym, subst}
 use Rattle.cml_room.specs.declared.place.Place.TheVariants as place
-use Rattle.cml_room.specs.Places.{noted_as, row_in, noted_in}
-use Rattle.cml_queues.specs.Queues.{queue_of, is_in}
-use Rattle.cml_room.specs.Seats.{SeatsShown, IsKept}
-use Rattle.cml_room.proofs.Listing.{listed_same, listed_push, listed_remove, has_at, unwoken_waits, not_due, seen_at, kept_set, kept_added, kept_within, one_free}
+use Rattle.cml_room.specs.Places.{row_in, noted_in}
+use Rattle.cml_room.specs.Seats.{SeatsShown}
+use Rattle.cml_room.proofs.Listing.{listed_same, listed_remove, seen_at, kept_set}
 use Rattle.cml_room.proofs.seats.Seats.quiet.Goals as goal
 
 pub invariant_of-self : goal.invariant_of-self

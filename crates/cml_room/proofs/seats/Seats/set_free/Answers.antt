@@ -1,15 +1,10 @@
-use Rattle.std.proofs.Common.{◌≡◌, ℕ, ◌<◌, ◌+◌, ◌≤◌, ◌++◌, [], ◌∷◌, true, false, List, length, get_or, slice_get, slice_set, Some, None, refl, sym, ap, subst, ◌∙◌, arith}
-use Rattle.std.proofs.lemmas.Option.{slice_get_within, slice_get-get_or}
-use Rattle.cml_room.specs.declared.notice.Notice.{Notice}
-use Rattle.cml_room.specs.declared.notice.Notice.TheVariants as notice
-use Rattle.cml_room.specs.declared.place.Place.{Place}
+use Rattle.std.proofs.Common.{◌≡◌, ℕ, ◌<◌, length, get_or, slice_get, slice_set, refl, sym, ap, ◌∙◌, arith}
 use Rattle.cml_room.specs.declared.place.Place.TheVariants as place
 use Rattle.cml_room.specs.Places.{noted_as, row_in, noted_in, quieted}
-use Rattle.cml_queues.specs.Queues.{queue_of, is_in}
-use Rattle.cml_room.specs.Seats.{SeatsShown, IsKept}
+use Rattle.cml_room.specs.Seats.{SeatsShown}
 use Rattle.std.specs.Prelude.{◌==◌}
 use Rattle.std.proofs.lemmas.List.{length-set, set-set}
-use Rattle.cml_room.proofs.Listing.{set_here, quieted_nothing, freed_waiter, listed_same, listed_push, listed_remove, has_at, unwoken_waits, not_due, seen_at, kept_set, kept_added, kept_within, one_free}
+use Rattle.cml_room.proofs.Listing.{set_here, quieted_nothing, freed_waiter, listed_same, listed_remove, seen_at, kept_set, kept_within}
 use Rattle.cml_room.proofs.seats.Seats.set_free.Goals as goal
 
 pub overflow_add-self : goal.overflow_add-self

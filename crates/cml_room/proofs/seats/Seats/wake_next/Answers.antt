@@ -1,15 +1,13 @@
-use Rattle.std.proofs.Common.{◌≡◌, ℕ, ◌<◌, ◌+◌, ◌≤◌, ◌++◌, [], ◌∷◌, true, false, List, length, get_or, slice_get, slice_set, Some, None, refl, sym, ap, subst, ◌∙◌, arith}
+use Rattle.std.proofs.Common.{◌≡◌, true, slice_get, slice_set, Some, refl, sym, ap, subst, ◌∙◌, arith}
 use Rattle.std.proofs.lemmas.Option.{slice_get_within, slice_get-get_or, same_Some}
 use Rattle.std.proofs.lemmas.List.{set-set}
 use Rattle.cml_board.proofs.ListLemmas.{slice_get-set_same}
-use Rattle.cml_room.specs.declared.notice.Notice.{Notice}
 use Rattle.cml_room.specs.declared.notice.Notice.TheVariants as notice
-use Rattle.cml_room.specs.declared.place.Place.{Place}
 use Rattle.cml_room.specs.declared.place.Place.TheVariants as place
 use Rattle.cml_room.specs.Places.{noted_as, row_in, noted_in, notice_in, AreListed}
 use Rattle.cml_queues.specs.Queues.{queue_of, is_in}
-use Rattle.cml_room.specs.Seats.{SeatsShown, IsKept, WakesNext}
-use Rattle.cml_room.proofs.Listing.{listed_same, listed_push, listed_remove, has_at, unwoken_waits, not_due, seen_at, kept_set, kept_added, kept_within, one_free}
+use Rattle.cml_room.specs.Seats.{SeatsShown, WakesNext}
+use Rattle.cml_room.proofs.Listing.{listed_same, listed_push, listed_remove, has_at, unwoken_waits, not_due, seen_at, kept_set}
 use Rattle.cml_room.proofs.seats.Seats.wake_next.Goals as goal
 
 pub returns-in_err-number-clause-woken : goal.returns-in_err-number-clause-woken
