@@ -160,20 +160,21 @@ module _ {M : Type 0} where
       → AreTold history (Message name) places
   message_told history name places lawful of at first = λ number waiter quiet.
       told_or history (Message name) waiter.want (IsMate places waiter.want) (λ is.
-        let where_is = at_mailbox history name waiter.want (ports_are_of_channels history lawful) of is in
-        subst (IsMate places) (sym where_is.0) (first number waiter quiet where_is.0 ((at number waiter quiet.here).1 ∙ where_is.1)))
+      let where_is = at_mailbox history name waiter.want (ports_are_of_channels history lawful) of is in
+      subst (IsMate places) (sym where_is.0) (first number waiter quiet where_is.0 ((at number waiter quiet.here).1 ∙ where_is.1)))
 
   pub multicast_told : (history : List (Entry M)) (name : Name) (places : List Place) → AreAt history places
       → ((number : ℕ) (waiter : Waiter) → IsQuiet places number waiter → reaches name.0 name.0 waiter ≡ false) → AreTold history (Multicast name) places
   multicast_told history name places at each = λ number waiter quiet.
       told_or history (Multicast name) waiter.want (IsMate places waiter.want) (λ is.
-        absurd (true≢false (sym (from_there waiter (at number waiter quiet.here).1 is) ∙ each number waiter quiet)))
+      absurd (true≢false (sym (from_there waiter (at number waiter quiet.here).1 is) ∙ each number waiter quiet)))
     where
       by_want : (on : Want) → helps history (Multicast name) on ≡ true → source_of history (object_of on) ≡ name.0
       by_want (Recv at) is = sym (eqb-true name.0 (source_of history at.0) is)
       by_want (Get at) is = absurd (false≢true is)
       by_want (Take at) is = absurd (false≢true is)
       by_want (Swap at) is = absurd (false≢true is)
+
       from_there : (waiter : Waiter) → waiter.source ≡ source_of history (object_of waiter.want) → helps history (Multicast name) waiter.want ≡ true → reaches name.0 name.0 waiter ≡ true
       from_there waiter source is =
           ap (λ b. b && ((name.0 == name.0) || (name.0 == object_of waiter.want))) (eq-eqb waiter.source name.0 (source ∙ by_want waiter.want is))
@@ -189,7 +190,7 @@ module _ {M : Type 0} where
       → ((number : ℕ) (waiter : Waiter) → IsQuiet places number waiter → reaches name.0 source waiter ≡ false) → AreTold history (Closed name) places
   closed_told history name source places source_is at each = λ number waiter quiet.
       told_or history (Closed name) waiter.want (IsMate places waiter.want) (λ is.
-        absurd (true≢false (sym (reached_at history name.0 source waiter (sym source_is) (by_want waiter.want is) (at number waiter quiet.here).1) ∙ each number waiter quiet)))
+      absurd (true≢false (sym (reached_at history name.0 source waiter (sym source_is) (by_want waiter.want is) (at number waiter quiet.here).1) ∙ each number waiter quiet)))
     where
       by_want : (on : Want) → helps history (Closed name) on ≡ true → object_of on ≡ name.0
       by_want (Recv at) is = sym (eqb-true name.0 at.0 is)
@@ -208,8 +209,8 @@ module _ {M : Type 0} where
       → ((number : ℕ) (waiter : Waiter) → IsQuiet places number waiter → reaches name.0 name.0 waiter ≡ false) → AreTold history (Value name) places
   value_told history name places of at each = λ number waiter quiet.
       told_or history (Value name) waiter.want (IsMate places waiter.want) (λ is.
-        absurd (true≢false (sym (reached_at history name.0 name.0 waiter (variable_source history name.0 (origin_of history name.0) refl of)
-        (at_variable history name waiter.want is) (at number waiter quiet.here).1) ∙ each number waiter quiet)))
+      absurd (true≢false (sym (reached_at history name.0 name.0 waiter (variable_source history name.0 (origin_of history name.0) refl of)
+      (at_variable history name waiter.want is) (at number waiter quiet.here).1) ∙ each number waiter quiet)))
 
   -- one that waits in each way is due
   pub values_told : (So To : Waiter → Type 0) (history : List (Entry M)) (name : Name) (one two three : List Place) → IfSome (kind_of history name.0) (λ k. is_variable k ≡ true)
@@ -220,10 +221,10 @@ module _ {M : Type 0} where
       → AreTold history (Value name) three
   values_told So To history name one two three of at first second get take swap = λ number waiter quiet.
       told_or history (Value name) waiter.want (IsMate three waiter.want) (λ is.
-        let there = at_variable history name waiter.want is in
-        let source : waiter.source ≡ name.0 =
-        (at number waiter quiet.here).1 ∙ (ap (source_of history) there ∙ variable_source history name.0 (origin_of history name.0) refl of) in
-        by_want number waiter quiet source waiter.want refl is there)
+      let there = at_variable history name waiter.want is in
+      let source : waiter.source ≡ name.0 =
+      (at number waiter quiet.here).1 ∙ (ap (source_of history) there ∙ variable_source history name.0 (origin_of history name.0) refl of) in
+      by_want number waiter quiet source waiter.want refl is there)
     where
       by_want : (number : ℕ) (waiter : Waiter) → IsQuiet three number waiter → waiter.source ≡ name.0 → (on : Want) → waiter.want ≡ on → helps history (Value name) waiter.want ≡ true
           → object_of waiter.want ≡ name.0 → IsMate three waiter.want

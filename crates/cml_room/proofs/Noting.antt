@@ -61,23 +61,32 @@ set_alike places number old new found want source back on woken = record {
       (slice_get-map state_by places number ∙ ap (option_map state_by) found));
   back = λ k waiter is. elim (this_or_other k number) [
     | inl here ↦
-        let same : new ≡ waiter = same_waiter new waiter (set_here places number (Waiting new) (Waiting waiter) (ap (slice_get (slice_set places number (Waiting new))) (sym here) ∙ is)) in
-        (old, ap (slice_get places) here ∙ found, sym want ∙ ap (λ (w : Waiter). w.want) same, sym source ∙ ap (λ (w : Waiter). w.source) same,
-        λ nothing. back (ap (λ (w : Waiter). w.notice) same ∙ nothing))
+        let same : new ≡ waiter = same_waiter new waiter (set_here places number (Waiting new) (Waiting waiter) (ap (slice_get (slice_set places number (Waiting new))) (sym here) ∙ is)) in (
+          old,
+          ap (slice_get places) here ∙ found,
+          sym want ∙ ap (λ (w : Waiter). w.want) same,
+          sym source ∙ ap (λ (w : Waiter). w.source) same,
+          λ nothing. back (ap (λ (w : Waiter). w.notice) same ∙ nothing),
+        )
     | inr other ↦ (waiter, sym (slice_get-set_other places number k (Waiting new) other) ∙ is, refl, refl, λ nothing. nothing)
   ];
   on = λ k was found'. elim (this_or_other k number) [
     | inl here ↦
-        let same : old ≡ was = same_waiter old was (same_Some _ _ (sym found ∙ ap (slice_get places) (sym here) ∙ found')) in
-        (new, ap (slice_get (slice_set places number (Waiting new))) here ∙ slice_get-set_same places number (Waiting old) (Waiting new) found,
-        want ∙ ap (λ (w : Waiter). w.want) same, λ due. on (ap (λ (w : Waiter). is_noted w.notice) same ∙ due))
+        let same : old ≡ was = same_waiter old was (same_Some _ _ (sym found ∙ ap (slice_get places) (sym here) ∙ found')) in (
+          new,
+          ap (slice_get (slice_set places number (Waiting new))) here ∙ slice_get-set_same places number (Waiting old) (Waiting new) found,
+          want ∙ ap (λ (w : Waiter). w.want) same,
+          λ due. on (ap (λ (w : Waiter). is_noted w.notice) same ∙ due),
+        )
     | inr other ↦ (was, slice_get-set_other places number k (Waiting new) other ∙ found', refl, λ due. due)
   ];
   woken = λ k was found' is. elim (this_or_other k number) [
     | inl here ↦
-        let same : old ≡ was = same_waiter old was (same_Some _ _ (sym found ∙ ap (slice_get places) (sym here) ∙ found')) in
-        (new, ap (slice_get (slice_set places number (Waiting new))) here ∙ slice_get-set_same places number (Waiting old) (Waiting new) found,
-        woken (ap (λ (w : Waiter). w.notice) same ∙ is))
+        let same : old ≡ was = same_waiter old was (same_Some _ _ (sym found ∙ ap (slice_get places) (sym here) ∙ found')) in (
+          new,
+          ap (slice_get (slice_set places number (Waiting new))) here ∙ slice_get-set_same places number (Waiting old) (Waiting new) found,
+          woken (ap (λ (w : Waiter). w.notice) same ∙ is),
+        )
     | inr other ↦ (was, slice_get-set_other places number k (Waiting new) other ∙ found', is)
   ];
 }
@@ -250,14 +259,14 @@ module _ {M : Type 0} where
   alike_watched floor olds news all all' alike watched none = record {
     placed = alike_at floor.board.history olds news alike watched.placed;
     rests = λ now number waiter quiet.
-      let was = alike_quiet olds news number waiter alike quiet in
-      elim (watched.rests (none now number waiter quiet) number was.0 was.1) [
-        | inl would ↦ inl (subst (WouldWait floor.board) was.2 would)
-        | inr mate ↦ inr (alike_mate olds news waiter.want alike (subst (IsMate olds) was.2 mate))
-      ];
+        let was = alike_quiet olds news number waiter alike quiet in
+        elim (watched.rests (none now number waiter quiet) number was.0 was.1) [
+          | inl would ↦ inl (subst (WouldWait floor.board) was.2 would)
+          | inr mate ↦ inr (alike_mate olds news waiter.want alike (subst (IsMate olds) was.2 mate))
+        ];
     stalls = λ now number waiter quiet.
-      let was = alike_quiet olds news number waiter alike quiet in
-      subst (λ (s : List State). ¬ (IsStalled floor s)) (sym alike.states) (watched.stalls (none now number waiter quiet) number was.0 was.1);
+        let was = alike_quiet olds news number waiter alike quiet in
+        subst (λ (s : List State). ¬ (IsStalled floor s)) (sym alike.states) (watched.stalls (none now number waiter quiet) number was.0 was.1);
   }
 
   -- somebody can go on where a seat is free
@@ -293,39 +302,39 @@ module _ {M : Type 0} where
   left_watched floor places seat all all' free watched some = record {
     placed = λ number waiter is. watched.placed number waiter (not_set places seat number waiter is);
     rests = λ now number waiter quiet.
-      elim (watched.rests (some now).0 number waiter (record { here = not_set places seat number waiter quiet.here; nothing = quiet.nothing })) [
-        | inl would ↦ inl would
-        | inr mate ↦
-            let apart : mate.number ≢ seat = λ same.
-            absurd (let clash : Free ≡ Waiting mate.waiter = same_Some _ _ (sym free ∙ ap (slice_get places) (sym same) ∙ mate.here) in cc) in
-            inr (record {
-              number = mate.number;
-              waiter = mate.waiter;
-              here = slice_get-set_other places seat mate.number Left apart ∙ mate.here;
-              same = mate.same;
-              due = mate.due;
-            })
-      ];
+        elim (watched.rests (some now).0 number waiter (record { here = not_set places seat number waiter quiet.here; nothing = quiet.nothing })) [
+          | inl would ↦ inl would
+          | inr mate ↦
+              let apart : mate.number ≢ seat = λ same.
+              absurd (let clash : Free ≡ Waiting mate.waiter = same_Some _ _ (sym free ∙ ap (slice_get places) (sym same) ∙ mate.here) in cc) in
+              inr (record {
+                number = mate.number;
+                waiter = mate.waiter;
+                here = slice_get-set_other places seat mate.number Left apart ∙ mate.here;
+                same = mate.same;
+                due = mate.due;
+              })
+        ];
     stalls = λ now number waiter quiet stalled.
-      (some now).1 (idle_none floor.board.history (states_in (slice_set places seat Left)) stalled.1);
+        (some now).1 (idle_none floor.board.history (states_in (slice_set places seat Left)) stalled.1);
   }
 
   -- the seat that is given was due and not woken, and is woken
   pub next_given : (floor : FloorShown M) (olds mids news : List Place) (all : Bool) (given : Option ℕ) → AreAlike olds mids
       → ((number : ℕ) → place_due false (slice_get mids number) ≡ place_due all (slice_get olds number)) → WakesNext mids news given
       → IfSome given (λ number. (is_due (room_of floor (states_in olds) (notices_in olds) all) number ≡ true) × (slice_get (notices_in olds) number ≢ Some Woken)
-          × (slice_get (notices_in news) number ≡ Some Woken))
+      × (slice_get (notices_in news) number ≡ Some Woken))
   next_given floor olds mids news all None alike same woken = tt
   next_given floor olds mids news all (Some number) alike same woken = (
     due_is floor olds all number ∙ (sym (same number) ∙ (ap (place_due false) woken.1 ∙ ap is_noted woken.2)),
     λ was.
-      let old = alike.back number woken.0 woken.1 in
-      let notice : old.0.notice ≡ Woken = same_Some _ _ (sym (notice_at olds number old.0 old.1) ∙ was) in
-      let kept = alike.woken number old.0 old.1 notice in
-      absurd (let clash : Woken ≡ Due = sym kept.2 ∙ (ap (λ (w : Waiter). w.notice) (same_waiter kept.0 woken.0 (same_Some _ _ (sym kept.1 ∙ woken.1))) ∙ woken.2) in cc),
+        let old = alike.back number woken.0 woken.1 in
+        let notice : old.0.notice ≡ Woken = same_Some _ _ (sym (notice_at olds number old.0 old.1) ∙ was) in
+        let kept = alike.woken number old.0 old.1 notice in
+        absurd (let clash : Woken ≡ Due = sym kept.2 ∙ (ap (λ (w : Waiter). w.notice) (same_waiter kept.0 woken.0 (same_Some _ _ (sym kept.1 ∙ woken.1))) ∙ woken.2) in cc),
     ap (λ l. slice_get (notices_in l) number) woken.3
-    ∙ notice_at (slice_set mids number (Waiting (record woken.0 { notice = Woken }))) number (record woken.0 { notice = Woken })
-    (slice_get-set_same mids number (Waiting woken.0) (Waiting (record woken.0 { notice = Woken })) woken.1),
+        ∙ notice_at (slice_set mids number (Waiting (record woken.0 { notice = Woken }))) number (record woken.0 { notice = Woken })
+        (slice_get-set_same mids number (Waiting woken.0) (Waiting (record woken.0 { notice = Woken })) woken.1),
   )
 
   -- where no seat is given each that is due was woken

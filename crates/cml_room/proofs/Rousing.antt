@@ -73,8 +73,12 @@ one_roused So places number waiter found so = record {
         let is_waiter : old ≡ Waiting waiter = same_Some old (Waiting waiter) (sym was ∙ ap (slice_get places) here ∙ found) in
         let read : get_or places number Free ≡ old =
         same_Some _ old (sym (slice_get-get_or places number Free (slice_get_within places number (Waiting waiter) found)) ∙ ap (slice_get places) (sym here) ∙ was) in
-        inr (waiter, is_waiter, so,
-        sym (set_here places number (roused (get_or places number Free)) new (ap (slice_get (slice_set places number (roused (get_or places number Free)))) (sym here) ∙ is)) ∙ ap roused read)
+        inr (
+          waiter,
+          is_waiter,
+          so,
+          sym (set_here places number (roused (get_or places number Free)) new (ap (slice_get (slice_set places number (roused (get_or places number Free)))) (sym here) ∙ is)) ∙ ap roused read,
+        )
     | inr other ↦ inl (same_Some new old (sym is ∙ slice_get-set_other places number k (roused (get_or places number Free)) other ∙ was))
   ];
 }
@@ -102,9 +106,13 @@ waited So olds news number waiter are is =
     elim from.2 [
       | inl same ↦ (waiter, from.1 ∙ ap Some (sym same), refl, refl, λ nothing. nothing)
       | inr one ↦
-          let made : waiter ≡ record one.0 { notice = roused_notice one.0.notice } = same_waiter waiter _ (one.3 ∙ ap roused one.1) in
-          (one.0, from.1 ∙ ap Some one.1, ap (λ (w : Waiter). w.want) (sym made), ap (λ (w : Waiter). w.source) (sym made),
-          λ nothing. absurd (not_noted (roused_notice one.0.notice) (ap (λ (w : Waiter). w.notice) (sym made) ∙ nothing) (roused_noted one.0.notice)))
+          let made : waiter ≡ record one.0 { notice = roused_notice one.0.notice } = same_waiter waiter _ (one.3 ∙ ap roused one.1) in (
+            one.0,
+            from.1 ∙ ap Some one.1,
+            ap (λ (w : Waiter). w.want) (sym made),
+            ap (λ (w : Waiter). w.source) (sym made),
+            λ nothing. absurd (not_noted (roused_notice one.0.notice) (ap (λ (w : Waiter). w.notice) (sym made) ∙ nothing) (roused_noted one.0.notice)),
+          )
     ]
 
 -- whoever waited waits for the same, and is due if it was
@@ -153,16 +161,16 @@ free_kept So olds news number are was =
 pub roused_states : (So : Waiter → Type 0) (olds news : List Place) → AreRoused So olds news → states_in news ≡ states_in olds
 roused_states So olds news are =
     ext_get_or state.Free (states_in news) (states_in olds) (omega (arith, length-map news state_by, length-map olds state_by, are.each)) (λ k less.
-      let in_news : k < length news = omega (arith, less, length-map news state_by) in
-      let in_olds : k < length olds = omega (arith, in_news, are.each) in
-      let is = slice_get-get_or news k Free in_news in
-      let was = slice_get-get_or olds k Free in_olds in
-      let same : state_by (get_or news k Free) ≡ state_by (get_or olds k Free) =
-      elim (are.now k (get_or olds k Free) (get_or news k Free) was is) [
-        | inl same ↦ ap state_by same
-        | inr one ↦ ap state_by one.3 ∙ roused_state (get_or olds k Free)
-      ] in
-      get_or-map state_by news k Free ∙ (same ∙ sym (get_or-map state_by olds k Free)))
+    let in_news : k < length news = omega (arith, less, length-map news state_by) in
+    let in_olds : k < length olds = omega (arith, in_news, are.each) in
+    let is = slice_get-get_or news k Free in_news in
+    let was = slice_get-get_or olds k Free in_olds in
+    let same : state_by (get_or news k Free) ≡ state_by (get_or olds k Free) =
+    elim (are.now k (get_or olds k Free) (get_or news k Free) was is) [
+      | inl same ↦ ap state_by same
+      | inr one ↦ ap state_by one.3 ∙ roused_state (get_or olds k Free)
+    ] in
+    get_or-map state_by news k Free ∙ (same ∙ sym (get_or-map state_by olds k Free)))
 
 -- first some were roused, and then others
 pub roused_twice : (So : Waiter → Type 0) (olds mids news : List Place) → ((one other : Waiter) → one.want ≡ other.want → one.source ≡ other.source → So one → So other)
@@ -170,20 +178,20 @@ pub roused_twice : (So : Waiter → Type 0) (olds mids news : List Place) → ((
 roused_twice So olds mids news fits first second = record {
   each = second.each ∙ first.each;
   now = λ k old new was is.
-    let mid = roused_to So olds mids k old first was in
-    elim (second.now k mid.0 new mid.1 is) [
-      | inl same ↦ elim mid.2 [
-        | inl kept ↦ inl (same ∙ kept)
-        | inr one ↦ inr (one.0, one.1, one.2, same ∙ one.3)
-      ]
-      | inr two ↦ elim mid.2 [
-        | inl kept ↦ inr (two.0, sym kept ∙ two.1, two.2, two.3 ∙ ap roused kept)
-        | inr one ↦
-            let again : roused (roused old) ≡ roused old =
-            ap (λ p. roused (roused p)) one.1 ∙ (ap (λ n. Waiting (record one.0 { notice = n })) (kept_noted (roused_notice one.0.notice) (roused_noted one.0.notice)) ∙ ap roused (sym one.1)) in
-            inr (one.0, one.1, one.2, two.3 ∙ (ap roused one.3 ∙ again))
-      ]
-    ];
+      let mid = roused_to So olds mids k old first was in
+      elim (second.now k mid.0 new mid.1 is) [
+        | inl same ↦ elim mid.2 [
+          | inl kept ↦ inl (same ∙ kept)
+          | inr one ↦ inr (one.0, one.1, one.2, same ∙ one.3)
+        ]
+        | inr two ↦ elim mid.2 [
+          | inl kept ↦ inr (two.0, sym kept ∙ two.1, two.2, two.3 ∙ ap roused kept)
+          | inr one ↦
+              let again : roused (roused old) ≡ roused old =
+              ap (λ p. roused (roused p)) one.1 ∙ (ap (λ n. Waiting (record one.0 { notice = n })) (kept_noted (roused_notice one.0.notice) (roused_noted one.0.notice)) ∙ ap roused (sym one.1)) in
+              inr (one.0, one.1, one.2, two.3 ∙ (ap roused one.3 ∙ again))
+        ]
+      ];
 }
 
 -- a seat that was are is due
@@ -226,7 +234,7 @@ reached_source object source waiter is = eqb-true waiter.source source (and_left
 -- who isn't due is not reached, where all in the row were looked at
 pub not_reached : (olds news : List Place) (object source : ℕ) (rows : QueuesShown) (So : Waiter → Type 0) → AreListed rows row_in olds → AreRoused So olds news
     → ((number : ℕ) → is_in rows (row_of source) number ≡ true → (waiter : Waiter) → slice_get news number ≡ Some (Waiting waiter) → reaches object source waiter ≡ true
-        → is_noted waiter.notice ≡ true)
+    → is_noted waiter.notice ≡ true)
     → (number : ℕ) (waiter : Waiter) → IsQuiet news number waiter → reaches object source waiter ≡ false
 not_reached olds news object source rows So listed are seen number waiter quiet =
     by_test (reaches object source waiter) refl
@@ -242,6 +250,7 @@ module _ {M : Type 0} where
   pub at_kept : (So : Waiter → Type 0) (history : List (Entry M)) (olds news : List Place) → AreRoused So olds news → AreAt history olds → AreAt history news
   at_kept So history olds news are at = λ number waiter is.
       let old = waited So olds news number waiter are is in
-      let was = at number old.0 old.1 in
-      (subst (λ (w : Want). Fits history (wanting w)) old.2 was.0,
-      sym old.3 ∙ (was.1 ∙ ap (λ (w : Want). source_of history (object_of w)) old.2))
+      let was = at number old.0 old.1 in (
+        subst (λ (w : Want). Fits history (wanting w)) old.2 was.0,
+        sym old.3 ∙ (was.1 ∙ ap (λ (w : Want). source_of history (object_of w)) old.2),
+      )

@@ -55,10 +55,12 @@ module _ {M : Type 0} where
             subst (Waits board.history) mate.same
             (noted_waits board.history mate.waiter.notice mate.waiter.want (woken mate.number mate.waiter mate.here) (due mate.number mate.waiter mate.here) mate.due)
       ]
+
       by_notice : (k : ℕ) (waiter : Waiter) (notice : Notice) → waiter.notice ≡ notice → slice_get places k ≡ Some (Waiting waiter) → Waits board.history waiter.want
       by_notice k waiter Nothing is found = quiet_waits k waiter found is
       by_notice k waiter Due is found = due k waiter found (ap (λ n. noted_as n 0) is)
       by_notice k waiter Woken is found = woken k waiter found (ap (λ n. noted_as n 1) is)
+
       each : (k : ℕ) (place : Place) → slice_get places k ≡ Some place → IsIdle board.history (state_by place)
       each k Free found = absurd (none_free places k none found)
       each k (Waiting waiter) found = by_notice k waiter waiter.notice refl found

@@ -100,7 +100,7 @@ pub record AreAlike (olds news : List Place) : Type 0 where
   pub states : states_in news ≡ states_in olds
   pub back : (number : ℕ) (waiter : Waiter) → slice_get news number ≡ Some (place.Waiting waiter)
       → (old : Waiter) × (slice_get olds number ≡ Some (place.Waiting old)) × (old.want ≡ waiter.want) × (old.source ≡ waiter.source)
-        × (waiter.notice ≡ Nothing → old.notice ≡ Nothing)
+      × (waiter.notice ≡ Nothing → old.notice ≡ Nothing)
   pub on : (number : ℕ) (old : Waiter) → slice_get olds number ≡ Some (place.Waiting old)
       → (waiter : Waiter) × (slice_get news number ≡ Some (place.Waiting waiter)) × (waiter.want ≡ old.want) × (is_noted old.notice ≡ true → is_noted waiter.notice ≡ true)
   pub woken : (number : ℕ) (old : Waiter) → slice_get olds number ≡ Some (place.Waiting old) → old.notice ≡ Woken

@@ -14,7 +14,11 @@ use cml_log::MessageLog;
 
 /// Makes due who may go on by the news: one for each want at a mailbox or an m-variable, and all at an i-variable, at a port
 /// and at the ports of a channel.
-pub fn tell<M: Message, L: MessageLog<M>>(board: &Board<M, L>, seats: &mut Seats, news: Option<News>)
+pub fn tell<M: Message, L: MessageLog<M>>(
+    board: &Board<M, L>,
+    seats: &mut Seats,
+    news: Option<News>,
+)
     requires placed { AreAt board.now.history seats.old.places }
     requires of { IfSome news (IsOf board.now.history) }
     ensures roused { AreRoused (λ waiter. ⊤) seats.old.places seats.new.places }

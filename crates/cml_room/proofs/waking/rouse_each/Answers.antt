@@ -41,8 +41,7 @@ loop-preserved c =
     (ap (λ q. slice_get q c.loop.counter) rows ∙ (sym c.loop.invariant.3.next_is ∙ c.in-Some.is))
     ∙ ap (λ q. slice_get q (c.loop.counter + 1)) rows in
     let goes = walk_goes queue c.loop.next c.after-next.result c.loop.counter c.in-Some.number (Seen c.args.object c.args.source new) kept c.in-Some.is
-    c.rouse_reached.ensures.this then in
-    (
+    c.rouse_reached.ensures.this then in (
       roused_twice (λ w. reaches c.args.object c.args.source w ≡ true) c.args.seats.now.places old new (reaches_same c.args.object c.args.source) c.loop.invariant.0 c.rouse_reached.ensures.roused,
       c.rouse_reached.ensures.rows ∙ c.loop.invariant.1,
       c.rouse_reached.ensures.due ∙ c.loop.invariant.2,

@@ -42,7 +42,7 @@ pub loop-preserved : goal.loop-preserved
 loop-preserved c = (
   c.loop.invariant.0,
   walk_goes _ _ _ _ c.in-Some.number _ c.loop.invariant.1 c.in-Some.is c.if-wants.ensures
-  (c.after-next.ensures (row_of c.args.source) c.loop.counter (sym c.loop.invariant.1.next_is ∙ c.in-Some.is)),
+      (c.after-next.ensures (row_of c.args.source) c.loop.counter (sym c.loop.invariant.1.next_is ∙ c.in-Some.is)),
 )
 
 pub returns-clause-roused : goal.returns-clause-roused

@@ -17,7 +17,7 @@ invariant_of-self g c =
 pub returns-clause-given : goal.returns-clause-given
 returns-clause-given g c =
     subst (λ (r : RoomShown g.row.M.Denot). IfSome c.wake_next.result (λ number. (is_due r number ≡ true) × (slice_get r.notices number ≢ Some Woken)
-        × (slice_get (notices_in c.wake_next.new.self.places) number ≡ Some Woken))) c.self.view_is
+    × (slice_get (notices_in c.wake_next.new.self.places) number ≡ Some Woken))) c.self.view_is
     (next_given c.self.inside.floor c.self.inside.seats.places c.rouse_due.new.seats.places c.wake_next.new.self.places c.self.inside.seats.all_due c.wake_next.result
     c.rouse_due.ensures.alike c.rouse_due.ensures.same c.wake_next.ensures.woken)
 

@@ -15,9 +15,9 @@ returns-in_err-number-clause-woken c =
     subst (WakesNext c.args.self.now.places c.args.self.now.places) (sym c.from_residual.ensures) (
       refl,
       λ number waiter is.
-        let here : slice_get c.self.inside.places.items number ≡ Some (place.Waiting waiter) = ap (λ (v : SeatsShown). slice_get v.places number) c.self.view_is ∙ is in
-        not_due (queue_of c.self.inside.due 0) number (slice_get c.self.inside.places.items number) waiter (c.self.invariant.in_due number 0)
-        (sym c.in_err-number.ensures.first) here,
+          let here : slice_get c.self.inside.places.items number ≡ Some (place.Waiting waiter) = ap (λ (v : SeatsShown). slice_get v.places number) c.self.view_is ∙ is in
+          not_due (queue_of c.self.inside.due 0) number (slice_get c.self.inside.places.items number) waiter (c.self.invariant.in_due number 0)
+          (sym c.in_err-number.ensures.first) here,
     )
 
 pub index-requires : goal.index-requires
@@ -71,8 +71,7 @@ returns-clause-woken c =
     let is = unwoken_waits (slice_get c.self.inside.places.items number) (sym (c.self.invariant.in_due number 0) ∙ at) in
     let within = slice_get_within c.self.inside.places.items number (place.Waiting is.0) is.1 in
     let was = seen_at c.self.inside.places.items number c.index.result.now _ within c.index.ensures c.in-Waiting.is in
-    let due : c.in-Waiting.waiter.notice ≡ notice.Due = ap notice_in (sym was ∙ is.1) ∙ is.2 in
-    (
+    let due : c.in-Waiting.waiter.notice ≡ notice.Due = ap notice_in (sym was ∙ is.1) ∙ is.2 in (
       c.in-Waiting.waiter,
       ap (λ (v : SeatsShown). slice_get v.places number) (sym c.self.view_is) ∙ was,
       due,
