@@ -23,7 +23,8 @@ step() {
         program) sh tests/program.sh "$cml" ;;
         chart) sh tests/chart.sh "$chart" ;;
         calls | cuts) sh "tests/$1.sh" "$rows" ;;
-        memory | waiting) sh "tests/$1.sh" "$bench" ;;
+        memory) sh tests/memory.sh "$bench" ;;
+        waiting) sh tests/waiting.sh "$bench" "$cml" ;;
         guide) sh tests/guide.sh ;;
     esac
 }

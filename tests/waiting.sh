@@ -1,31 +1,76 @@
 #!/bin/sh
-# No thread sleeps though what it waits for is there: `sh tests/waiting.sh PROGRAM`. The built cml_bench has two threads put
-# to each other, and four send to one, while another looks whether they go on. Where nothing has gone on for very many of its
-# looks it makes a call, which wakes them; then there is an entry too many, and the program's status tells it. That may
-# come once in a million calls, so there are many, also on two processors, where a thread is more often stopped at a bad
-# moment. The last line is `N passed, M failed`.
-program=$(cd "$(dirname "$1")" && pwd)/$(basename "$1")
+# No thread sleeps though what it waits for is there: `sh tests/waiting.sh BENCH CML`, the built cml_bench and cml. In each run
+# threads wait for each other, so that one whose wake-up is lost keeps all others waiting too, and the run doesn't end. A run
+# that takes longer than its time limit is killed, and has failed. A wake-up may be lost once in a million calls, so there are
+# many, also on two processors, where a thread is more often stopped at a bad moment.
+# The last line is `N passed, M failed`.
+bench=$(cd "$(dirname "$1")" && pwd)/$(basename "$1")
+cml=$(cd "$(dirname "$2")" && pwd)/$(basename "$2")
+work=$(mktemp -d) || exit 1
+trap 'rm -rf "$work"' EXIT
 passed=0
 failed=0
 
-# ends COMMAND..: it ends well.
+# ends COMMAND..: it ends well, and in time.
 ends() {
-    told=$("$@" 2>&1)
+    told=$(timeout 100 "$@" 2>&1)
     status=$?
     if [ $status -eq 0 ]; then
         passed=$((passed + 1))
     else
         failed=$((failed + 1))
-        echo "failed: $*: status $status, $told"
+        echo "failed: $*: status $status, $(echo "$told" | tail -n 3)"
     fi
 }
 
-for _ in 1 2 3 4; do
-    ends "$program" 1000000 var2_watched
-    ends "$program" 1000000 fanin4_watched
+# everywhere COMMAND..: the same, on all processors and on two.
+everywhere() {
+    ends "$@"
     if taskset -c 0,1 true 2> /dev/null; then
-        ends taskset -c 0,1 "$program" 1000000 var2_watched
+        ends taskset -c 0,1 "$@"
     fi
+}
+
+# script NAME HEAD STEPS: a script with these declarations, threads A0, A1 and so on, and the steps that an awk program writes
+# for each thread and round. `say` writes a step of a thread.
+script() {
+    awk -v threads="$2" -v rounds="$3" "
+        function say(thread, step) { print \"A\" thread \" \" step }
+        BEGIN {
+            print \"cml 1\"
+            $4
+            for (i = 0; i < threads; i++) print \"thread A\" i
+            for (k = 0; k < rounds; k++) for (i = 0; i < threads; i++) { $5 }
+        }
+    " > "$work/$1.cml"
+}
+
+# A token goes round sixteen threads, which the first has sent to itself.
+script token 16 1500 \
+    'for (i = 0; i < threads; i++) print "mailbox m" i' \
+    'if (k + i == 0) say(0, "send m0 1"); say(i, "recv m" i); say(i, "send m" (i + 1) % threads " 1")'
+# Eight threads take two of four variables each, those with lower numbers first, and put them back.
+script locks 8 1000 \
+    'for (i = 0; i < 4; i++) print "mvar v" i " 1"' \
+    'a = (i + k) % 3; say(i, "take v" a); say(i, "take v" a + 1); say(i, "put v" a " 1"); say(i, "put v" a + 1 " 1")'
+# One multicasts to the eight others, and after each message waits until the last of them says that it came.
+script ports 9 1500 \
+    'print "channel c\nmailbox m"; for (i = 1; i < threads; i++) print "port c p" i' \
+    'if (i > 0) say(i, "recv p" i); else say(0, "multicast c " k); if (i == threads - 1) say(i, "send m 1"); if (i == 0) say(0, "recv m")'
+# Four receive what four others send.
+script crowd 8 4000 \
+    'print "mailbox m"' \
+    'say(i, i < 4 ? "recv m" : "send m " k)'
+
+for _ in 1 2 3; do
+    everywhere "$bench" 1000000 var2
+    everywhere "$bench" 1000000 fanin4
+    everywhere "$bench" 300000 token8
+    everywhere "$bench" 300000 token63
+    everywhere "$bench" 300000 server32
+    for name in token locks ports crowd; do
+        everywhere sh -c "exec '$cml' run < '$work/$name.cml'"
+    done
 done
 
 echo "$passed passed, $failed failed"

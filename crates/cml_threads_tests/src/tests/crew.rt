@@ -16,6 +16,9 @@ const CALLS: u64 = 200;
 /// How many messages each thread of the crowd sends or receives.
 const MESSAGES: u64 = 2_500;
 
+/// How often a call is made again at most, where the journal is full.
+const CUTS: u64 = 1_000_000;
+
 /// How many of the crowd receive; as many send.
 const RECEIVERS: u64 = 4;
 
@@ -33,6 +36,8 @@ pub enum Crew {
     Callers,
     /// Four receive from one mailbox what four others send.
     Crowd,
+    /// The same, where the journal is full again and again: a call that is refused for it is made again after a cut.
+    Full,
     /// Eight receive, and nobody sends: each is told that all are stalled.
     Stalled,
     /// Four send on lanes of their own, one drains them, and two receive.
@@ -67,7 +72,7 @@ impl Crew {
     fn size(self) -> u64 {
         match self {
             Crew::Callers | Crew::Senders => 2,
-            Crew::Crowd | Crew::Stalled => 2 * RECEIVERS,
+            Crew::Crowd | Crew::Full | Crew::Stalled => 2 * RECEIVERS,
         }
     }
 
@@ -79,9 +84,12 @@ impl Crew {
             Crew::Callers if number == 1 => Some(Call::Recv(FRO)),
             Crew::Callers if round % 2 == 0 => Some(Call::Recv(TO)),
             Crew::Callers => Some(Call::Send(FRO, round)),
-            Crew::Crowd if round == MESSAGES => None,
-            Crew::Crowd if number <= RECEIVERS => Some(Call::Recv(TO)),
-            Crew::Crowd => Some(Call::Send(TO, sent_first(number).saturating_add(round))),
+            Crew::Crowd | Crew::Full if round == MESSAGES => None,
+            Crew::Crowd | Crew::Full if number <= RECEIVERS => Some(Call::Recv(TO)),
+            Crew::Crowd | Crew::Full => Some(Call::Send(
+                TO,
+                sent_first(number).saturating_add(round),
+            )),
             Crew::Stalled if round > 0 => None,
             Crew::Stalled => Some(Call::Recv(TO)),
             Crew::Senders if round == senders::HALF => None,
@@ -114,7 +122,11 @@ pub fn perform<Led: Ledger + Send + Sync, R: Threads + Wait + Sync>(
         senders::let_go(rt, text, &board);
     }
     if let Ok(settled) = board.settle(lefts) {
-        verdict::tell_all(alloc, text, &settled, &all);
+        if matches!(crew, Crew::Full) {
+            verdict::tell_received(alloc, text, &settled, &all);
+        } else {
+            verdict::tell_all(alloc, text, &settled, &all);
+        }
     }
 }
 
@@ -222,8 +234,28 @@ fn call_all<Led: Ledger, R: Wait>(
         let Some(call) = crew.call(seat.number(), round) else {
             break;
         };
-        made.keep(board.call(rt, seat, call));
+        made.keep(call_with_cuts(rt, board, seat, call));
     }
+}
+
+/// Makes a call, and makes it again after a cut as often as the journal is full.
+fn call_with_cuts<Led: Ledger, R: Wait>(
+    rt: &R,
+    board: &Numbers<Led>,
+    seat: &mut Seat<Led>,
+    call: Call<u64>,
+) -> Result<Answer<u64>, (Refusal, Call<u64>)> {
+    let mut told = board.call(rt, seat, call);
+    for _ in 0..CUTS {
+        told = match told {
+            Err((Refusal::JournalFull, call)) => {
+                board.cut(rt).is_ok();
+                board.call(rt, seat, call)
+            }
+            told => return told,
+        };
+    }
+    told
 }
 
 impl Made {

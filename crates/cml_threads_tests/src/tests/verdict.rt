@@ -31,6 +31,13 @@ Count { seats: 20002, rings: 0, total: 20002 }
 Ok(Ok(()))
 ";
 
+/// The same. What was cut away can't be confirmed, but it was counted.
+pub const FULL: &str = "Ok(Made(Name(0)))
+Ok(Made(Name(1)))
+(10000, true)
+Count { seats: 20002, rings: 0, total: 20002 }
+";
+
 /// Each is told that all are stalled.
 pub const STALLED: &str = "Ok(Made(Name(0)))
 Ok(Made(Name(1)))
@@ -80,19 +87,26 @@ Lane(3) in order
 /// Tells of each thread how many answers it had, how many of them the journal confirms, and what refused it one; how many
 /// messages were received, and whether each was once; the counts, and whether the journal is lawful.
 pub fn tell_all(alloc: Global, text: &mut String, settled: &Final, all: &[Made]) {
-    let mut received = Vec::new(alloc);
     for made in all.iter() {
         let answers = made.answers.as_slice();
         tell(
             text,
             &(answers.len(), confirmed(settled, answers), made.refusal),
         );
-        add_received(&mut received, answers);
+    }
+    tell_received(alloc, text, settled, all);
+    tell_journal(alloc, text, settled.board().journal());
+}
+
+/// How many messages were received, and whether each was once; and the counts.
+pub fn tell_received(alloc: Global, text: &mut String, settled: &Final, all: &[Made]) {
+    let mut received = Vec::new(alloc);
+    for made in all.iter() {
+        add_received(&mut received, made.answers.as_slice());
     }
     let count = received.len();
     tell(text, &(count, is_each_once(received)));
     tell(text, &settled.count());
-    tell_journal(alloc, text, settled.board().journal());
 }
 
 /// How many of these answers the journal confirms.
