@@ -1,5 +1,5 @@
 //! Who is due, of the seats that wait.
-ghost use Rattle.std.specs.Prelude.{◌≡◌, ℕ, true, false, Some, IfSome, IfNone, length, slice_get};
+ghost use Rattle.std.specs.Prelude.{◌≡◌, ◌≢◌, ℕ, true, false, Some, IfSome, IfNone, length, slice_get};
 ghost use Rattle.cml_board.specs.declared.want.Want.{Want};
 ghost use Rattle.cml_room.specs.declared.notice.Notice.TheVariants.{Woken};
 ghost use Rattle.cml_room.specs.Room.{is_due, state_of, SleepsRightly};
@@ -31,7 +31,9 @@ impl<M: Message, L: MessageLog<M>, Led: Ledger> Hall<M, L, Led> {
     /// The next seat that is due and wasn't given before since it last asked: wake it, and it asks again. The one that has
     /// been due the longest comes first. None, where each that is due was given.
     pub fn next_due(&mut self) -> Option<u64>
-        ensures given { IfSome result (λ number. (is_due (room_of self.old) number ≡ true) × (slice_get self.new.notices number ≡ Some Woken)) }
+        ensures given { IfSome result (λ number. (is_due (room_of self.old) number ≡ true) × (slice_get self.old.notices number ≢ Some Woken)
+            × (slice_get self.new.notices number ≡ Some Woken)) }
+        ensures woken { (number : ℕ) → slice_get self.old.notices number ≡ Some Woken → slice_get self.new.notices number ≡ Some Woken }
         ensures all { IfNone result ((number : ℕ) → is_due (room_of self.new) number ≡ true → slice_get self.new.notices number ≡ Some Woken) }
         ensures same { (number : ℕ) → is_due (room_of self.new) number ≡ is_due (room_of self.old) number }
         ensures floor { floor_of self.new ≡ floor_of self.old }
