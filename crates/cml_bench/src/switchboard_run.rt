@@ -13,7 +13,7 @@ use crate::{LIMIT, Tally};
 use cml_board::BoardLog;
 use cml_threads::{Left, PARTS, Switchboard};
 use crew::{Job, run};
-use crowds::rounds_each;
+use crowds::split_among;
 use filling::{fill, make_objects};
 use std::alloc::Global;
 use std::io;
@@ -132,13 +132,11 @@ impl Workload {
                 .saturating_mul(READERS + 1),
             Workload::Variables => count.saturating_mul(4).saturating_add(2),
             Workload::Soak => soak::entries(count),
-            Workload::Token(threads) => self
-                .timed(count)
+            Workload::Token(threads) => split_among(count, threads)
                 .saturating_mul(2)
                 .saturating_add(threads)
                 .saturating_add(1),
-            Workload::Server(clients) => self
-                .timed(count)
+            Workload::Server(clients) => split_among(count, clients)
                 .saturating_mul(4)
                 .saturating_add(clients)
                 .saturating_add(1),
@@ -148,9 +146,7 @@ impl Workload {
     /// How many hops a token makes, or requests a server answers; and else how many calls are made.
     fn timed(self, count: u64) -> u64 {
         match self {
-            Workload::Token(threads) | Workload::Server(threads) => {
-                rounds_each(count, threads).saturating_mul(threads)
-            }
+            Workload::Token(threads) | Workload::Server(threads) => split_among(count, threads),
             _ => self.entries(count),
         }
     }

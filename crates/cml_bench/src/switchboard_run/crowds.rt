@@ -11,8 +11,13 @@ use std::sync::ledger::Ledger;
 const WORKERS: u64 = 8;
 
 /// How many rounds each of so many threads makes, where all together make about `count`.
-pub fn rounds_each(count: u64, threads: u64) -> u64 {
+fn rounds_each(count: u64, threads: u64) -> u64 {
     count.checked_div(threads).unwrap_or(0).max(1)
+}
+
+/// How many hops or requests all of them make together: the same number each.
+pub fn split_among(count: u64, threads: u64) -> u64 {
+    rounds_each(count, threads).saturating_mul(threads)
 }
 
 /// Threads that each receive the token at a mailbox of their own, and send it to the next thread's.
