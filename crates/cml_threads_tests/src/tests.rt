@@ -23,6 +23,7 @@ const SCENES: &[(u64, Scene, &str)] = &[
     (MANY, Scene::Threads(Crew::Callers), verdict::CALLERS),
     (MANY, Scene::Threads(Crew::Crowd), verdict::CROWD),
     (16, Scene::Threads(Crew::Full), verdict::FULL),
+    (2_000, Scene::Threads(Crew::Refused), verdict::REFUSED),
     (MANY, Scene::Threads(Crew::Stalled), verdict::STALLED),
     (MANY, Scene::Alone(forms::STEPS), forms::TOLD),
     (2, Scene::Alone(refusing::STEPS), refusing::TOLD),

@@ -6,8 +6,8 @@ use cml_board::{Answer, Call, Name, Refusal};
 use cml_lanes::Lane;
 use cml_threads::{Left, Seat};
 use std::alloc::Global;
-use std::sync::Wait;
 use std::sync::ledger::Ledger;
+use std::sync::{Barrier, Wait};
 use std::thread::{self, Threads};
 
 /// How many calls each of the two callers makes.
@@ -38,6 +38,8 @@ pub enum Crew {
     Crowd,
     /// The same, where the journal is full again and again: a call that is refused for it is made again after a cut.
     Full,
+    /// Seven wait, and one sends elsewhere until the journal is full: each of the seven is refused for it.
+    Refused,
     /// Eight receive, and nobody sends: each is told that all are stalled.
     Stalled,
     /// Four send on lanes of their own, one drains them, and two receive.
@@ -72,7 +74,7 @@ impl Crew {
     fn size(self) -> u64 {
         match self {
             Crew::Callers | Crew::Senders => 2,
-            Crew::Crowd | Crew::Full | Crew::Stalled => 2 * RECEIVERS,
+            Crew::Crowd | Crew::Full | Crew::Refused | Crew::Stalled => 2 * RECEIVERS,
         }
     }
 
@@ -90,11 +92,23 @@ impl Crew {
                 TO,
                 sent_first(number).saturating_add(round),
             )),
+            Crew::Refused if number < 2 * RECEIVERS => Some(Call::Recv(TO)),
+            Crew::Refused => Some(Call::Send(FRO, round)),
             Crew::Stalled if round > 0 => None,
             Crew::Stalled => Some(Call::Recv(TO)),
             Crew::Senders if round == senders::HALF => None,
             Crew::Senders => Some(Call::Recv(senders::MAILBOX)),
         }
+    }
+
+    /// Whether no seat leaves before all have made their calls. So no thread is woken because another has left.
+    fn leaves_together(self) -> bool {
+        !matches!(self, Crew::Stalled | Crew::Senders)
+    }
+
+    /// Whether a call that is refused because the journal is full is made again, behind a cut.
+    fn cuts(self) -> bool {
+        matches!(self, Crew::Full)
     }
 }
 
@@ -122,7 +136,7 @@ pub fn perform<Led: Ledger + Send + Sync, R: Threads + Wait + Sync>(
         senders::let_go(rt, text, &board);
     }
     if let Ok(settled) = board.settle(lefts) {
-        if matches!(crew, Crew::Full) {
+        if crew.cuts() {
             verdict::tell_received(alloc, text, &settled, &all);
         } else {
             verdict::tell_all(alloc, text, &settled, &all);
@@ -140,10 +154,11 @@ fn work_together<Led: Ledger + Send + Sync, R: Threads + Wait + Sync>(
 ) {
     let mut jobs = Vec::new(alloc);
     add_jobs(rt, board, crew, &mut jobs);
+    let end = Barrier::new(jobs.len());
     if let Ok(done) = thread::map_vec(
         rt,
         jobs,
-        &|job: Job<Led>| { work(rt, alloc, board, crew, job) },
+        &|job: Job<Led>| { work(rt, alloc, board, crew, &end, job) },
     ) {
         gather(done, lefts, all);
     }
@@ -186,6 +201,7 @@ fn work<Led: Ledger, R: Wait>(
     alloc: Global,
     board: &Numbers<Led>,
     crew: Crew,
+    end: &Barrier,
     job: Job<Led>,
 ) -> Done<Led> {
     let mut made = Made {
@@ -193,7 +209,7 @@ fn work<Led: Ledger, R: Wait>(
         refusal: None,
     };
     let left = match job {
-        Job::Call(seat) => Some(called(rt, board, seat, crew, &mut made)),
+        Job::Call(seat) => Some(called(rt, board, seat, crew, end, &mut made)),
         Job::Send(lane) => {
             made.refusal = senders::send_all(rt, board, lane).err();
             None
@@ -212,10 +228,14 @@ fn called<Led: Ledger, R: Wait>(
     board: &Numbers<Led>,
     seat: Seat<Led>,
     crew: Crew,
+    end: &Barrier,
     made: &mut Made,
 ) -> Left<Led> {
     let mut seat = seat;
     call_all(rt, board, &mut seat, crew, made);
+    if crew.leaves_together() {
+        end.wait(rt);
+    }
     board.leave(rt, seat)
 }
 
@@ -234,7 +254,12 @@ fn call_all<Led: Ledger, R: Wait>(
         let Some(call) = crew.call(seat.number(), round) else {
             break;
         };
-        made.keep(call_with_cuts(rt, board, seat, call));
+        let told = if crew.cuts() {
+            call_with_cuts(rt, board, seat, call)
+        } else {
+            board.call(rt, seat, call)
+        };
+        made.keep(told);
     }
 }
 

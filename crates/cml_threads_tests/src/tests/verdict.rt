@@ -38,6 +38,22 @@ Ok(Made(Name(1)))
 Count { seats: 20002, rings: 0, total: 20002 }
 ";
 
+/// One fills the journal, and all are refused.
+pub const REFUSED: &str = "Ok(Made(Name(0)))
+Ok(Made(Name(1)))
+(0, 0, Some(JournalFull))
+(0, 0, Some(JournalFull))
+(0, 0, Some(JournalFull))
+(0, 0, Some(JournalFull))
+(0, 0, Some(JournalFull))
+(0, 0, Some(JournalFull))
+(0, 0, Some(JournalFull))
+(1998, 1998, Some(JournalFull))
+(0, true)
+Count { seats: 2000, rings: 0, total: 2000 }
+Ok(Ok(()))
+";
+
 /// Each is told that all are stalled.
 pub const STALLED: &str = "Ok(Made(Name(0)))
 Ok(Made(Name(1)))
