@@ -8,16 +8,20 @@ use std::alloc::Global;
 /// A room whose messages are numbers.
 type Numbers = Room<u64, BoardLog<u64>>;
 
-/// What a seat got that had to wait for it, and what it did meanwhile.
-pub fn received_in_turn(alloc: Global) -> Result<(u64, Option<State>), Trouble> {
+/// What a seat got that had to wait for it, what it did meanwhile, and which seat was due then.
+pub fn received_in_turn(alloc: Global) -> Result<(u64, Option<State>, Option<u64>), Trouble> {
     let mut room = Numbers::new(alloc, 100)?;
     let one = room.new_seat()?;
     let two = room.new_seat()?;
     pass_on(&mut room, one, two)
 }
 
-/// The first seat waits for a message, the second sends it, and the first asks again.
-fn pass_on(room: &mut Numbers, one: u64, two: u64) -> Result<(u64, Option<State>), Trouble> {
+/// The first seat waits for a message, and the second sends it. Then the first is due, and asks again.
+fn pass_on(
+    room: &mut Numbers,
+    one: u64,
+    two: u64,
+) -> Result<(u64, Option<State>, Option<u64>), Trouble> {
     let Reply::Made(letters) = reply(room.ask(one, Call::NewMailbox))? else {
         return Err(Trouble::OtherReply);
     };
@@ -25,8 +29,9 @@ fn pass_on(room: &mut Numbers, one: u64, two: u64) -> Result<(u64, Option<State>
         Asked::Parked(receive) => {
             let meanwhile = room.state(one);
             reply(room.ask(two, Call::Send(letters, 5)))?;
+            let due = room.next_due();
             let message = got(reply(room.ask_again(one, receive))?)?;
-            Ok((message, meanwhile))
+            Ok((message, meanwhile, due))
         }
         Asked::Answered(_) => Err(Trouble::OtherReply),
         Asked::Refused(refusal, _) => Err(Trouble::Refused(refusal)),
