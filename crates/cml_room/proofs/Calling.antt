@@ -23,11 +23,13 @@ use Rattle.cml_board.specs.Outcome.{Applies, IsAsBefore}
 use Rattle.cml_lanes.specs.Floor.{FloorShown}
 use Rattle.cml_lanes.specs.Barring.{is_barred}
 use Rattle.cml_lanes.proofs.Moves.{unchanged}
+use Rattle.cml_room.specs.declared.asked.Asked.TheVariants as asked
 use Rattle.cml_room.specs.declared.news.News.{News}
 use Rattle.cml_room.specs.declared.place.Place.{Place}
 use Rattle.cml_room.specs.declared.state.State.{State}
-use Rattle.cml_room.specs.declared.state.State.TheVariants.{Parked}
+use Rattle.cml_room.specs.declared.state.State.TheVariants.{Free, Parked}
 use Rattle.cml_room.specs.News.{news_in, IsOf}
+use Rattle.cml_room.specs.Rising.{news_by}
 use Rattle.cml_room.specs.Stalling.{NoneOpen}
 use Rattle.cml_room.specs.Room.{RoomShown, MayAsk, MayAskAgain}
 use Rattle.cml_room.specs.Waking.{WouldWait, Follows, IsWatched}
@@ -78,6 +80,24 @@ module _ {M : Type 0} where
         follows = follows (news_in call) old new (entry ∷ old.history) applies.5.history (one_leads entry old.history applies.2);
         of = subst (λ h. IfSome (news_in call) (IsOf h)) (sym applies.5.history) (news_are_of entry old.history call applies.0);
       })
+
+  -- a call that may wait brings no news
+  no_news : (call : Call M) (on : Want) → want_in call ≡ Some on → news_in call ≡ None
+  no_news (Recv name) on wants = refl
+  no_news (Get name) on wants = refl
+  no_news (Take name) on wants = refl
+  no_news (Swap name message) on wants = refl
+  no_news call on wants = absurd (none-some on wants)
+
+  pub may_brings : (room : RoomShown M) (number : ℕ) (call : Call M) (on : Want) (news : Option News) → MayAsk room number ⊎ MayAskAgain room number call
+      → news ≡ news_in call → slice_get room.seats number ≡ Some (Parked on) → news ≡ None
+  may_brings room number call on news (inl free) is parked = absurd (let clash : Free ≡ Parked on = same_Some _ _ (sym free ∙ parked) in cc)
+  may_brings room number call on news (inr again) is parked = is ∙ no_news call again.0 again.1
+
+  -- an answer has its call
+  pub answered_news : (chunk : ℕ) (sure : Bool) (old new : Shown M) (who : Who) (call : Call M) (reply : Answer M) (news : Option News) → news ≡ news_in call
+      → Applies chunk sure old new who call (board.Answered reply) → news ≡ news_by (asked.Answered reply)
+  answered_news chunk sure old new who call reply news is applies = is ∙ ap news_in (sym applies.3)
 
   -- a refused call left the board as it was
   pub refused_before : (chunk : ℕ) (sure : Bool) (old new : FloorShown M) (number : ℕ) (call back : Call M) (refusal : Refusal)

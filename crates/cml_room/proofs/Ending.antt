@@ -1,12 +1,13 @@
 -- What stays of seats of which one doesn't wait any more, and who is told then.
-use Rattle.std.proofs.Common.{◌≡◌, ℕ, ◌<◌, ◌⊎◌, inl, inr, Bool, true, List, length, get_or, slice_get, slice_set, Option, Some, refl, sym, ap, subst, ◌∙◌, arith}
+use Rattle.std.proofs.Common.{◌≡◌, ◌≢◌, ℕ, ◌<◌, ◌⊎◌, inl, inr, Bool, true, false, List, length, get_or, slice_get, slice_set, Option, Some, None, refl, sym, ap, subst, ◌∙◌, arith}
 use Rattle.std.specs.Option.{option_map}
 use Rattle.std.proofs.lemmas.Option.{same_Some, slice_get_within, slice_get-get_or, slice_get-map, get_or_from_slice_get}
 use Rattle.std.proofs.lemmas.Bool.{true≢false}
-use Rattle.std.proofs.lemmas.List.{length-map, map-set}
+use Rattle.std.proofs.lemmas.List.{length-map, map-set, set-get_or}
 use Rattle.cml_board.specs.declared.entry.Entry.{Entry}
 use Rattle.cml_board.specs.declared.want.Want.{Want}
-use Rattle.cml_board.specs.Shown.{Shown}
+use Rattle.cml_board.specs.Shown.{Shown, full_at}
+use Rattle.cml_board.specs.History.{entries_in}
 use Rattle.cml_board.specs.Outcome.{HasRoom}
 use Rattle.cml_board.proofs.ListLemmas.{slice_get-set_same, slice_get-set_other}
 use Rattle.cml_lanes.specs.Floor.{FloorShown}
@@ -21,7 +22,7 @@ use Rattle.cml_room.specs.News.{object_of, source_of, NoNews}
 use Rattle.cml_room.specs.Places.{state_by, states_in, AreRoused, IsMate, IsQuiet}
 use Rattle.cml_room.specs.Seats.{freed}
 use Rattle.cml_room.specs.Stalling.{IsStalled}
-use Rattle.cml_room.specs.Waking.{WouldWait, AreAt, Follows, IsWatched}
+use Rattle.cml_room.specs.Waking.{WouldWait, AreAt, NoneForgotten, Follows, IsWatched}
 use Rattle.cml_room.proofs.Idling.{idle_at}
 use Rattle.cml_room.proofs.Listing.{set_here}
 use Rattle.cml_room.proofs.Rousing.{quiet_before, mate_on, free_kept, at_kept}
@@ -89,6 +90,25 @@ pub freed_here : (places : List Place) (number : ℕ) → MayTurn (states_in pla
 freed_here places number may =
     slice_get-set_same places number (get_or places number Free) (freed (get_or places number Free))
     (slice_get-get_or places number Free (may_within places number may)) ∙ ap Some (freed_is places number may)
+
+-- a seat that may end its turn and doesn't wait is free
+pub free_unless_waits : (places : List Place) (number : ℕ) → MayTurn (states_in places) number → ((waiter : Waiter) → slice_get places number ≢ Some (Waiting waiter))
+    → slice_get places number ≡ Some Free
+free_unless_waits places number (inl free) none = free_place places number free
+free_unless_waits places number (inr parked) none =
+    let place = parked_place places number parked.0 parked.1 in
+    absurd (none place.0 place.1)
+
+-- a free seat is free still
+pub free_same : (places : List Place) (number : ℕ) → slice_get places number ≡ Some Free → places ≡ with_freed places number
+free_same places number free =
+    let read : get_or places number Free ≡ Free = get_or_from_slice_get places number Free Free free in
+    sym (ap (slice_set places number) (ap freed read ∙ sym read) ∙ set-get_or places number Free)
+
+-- a seat that waits is parked
+pub waits_parked : (places : List Place) (number : ℕ) (waiter : Waiter) → slice_get places number ≡ Some (Waiting waiter)
+    → slice_get (states_in places) number ≡ Some (state.Parked waiter.want)
+waits_parked places number waiter found = slice_get-map state_by places number ∙ ap (option_map state_by) found
 
 same_waiter : (one other : Waiter) → Waiting one ≡ Waiting other → one ≡ other
 same_waiter one other same = cc
@@ -210,6 +230,14 @@ module _ {M : Type 0} where
         stalls = λ none k waiter quiet. free_moves after ends number free;
       }
 
+  -- a call that waits brings no news
+  pub none_told : (history : List (Entry M)) (news : Option News) (places : List Place) → news ≡ None → AreTold history news places
+  none_told history news places none = λ k waiter quiet. inl (subst (λ (n : Option News). NoNews history n waiter.want) (sym none) tt)
+
+  -- a full journal has no room
+  pub not_full : (board : Shown M) → entries_in board.history ≡ full_at board → HasRoom board → ⊥
+  not_full board full room = absurd (omega (arith, full, room))
+
   -- all that wait are due
   pub all_watched : (floor : FloorShown M) (places news : List Place) (all_due : Bool) → AreAt floor.board.history places → news ≡ places → all_due ≡ true
       → IsWatched floor news all_due
@@ -219,6 +247,23 @@ module _ {M : Type 0} where
     stalls = λ none. absurd (true≢false (sym all ∙ none));
   }
 
+  -- nobody is forgotten after a call of others than seats
+  pub settled_rests : (before after : FloorShown M) (shown : Shown M) (news : Option News) (So : Waiter → Type 0) (places lates : List Place) (all_due all_due' : Bool)
+      → shown ≡ after.board → AreRoused So places lates → AreTold shown.history news lates → all_due' ≡ all_due
+      → HasRoom after.board → IsWatched before places all_due → Follows news before.board after.board
+      → all_due' ≡ false → NoneForgotten after.board lates
+  settled_rests before after shown news So places lates all_due all_due' same first told due room was next none k waiter quiet =
+      elim (was.rests (sym due ∙ none) k waiter (quiet_before So places lates k waiter first quiet)) [
+        | inl would ↦ elim (told k waiter quiet) [
+          | inl no_news ↦ inl (record {
+            waits = next.waits waiter.want would.waits (subst (λ (b : Shown M). NoNews b.history news waiter.want) same no_news);
+            room = room;
+          })
+          | inr mate ↦ inr mate
+        ]
+        | inr mate ↦ inr (mate_on So places lates waiter.want first mate)
+      ]
+
   -- who is told after a call of others than seats
   pub settled : (before after : FloorShown M) (shown : Shown M) (news : Option News) (So : Waiter → Type 0) (places lates : List Place) (all_due all_due' : Bool)
       → AreAt after.board.history places → shown ≡ after.board → AreRoused So places lates → AreTold shown.history news lates → all_due' ≡ all_due
@@ -226,15 +271,6 @@ module _ {M : Type 0} where
       → IsWatched after lates all_due'
   settled before after shown news So places lates all_due all_due' at same first told due room moves was next = record {
     placed = at_kept So after.board.history places lates first at;
-    rests = λ none k waiter quiet. elim (was.rests (sym due ∙ none) k waiter (quiet_before So places lates k waiter first quiet)) [
-      | inl would ↦ elim (told k waiter quiet) [
-        | inl no_news ↦ inl (record {
-          waits = next.waits waiter.want would.waits (subst (λ (b : Shown M). NoNews b.history news waiter.want) same no_news);
-          room = room;
-        })
-        | inr mate ↦ inr mate
-      ]
-      | inr mate ↦ inr (mate_on So places lates waiter.want first mate)
-    ];
+    rests = settled_rests before after shown news So places lates all_due all_due' same first told due room was next;
     stalls = λ none k waiter quiet. moves;
   }

@@ -58,7 +58,7 @@ module _ {M : Type 0} where
   kind_taken history name made_call None is some taken = absurd (false≢true some)
   kind_taken history name made_call (Some kind) is some taken = (kind, is, taken)
 
-  abbrev SourcesAreChannels : List (Entry M) → Type 0
+  abbrev pub SourcesAreChannels : List (Entry M) → Type 0
   SourcesAreChannels history = (object source start : ℕ) → origin_of history object ≡ Some (port source start) → kind_of history source ≡ Some kind.Channel
 
   copied : (before : List (Entry M)) (name n : ℕ) (o : Option Origin) (i source start : ℕ) → SourcesAreChannels before → origin_of before name ≡ o
@@ -108,7 +108,7 @@ module _ {M : Type 0} where
       ])
 
   -- where the messages that come to an object are from: from a channel, if it is a port
-  source_cases : (history : List (Entry M)) (object : ℕ) (o : Option Origin) → SourcesAreChannels history → origin_of history object ≡ o
+  pub source_cases : (history : List (Entry M)) (object : ℕ) (o : Option Origin) → SourcesAreChannels history → origin_of history object ≡ o
       → (source_of history object ≡ object) ⊎ (kind_of history (source_of history object) ≡ Some kind.Channel)
   source_cases history object (Some (port source start)) channels is =
       let source_is : source_of history object ≡ source = ap (source_by object) is in
@@ -120,7 +120,7 @@ module _ {M : Type 0} where
   source_cases history object (Some mvar) channels is = inl (ap (source_by object) is)
 
   -- a variable's values are put into itself
-  variable_source : (history : List (Entry M)) (object : ℕ) (o : Option Origin) → origin_of history object ≡ o → IfSome (option_map kind_by o) (λ k. is_variable k ≡ true)
+  pub variable_source : (history : List (Entry M)) (object : ℕ) (o : Option Origin) → origin_of history object ≡ o → IfSome (option_map kind_by o) (λ k. is_variable k ≡ true)
       → source_of history object ≡ object
   variable_source history object None is of = ap (source_by object) is
   variable_source history object (Some ivar) is of = ap (source_by object) is

@@ -14,3 +14,5 @@ pub mod Unmoved
 pub mod Following
 pub mod Bringing
 pub mod Quiet
+pub mod Rising
+pub mod Reaching

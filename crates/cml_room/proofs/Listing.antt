@@ -18,8 +18,8 @@ use Rattle.cml_room.specs.declared.place.Waiter.{Waiter}
 use Rattle.cml_room.specs.declared.state.State.TheVariants as state
 use Rattle.cml_queues.specs.Queues.{QueuesShown, has, queue_of, is_in}
 use Rattle.cml_room.specs.Places.{state_by, states_in, row_of, row_in, notice_by, noted_as, noted_in, quieted, AreListed}
-use Rattle.cml_room.specs.Seats.{free_by, freed, IsKept}
-use Rattle.cml_room.proofs.Idling.{free_within}
+use Rattle.cml_room.specs.Seats.{free_by, parked_by, freed, IsKept}
+use Rattle.cml_room.proofs.Idling.{free_within, parked_within, parked_at}
 
 or_false : (b : Bool) → (b || false) ≡ b
 or_false true = refl
@@ -167,12 +167,13 @@ pub seen_at : (places : List Place) (k : ℕ) (seen p : Place) → k < length pl
 seen_at places k seen p within read is = slice_get-get_or places k seen within ∙ ap Some (sym read ∙ is)
 
 -- what is kept of the seats, where one is other than it was
-pub kept_set : (places : List Place) (free free' : ℕ) (rows rows' due due' : QueuesShown) (k : ℕ) (old new : Place) → slice_get places k ≡ Some old
-    → IsKept places free rows due → free' + free_by (state_by old) ≡ free + free_by (state_by new)
+pub kept_set : (places : List Place) (free free' parked parked' : ℕ) (rows rows' due due' : QueuesShown) (k : ℕ) (old new : Place) → slice_get places k ≡ Some old
+    → IsKept places free parked rows due → free' + free_by (state_by old) ≡ free + free_by (state_by new)
+    → parked' + parked_by (state_by old) ≡ parked + parked_by (state_by new)
     → AreListed rows' row_in (slice_set places k new) → AreListed due' noted_in (slice_set places k new)
     → length rows'.queues ≡ length rows.queues → length due'.queues ≡ length due.queues → rows'.bound ≡ rows.bound → due'.bound ≡ due.bound
-    → IsKept (slice_set places k new) free' rows' due'
-kept_set places free free' rows rows' due due' k old new found kept count in_rows in_due rows_same two_same row_bound due_bound =
+    → IsKept (slice_set places k new) free' parked' rows' due'
+kept_set places free free' parked parked' rows rows' due due' k old new found kept count waits in_rows in_due rows_same two_same row_bound due_bound =
     let within : k < length places = slice_get_within places k old found in
     let states : states_in (slice_set places k new) ≡ slice_set (states_in places) k (state_by new) = map-set state_by places k new in
     let was : get_or (states_in places) k (state_by old) ≡ state_by old =
@@ -186,6 +187,14 @@ kept_set places free free' rows rows' due due' k old new found kept count in_row
         kept.counted,
         count,
       );
+      waiting = omega (
+        arith,
+        ap (sum_by parked_by) states,
+        sum_by-set parked_by (states_in places) k (state_by new) (state_by old) (omega (arith, within, length-map places state_by)),
+        ap parked_by was,
+        kept.waiting,
+        waits,
+      );
       in_rows = in_rows;
       in_due = in_due;
       many_rows = rows_same ∙ kept.many_rows;
@@ -195,10 +204,11 @@ kept_set places free free' rows rows' due due' k old new found kept count in_row
     }
 
 -- a seat more, which is free
-pub kept_added : (places : List Place) (free : ℕ) (rows rows' due due' : QueuesShown) → IsKept places free rows due → rows'.queues ≡ rows.queues → due'.queues ≡ due.queues
-    → rows'.bound ≡ rows.bound + 1 → due'.bound ≡ due.bound + 1 → IsKept (places ++ place.Free ∷ []) (free + 1) rows' due'
-kept_added places free rows rows' due due' kept rows_same due_same row_bound due_bound = record {
+pub kept_added : (places : List Place) (free parked : ℕ) (rows rows' due due' : QueuesShown) → IsKept places free parked rows due → rows'.queues ≡ rows.queues → due'.queues ≡ due.queues
+    → rows'.bound ≡ rows.bound + 1 → due'.bound ≡ due.bound + 1 → IsKept (places ++ place.Free ∷ []) (free + 1) parked rows' due'
+kept_added places free parked rows rows' due due' kept rows_same due_same row_bound due_bound = record {
   counted = omega (arith, ap (sum_by free_by) (map-append state_by places (place.Free ∷ [])), sum_by_push free_by (states_in places) state.Free, kept.counted);
+  waiting = omega (arith, ap (sum_by parked_by) (map-append state_by places (place.Free ∷ [])), sum_by_push parked_by (states_in places) state.Free, kept.waiting);
   in_rows = listed_added rows rows' row_in places place.Free kept.in_rows (λ r. refl) (λ r. refl) rows_same;
   in_due = listed_added due due' noted_in places place.Free kept.in_due (λ r. refl) (λ r. refl) due_same;
   many_rows = ap length rows_same ∙ kept.many_rows;
@@ -208,16 +218,25 @@ kept_added places free rows rows' due due' kept rows_same due_same row_bound due
 }
 
 -- no more seats are free than were made
-pub kept_within : (places : List Place) (free : ℕ) (rows due : QueuesShown) → IsKept places free rows due → free ≤ length places
-kept_within places free rows due kept = omega (arith, kept.counted, free_within (states_in places), length-map places state_by)
+pub kept_within : (places : List Place) (free parked : ℕ) (rows due : QueuesShown) → IsKept places free parked rows due → free ≤ length places
+kept_within places free parked rows due kept = omega (arith, kept.counted, free_within (states_in places), length-map places state_by)
+
+-- no more wait than were made
+pub waiting_within : (places : List Place) (free parked : ℕ) (rows due : QueuesShown) → IsKept places free parked rows due → parked ≤ length places
+waiting_within places free parked rows due kept = omega (arith, kept.waiting, parked_within (states_in places), length-map places state_by)
 
 -- where one seat is free, one is counted
-pub one_free : (places : List Place) (free : ℕ) (rows due : QueuesShown) (k : ℕ) → IsKept places free rows due → slice_get places k ≡ Some place.Free → 1 ≤ free
-one_free places free rows due k kept found =
+pub one_free : (places : List Place) (free parked : ℕ) (rows due : QueuesShown) (k : ℕ) → IsKept places free parked rows due → slice_get places k ≡ Some place.Free → 1 ≤ free
+one_free places free parked rows due k kept found =
     let within : k < length (states_in places) = omega (arith, slice_get_within places k place.Free found, length-map places state_by) in
     let was : get_or (states_in places) k state.Free ≡ state.Free =
     get_or_from_slice_get (states_in places) k state.Free state.Free (slice_get-map state_by places k ∙ ap (option_map state_by) found) in
     omega (arith, kept.counted, sum_by-set free_by (states_in places) k state.Left state.Free within, ap free_by was)
+
+-- where one seat waits, one is counted
+pub one_waits : (places : List Place) (free parked : ℕ) (rows due : QueuesShown) (k : ℕ) (waiter : Waiter) → IsKept places free parked rows due
+    → slice_get places k ≡ Some (place.Waiting waiter) → 1 ≤ parked
+one_waits places free parked rows due k waiter kept found = omega (arith, kept.waiting, parked_at places k waiter found)
 
 -- a queue is what is before a member, the member, and what is behind it
 pub split_at : (queue : List ℕ) (i k : ℕ) → slice_get queue i ≡ Some k

@@ -1,7 +1,7 @@
 -- A seat that begins to wait, or waits on.
-use Rattle.std.proofs.Common.{◌≡◌, ℕ, ◌⊎◌, inl, inr, Bool, false, List, get_or, slice_get, slice_set, Some, refl, sym, ap, subst, ◌∙◌}
+use Rattle.std.proofs.Common.{◌≡◌, ◌≢◌, ℕ, ◌⊎◌, inl, inr, Bool, false, List, get_or, slice_get, slice_set, Some, refl, sym, ap, subst, ◌∙◌}
 use Rattle.std.proofs.lemmas.Option.{same_Some, get_or_from_slice_get}
-use Rattle.std.proofs.lemmas.List.{map-set, set-set}
+use Rattle.std.proofs.lemmas.List.{map-set, set-get_or, set-set}
 use Rattle.cml_board.specs.declared.entry.Entry.{Entry}
 use Rattle.cml_board.specs.declared.want.Want.{Want}
 use Rattle.cml_board.specs.History.{Fits}
@@ -18,10 +18,12 @@ use Rattle.cml_room.specs.declared.state.State.{State}
 use Rattle.cml_room.specs.declared.state.State.TheVariants as state
 use Rattle.cml_room.specs.News.{object_of, source_of}
 use Rattle.cml_room.specs.Places.{state_by, states_in, quieted, IsMate, IsQuiet}
+use Rattle.cml_room.specs.Rising.{HasRisen}
 use Rattle.cml_room.specs.Seats.{freed}
 use Rattle.cml_room.specs.Waking.{WouldWait, AreAt, NoneForgotten, IsWatched}
 use Rattle.cml_room.proofs.Listing.{set_here}
-use Rattle.cml_room.proofs.Ending.{with_freed, parked_place, freed_at, freed_here, freed_states, freed_quiet, mate_stays, would_same, free_moves}
+use Rattle.cml_room.proofs.Rising.{set_none}
+use Rattle.cml_room.proofs.Ending.{MayTurn, with_freed, parked_place, freed_at, freed_here, freed_states, freed_quiet, mate_stays, would_same, free_moves}
 
 -- the seat is free, or waits for this already
 abbrev pub MayWait : List State → ℕ → Want → Type 0
@@ -51,6 +53,15 @@ waiting_here places number k own waiter here found =
     let is : Waiting own ≡ Waiting waiter = set_here places number (Waiting own) (Waiting waiter) (ap (slice_get (slice_set places number (Waiting own))) (sym here) ∙ found) in
     cc
 
+-- where nobody waits, the seat is free
+pub none_freed : (places : List Place) (number : ℕ) → ((k : ℕ) (waiter : Waiter) → slice_get places k ≢ Some (Waiting waiter)) → MayTurn (states_in places) number
+    → states_in places ≡ slice_set (states_in places) number state.Free
+none_freed places number none (inl free) =
+    sym (ap (slice_set (states_in places) number) (sym (get_or_from_slice_get (states_in places) number state.Free state.Free free)) ∙ set-get_or (states_in places) number state.Free)
+none_freed places number none (inr parked) =
+    let place = parked_place places number parked.0 parked.1 in
+    absurd (none number place.0 place.1)
+
 -- the seat that would have waited is free again
 pub unparked_states : (states : List State) (waiting news : List Place) (number : ℕ) (want : Want) → MayWait states number want
     → states_in waiting ≡ slice_set states number (state.Parked want) → news ≡ with_freed waiting number → states_in news ≡ slice_set states number state.Free
@@ -60,6 +71,15 @@ unparked_states states waiting news number want may is set =
     ∙ (ap (λ l. slice_set l number state.Free) is ∙ set-set states number (state.Parked want) state.Free))
 
 module _ {M : Type 0} where
+  -- where nobody waits, nobody is forgotten
+  pub none_watched : (floor : FloorShown M) (places : List Place) (all_due : Bool) → ((k : ℕ) (waiter : Waiter) → slice_get places k ≢ Some (Waiting waiter))
+      → IsWatched floor places all_due
+  none_watched floor places all_due none = record {
+    placed = λ k waiter found. absurd (none k waiter found);
+    rests = λ now k waiter quiet. absurd (none k waiter quiet.here);
+    stalls = λ now k waiter quiet. absurd (none k waiter quiet.here);
+  }
+
   begun_at : (history : List (Entry M)) (places : List Place) (number : ℕ) (want : Want) (own : Waiter) → own.want ≡ want → own.source ≡ source_of history (object_of want)
       → Fits history (wanting want) → AreAt history places → AreAt history (slice_set places number (Waiting own))
   begun_at history places number want own wants source fits at = λ k waiter found. elim (this_or_other k number) [
@@ -100,15 +120,19 @@ module _ {M : Type 0} where
     pub states : states_in news ≡ slice_set (states_in places) number (state.Parked want)
     pub placed : AreAt board.history news
     pub rests : NoneForgotten board places → NoneForgotten board news
+    pub none : (k : ℕ) (on : Want) → ¬ (HasRisen places news k on)
 
   begun : (board : Shown M) (places news : List Place) (number : ℕ) (want : Want) (own : Waiter) → news ≡ slice_set places number (Waiting own) → own.want ≡ want
-      → own.source ≡ source_of board.history (object_of want) → ((waiter : Waiter) → slice_get places number ≡ Some (Waiting waiter) → waiter.want ≡ want)
+      → own.source ≡ source_of board.history (object_of want) → own.notice ≡ Nothing
+      → ((waiter : Waiter) → slice_get places number ≡ Some (Waiting waiter) → waiter.want ≡ want)
       → WouldWait board want → AreAt board.history places → Begun board places news number want
-  begun board places news number want own set wants source is would at =
+  begun board places news number want own set wants source nothing is would at =
       subst (λ l. Begun board places l number want) (sym set) (record {
         states = map-set state_by places number (Waiting own) ∙ ap (λ w. slice_set (states_in places) number (state.Parked w)) wants;
         placed = begun_at board.history places number want own wants source would.waits.0 at;
         rests = begun_rests board places number want own wants would is;
+        none = set_none places (slice_set places number (Waiting own)) number (Waiting own) refl
+            (λ waiter found. ap (λ (w : Waiter). w.notice) (sym (waiting_here places number number own waiter refl found)) ∙ nothing);
       })
 
   -- a free seat began to wait
@@ -117,7 +141,7 @@ module _ {M : Type 0} where
       → source ≡ source_of shown.history object → WouldWait board want → AreAt board.history places → Begun board places news number want
   free_begun board shown places news number want object source free set same at_object from would at =
       begun board places news number want (record { want = want; source = source; notice = Nothing }) set refl
-      (from ∙ (ap (λ (b : Shown M). source_of b.history object) same ∙ ap (source_of board.history) at_object))
+      (from ∙ (ap (λ (b : Shown M). source_of b.history object) same ∙ ap (source_of board.history) at_object)) refl
       (λ waiter found. absurd (let clash : Free ≡ Waiting waiter = same_Some Free (Waiting waiter) (sym free ∙ found) in cc)) would at
 
   -- one that waits waits on
@@ -126,7 +150,7 @@ module _ {M : Type 0} where
   waits_begun board places news number want parked set would at =
       let place = parked_place places number want parked in
       begun board places news number want (record place.0 { notice = Nothing }) (set ∙ quieted_is places number place.0 place.1) place.2
-      ((at number place.0 place.1).1 ∙ ap (λ w. source_of board.history (object_of w)) place.2)
+      ((at number place.0 place.1).1 ∙ ap (λ w. source_of board.history (object_of w)) place.2) refl
       (λ waiter found.
       let is : Waiting place.0 ≡ Waiting waiter = same_Some (Waiting place.0) (Waiting waiter) (sym place.1 ∙ found) in
       let same : waiter.want ≡ place.0.want = cc in

@@ -4,4 +4,5 @@ pub mod Stalling
 pub mod News
 pub mod Waking
 pub mod Room
+pub mod Rising
 pub mod Asking

@@ -1,5 +1,5 @@
-//! Seats at a board with its lanes and feeds, and which of them can go on: what threads share, but for the lock and the
-//! ledger. None of its calls waits.
+//! Seats at a board with its lanes and feeds, and which of them can go on. Threads share it behind a lock, which isn't here.
+//! None of its calls waits.
 #![tactic(auto)]
 
 mod asked;

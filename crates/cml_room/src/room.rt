@@ -6,6 +6,8 @@ ghost use Rattle.cml_board.specs.History.{no_entries, Lawful};
 ghost use Rattle.cml_board.specs.Since.{KeepsSince};
 ghost use Rattle.cml_board.specs.Shown.{KeepsMailboxes, KeepsPorts, KeepsClosed, KeepsVariables, KeepsLogs};
 ghost use Rattle.cml_lanes.specs.Floor.{KeepsLanes, KeepsFeeds};
+ghost use Rattle.cml_room.specs.Rising.{MakesNoneDue};
+ghost use Rattle.cml_room.specs.Seats.{free_in};
 ghost use Rattle.cml_room.specs.Room.{floor_of, is_due, state_of, MayAsk, SleepsRightly, with_state};
 
 mod asking;
@@ -23,7 +25,7 @@ use std::alloc::{AllocError, Global};
 use std::marker::Model;
 
 /// A board with the lanes onto it and the feeds from its ports, and what each seat does. None of its calls waits, and none
-/// is ordered by a lock: whoever has the room by `&mut` orders them.
+/// is ordered by a lock: the caller who has the room by `&mut` orders them.
 #[derive(Drop)]
 pub struct Room<M, L: MessageLog<M>> {
     floor: Floor<M, L>,
@@ -130,7 +132,7 @@ impl<M: Message, L: MessageLog<M>> Room<M, L> {
     }
 
     /// Whether the seat is due: it waits, and something has come since it last asked for which it may go on. A seat that waits
-    /// and isn't due sleeps rightly. So nobody is left asleep by a caller who wakes each seat that `next_due` gives.
+    /// and isn't due sleeps rightly. So a caller who wakes each seat that `next_due` returns leaves none asleep.
     pub fn is_due(&self, seat: u64) -> bool
         ensures due { result ≡ is_due self.now seat }
         ensures asleep { result ≡ false → (on : Want) → state_of self.now seat ≡ Some (State.Parked on) → SleepsRightly self.now on }
@@ -138,8 +140,8 @@ impl<M: Message, L: MessageLog<M>> Room<M, L> {
         self.seats.is_due(seat)
     }
 
-    /// The next seat that is due and wasn't given before since it last asked: wake it, and it asks again. The one that has
-    /// been due the longest comes first. None, where each that is due was given.
+    /// The next seat that is due, and wasn't returned since it last asked. Wake its thread, and let it ask again. The seat that
+    /// has been due the longest comes first. None, if each seat that is due was returned.
     pub fn next_due(&mut self) -> Option<u64>
         ensures given { IfSome result (λ number. (is_due self.old number ≡ true) × (slice_get self.old.notices number ≢ Some Woken) × (slice_get self.new.notices number ≡ Some Woken)) }
         ensures woken { (number : ℕ) → slice_get self.old.notices number ≡ Some Woken → slice_get self.new.notices number ≡ Some Woken }
@@ -161,6 +163,7 @@ impl<M: Message, L: MessageLog<M>> Room<M, L> {
         ensures lanes { self.new.lanes ≡ self.old.lanes }
         ensures feeds { self.new.feeds ≡ self.old.feeds }
         ensures refused { IfErr result (λ refusal. (refusal ≡ NoMemory) × (self.new ≡ self.old)) }
+        ensures none { MakesNoneDue self.old self.new }
     {
         let number = self.seats.count() as u64;
         if self.seats.add().is_err() {
@@ -169,14 +172,15 @@ impl<M: Message, L: MessageLog<M>> Room<M, L> {
         Ok(number)
     }
 
-    /// The seat leaves: it makes no more calls, and nobody needs to wait for it. It is refused, `Gone`, where no seat has
-    /// the number, and where it waits or has left before.
+    /// The seat leaves: it makes no more calls. Fails with `Gone` if there is no such seat, or if it waits or has left. If no
+    /// seat is free then, all that wait are due, since they may be stalled.
     pub fn leave(&mut self, seat: u64) -> Result<(), Refusal>
         ensures left { OnOk result (MayAsk self.old seat × (self.new.seats ≡ with_state self.old seat State.Left)) }
         ensures board { self.new.board ≡ self.old.board }
         ensures lanes { self.new.lanes ≡ self.old.lanes }
         ensures feeds { self.new.feeds ≡ self.old.feeds }
         ensures refused { IfErr result (λ refusal. (refusal ≡ Gone) × ¬ (MayAsk self.old seat) × (self.new ≡ self.old)) }
+        ensures none { free_in self.new.seats ≢ 0 → MakesNoneDue self.old self.new }
     {
         if self.seats.state(seat) != Some(State::Free) {
             return Err(Refusal::Gone);

@@ -1,5 +1,5 @@
 //! The end of a seat's turn, and of the other calls.
-ghost use Rattle.std.specs.Prelude.{◌≡◌, ◌≢◌, ◌⊎◌, false, Some, IfSome, MatchBool, MatchOption, slice_get, slice_set};
+ghost use Rattle.std.specs.Prelude.{◌≡◌, ◌≢◌, ◌⊎◌, ℕ, false, Some, None, IfSome, MatchBool, MatchOption, slice_get, slice_set};
 ghost use Rattle.cml_board.specs.declared.want.Want.{Want};
 ghost use Rattle.cml_board.specs.Outcome.{HasRoom};
 ghost use Rattle.cml_lanes.specs.Floor.{FloorShown};
@@ -7,6 +7,7 @@ ghost use Rattle.cml_room.specs.declared.place.Place.TheVariants as place;
 ghost use Rattle.cml_room.specs.declared.place.Waiter.{Waiter};
 ghost use Rattle.cml_room.specs.News.{IsOf};
 ghost use Rattle.cml_room.specs.Places.{states_in};
+ghost use Rattle.cml_room.specs.Rising.{HasRisen, RisesFew};
 ghost use Rattle.cml_room.specs.Stalling.{IsStalled};
 ghost use Rattle.cml_room.specs.Waking.{AreAt, Follows, IsWatched, NoneForgotten, WouldWait};
 
@@ -20,7 +21,7 @@ use cml_board::{Message, Want};
 use cml_lanes::Floor;
 use cml_log::MessageLog;
 
-/// The seat's call was answered, and brought these news: the seat is free. All are due where the journal is full now.
+/// The seat's call was answered, and brought these news: the seat is free. All are due if the journal is full now.
 pub fn answer_turn<M: Message, L: MessageLog<M>>(
     floor: &Floor<M, L>,
     seats: &mut Seats,
@@ -30,18 +31,23 @@ pub fn answer_turn<M: Message, L: MessageLog<M>>(
     requires may { (slice_get (states_in seats.old.places) number ≡ Some State.Free) ⊎ ((on : Want) × (slice_get (states_in seats.old.places) number ≡ Some (State.Parked on))) }
     requires placed { AreAt floor.now.board.history seats.old.places }
     requires of { IfSome news (IsOf floor.now.board.history) }
+    requires brings { (on : Want) → slice_get (states_in seats.old.places) number ≡ Some (State.Parked on) → news ≡ None }
     ensures states { states_in seats.new.places ≡ slice_set (states_in seats.old.places) number State.Free }
     ensures kept { (before : FloorShown M) → IsWatched before seats.old.places seats.old.all_due → Follows news before.board floor.now.board
         → IsWatched floor.now seats.new.places seats.new.all_due }
+    ensures few { HasRoom floor.now.board → RisesFew floor.now.board.history news (λ on. slice_get (states_in seats.old.places) number ≡ Some (State.Parked on)) seats.old.places seats.new.places }
+    ensures due { HasRoom floor.now.board → seats.new.all_due ≡ seats.old.all_due }
 {
+    if seats.parked() == 0 {
+        return;
+    }
     end_turn(floor, seats, number, news);
     if floor.board().is_full() {
         seats.rouse_all();
     }
 }
 
-/// The seat is free. Who may go on by the news becomes due; and where the seat waited, the next that waits for the same has its
-/// turn.
+/// The seat is free. If it waited, the next that waits for the same has its turn. If not, who may go on by the news becomes due.
 pub fn end_turn<M: Message, L: MessageLog<M>>(
     floor: &Floor<M, L>,
     seats: &mut Seats,
@@ -51,16 +57,20 @@ pub fn end_turn<M: Message, L: MessageLog<M>>(
     requires may { (slice_get (states_in seats.old.places) number ≡ Some State.Free) ⊎ ((on : Want) × (slice_get (states_in seats.old.places) number ≡ Some (State.Parked on))) }
     requires placed { AreAt floor.now.board.history seats.old.places }
     requires of { IfSome news (IsOf floor.now.board.history) }
+    requires brings { (on : Want) → slice_get (states_in seats.old.places) number ≡ Some (State.Parked on) → news ≡ None }
     ensures states { states_in seats.new.places ≡ slice_set (states_in seats.old.places) number State.Free }
     ensures placed { AreAt floor.now.board.history seats.new.places }
     ensures kept { (before : FloorShown M) → IsWatched before seats.old.places seats.old.all_due → Follows news before.board floor.now.board
         → (HasRoom before.board → HasRoom floor.now.board) → IsWatched floor.now seats.new.places seats.new.all_due }
+    ensures few { RisesFew floor.now.board.history news (λ on. slice_get (states_in seats.old.places) number ≡ Some (State.Parked on)) seats.old.places seats.new.places }
+    ensures due { seats.new.all_due ≡ seats.old.all_due }
 {
-    let waited = waiter_at(seats, number);
-    seats.set_free(number);
-    tell(floor.board(), seats, news);
-    if let Some(waiter) = waited {
-        hand_on(floor.board(), seats, waiter);
+    match waiter_at(seats, number) {
+        Some(waiter) => {
+            seats.set_free(number);
+            hand_on(floor.board(), seats, waiter);
+        }
+        None => tell(floor.board(), seats, news),
     }
 }
 
@@ -75,8 +85,7 @@ fn waiter_at(seats: &Seats, number: u64) -> Option<Waiter>
     }
 }
 
-/// The seat waits for this, and isn't due. Where then nobody can go on, the seat is set free, and the answer is that it doesn't
-/// wait.
+/// The seat waits for this, and isn't due. If no seat can go on then, the seat is set free, and `park` returns false.
 pub fn park<M: Message, L: MessageLog<M>>(
     floor: &Floor<M, L>,
     seats: &mut Seats,
@@ -90,6 +99,8 @@ pub fn park<M: Message, L: MessageLog<M>>(
         (¬ (IsStalled floor.now waiting) × (states_in seats.new.places ≡ waiting))
         (IsStalled floor.now waiting × (states_in seats.new.places ≡ slice_set (states_in seats.old.places) number State.Free)) }
     ensures watched { IsWatched floor.now seats.new.places seats.new.all_due }
+    ensures none { (other : ℕ) (on : Want) → ¬ (HasRisen seats.old.places seats.new.places other on) }
+    ensures due { seats.new.all_due ≡ seats.old.all_due }
 {
     begin_wait(floor, seats, number, want);
     if is_stalled(floor, seats) {
@@ -112,6 +123,7 @@ fn begin_wait<M: Message, L: MessageLog<M>>(
     ensures states { states_in seats.new.places ≡ slice_set (states_in seats.old.places) number (State.Parked want) }
     ensures placed { AreAt floor.now.board.history seats.new.places }
     ensures rests { seats.new.all_due ≡ false → NoneForgotten floor.now.board seats.new.places }
+    ensures none { (other : ℕ) (on : Want) → ¬ (HasRisen seats.old.places seats.new.places other on) }
     ensures due { seats.new.all_due ≡ seats.old.all_due }
 {
     if seats.state(number) == Some(State::Free) {
@@ -122,8 +134,8 @@ fn begin_wait<M: Message, L: MessageLog<M>>(
     seats.quiet(number);
 }
 
-/// Others than seats have changed the board, and brought these news. All are due where the journal is full now, and where nobody
-/// can go on.
+/// A lane or a feed has changed the board, and brought these news. All are due if the journal is full now, or if no seat can go
+/// on.
 pub fn settle<M: Message, L: MessageLog<M>>(
     floor: &Floor<M, L>,
     seats: &mut Seats,
@@ -134,7 +146,13 @@ pub fn settle<M: Message, L: MessageLog<M>>(
     ensures states { states_in seats.new.places ≡ states_in seats.old.places }
     ensures kept { (before : FloorShown M) → IsWatched before seats.old.places seats.old.all_due → Follows news before.board floor.now.board
         → IsWatched floor.now seats.new.places seats.new.all_due }
+    ensures few { (before : FloorShown M) → IsWatched before seats.old.places seats.old.all_due → Follows news before.board floor.now.board
+        → HasRoom floor.now.board → ¬ (IsStalled floor.now (states_in seats.old.places))
+        → RisesFew floor.now.board.history news (λ on. ⊥) seats.old.places seats.new.places × (seats.new.all_due ≡ seats.old.all_due) }
 {
+    if seats.parked() == 0 {
+        return;
+    }
     tell(floor.board(), seats, news);
     if floor.board().is_full() || is_stalled(floor, seats) {
         seats.rouse_all();

@@ -1,9 +1,12 @@
 //! Who may go on by what has come, of those that wait.
 ghost use Rattle.std.specs.Prelude.{◌≡◌, ◌≢◌, ◌⊎◌, ℕ, true, false, Some, IfSome, MatchBool, slice_get, ⊤};
+ghost use Rattle.cml_board.specs.declared.call.Kind.TheVariants.{MVar};
+ghost use Rattle.cml_board.specs.History.{kind_of, Lawful};
 ghost use Rattle.cml_room.specs.declared.place.Place.TheVariants as place;
 ghost use Rattle.cml_room.specs.declared.place.Waiter.{Waiter};
-ghost use Rattle.cml_room.specs.News.{object_of, source_of, helps, NoNews, IsOf};
+ghost use Rattle.cml_room.specs.News.{object_of, source_of, helps, Helps, NoNews, IsOf};
 ghost use Rattle.cml_room.specs.Places.{is_noted, place_due, AreAlike, AreRoused, IsMate, IsQuiet};
+ghost use Rattle.cml_room.specs.Rising.{IsForOne, OneEach};
 ghost use Rattle.cml_room.specs.Waking.{reaches, WouldWait, AreAt};
 
 use crate::news::News;
@@ -21,7 +24,8 @@ pub fn tell<M: Message, L: MessageLog<M>>(
 )
     requires placed { AreAt board.now.history seats.old.places }
     requires of { IfSome news (IsOf board.now.history) }
-    ensures roused { AreRoused (λ waiter. ⊤) seats.old.places seats.new.places }
+    ensures roused { AreRoused (λ waiter. Helps board.now.history news waiter.want) seats.old.places seats.new.places }
+    ensures one { IsForOne board.now.history news → OneEach seats.old.places seats.new.places }
     ensures told { (number : ℕ) (waiter : Waiter) → IsQuiet seats.new.places number waiter
         → NoNews board.now.history news waiter.want ⊎ IsMate seats.new.places waiter.want }
     ensures due { seats.new.all_due ≡ seats.old.all_due }
@@ -43,7 +47,9 @@ pub fn tell<M: Message, L: MessageLog<M>>(
 fn tell_value<M: Message, L: MessageLog<M>>(board: &Board<M, L>, seats: &mut Seats, name: Name)
     requires placed { AreAt board.now.history seats.old.places }
     requires of { IsOf board.now.history (News.Value name) }
-    ensures roused { AreRoused (λ waiter. ⊤) seats.old.places seats.new.places }
+    requires lawful { Lawful board.now.history }
+    ensures roused { AreRoused (λ waiter. helps board.now.history (News.Value name) waiter.want ≡ true) seats.old.places seats.new.places }
+    ensures one { kind_of board.now.history name.0 ≡ Some MVar → OneEach seats.old.places seats.new.places }
     ensures told { (number : ℕ) (waiter : Waiter) → IsQuiet seats.new.places number waiter
         → NoNews board.now.history (Some (News.Value name)) waiter.want ⊎ IsMate seats.new.places waiter.want }
     ensures due { seats.new.all_due ≡ seats.old.all_due }
@@ -60,6 +66,7 @@ fn tell_value<M: Message, L: MessageLog<M>>(board: &Board<M, L>, seats: &mut Sea
 /// Makes due the next that waits for this, if it would not wait any more.
 pub fn hand_on<M: Message, L: MessageLog<M>>(board: &Board<M, L>, seats: &mut Seats, waiter: Waiter)
     ensures roused { AreRoused (λ other. other.want ≡ waiter.want) seats.old.places seats.new.places }
+    ensures one { OneEach seats.old.places seats.new.places }
     ensures on { WouldWait board.now waiter.want ⊎ ((number : ℕ) (other : Waiter) → IsQuiet seats.new.places number other
         → other.want ≡ waiter.want → other.source ≡ waiter.source → IsMate seats.new.places waiter.want) }
     ensures due { seats.new.all_due ≡ seats.old.all_due }
@@ -116,6 +123,7 @@ fn rouse_waiting(seats: &mut Seats)
 /// Makes due the one that has waited the longest for this.
 fn rouse_first(seats: &mut Seats, want: Want, source: u64)
     ensures roused { AreRoused (λ waiter. waiter.want ≡ want) seats.old.places seats.new.places }
+    ensures one { OneEach seats.old.places seats.new.places }
     ensures first { (number : ℕ) (waiter : Waiter) → IsQuiet seats.new.places number waiter
         → waiter.want ≡ want → waiter.source ≡ source → IsMate seats.new.places want }
     ensures due { seats.new.all_due ≡ seats.old.all_due }

@@ -105,7 +105,7 @@ impl<M: Message, L: MessageLog<M>, Led: Ledger> Hall<M, L, Led> {
         self.room.board()
     }
 
-    /// Takes memory for `n` more entries, as `Floor::reserve` does, whoever's they are. The only refusal is `NoMemory`.
+    /// Takes memory for `n` more entries, as `Floor::reserve` does, for all seats, lanes and feeds. The only refusal is `NoMemory`.
     pub fn reserve(&mut self, n: usize) -> Result<(), Refusal>
         ensures reserves { Reserves (floor_of self.old) (floor_of self.new) n result }
         ensures rings { KeepsRings (floor_of self.old) (floor_of self.new) }
@@ -152,7 +152,7 @@ impl<M: Message, L: MessageLog<M>, Led: Ledger> Hall<M, L, Led> {
         Ok(Seat::new(number, self.rest.split_off(1, 0)))
     }
 
-    /// The seat leaves: it makes no more calls, and nobody needs to wait for it. It is refused, `Gone`, where the seat
+    /// The seat leaves: it makes no more calls. It is refused, `Gone`, where the seat
     /// waits or has left before.
     pub fn leave(&mut self, seat: &Seat<Led>) -> Result<(), Refusal>
         ensures left { OnOk result (MayAsk self.old seat.now.number

@@ -59,7 +59,7 @@ impl<M: Message, L: MessageLog<M>, Led: Ledger> Switchboard<M, L, Led> {
     }
 
     /// A new seat. Only want of memory refuses it. Make all seats before the first thread begins to wait, and keep none
-    /// while you wait for the threads themselves, as by a join: while a seat is free nobody is told that all are stalled.
+    /// while you wait for the threads themselves, as by a join: while a seat is free, no call fails with `Stalled`.
     pub fn seat<R: Wait>(&self, rt: &R) -> Result<Seat<Led>, Refusal>
         ensures share { IfOk result (λ seat. seat.share ≡ 0) }
         ensures refused { IfErr result (λ refusal. refusal ≡ NoMemory) }
@@ -97,14 +97,14 @@ impl<M: Message, L: MessageLog<M>, Led: Ledger> Switchboard<M, L, Led> {
         self.hall.lock(rt).take_journal()
     }
 
-    /// Makes a call, and waits until it is answered or refused: it may never return, if nobody ever sends what it waits
-    /// for. What is refused is handed back, and did nothing.
+    /// Makes a call, and blocks until it returns or fails. It may block for ever, if no thread sends what it waits for. A call
+    /// that fails is handed back, and did nothing.
     ///
-    /// `Stalled` means that the call would wait, that each other seat waits too or has left, and that no lane is open, so
-    /// that nobody who has a seat or a lane by then could ever answer it. The seat is free then: make another call, which may
-    /// let others go on, or leave. Once no seat is free, those who wait are told the same, unless they can go on by then.
+    /// `Stalled` means that the call would block, that each other seat is blocked too or has left, and that no lane is open. So
+    /// no seat and no lane could ever answer it. The seat is free then: make another call, which may let others go on, or
+    /// leave. Once no seat is free, the other calls fail with `Stalled` too, unless they can go on by then.
     ///
-    /// Close your own lanes before you wait: while one is open nobody is told of a stall, and who waits may wait for ever.
+    /// Close your lanes before you block: while one is open no call fails with `Stalled`, and yours may block for ever.
     pub fn call<R: Wait>(
         &self,
         rt: &R,
@@ -130,8 +130,8 @@ impl<M: Message, L: MessageLog<M>, Led: Ledger> Switchboard<M, L, Led> {
         unreachable!()
     }
 
-    /// The seat leaves. Where no seat is free then, all who wait look again whether they can go on: they may be stalled now. A
-    /// thread leaves whatever became of its calls, since nobody is told of a stall while its seat is free.
+    /// The seat leaves. If no seat is free then, all that wait look again whether they can go on: they may be stalled now. Leave
+    /// whatever became of your calls, since no call fails with `Stalled` while your seat is free.
     pub fn leave<R: Wait>(&self, rt: &R, seat: Seat<Led>) -> Left<Led>
         ensures { result ≡ seat }
     {

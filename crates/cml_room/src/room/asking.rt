@@ -1,7 +1,9 @@
 //! A seat's calls.
 ghost use Rattle.std.specs.Prelude.{◌⊎◌, ⊤};
+ghost use Rattle.cml_board.specs.Outcome.{HasRoom};
 ghost use Rattle.cml_room.specs.Room.{MayAsk, MayAskAgain};
 ghost use Rattle.cml_room.specs.Asking.{Asks};
+ghost use Rattle.cml_room.specs.Rising.{MakesFewDue, WantOf, news_by};
 
 use super::Room;
 use crate::asked::Asked;
@@ -12,11 +14,12 @@ use cml_board::{Call, Message, Outcome, Refusal};
 use cml_log::MessageLog;
 
 impl<M: Message, L: MessageLog<M>> Room<M, L> {
-    /// Makes a free seat's call. Where the call would wait the seat is parked, and nothing else happens; but where then
-    /// nobody could go on it is refused `Stalled`, and the seat stays free. It is refused `Gone`, before all else, where
-    /// no seat has the number, and where it waits or has left.
+    /// Makes a free seat's call. If the call would wait, the seat is parked, and nothing else happens. If no seat could go on
+    /// then, the call fails with `Stalled`, and the seat stays free. If there is no such seat, or it waits or has left, the
+    /// call fails with `Gone`. That is tested first.
     pub fn ask(&mut self, seat: u64, call: Call<M>) -> Asked<M>
-        ensures { Asks L.CHUNK M.SURE (MayAsk self.old seat) self.old self.new seat call result }
+        ensures asks { Asks L.CHUNK M.SURE (MayAsk self.old seat) self.old self.new seat call result }
+        ensures few { HasRoom self.new.board → MakesFewDue self.old self.new (WantOf self.old seat) (news_by result) }
     {
         if self.seats.state(seat) != Some(State::Free) {
             return Asked::Refused(Refusal::Gone, call);
@@ -24,12 +27,12 @@ impl<M: Message, L: MessageLog<M>> Room<M, L> {
         self.take_turn(seat, call)
     }
 
-    /// Makes a parked seat's call again. What isn't answered parks the seat as before, or is refused and sets it free. A
-    /// stall that one seat is told of doesn't touch the others: each is told by its own next call, if it still holds
-    /// then. It is refused `Gone`, before all else, where the seat doesn't wait on such a call: of this kind, on this
-    /// object.
+    /// Makes a parked seat's call again. If it isn't answered, the seat is parked as before, or the call fails and the seat is
+    /// free. If one seat fails with `Stalled`, the others wait on: each fails by its next call, if all are still stalled. If
+    /// the seat doesn't wait on such a call, of this kind and on this object, the call fails with `Gone`. That is tested first.
     pub fn ask_again(&mut self, seat: u64, call: Call<M>) -> Asked<M>
-        ensures { Asks L.CHUNK M.SURE (MayAskAgain self.old seat call) self.old self.new seat call result }
+        ensures asks { Asks L.CHUNK M.SURE (MayAskAgain self.old seat call) self.old self.new seat call result }
+        ensures few { HasRoom self.new.board → MakesFewDue self.old self.new (WantOf self.old seat) (news_by result) }
     {
         let Some(want) = call.want() else {
             return Asked::Refused(Refusal::Gone, call);
@@ -43,7 +46,8 @@ impl<M: Message, L: MessageLog<M>> Room<M, L> {
     /// Makes the call of a seat that may make it.
     fn take_turn(&mut self, seat: u64, call: Call<M>) -> Asked<M>
         requires { MayAsk self.old seat ⊎ MayAskAgain self.old seat call }
-        ensures { Asks L.CHUNK M.SURE ⊤ self.old self.new seat call result }
+        ensures asks { Asks L.CHUNK M.SURE ⊤ self.old self.new seat call result }
+        ensures few { HasRoom self.new.board → MakesFewDue self.old self.new (WantOf self.old seat) (news_by result) }
     {
         let news = news_in(&call);
         match self.floor.apply(seat, call) {

@@ -1,8 +1,11 @@
 //! The calls on lanes. None of them changes what a seat does. Who waits at a lane's target becomes due by what moves there.
 ghost use Rattle.std.specs.Prelude.{ℕ, ◌≡◌, ◌≤◌, ◌<◌, length, count_by, is_some};
+ghost use Rattle.cml_board.specs.Outcome.{HasRoom};
 ghost use Rattle.cml_lanes.specs.Floor.{KeepsRings, SameRing, IsOfItsRing};
 ghost use Rattle.cml_lanes.specs.Lanes.{OpensALane, Drains, Closes, ClosesCounted, Drops, Abandons};
+ghost use Rattle.cml_room.specs.Rising.{MakesFewByOne, MakesNoneDue};
 ghost use Rattle.cml_room.specs.Room.{floor_of};
+ghost use Rattle.cml_room.specs.Stalling.{IsStalled};
 
 use super::Room;
 use crate::news::{count_entries, latest_news};
@@ -12,7 +15,7 @@ use cml_lanes::{Lane, LaneEnd, MAX_CAPACITY};
 use cml_log::MessageLog;
 
 impl<M: Message, L: MessageLog<M>> Room<M, L> {
-    /// How many lanes are open. While it is any, nobody is told of a stall.
+    /// How many lanes are open. While any is open, no call fails with `Stalled`.
     pub fn open_lanes(&self) -> u64
         ensures { result ≡ count_by is_some self.now.lanes }
     {
@@ -26,6 +29,7 @@ impl<M: Message, L: MessageLog<M>> Room<M, L> {
         ensures opens { OpensALane (floor_of self.old) (floor_of self.new) target capacity result }
         ensures rings { (number : ℕ) → number < length self.old.lanes → SameRing number (floor_of self.old) (floor_of self.new) }
         ensures seats { self.new.seats ≡ self.old.seats }
+        ensures none { MakesNoneDue self.old self.new }
     {
         self.floor.open_lane(target, capacity)
     }
@@ -35,6 +39,7 @@ impl<M: Message, L: MessageLog<M>> Room<M, L> {
         ensures drains { Drains L.CHUNK M.SURE lane (floor_of self.old) (floor_of self.new) result }
         ensures rings { KeepsRings (floor_of self.old) (floor_of self.new) }
         ensures seats { self.new.seats ≡ self.old.seats }
+        ensures few { HasRoom self.new.board → ¬ (IsStalled (floor_of self.new) self.new.seats) → MakesFewByOne self.old self.new }
     {
         let before = count_entries(self.floor.board());
         let told = self.floor.drain(lane);
@@ -50,6 +55,7 @@ impl<M: Message, L: MessageLog<M>> Room<M, L> {
         ensures closes { Closes L.CHUNK M.SURE (floor_of self.old) (floor_of self.new) end result }
         ensures rings { KeepsRings (floor_of self.old) (floor_of self.new) }
         ensures seats { self.new.seats ≡ self.old.seats }
+        ensures few { HasRoom self.new.board → ¬ (IsStalled (floor_of self.new) self.new.seats) → MakesFewByOne self.old self.new }
     {
         let before = count_entries(self.floor.board());
         let told = self.floor.close_lane(end);
@@ -64,6 +70,7 @@ impl<M: Message, L: MessageLog<M>> Room<M, L> {
         ensures closes { ClosesCounted L.CHUNK M.SURE (floor_of self.old) (floor_of self.new) end result }
         ensures rings { KeepsRings (floor_of self.old) (floor_of self.new) }
         ensures seats { self.new.seats ≡ self.old.seats }
+        ensures few { HasRoom self.new.board → ¬ (IsStalled (floor_of self.new) self.new.seats) → MakesFewByOne self.old self.new }
     {
         let before = count_entries(self.floor.board());
         let told = self.floor.close_counted(end);
@@ -78,6 +85,7 @@ impl<M: Message, L: MessageLog<M>> Room<M, L> {
         ensures drops { Drops L.CHUNK M.SURE lane (floor_of self.old) (floor_of self.new) result }
         ensures rings { KeepsRings (floor_of self.old) (floor_of self.new) }
         ensures seats { self.new.seats ≡ self.old.seats }
+        ensures few { HasRoom self.new.board → ¬ (IsStalled (floor_of self.new) self.new.seats) → MakesFewByOne self.old self.new }
     {
         let before = count_entries(self.floor.board());
         let told = self.floor.drop_lane(lane);
@@ -91,6 +99,7 @@ impl<M: Message, L: MessageLog<M>> Room<M, L> {
         ensures abandons { Abandons lane (floor_of self.old) (floor_of self.new) result }
         ensures rings { KeepsRings (floor_of self.old) (floor_of self.new) }
         ensures seats { self.new.seats ≡ self.old.seats }
+        ensures none { HasRoom self.new.board → ¬ (IsStalled (floor_of self.new) self.new.seats) → MakesNoneDue self.old self.new }
     {
         let told = self.floor.abandon_lane(lane);
         settle(&self.floor, &mut self.seats, None);

@@ -13,9 +13,9 @@ use cml_room::Asked;
 use std::sync::ledger::{Book, Ledger};
 
 impl<M: Message, L: MessageLog<M>, Led: Ledger> Hall<M, L, Led> {
-    /// Makes a free seat's call. Where the call would wait the seat is parked, and nothing else happens; but where then
-    /// nobody could go on it is refused `Stalled`, and the seat stays free. It is refused `Gone`, before all else, where
-    /// the seat waits or has left.
+    /// Makes a free seat's call. If the call would wait, the seat is parked, and nothing else happens. If no seat could go on
+    /// then, the call fails with `Stalled`, and the seat stays free. If the seat waits or has left, the call fails with
+    /// `Gone`. That is tested first.
     pub fn ask(&mut self, seat: &mut Seat<Led>, call: Call<M>) -> Asked<M>
         ensures { Asks L.CHUNK M.SURE (MayAsk self.old seat.old.number) self.old self.new seat.old seat.new call result }
     {
@@ -23,10 +23,9 @@ impl<M: Message, L: MessageLog<M>, Led: Ledger> Hall<M, L, Led> {
         counted(asked, seat, &mut self.book)
     }
 
-    /// Makes a parked seat's call again. What isn't answered parks the seat as before, or is refused and sets it free. A
-    /// stall that one seat is told of doesn't touch the others: each is told by its own next call, if it still holds
-    /// then. It is refused `Gone`, before all else, where the seat doesn't wait on such a call: of this kind, on this
-    /// object.
+    /// Makes a parked seat's call again. If it isn't answered, the seat is parked as before, or the call fails and the seat is
+    /// free. If one seat fails with `Stalled`, the others wait on: each fails by its next call, if all are still stalled. If
+    /// the seat doesn't wait on such a call, of this kind and on this object, the call fails with `Gone`. That is tested first.
     pub fn ask_again(&mut self, seat: &mut Seat<Led>, call: Call<M>) -> Asked<M>
         ensures { Asks L.CHUNK M.SURE (MayAskAgain self.old seat.old.number call) self.old self.new seat.old seat.new call result }
     {

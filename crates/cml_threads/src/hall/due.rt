@@ -20,7 +20,7 @@ impl<M: Message, L: MessageLog<M>, Led: Ledger> Hall<M, L, Led> {
     }
 
     /// Whether the seat is due: it waits, and something has come since it last asked for which it may go on. A seat that waits
-    /// and isn't due sleeps rightly. So nobody is left asleep by a caller who wakes each seat that `next_due` gives.
+    /// and isn't due sleeps rightly. So a caller who wakes each seat that `next_due` returns leaves none asleep.
     pub fn is_due(&self, seat: u64) -> bool
         ensures due { result ≡ is_due (room_of self.now) seat }
         ensures asleep { result ≡ false → (on : Want) → state_of (room_of self.now) seat ≡ Some (State.Parked on) → SleepsRightly (room_of self.now) on }
@@ -28,8 +28,8 @@ impl<M: Message, L: MessageLog<M>, Led: Ledger> Hall<M, L, Led> {
         self.room.is_due(seat)
     }
 
-    /// The next seat that is due and wasn't given before since it last asked: wake it, and it asks again. The one that has
-    /// been due the longest comes first. None, where each that is due was given.
+    /// The next seat that is due, and wasn't returned since it last asked. Wake its thread, and let it ask again. The seat that
+    /// has been due the longest comes first. None, if each seat that is due was returned.
     pub fn next_due(&mut self) -> Option<u64>
         ensures given { IfSome result (λ number. (is_due (room_of self.old) number ≡ true) × (slice_get self.old.notices number ≢ Some Woken)
             × (slice_get self.new.notices number ≡ Some Woken)) }

@@ -12,7 +12,7 @@ use cml_log::MessageLog;
 use std::sync::ledger::Ledger;
 
 impl<M: Message, L: MessageLog<M>, Led: Ledger> Hall<M, L, Led> {
-    /// How many lanes are open. While it is any, nobody is told of a stall.
+    /// How many lanes are open. While any is open, no call fails with `Stalled`.
     pub fn open_lanes(&self) -> u64
         ensures { result ≡ count_by is_some self.now.lanes }
     {

@@ -12,7 +12,7 @@ use std::sync::ledger::Ledger;
 
 impl<M: Message, L: MessageLog<M>, Led: Ledger> Switchboard<M, L, Led> {
     /// Opens a lane to a mailbox or a channel, which has room for `capacity` messages, and tells its number. While a
-    /// lane is open nobody is told that all are stalled, so close it, drop it or abandon it in the end.
+    /// lane is open no call fails with `Stalled`, so close it, drop it or abandon it in the end.
     pub fn open_lane<R: Wait>(
         &self,
         rt: &R,

@@ -52,3 +52,17 @@ returns-clause-rests g c = λ none.
     (waits_begun c.args.floor.now.board c.args.seats.now.places c.quiet.new.self.places c.args.number c.args.want
     (waits_unless_free (states_in c.args.seats.now.places) c.args.number c.args.want c.requires.may other) c.quiet.ensures.places
     c.requires.would c.requires.watched.placed).rests (c.requires.watched.rests (sym c.quiet.ensures.due ∙ none))
+
+pub returns-then-eq-clause-none : goal.returns-then-eq-clause-none
+returns-then-eq-clause-none g c =
+    let free : slice_get (states_in c.args.seats.now.places) c.args.number ≡ Some Free = search rules in
+    (free_begun c.args.floor.now.board c.board.result.now c.args.seats.now.places c.wait.new.self.places c.args.number c.args.want c.object_of.result.0 c.source_of-source.result
+    (free_place c.args.seats.now.places c.args.number free) c.wait.ensures.places c.board.ensures.board c.object_of.ensures c.source_of-source.ensures
+    c.requires.would c.requires.watched.placed).none
+
+pub returns-clause-none : goal.returns-clause-none
+returns-clause-none g c =
+    let other : ¬ (slice_get (states_in c.args.seats.now.places) c.args.number ≡ Some Free) = search rules in
+    (waits_begun c.args.floor.now.board c.args.seats.now.places c.quiet.new.self.places c.args.number c.args.want
+    (waits_unless_free (states_in c.args.seats.now.places) c.args.number c.args.want c.requires.may other) c.quiet.ensures.places
+    c.requires.would c.requires.watched.placed).none

@@ -1,52 +1,68 @@
-use Rattle.std.proofs.Common.{sym, ap, subst, ◌∙◌}
+use Rattle.std.proofs.Common.{◌≡◌, slice_get, Some, refl, sym, ap, subst, ◌∙◌}
 use Rattle.cml_board.specs.Shown.{Shown}
+use Rattle.cml_room.specs.declared.state.State.TheVariants.{Parked}
 use Rattle.cml_room.specs.Places.{states_in}
+use Rattle.cml_room.specs.Rising.{RisesFew}
 use Rattle.cml_room.specs.Waking.{AreAt}
+use Rattle.cml_room.proofs.Ending.{freed_states, may_within, handed, ended, ended_at, none_told, free_unless_waits, free_same, waits_parked}
+use Rattle.cml_room.proofs.Rising.{handed_few, told_few}
 use Rattle.cml_room.proofs.Rousing.{none_roused, roused_states}
-use Rattle.cml_room.proofs.Ending.{freed_at, freed_states, may_within, handed, ended, ended_at}
 use Rattle.cml_room.proofs.turns.end_turn.Goals as goal
 
 pub set_free-requires : goal.set_free-requires
 set_free-requires g c = may_within c.args.seats.now.places c.args.number c.requires.may
 
-pub tell-requires-clause-placed : goal.tell-requires-clause-placed
-tell-requires-clause-placed g c =
-    subst (λ (b : Shown g.row.M.Denot). AreAt b.history c.set_free.new.self.places) (sym c.board.ensures.board)
-    (freed_at c.args.floor.now.board.history c.args.seats.now.places c.set_free.new.self.places c.args.number c.set_free.ensures.places c.requires.placed)
-
 pub returns-in-Some-clause-states : goal.returns-in-Some-clause-states
 returns-in-Some-clause-states g c =
-    roused_states _ c.tell.new.seats.places c.hand_on.new.seats.places c.hand_on.ensures.roused
-    ∙ (roused_states _ c.set_free.new.self.places c.tell.new.seats.places c.tell.ensures.roused
-    ∙ (ap states_in c.set_free.ensures.places ∙ freed_states c.args.seats.now.places c.args.number c.requires.may))
+    roused_states _ c.set_free.new.self.places c.hand_on.new.seats.places c.hand_on.ensures.roused
+    ∙ (ap states_in c.set_free.ensures.places ∙ freed_states c.args.seats.now.places c.args.number c.requires.may)
 
 pub returns-in-Some-clause-placed : goal.returns-in-Some-clause-placed
 returns-in-Some-clause-placed g c =
-    ended_at _ _ c.args.floor.now.board.history c.args.seats.now.places c.set_free.new.self.places c.tell.new.seats.places c.hand_on.new.seats.places
-    c.args.number c.requires.placed c.set_free.ensures.places c.tell.ensures.roused c.hand_on.ensures.roused
+    ended_at _ _ c.args.floor.now.board.history c.args.seats.now.places c.set_free.new.self.places c.set_free.new.self.places c.hand_on.new.seats.places
+    c.args.number c.requires.placed c.set_free.ensures.places (none_roused (λ waiter. ⊥) c.set_free.new.self.places) c.hand_on.ensures.roused
 
 pub returns-in-Some-clause-kept : goal.returns-in-Some-clause-kept
 returns-in-Some-clause-kept g c = λ before watched next room.
-    ended before c.args.floor.now c.board.result.now c.args.news _ _ c.args.seats.now.places c.set_free.new.self.places c.tell.new.seats.places
+    let none = c.requires.brings c.in-Some.waiter.want (waits_parked c.args.seats.now.places c.args.number c.in-Some.waiter c.in-Some.ensures) in
+    ended before c.args.floor.now c.args.floor.now.board c.args.news _ _ c.args.seats.now.places c.set_free.new.self.places c.set_free.new.self.places
     c.hand_on.new.seats.places c.args.seats.now.all_due c.hand_on.new.seats.all_due c.args.number c.requires.may c.requires.placed c.set_free.ensures.places
-    c.board.ensures.board c.tell.ensures.roused c.tell.ensures.told c.hand_on.ensures.roused
-    (handed c.args.floor.now.board c.board-in-Some.result.now c.args.seats.now.places c.hand_on.new.seats.places c.args.number c.in-Some.waiter
-    c.board-in-Some.ensures.board c.in-Some.ensures c.hand_on.ensures.on)
-    (c.hand_on.ensures.due ∙ (c.tell.ensures.due ∙ c.set_free.ensures.due)) watched next room
+    refl (none_roused (λ waiter. ⊥) c.set_free.new.self.places) (none_told c.args.floor.now.board.history c.args.news c.set_free.new.self.places none)
+    c.hand_on.ensures.roused
+    (handed c.args.floor.now.board c.board.result.now c.args.seats.now.places c.hand_on.new.seats.places c.args.number c.in-Some.waiter
+    c.board.ensures.board c.in-Some.ensures c.hand_on.ensures.on)
+    (c.hand_on.ensures.due ∙ c.set_free.ensures.due) watched next room
 
-pub returns-in_default-clause-states : goal.returns-in_default-clause-states
-returns-in_default-clause-states g c =
-    roused_states _ c.set_free.new.self.places c.tell.new.seats.places c.tell.ensures.roused
-    ∙ (ap states_in c.set_free.ensures.places ∙ freed_states c.args.seats.now.places c.args.number c.requires.may)
+pub returns-in-Some-clause-few : goal.returns-in-Some-clause-few
+returns-in-Some-clause-few g c =
+    handed_few c.args.floor.now.board.history c.args.news c.args.number c.in-Some.waiter c.args.seats.now.places c.set_free.new.self.places
+    c.hand_on.new.seats.places c.in-Some.ensures c.set_free.ensures.places c.hand_on.ensures.roused c.hand_on.ensures.one
 
-pub returns-in_default-clause-placed : goal.returns-in_default-clause-placed
-returns-in_default-clause-placed g c =
-    ended_at _ _ c.args.floor.now.board.history c.args.seats.now.places c.set_free.new.self.places c.tell.new.seats.places c.tell.new.seats.places
-    c.args.number c.requires.placed c.set_free.ensures.places c.tell.ensures.roused (none_roused (λ waiter. ⊥) c.tell.new.seats.places)
+pub tell-requires-clause-placed : goal.tell-requires-clause-placed
+tell-requires-clause-placed g c =
+    subst (λ (b : Shown g.row.M.Denot). AreAt b.history c.args.seats.now.places) (sym c.board-in-None.ensures.board) c.requires.placed
 
-pub returns-in_default-clause-kept : goal.returns-in_default-clause-kept
-returns-in_default-clause-kept g c = λ before watched next room.
-    ended before c.args.floor.now c.board.result.now c.args.news _ _ c.args.seats.now.places c.set_free.new.self.places c.tell.new.seats.places
-    c.tell.new.seats.places c.args.seats.now.all_due c.tell.new.seats.all_due c.args.number c.requires.may c.requires.placed c.set_free.ensures.places
-    c.board.ensures.board c.tell.ensures.roused c.tell.ensures.told (none_roused (λ waiter. ⊥) c.tell.new.seats.places)
-    (λ own found. absurd (c.in_default.ensures own found)) (c.tell.ensures.due ∙ c.set_free.ensures.due) watched next room
+pub returns-in-None-clause-states : goal.returns-in-None-clause-states
+returns-in-None-clause-states g c =
+    let free = free_unless_waits c.args.seats.now.places c.args.number c.requires.may c.in-None.ensures in
+    roused_states _ c.args.seats.now.places c.tell.new.seats.places c.tell.ensures.roused
+    ∙ (ap states_in (free_same c.args.seats.now.places c.args.number free) ∙ freed_states c.args.seats.now.places c.args.number c.requires.may)
+
+pub returns-in-None-clause-placed : goal.returns-in-None-clause-placed
+returns-in-None-clause-placed g c =
+    let free = free_unless_waits c.args.seats.now.places c.args.number c.requires.may c.in-None.ensures in
+    ended_at _ _ c.args.floor.now.board.history c.args.seats.now.places c.args.seats.now.places c.tell.new.seats.places c.tell.new.seats.places
+    c.args.number c.requires.placed (free_same c.args.seats.now.places c.args.number free) c.tell.ensures.roused (none_roused (λ waiter. ⊥) c.tell.new.seats.places)
+
+pub returns-in-None-clause-kept : goal.returns-in-None-clause-kept
+returns-in-None-clause-kept g c = λ before watched next room.
+    let free = free_unless_waits c.args.seats.now.places c.args.number c.requires.may c.in-None.ensures in
+    ended before c.args.floor.now c.board-in-None.result.now c.args.news _ _ c.args.seats.now.places c.args.seats.now.places c.tell.new.seats.places
+    c.tell.new.seats.places c.args.seats.now.all_due c.tell.new.seats.all_due c.args.number c.requires.may c.requires.placed
+    (free_same c.args.seats.now.places c.args.number free) c.board-in-None.ensures.board c.tell.ensures.roused c.tell.ensures.told
+    (none_roused (λ waiter. ⊥) c.tell.new.seats.places) (λ own found. absurd (c.in-None.ensures own found)) c.tell.ensures.due watched next room
+
+pub returns-in-None-clause-few : goal.returns-in-None-clause-few
+returns-in-None-clause-few g c =
+    subst (λ (b : Shown g.row.M.Denot). RisesFew b.history c.args.news (λ on. slice_get (states_in c.args.seats.now.places) c.args.number ≡ Some (Parked on)) c.args.seats.now.places c.tell.new.seats.places) c.board-in-None.ensures.board
+    (told_few c.board-in-None.result.now.history c.args.news _ c.args.seats.now.places c.tell.new.seats.places c.tell.ensures.roused c.tell.ensures.one)

@@ -3,6 +3,7 @@ use Rattle.cml_room.specs.Stalling.{IsStalled}
 use Rattle.cml_room.specs.Places.{states_in}
 use Rattle.cml_room.proofs.Ending.{parked_within}
 use Rattle.cml_room.proofs.Parking.{parked_then, unparked, unparked_states}
+use Rattle.cml_room.proofs.Rising.{freed_none}
 use Rattle.cml_room.proofs.turns.park.Goals as goal
 
 pub set_free-requires : goal.set_free-requires
@@ -22,3 +23,7 @@ returns-then-is_stalled-clause-watched g c =
     unparked c.args.floor.now (states_in c.args.seats.now.places) c.begin_wait.new.seats.places c.set_free.new.self.places c.begin_wait.new.seats.all_due
     c.set_free.new.self.all_due c.args.number c.args.want c.requires.may c.begin_wait.ensures.states c.set_free.ensures.places c.requires.would
     c.begin_wait.ensures.placed c.begin_wait.ensures.rests c.set_free.ensures.due
+
+pub returns-then-is_stalled-clause-none : goal.returns-then-is_stalled-clause-none
+returns-then-is_stalled-clause-none g c =
+    freed_none c.args.seats.now.places c.begin_wait.new.seats.places c.set_free.new.self.places c.args.number c.begin_wait.ensures.none c.set_free.ensures.places

@@ -6,6 +6,8 @@ use Rattle.cml_room.specs.Places.{row_of, roused, AreRoused}
 use Rattle.cml_room.specs.Seats.{SeatsShown}
 use Rattle.cml_room.proofs.Listing.{in_row}
 use Rattle.cml_room.proofs.Walking.{walk_begins, walk_ends, walk_stops, walk_goes}
+use Rattle.cml_room.specs.Rising.{OneEach}
+use Rattle.cml_room.proofs.Rising.{none_each, set_each}
 use Rattle.cml_room.proofs.Rousing.{none_roused, one_roused, set_roused_mate}
 use Rattle.cml_room.proofs.waking.rouse_first.Goals as goal
 
@@ -57,3 +59,14 @@ returns-clause-first c = λ number waiter quiet same source.
     ∙ in_row c.args.seats.now.rows c.args.seats.now.places number waiter c.args.source c.first_at-next.ensures.listed
     (ap (λ (v : SeatsShown). slice_get v.places number) (sym c.loop.invariant.0) ∙ quiet.here) source) in
     absurd (seen waiter quiet.here same)
+
+pub returns-in_default-clause-one : goal.returns-in_default-clause-one
+returns-in_default-clause-one c = none_each _ _ (ap (λ (v : SeatsShown). v.places) c.loop.invariant.0)
+
+pub returns-then-wants-clause-one : goal.returns-then-wants-clause-one
+returns-then-wants-clause-one c =
+    subst (λ (v : SeatsShown). OneEach v.places c.rouse.new.self.places) c.loop.invariant.0
+    (set_each c.loop.seats.places c.rouse.new.self.places c.in-Some.number _ c.rouse.ensures.places)
+
+pub returns-clause-one : goal.returns-clause-one
+returns-clause-one c = none_each _ _ (ap (λ (v : SeatsShown). v.places) c.loop.invariant.0)

@@ -1,13 +1,27 @@
-use Rattle.std.proofs.Common.{subst, sym}
-use Rattle.std.specs.Prelude.{⊤}
+use Rattle.std.proofs.Common.{subst, sym, ap, ◌∙◌}
 use Rattle.cml_room.specs.declared.news.News.{News}
-use Rattle.cml_room.specs.News.{IsOf}
-use Rattle.cml_room.proofs.Hearing.{AreTold, message_told, multicast_told, closed_told, told_news, news_of}
-use Rattle.cml_room.proofs.Rousing.{roused_so, at_kept}
+use Rattle.cml_room.specs.declared.news.News.TheVariants.{Multicast, Value, Closed}
+use Rattle.cml_room.specs.News.{helps, IsOf}
+use Rattle.cml_room.proofs.Hearing.{AreTold, message_told, multicast_told, closed_told, told_news, news_of, ports_are_of_channels}
+use Rattle.cml_room.proofs.Reaching.{message_helps, multicast_helps, closed_helps}
+use Rattle.cml_room.proofs.Rising.{roused_where, for_one}
+use Rattle.cml_room.proofs.Rousing.{at_kept}
 use Rattle.cml_room.proofs.waking.tell.Goals as goal
 
+pub tell_value-requires-clause-lawful : goal.tell_value-requires-clause-lawful
+tell_value-requires-clause-lawful g c = c.journal-journal.ensures.lawful
+
 pub returns-in-Message-clause-roused : goal.returns-in-Message-clause-roused
-returns-in-Message-clause-roused g c = roused_so _ (λ waiter. ⊤) _ _ (λ waiter so. tt) c.rouse_first.ensures.roused
+returns-in-Message-clause-roused g c =
+    let history = c.args.board.now.history in
+    let of = subst (IsOf history) c.in-Message.is (news_of history c.args.news c.in-Some.news c.in-Some.is c.requires.of) in
+    roused_where _ _ c.args.seats.now.places c.rouse_first.new.seats.places
+    (λ k waiter found wants. (
+      c.in-Some.news,
+      c.in-Some.is,
+      ap (λ (n : News). helps history n waiter.want) c.in-Message.is ∙ message_helps history c.in-Message.name waiter.want of wants,
+    ))
+    c.rouse_first.ensures.roused
 
 pub returns-in-Message-clause-told : goal.returns-in-Message-clause-told
 returns-in-Message-clause-told g c =
@@ -34,3 +48,41 @@ returns-in-Closed-clause-told g c =
     (subst (λ (n : News). AreTold c.args.board.now.history n new) (sym c.in-Closed.is)
     (closed_told c.args.board.now.history c.in-Closed.name c.source_of.result new c.source_of.ensures
     (at_kept _ c.args.board.now.history c.args.seats.now.places new c.rouse_each-in-Closed.ensures.roused c.requires.placed) c.rouse_each-in-Closed.ensures.each))
+
+pub returns-in-Multicast-clause-roused : goal.returns-in-Multicast-clause-roused
+returns-in-Multicast-clause-roused g c =
+    let history = c.args.board.now.history in
+    let of = subst (IsOf history) c.in-Multicast.is (news_of history c.args.news c.in-Some.news c.in-Some.is c.requires.of) in
+    roused_where _ _ c.args.seats.now.places c.rouse_each.new.seats.places
+    (λ k waiter found reached. (
+      c.in-Some.news,
+      c.in-Some.is,
+      ap (λ (n : News). helps history n waiter.want) c.in-Multicast.is ∙ multicast_helps history c.in-Multicast.name waiter of (c.requires.placed k waiter found) reached,
+    ))
+    c.rouse_each.ensures.roused
+
+pub returns-in-Multicast-clause-one : goal.returns-in-Multicast-clause-one
+returns-in-Multicast-clause-one g c = λ single.
+    elim (for_one c.args.board.now.history c.args.news c.in-Some.news (Multicast c.in-Multicast.name) c.in-Some.is c.in-Multicast.is single) [ ]
+
+pub returns-in-Closed-clause-roused : goal.returns-in-Closed-clause-roused
+returns-in-Closed-clause-roused g c =
+    let history = c.args.board.now.history in
+    let of = subst (IsOf history) c.in-Closed.is (news_of history c.args.news c.in-Some.news c.in-Some.is c.requires.of) in
+    roused_where _ _ c.args.seats.now.places c.rouse_each-in-Closed.new.seats.places
+    (λ k waiter found reached. (
+      c.in-Some.news,
+      c.in-Some.is,
+      ap (λ (n : News). helps history n waiter.want) c.in-Closed.is
+          ∙ closed_helps history c.in-Closed.name c.source_of.result waiter (ports_are_of_channels history c.journal-journal.ensures.lawful) c.source_of.ensures of
+          (c.requires.placed k waiter found) reached,
+    ))
+    c.rouse_each-in-Closed.ensures.roused
+
+pub returns-in-Closed-clause-one : goal.returns-in-Closed-clause-one
+returns-in-Closed-clause-one g c = λ single.
+    elim (for_one c.args.board.now.history c.args.news c.in-Some.news (Closed c.in-Closed.name) c.in-Some.is c.in-Closed.is single) [ ]
+
+pub returns-in-Value-clause-one : goal.returns-in-Value-clause-one
+returns-in-Value-clause-one g c = λ single.
+    c.tell_value.ensures.one (for_one c.args.board.now.history c.args.news c.in-Some.news (Value c.in-Value.name) c.in-Some.is c.in-Value.is single)

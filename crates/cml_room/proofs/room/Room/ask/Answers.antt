@@ -3,7 +3,7 @@ use Rattle.cml_room.specs.Room.{MayAsk}
 use Rattle.cml_room.proofs.Turning.{may_ask}
 use Rattle.cml_room.proofs.room.Room.ask.Goals as goal
 
-pub returns : goal.returns
-returns g c =
+pub returns-clause-asks : goal.returns-clause-asks
+returns-clause-asks g c =
     let may : MayAsk c.args.self.now c.args.seat = search rules in
-    may_ask g.L.MessageLog.CHUNK g.M.Message.SURE _ c.args.self.now c.take_turn.new.self c.args.seat c.args.call c.take_turn.result may c.take_turn.ensures
+    may_ask g.L.MessageLog.CHUNK g.M.Message.SURE _ c.args.self.now c.take_turn.new.self c.args.seat c.args.call c.take_turn.result may c.take_turn.ensures.asks

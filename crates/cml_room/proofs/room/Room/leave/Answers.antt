@@ -11,6 +11,7 @@ use Rattle.cml_room.specs.Room.{RoomShown, MayAsk, with_state}
 use Rattle.cml_room.specs.Seats.{free_in}
 use Rattle.cml_room.specs.Waking.{IsWatched}
 use Rattle.cml_room.proofs.Noting.{left_watched, free_place}
+use Rattle.cml_room.proofs.Rising.{left_none, none_due}
 use Rattle.cml_room.proofs.room.Room.leave.Goals as goal
 
 pub invariant_of-self : goal.invariant_of-self
@@ -49,3 +50,8 @@ returns-else-free-eq0-clause-left g c =
     ap states_in c.leave.ensures.places ∙ map-set state_by c.self.inside.seats.places c.args.seat Left in
     subst (λ (r : RoomShown g.row.M.Denot). MayAsk r c.args.seat × (states_in c.leave.new.self.places ≡ with_state r c.args.seat state.Left)) c.self.view_is
     (slice_get-map state_by c.self.inside.seats.places c.args.seat ∙ ap (option_map state_by) free, states)
+
+pub returns-else-free-eq0-clause-none : goal.returns-else-free-eq0-clause-none
+returns-else-free-eq0-clause-none g c = λ some.
+    none_due c.args.self.now c.self.inside.floor c.self.inside.floor c.self.inside.seats.places c.leave.new.self.places c.self.inside.seats.all_due c.leave.new.self.all_due
+    c.self.view_is c.leave.ensures.due (left_none c.self.inside.seats.places c.leave.new.self.places c.args.seat c.leave.ensures.places)

@@ -3,6 +3,8 @@ use Rattle.cml_room.specs.declared.place.Place.{Place}
 use Rattle.cml_room.specs.declared.place.Place.TheVariants.{Free}
 use Rattle.cml_room.specs.Waking.{IsWatched}
 use Rattle.cml_room.proofs.Noting.{added_watched}
+use Rattle.cml_room.specs.Rising.{HasRisen}
+use Rattle.cml_room.proofs.Rising.{added_none, none_due}
 use Rattle.cml_room.proofs.room.Room.new_seat.Goals as goal
 
 pub invariant_of-self-2 : goal.invariant_of-self-2
@@ -11,3 +13,10 @@ invariant_of-self-2 g c =
     subst (λ (l : List Place). IsWatched c.self.inside.floor l c.add.new.self.all_due) (sym added)
     (subst (λ (all : Bool). IsWatched c.self.inside.floor (c.self.inside.seats.places ++ Free ∷ []) all) (sym c.add.ensures.due)
     (added_watched c.self.inside.floor c.self.inside.seats.places c.self.inside.seats.all_due c.self.invariant))
+
+pub returns-clause-none : goal.returns-clause-none
+returns-clause-none g c =
+    let added : c.add.new.self.places ≡ c.self.inside.seats.places ++ Free ∷ [] = search rules in
+    none_due c.args.self.now c.self.inside.floor c.self.inside.floor c.self.inside.seats.places c.add.new.self.places c.self.inside.seats.all_due c.add.new.self.all_due
+    c.self.view_is c.add.ensures.due
+    (λ k on. subst (λ (l : List Place). ¬ (HasRisen c.self.inside.seats.places l k on)) (sym added) (added_none c.self.inside.seats.places Free k on))

@@ -1,12 +1,14 @@
-use Rattle.std.proofs.Common.{None, sym, ap, ◌∙◌}
+use Rattle.std.proofs.Common.{slice_get, None, sym, ap, subst, ◌∙◌}
 use Rattle.cml_board.specs.declared.entry.Who.TheVariants.{Seat}
 use Rattle.cml_board.specs.Waiting.{want_in}
 use Rattle.cml_room.specs.Places.{states_in, notices_in}
+use Rattle.cml_room.specs.Rising.{MakesFewDue, WantOf}
 use Rattle.cml_room.specs.Room.{RoomShown}
-use Rattle.cml_room.proofs.Turning.{answered_asks, parked_asks, stalled_asks, refused_asks, answered_reaches, waiting_reaches}
+use Rattle.cml_room.proofs.Turning.{answered_asks, parked_asks, stalled_asks, refused_asks, answered_reaches, waiting_reaches, room_of}
 use Rattle.cml_room.proofs.Unmoved.{room_kept}
 use Rattle.cml_room.proofs.Bringing.{placed_on}
-use Rattle.cml_room.proofs.Calling.{answered_brings, refused_before, before_follows, before_watched, call_would, may_wait, waits_wants}
+use Rattle.cml_room.proofs.Rising.{few_of, nobody_few}
+use Rattle.cml_room.proofs.Calling.{answered_brings, refused_before, before_follows, before_watched, call_would, may_wait, waits_wants, may_brings, answered_news}
 use Rattle.cml_room.proofs.room.Room.take_turn.Goals as goal
 
 pub answer_turn-requires-clause-placed : goal.answer_turn-requires-clause-placed
@@ -72,30 +74,62 @@ park-requires-clause-watched g c =
     c.in-WouldWait.ensures.barred c.in-WouldWait.ensures.applied in
     before_watched c.self.inside.floor c.apply.new.self c.self.inside.seats.places c.self.inside.seats.all_due c.self.invariant reaches.applies.4 c.apply.ensures.lanes
 
-pub returns-then-park : goal.returns-then-park
-returns-then-park g c =
+pub returns-then-park-clause-asks : goal.returns-then-park-clause-asks
+returns-then-park-clause-asks g c =
     parked_asks g.L.MessageLog.CHUNK g.M.Message.SURE c.args.self.now c.self.inside.floor c.apply.new.self (states_in c.self.inside.seats.places)
     (states_in c.park.new.seats.places) (notices_in c.self.inside.seats.places) (notices_in c.park.new.seats.places) c.self.inside.seats.all_due c.park.new.seats.all_due
     c.args.seat c.args.call c.in-WouldWait.call c.in-Some.want c.self.view_is c.in-WouldWait.ensures.barred c.in-WouldWait.ensures.applied
     c.apply.ensures.lanes c.apply.ensures.feeds (sym c.want.ensures ∙ c.in-Some.is) c.if-park.ensures.parked
 
-pub returns-in-Answered : goal.returns-in-Answered
-returns-in-Answered g c =
+pub returns-in-Answered-clause-asks : goal.returns-in-Answered-clause-asks
+returns-in-Answered-clause-asks g c =
     answered_asks g.L.MessageLog.CHUNK g.M.Message.SURE c.args.self.now c.self.inside.floor c.apply.new.self (states_in c.self.inside.seats.places)
     (states_in c.answer_turn.new.seats.places) (notices_in c.self.inside.seats.places) (notices_in c.answer_turn.new.seats.places) c.self.inside.seats.all_due
     c.answer_turn.new.seats.all_due c.args.seat c.args.call c.in-Answered.answer c.self.view_is c.in-Answered.ensures.barred c.in-Answered.ensures.applied
     c.apply.ensures.lanes c.apply.ensures.feeds c.answer_turn.ensures.states
 
-pub returns-in-Refused : goal.returns-in-Refused
-returns-in-Refused g c =
+pub returns-in-Refused-clause-asks : goal.returns-in-Refused-clause-asks
+returns-in-Refused-clause-asks g c =
     refused_asks g.L.MessageLog.CHUNK g.M.Message.SURE c.args.self.now c.self.inside.floor c.apply.new.self (states_in c.self.inside.seats.places)
     (states_in c.end_turn.new.seats.places) (notices_in c.self.inside.seats.places) (notices_in c.end_turn.new.seats.places) c.self.inside.seats.all_due
     c.end_turn.new.seats.all_due c.args.seat c.args.call c.in-Refused.call c.in-Refused.refusal c.self.view_is c.in-Refused.ensures.barred c.in-Refused.ensures.applied
     c.apply.ensures.lanes c.apply.ensures.feeds c.end_turn.ensures.states
 
-pub returns-else-park : goal.returns-else-park
-returns-else-park g c =
+pub returns-else-park-clause-asks : goal.returns-else-park-clause-asks
+returns-else-park-clause-asks g c =
     stalled_asks g.L.MessageLog.CHUNK g.M.Message.SURE c.args.self.now c.self.inside.floor c.apply.new.self (states_in c.self.inside.seats.places)
     (states_in c.park.new.seats.places) (notices_in c.self.inside.seats.places) (notices_in c.park.new.seats.places) c.self.inside.seats.all_due c.park.new.seats.all_due
     c.args.seat c.args.call c.in-WouldWait.call c.in-Some.want c.self.view_is c.in-WouldWait.ensures.barred c.in-WouldWait.ensures.applied
     c.apply.ensures.lanes c.apply.ensures.feeds (sym c.want.ensures ∙ c.in-Some.is) c.if-park.ensures.parked
+
+pub answer_turn-requires-clause-brings : goal.answer_turn-requires-clause-brings
+answer_turn-requires-clause-brings g c = λ on parked.
+    may_brings c.args.self.now c.args.seat c.args.call on c.news_in-news.result c.requires c.news_in-news.ensures
+    (ap (λ (r : RoomShown g.row.M.Denot). slice_get r.seats c.args.seat) (sym c.self.view_is) ∙ parked)
+
+pub returns-in-Answered-clause-few : goal.returns-in-Answered-clause-few
+returns-in-Answered-clause-few g c = λ room.
+    let reaches = answered_reaches g.L.MessageLog.CHUNK g.M.Message.SURE c.self.inside.floor c.apply.new.self c.args.seat c.args.call c.in-Answered.answer
+    c.in-Answered.ensures.barred c.in-Answered.ensures.applied in
+    subst (λ n. MakesFewDue c.args.self.now (room_of c.apply.new.self (states_in c.answer_turn.new.seats.places) (notices_in c.answer_turn.new.seats.places) c.answer_turn.new.seats.all_due) (WantOf c.args.self.now c.args.seat) n)
+    (answered_news g.L.MessageLog.CHUNK g.M.Message.SURE c.self.inside.floor.board c.apply.new.self.board (Seat c.args.seat) c.args.call c.in-Answered.answer
+    c.news_in-news.result c.news_in-news.ensures reaches.applies)
+    (few_of c.args.self.now c.self.inside.floor c.apply.new.self c.self.inside.seats.places c.answer_turn.new.seats.places c.self.inside.seats.all_due
+    c.answer_turn.new.seats.all_due c.args.seat c.news_in-news.result c.self.view_is (c.answer_turn.ensures.due room) (c.answer_turn.ensures.few room))
+
+pub returns-in-Refused-clause-few : goal.returns-in-Refused-clause-few
+returns-in-Refused-clause-few g c = λ room.
+    few_of c.args.self.now c.self.inside.floor c.apply.new.self c.self.inside.seats.places c.end_turn.new.seats.places c.self.inside.seats.all_due
+    c.end_turn.new.seats.all_due c.args.seat None c.self.view_is c.end_turn.ensures.due c.end_turn.ensures.few
+
+pub returns-then-park-clause-few : goal.returns-then-park-clause-few
+returns-then-park-clause-few g c = λ room.
+    few_of c.args.self.now c.self.inside.floor c.apply.new.self c.self.inside.seats.places c.park.new.seats.places c.self.inside.seats.all_due
+    c.park.new.seats.all_due c.args.seat None c.self.view_is c.park.ensures.due
+    (nobody_few c.apply.new.self.board.history None _ c.self.inside.seats.places c.park.new.seats.places c.park.ensures.none)
+
+pub returns-else-park-clause-few : goal.returns-else-park-clause-few
+returns-else-park-clause-few g c = λ room.
+    few_of c.args.self.now c.self.inside.floor c.apply.new.self c.self.inside.seats.places c.park.new.seats.places c.self.inside.seats.all_due
+    c.park.new.seats.all_due c.args.seat None c.self.view_is c.park.ensures.due
+    (nobody_few c.apply.new.self.board.history None _ c.self.inside.seats.places c.park.new.seats.places c.park.ensures.none)

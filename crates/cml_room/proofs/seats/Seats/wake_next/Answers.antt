@@ -56,8 +56,8 @@ invariant_of-self c =
     let quiet = listed_remove c.self.inside.due c.remove.new.self noted_in c.self.inside.places.items 0 number (place.Waiting c.in-Waiting.waiter)
     (place.Waiting (record c.in-Waiting.waiter { notice = notice.Nothing })) was c.self.invariant.in_due (λ r. ap (λ n. noted_as n r) due) (λ r. refl)
     c.remove.ensures.gone c.remove.ensures.kept c.remove.ensures.others in
-    kept_set c.self.inside.places.items c.self.inside.free c.self.inside.free c.self.inside.rows c.self.inside.rows c.self.inside.due c.push.new.self number
-    (place.Waiting c.in-Waiting.waiter) _ was c.self.invariant refl
+    kept_set c.self.inside.places.items c.self.inside.free c.self.inside.free c.self.inside.parked c.self.inside.parked c.self.inside.rows c.self.inside.rows c.self.inside.due c.push.new.self number
+    (place.Waiting c.in-Waiting.waiter) _ was c.self.invariant refl refl
     (listed_same c.self.inside.rows row_in c.self.inside.places.items number (place.Waiting c.in-Waiting.waiter) _ was c.self.invariant.in_rows (λ r. refl))
     (subst (AreListed c.push.new.self noted_in) (set-set c.self.inside.places.items number _ _)
     (listed_push c.remove.new.self c.push.new.self noted_in (slice_set c.self.inside.places.items number _) 1 number _ _
