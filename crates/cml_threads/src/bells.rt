@@ -1,14 +1,17 @@
 //! What a thread that waits looks at, and sleeps on.
 
+use crate::looks::Looks;
 use boxcar::Vec as Table;
-use crossbeam_utils::{Backoff, CachePadded};
+use crossbeam_utils::CachePadded;
 use std::alloc::{AllocError, Global};
 use std::sync::Wait;
 use std::sync::atomic::{AtomicU64, Ordering};
 
-/// How often a thread looks before it sleeps, each time after a longer pause. It spins in all but the last pause, for about as
-/// long as it takes to sleep and be woken. In the last it lets other threads run, of which one may ring it.
-const LOOKS: u32 = 8;
+/// How often a thread looks before it sleeps, and in how many waits not at all, once that was in vain.
+const FEW_LOOKS: (u32, u64) = (8, 16);
+/// The same if its last call has woken a thread that slept. That thread may answer as soon as it runs, and to wake it takes
+/// longer than the few looks. So two threads that answer each other don't sleep at each turn.
+const MANY_LOOKS: (u32, u64) = (50, 64);
 
 // What the word of a bell is.
 const QUIET: u64 = 0;
@@ -22,24 +25,37 @@ const RUNG: u64 = 2;
 #[derive(Drop)]
 struct Bell {
     word: AtomicU64,
+    // The other three are for the seat's thread alone. Whether its last call woke another:
+    has_woken: AtomicU64,
+    few: Looks,
+    many: Looks,
 }
 
 impl Bell {
     fn new() -> Bell {
         Bell {
             word: AtomicU64::new(QUIET),
+            has_woken: AtomicU64::new(0),
+            few: Looks::new(FEW_LOOKS.0, FEW_LOOKS.1),
+            many: Looks::new(MANY_LOOKS.0, MANY_LOOKS.1),
         }
     }
 
-    fn ring(&self) {
-        if self.word.swap(RUNG, Ordering::AcqRel) == ASLEEP {
-            self.word.wake_one();
+    /// Whether the thread slept, and was woken.
+    fn ring(&self) -> bool {
+        if self.word.swap(RUNG, Ordering::AcqRel) != ASLEEP {
+            return false;
         }
+        self.word.wake_one();
+        true
     }
 
     /// Looks for a while whether it is rung, then sleeps until it is.
     fn wait<R: Wait>(&self, rt: &R) {
-        self.look();
+        if self.is_soon_rung() {
+            self.word.store(QUIET, Ordering::Release);
+            return;
+        }
         for _ in rt.forever() {
             if self.sleep_or_hear() {
                 return;
@@ -48,17 +64,18 @@ impl Bell {
         }
     }
 
-    fn look(&self) {
-        let backoff = Backoff::new();
-        for _ in 0..LOOKS {
-            if self.word.load(Ordering::Acquire) == RUNG {
-                return;
-            }
-            backoff.snooze();
+    fn is_soon_rung(&self) -> bool {
+        let has_woken = self.has_woken.load(Ordering::Relaxed) != 0;
+        if has_woken {
+            self.has_woken.store(0, Ordering::Relaxed);
         }
+        if has_woken && self.many.are_due() {
+            return self.many.see(&self.word, RUNG);
+        }
+        self.few.are_due() && self.few.see(&self.word, RUNG)
     }
 
-    /// Whether it was rung; then it is quiet again. If not, whoever rings it next finds the thread asleep.
+    /// Whether it was rung; then it is quiet again. If not, the next that rings it finds the thread asleep.
     fn sleep_or_hear(&self) -> bool {
         let seen = self
             .word
@@ -96,10 +113,18 @@ impl Bells {
         }
     }
 
-    /// Wakes the seat's thread. If it doesn't sleep yet, it won't.
-    pub fn ring(&self, seat: u64) {
+    /// Wakes the seat's thread. If it doesn't sleep yet, it won't. Whether it slept.
+    pub fn ring(&self, seat: u64) -> bool {
+        match self.bells.get(seat as usize) {
+            Some(bell) => bell.ring(),
+            None => false,
+        }
+    }
+
+    /// The seat's thread has just woken another: so in its next wait it may look for longer.
+    pub fn note_woken(&self, seat: u64) {
         if let Some(bell) = self.bells.get(seat as usize) {
-            bell.ring();
+            bell.has_woken.store(1, Ordering::Relaxed);
         }
     }
 

@@ -4,6 +4,7 @@
 mod bells;
 mod hall;
 mod laws;
+mod looks;
 mod seat;
 mod settled;
 mod switchboard;

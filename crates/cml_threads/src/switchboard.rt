@@ -177,7 +177,7 @@ impl<M: Message, L: MessageLog<M>, Led: Ledger> Switchboard<M, L, Led> {
     {
         let mut hall = self.hall.lock(rt);
         let asked = ask(&mut hall, seat, call);
-        self.let_go(hall);
+        self.let_go_by(hall, seat.number());
         asked
     }
 
@@ -187,18 +187,26 @@ impl<M: Message, L: MessageLog<M>, Led: Ledger> Switchboard<M, L, Led> {
     {
         let mut hall = self.hall.lock(rt);
         let asked = ask_again(&mut hall, seat, call);
-        self.let_go(hall);
+        self.let_go_by(hall, seat.number());
         asked
     }
 
-    /// Lets the lock go, and then wakes one seat that is due, if there is one that wasn't woken. It is taken under the lock. Its
-    /// thread takes the lock next, makes its call, and comes by here too.
-    fn let_go(&self, hall: MutexGuard<'_, CachePadded<Hall<M, L, Led>>>) {
+    /// Unlocks the hall, and then wakes one seat that is due, if there is one that wasn't woken. It is taken under the lock. Its
+    /// thread locks the hall next, makes its call, and comes by here too. Whether that thread slept.
+    fn let_go(&self, hall: MutexGuard<'_, CachePadded<Hall<M, L, Led>>>) -> bool {
         let mut hall = hall;
         let due = hall.next_due();
         drop(hall);
-        if let Some(seat) = due {
-            self.bells.ring(seat);
+        match due {
+            Some(seat) => self.bells.ring(seat),
+            None => false,
+        }
+    }
+
+    /// The same after a seat's call, whose thread waits next, maybe for what the woken one does.
+    fn let_go_by(&self, hall: MutexGuard<'_, CachePadded<Hall<M, L, Led>>>, seat: u64) {
+        if self.let_go(hall) {
+            self.bells.note_woken(seat);
         }
     }
 

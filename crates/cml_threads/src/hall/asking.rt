@@ -2,7 +2,9 @@
 ghost use Rattle.std.specs.Prelude.{◌≡◌, ◌+◌, ◌<◌, ◌^◌};
 ghost use Rattle.cml_board.specs.declared.answer.Answer.{Answer};
 ghost use Rattle.cml_room.specs.declared.asked.Asked.TheVariants.{Answered};
-ghost use Rattle.cml_threads.specs.Hosting.{MayAsk, MayAskAgain};
+ghost use Rattle.cml_board.specs.Outcome.{HasRoom};
+ghost use Rattle.cml_room.specs.Rising.{MakesFewDue, WantOf, news_by};
+ghost use Rattle.cml_threads.specs.Hosting.{room_of, MayAsk, MayAskAgain};
 ghost use Rattle.cml_threads.specs.Asking.{Asks, Tallies};
 
 use super::Hall;
@@ -17,7 +19,8 @@ impl<M: Message, L: MessageLog<M>, Led: Ledger> Hall<M, L, Led> {
     /// then, the call fails with `Stalled`, and the seat stays free. If the seat waits or has left, the call fails with
     /// `Gone`. That is tested first.
     pub fn ask(&mut self, seat: &mut Seat<Led>, call: Call<M>) -> Asked<M>
-        ensures { Asks L.CHUNK M.SURE (MayAsk self.old seat.old.number) self.old self.new seat.old seat.new call result }
+        ensures asks { Asks L.CHUNK M.SURE (MayAsk self.old seat.old.number) self.old self.new seat.old seat.new call result }
+        ensures few { HasRoom (room_of self.new).board → MakesFewDue (room_of self.old) (room_of self.new) (WantOf (room_of self.old) seat.old.number) (news_by result) }
     {
         let asked = self.room.ask(seat.number(), call);
         counted(asked, seat, &mut self.book)
@@ -27,7 +30,8 @@ impl<M: Message, L: MessageLog<M>, Led: Ledger> Hall<M, L, Led> {
     /// free. If one seat fails with `Stalled`, the others wait on: each fails by its next call, if all are still stalled. If
     /// the seat doesn't wait on such a call, of this kind and on this object, the call fails with `Gone`. That is tested first.
     pub fn ask_again(&mut self, seat: &mut Seat<Led>, call: Call<M>) -> Asked<M>
-        ensures { Asks L.CHUNK M.SURE (MayAskAgain self.old seat.old.number call) self.old self.new seat.old seat.new call result }
+        ensures asks { Asks L.CHUNK M.SURE (MayAskAgain self.old seat.old.number call) self.old self.new seat.old seat.new call result }
+        ensures few { HasRoom (room_of self.new).board → MakesFewDue (room_of self.old) (room_of self.new) (WantOf (room_of self.old) seat.old.number) (news_by result) }
     {
         let asked = self.room.ask_again(seat.number(), call);
         counted(asked, seat, &mut self.book)

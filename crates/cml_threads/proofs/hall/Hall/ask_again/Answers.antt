@@ -1,9 +1,14 @@
 use Rattle.cml_room.specs.Room.{MayAskAgain}
-use Rattle.cml_threads.proofs.Tallying.{told_asks}
+use Rattle.cml_threads.proofs.Tallying.{told_asks, told_few}
 use Rattle.cml_threads.proofs.hall.Hall.ask_again.Goals as goal
 
-pub returns : goal.returns
-returns g c =
+pub returns-clause-asks : goal.returns-clause-asks
+returns-clause-asks g c =
     told_asks g.L.MessageLog.CHUNK g.M.Message.SURE (λ r n. MayAskAgain r n c.args.call) c.args.self.now c.self.inside.room c.ask_again-asked.new.self
     c.self.inside.book.total c.counted.new.book.total c.args.seat.now c.counted.new.seat c.number.result c.args.call c.ask_again-asked.result c.counted.result
-    c.self.view_is c.number.ensures c.counted.ensures.told c.ask_again-asked.ensures c.counted.ensures.tallied
+    c.self.view_is c.number.ensures c.counted.ensures.told c.ask_again-asked.ensures.asks c.counted.ensures.tallied
+
+pub returns-clause-few : goal.returns-clause-few
+returns-clause-few g c =
+    told_few c.args.self.now c.self.inside.room c.ask_again-asked.new.self c.self.inside.book.total c.counted.new.book.total c.args.seat.now.number c.number.result
+    c.ask_again-asked.result c.counted.result c.self.view_is c.number.ensures c.counted.ensures.told c.ask_again-asked.ensures.few

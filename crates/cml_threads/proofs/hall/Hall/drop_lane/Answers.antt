@@ -1,5 +1,8 @@
+use Rattle.std.proofs.Common.{subst}
+use Rattle.cml_lanes.specs.Floor.{KeepsRings}
 use Rattle.cml_lanes.proofs.Deeds.{drops}
 use Rattle.cml_room.specs.Room as room
+use Rattle.cml_threads.specs.Hosting.{Hosted, floor_of}
 use Rattle.cml_threads.proofs.Counting.{grown_in, counted_in}
 use Rattle.cml_threads.proofs.hall.Hall.drop_lane.Goals as goal
 
@@ -18,3 +21,7 @@ invariant_of-self g c =
     (drops g.L.MessageLog.CHUNK g.M.Message.SURE c.args.lane (room.floor_of c.self.inside.room) (room.floor_of c.drop_lane-told.new.self) c.drop_lane-told.result c.drop_lane-told.ensures.drops)
     c.drop_lane-told.ensures.seats
     c.count_since.ensures.total c.count_since.ensures.amount c.count_since.ensures.parts
+
+pub returns-clause-rings : goal.returns-clause-rings
+returns-clause-rings g c =
+    subst (λ (h : Hosted g.row.M.Denot). KeepsRings (floor_of h) (room.floor_of c.drop_lane-told.new.self)) c.self.view_is c.drop_lane-told.ensures.rings
