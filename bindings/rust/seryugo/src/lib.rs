@@ -9,6 +9,7 @@ mod error;
 mod feed;
 mod journal;
 mod lane;
+mod looks;
 mod names;
 mod raw;
 #[cfg(feature = "scripts")]

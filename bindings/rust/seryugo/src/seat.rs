@@ -151,11 +151,11 @@ impl<'a> Seat<'a> {
     }
 
     fn make(&mut self, call: impl FnOnce(&mut Handle, u64, *mut u64) -> u32) -> Result<u64, Error> {
-        self.board.change(|room| written(|name| call(room, self.number, name)))
+        self.board.change_by(&self.sleeper, |room| written(|name| call(room, self.number, name)))
     }
 
     fn call(&mut self, call: impl FnOnce(&mut Handle, u64) -> u32) -> Result<Told, Error> {
-        self.board.change(|room| told(call(room, self.number)))
+        self.board.change_by(&self.sleeper, |room| told(call(room, self.number)))
     }
 
     fn wait(&mut self, mut call: impl FnMut(&mut Handle, u64, bool) -> u32) -> Result<Told, Error> {

@@ -1,28 +1,33 @@
 //! How the thread of a parked seat waits.
 
-use std::hint;
-use std::sync::atomic::{AtomicU8, Ordering};
+use crate::looks::Looks;
+use std::sync::atomic::{AtomicBool, AtomicU8, Ordering};
 use std::sync::{Mutex, PoisonError};
 use std::thread::{self, Thread};
 
-/// How often a thread looks whether it was woken before it sleeps, and how often it looks once more and yields. Where many
-/// threads wait, more yields cost more than sleep does.
-const LOOKS: u32 = 100;
-const YIELDS: u32 = 3;
+/// How often a thread looks before it sleeps, and in how many waits not at all, once that was in vain.
+const FEW_LOOKS: (u32, u32) = (8, 16);
+/// The same if its last call has woken a thread that slept. That thread may answer as soon as it runs, and to wake it takes
+/// longer than the few looks. So two threads that answer each other don't sleep at each turn.
+const MANY_LOOKS: (u32, u32) = (50, 64);
 
 /// What the thread does, or that it was woken.
 const AWAKE: u8 = 0;
 const WOKEN: u8 = 1;
 const ASLEEP: u8 = 2;
 
-/// What the thread of a seat waits by. Between two waits somebody wakes it exactly once: the room gives a parked seat as due
-/// only once, and its thread asks again only when it was woken. Each has lines of memory for itself, so that a thread that looks
-/// slows no other one.
+/// What the thread of a seat waits by. Between two waits it is woken exactly once: the room returns a parked seat as due only
+/// once, and its thread asks again only when it was woken. Each has lines of memory for itself, so that a thread that looks slows
+/// no other one.
 #[repr(align(128))]
 pub(crate) struct Sleeper {
     state: AtomicU8,
     /// The thread that sleeps, or was the last to sleep.
     thread: Mutex<Option<Thread>>,
+    // These are for the seat's thread alone.
+    has_woken: AtomicBool,
+    few: Looks,
+    many: Looks,
 }
 
 impl Sleeper {
@@ -30,31 +35,31 @@ impl Sleeper {
         Sleeper {
             state: AtomicU8::new(AWAKE),
             thread: Mutex::new(None),
+            has_woken: AtomicBool::new(false),
+            few: Looks::new(FEW_LOOKS.0, FEW_LOOKS.1),
+            many: Looks::new(MANY_LOOKS.0, MANY_LOOKS.1),
         }
     }
 
     /// Waits until it is woken. A wake that came before ends it at once.
     pub fn wait(&self) {
-        if !self.looks() {
+        if !self.is_soon_woken() {
             self.sleep();
         }
-        // Nobody wakes it before its seat has asked again.
+        // It isn't woken again before its seat has asked again.
         self.state.store(AWAKE, Ordering::Relaxed);
     }
 
-    /// Looks for a while: whether it was woken.
-    fn looks(&self) -> bool {
-        for look in 0..LOOKS + YIELDS {
-            if self.state.load(Ordering::Acquire) == WOKEN {
-                return true;
-            }
-            if look < LOOKS {
-                hint::spin_loop();
-            } else {
-                thread::yield_now();
-            }
+    /// Looks for a while, unless it looked in vain lately.
+    fn is_soon_woken(&self) -> bool {
+        let has_woken = self.has_woken.load(Ordering::Relaxed);
+        if has_woken {
+            self.has_woken.store(false, Ordering::Relaxed);
         }
-        false
+        if has_woken && self.many.are_due() {
+            return self.many.see(&self.state, WOKEN);
+        }
+        self.few.are_due() && self.few.see(&self.state, WOKEN)
     }
 
     fn sleep(&self) {
@@ -68,13 +73,19 @@ impl Sleeper {
         }
     }
 
-    /// Wakes the thread, or has its next wait end at once.
-    pub fn wake(&self) {
-        if self.state.swap(WOKEN, Ordering::AcqRel) == ASLEEP {
-            let thread = self.thread.lock().unwrap_or_else(PoisonError::into_inner).clone();
-            if let Some(thread) = thread {
-                thread.unpark();
-            }
+    /// Wakes the thread, or has its next wait end at once. Whether the thread slept.
+    pub fn wake(&self) -> bool {
+        if self.state.swap(WOKEN, Ordering::AcqRel) != ASLEEP {
+            return false;
         }
+        if let Some(thread) = &*self.thread.lock().unwrap_or_else(PoisonError::into_inner) {
+            thread.unpark();
+        }
+        true
+    }
+
+    /// The seat's call has just woken a thread that slept: so in its next wait it may look for longer.
+    pub fn note_woken(&self) {
+        self.has_woken.store(true, Ordering::Relaxed);
     }
 }

@@ -65,7 +65,7 @@ impl Switchboard {
         })
     }
 
-    /// A new seat. Make all seats before the first thread waits: while one is free nobody is told of a stall.
+    /// A new seat. Make all seats before the first thread waits: while one is free no call fails with `Stalled`.
     pub fn seat(&self) -> Result<Seat<'_>, Error> {
         let mut room = self.lock();
         let number = written(|seat| unsafe { raw::seryugo_new_seat(&mut room.handle, seat) })?;
@@ -189,27 +189,40 @@ impl Switchboard {
         self.room.lock().unwrap_or_else(PoisonError::into_inner)
     }
 
-    /// Makes a call under the lock, lets the lock go, and then wakes the thread of the next seat that is due. That thread
-    /// makes a call too, by which it wakes the one after.
+    /// Makes a call under the lock, unlocks the room, and then wakes the thread of the next seat that is due. That thread makes a
+    /// call too, which wakes the one after.
     #[inline]
     pub(crate) fn change<T>(&self, call: impl FnOnce(&mut Handle) -> T) -> T {
-        let mut room = self.lock();
-        let answer = call(&mut room.handle);
-        let due = room.next_due();
-        drop(room);
-        if let Some(sleeper) = due {
-            sleeper.wake();
+        self.change_and_wake(call).0
+    }
+
+    /// The same for a seat's thread, which waits next, maybe for what the woken one does.
+    #[inline]
+    pub(crate) fn change_by<T>(&self, sleeper: &Sleeper, call: impl FnOnce(&mut Handle) -> T) -> T {
+        let (answer, has_woken) = self.change_and_wake(call);
+        if has_woken {
+            sleeper.note_woken();
         }
         answer
     }
 
-    /// Makes a call that may wait. Where its seat is parked this waits until somebody wakes the seat, and makes the call again.
+    /// Whether the thread that is woken slept comes with the answer.
+    #[inline]
+    fn change_and_wake<T>(&self, call: impl FnOnce(&mut Handle) -> T) -> (T, bool) {
+        let mut room = self.lock();
+        let answer = call(&mut room.handle);
+        let due = room.next_due();
+        drop(room);
+        (answer, due.is_some_and(|sleeper| sleeper.wake()))
+    }
+
+    /// Makes a call that may block. If its seat is parked, this waits until the seat is woken, and makes the call again.
     #[inline]
     pub(crate) fn wait(&self, sleeper: &Sleeper, mut call: impl FnMut(&mut Handle, bool) -> u32) -> Result<Told, Error> {
-        let mut answer = self.change(|room| told(call(room, false)));
+        let mut answer = self.change_by(sleeper, |room| told(call(room, false)));
         while answer == Ok(Told::Parked) {
             sleeper.wait();
-            answer = self.change(|room| told(call(room, true)));
+            answer = self.change_by(sleeper, |room| told(call(room, true)));
         }
         answer
     }
