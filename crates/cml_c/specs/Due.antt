@@ -1,5 +1,5 @@
 -- Which seat C wakes next, and whether a seat is due.
-use Rattle.std.specs.Prelude.{ℕ, ◌≡◌, ◌⊎◌, true, false, Some, slice_get, ⊤}
+use Rattle.std.specs.Prelude.{ℕ, ◌≡◌, ◌≢◌, ◌⊎◌, true, false, Some, slice_get, ⊤}
 use Rattle.cml_board.specs.declared.want.Want.{Want}
 use Rattle.cml_room.specs.declared.notice.Notice.TheVariants.{Woken}
 use Rattle.cml_room.specs.declared.state.State.TheVariants.{Parked}
@@ -9,16 +9,18 @@ use Rattle.cml_c.specs.declared.kept.Kept.{Kept}
 use Rattle.cml_c.specs.Codes.{number}
 use Rattle.cml_c.specs.Rooms.{OnRoom}
 
--- the same seats are due, no seat's state is changed, and nothing else in the room
+-- the same seats are due, those that were woken still count as woken, no seat's state is changed, and nothing else in the room
 pub record KeepsDue (old new : RoomShown ℕ) : Type 0 where
   pub due : (seat : ℕ) → is_due new seat ≡ is_due old seat
+  pub woken : (seat : ℕ) → slice_get old.notices seat ≡ Some Woken → slice_get new.notices seat ≡ Some Woken
   pub seats : new.seats ≡ old.seats
   pub floor : floor_of new ≡ floor_of old
 
--- a seat that is due is written, and counts as woken; or each that is due was woken before since it last asked
+-- a seat that is due, and wasn't woken before, is written, and counts as woken; or each that is due was woken before since it last asked
 pub record GivesASeat (code after : ℕ) (old new : RoomShown ℕ) : Type 0 where
   pub told : code ≡ number Done
   pub due : is_due old after ≡ true
+  pub first : slice_get old.notices after ≢ Some Woken
   pub woken : slice_get new.notices after ≡ Some Woken
   pub kept : KeepsDue old new
 
