@@ -13,7 +13,7 @@ const MAX_BYTES: usize = 0xFFFF_FFFF;
 
 /// 0 to 4,294,967,295 bytes, which never change. Contracts see them as their list.
 ///
-/// Up to 14 bytes lie in the value itself. More lie in memory that all clones own. The last owner gives it back when it is
+/// Up to 14 bytes lie in the value itself. More lie in memory that all clones own, which is freed when the last of them is
 /// dropped. A value is 16 bytes large.
 #[derive(Drop)]
 pub struct Bytes {
