@@ -9,7 +9,7 @@ use std::thread::{self, Thread};
 const FEW_LOOKS: (u32, u32) = (8, 16);
 /// The same if its last call has woken a thread that slept. That thread may answer as soon as it runs, and to wake it takes
 /// longer than the few looks. So two threads that answer each other don't sleep at each turn.
-const MANY_LOOKS: (u32, u32) = (50, 64);
+const MANY_LOOKS: (u32, u32) = (50, 512);
 
 /// What the thread does, or that it was woken.
 const AWAKE: u8 = 0;
