@@ -7,11 +7,11 @@ use std::alloc::{AllocError, Global};
 use std::sync::Wait;
 use std::sync::atomic::{AtomicU64, Ordering};
 
-/// How often a thread looks before it sleeps, and in how many waits not at all, once that was in vain.
+/// How often a thread looks before it sleeps, and in how many waits not at all, at the most, once that was in vain.
 const FEW_LOOKS: (u32, u64) = (8, 16);
 /// The same if its last call has woken a thread that slept. That thread may answer as soon as it runs, and to wake it takes
 /// longer than the few looks. So two threads that answer each other don't sleep at each turn.
-const MANY_LOOKS: (u32, u64) = (50, 64);
+const MANY_LOOKS: (u32, u64) = (50, 512);
 
 // What the word of a bell is.
 const QUIET: u64 = 0;

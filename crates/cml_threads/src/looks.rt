@@ -4,19 +4,22 @@ use crossbeam_utils::Backoff;
 use std::sync::atomic::{AtomicU64, Ordering};
 
 /// A thread looks so often at a word, each time after a longer pause: it spins in the first seven, and lets other threads run in
-/// each later one. Once it has looked in vain, it doesn't look in its next waits. For that thread alone.
+/// each later one. Once it has looked in vain, it doesn't look in its next waits: in one, and then in twice as many each time. For
+/// that thread alone.
 #[derive(Drop)]
 pub struct Looks {
     times: u32,
-    waits_without: u64,
+    most_without: u64,
+    without: AtomicU64,
     left: AtomicU64,
 }
 
 impl Looks {
-    pub fn new(times: u32, waits_without: u64) -> Looks {
+    pub fn new(times: u32, most_without: u64) -> Looks {
         Looks {
             times,
-            waits_without,
+            most_without,
+            without: AtomicU64::new(0),
             left: AtomicU64::new(0),
         }
     }
@@ -35,11 +38,22 @@ impl Looks {
         let backoff = Backoff::new();
         for _ in 0..self.times {
             if word.load(Ordering::Acquire) == this {
+                self.without.store(0, Ordering::Relaxed);
                 return true;
             }
             backoff.snooze();
         }
-        self.left.store(self.waits_without, Ordering::Relaxed);
+        self.rest();
         false
+    }
+
+    fn rest(&self) {
+        let without = self.without.load(Ordering::Relaxed);
+        let without = without
+            .saturating_add(without)
+            .max(1)
+            .min(self.most_without);
+        self.without.store(without, Ordering::Relaxed);
+        self.left.store(without, Ordering::Relaxed);
     }
 }

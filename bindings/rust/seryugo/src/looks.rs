@@ -7,18 +7,21 @@ use std::thread;
 /// How often a thread doubles the time for which it spins, from once to 64 times. Each later look lets other threads run.
 const DOUBLINGS: u32 = 7;
 
-/// A thread looks so often at a state. Once it has looked in vain, it doesn't look in its next waits. For that thread alone.
+/// A thread looks so often at a state. Once it has looked in vain, it doesn't look in its next waits: in one, and then in twice as
+/// many each time. For that thread alone.
 pub(crate) struct Looks {
     times: u32,
-    waits_without: u32,
+    most_without: u32,
+    without: AtomicU32,
     left: AtomicU32,
 }
 
 impl Looks {
-    pub fn new(times: u32, waits_without: u32) -> Looks {
+    pub fn new(times: u32, most_without: u32) -> Looks {
         Looks {
             times,
-            waits_without,
+            most_without,
+            without: AtomicU32::new(0),
             left: AtomicU32::new(0),
         }
     }
@@ -36,12 +39,19 @@ impl Looks {
     pub fn see(&self, state: &AtomicU8, this: u8) -> bool {
         for look in 0..self.times {
             if state.load(Ordering::Acquire) == this {
+                self.without.store(0, Ordering::Relaxed);
                 return true;
             }
             pause(look);
         }
-        self.left.store(self.waits_without, Ordering::Relaxed);
+        self.rest();
         false
+    }
+
+    fn rest(&self) {
+        let without = (2 * self.without.load(Ordering::Relaxed)).clamp(1, self.most_without);
+        self.without.store(without, Ordering::Relaxed);
+        self.left.store(without, Ordering::Relaxed);
     }
 }
 

@@ -5,7 +5,7 @@ use std::sync::atomic::{AtomicBool, AtomicU8, Ordering};
 use std::sync::{Mutex, PoisonError};
 use std::thread::{self, Thread};
 
-/// How often a thread looks before it sleeps, and in how many waits not at all, once that was in vain.
+/// How often a thread looks before it sleeps, and in how many waits not at all, at the most, once that was in vain.
 const FEW_LOOKS: (u32, u32) = (8, 16);
 /// The same if its last call has woken a thread that slept. That thread may answer as soon as it runs, and to wake it takes
 /// longer than the few looks. So two threads that answer each other don't sleep at each turn.
