@@ -19,6 +19,7 @@ pub use base_laws::{bases_tell_answers, bases_tell_messages, bases_tell_objects}
 pub use board::{Board, BoardLog};
 pub use call::{Call, Kind, Name};
 pub use checking::{Checker, check};
+pub use cml_bytes::{Bytes, TooLong};
 pub use cml_text::{BadText, Text};
 pub use entry::{Entry, Reply, Who};
 pub use laws::{calls_wait_by_want, lawful_at_every_position, reserved_lasts};

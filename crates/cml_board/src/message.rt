@@ -1,5 +1,6 @@
 ghost use Rattle.std.specs.Prelude.{◌≡◌, ◌↔◌, Bool, true, false, IsTrue, IfOk, OnErr};
 
+use cml_bytes::Bytes;
 use cml_text::Text;
 use std::alloc::{AllocError, Global};
 
@@ -30,7 +31,20 @@ impl Message for u64 {
     }
 }
 
-/// A share takes memory of its own, and may be refused.
+/// A share of more than 14 bytes is one owner more of their memory, and fails if there are too many owners.
+impl Message for Bytes {
+    ghost SURE = { false };
+
+    fn share(&self, _alloc: Global) -> Result<Bytes, AllocError> {
+        self.clone()
+    }
+
+    fn same(&self, other: &Bytes) -> bool {
+        *self == *other
+    }
+}
+
+/// A share is as that of its bytes.
 impl Message for Text {
     ghost SURE = { false };
 

@@ -1,8 +1,10 @@
 //! A text: one word, short enough for a line.
 ghost use Rattle.std.specs.Prelude.{◌≡◌, ◌↔◌, true, false, IsTrue, IfOk};
 ghost use Rattle.std.specs.Fmt.{decimal};
+ghost use Rattle.cml_bytes.specs.Sizes.{IsShort};
 ghost use Rattle.cml_text.specs.Text.{is_text_byte, is_text};
 
+use cml_bytes::Bytes;
 use std::alloc::{AllocError, Global};
 use std::error::Error;
 use std::fmt;
@@ -12,10 +14,12 @@ use thiserror::Error;
 /// The most bytes that a text may have.
 const MAX_BYTES: usize = 64;
 
-/// One to 64 bytes from 0x21 to 0x7E, in memory of its own. Contracts see it as the list of its bytes.
+/// One to 64 bytes from 0x21 to 0x7E. Contracts see it as the list of its bytes.
+///
+/// Up to 14 bytes lie in the text itself. More lie in memory that all clones own.
 #[derive(Drop)]
 pub struct Text {
-    bytes: Vec<u8>,
+    bytes: Bytes,
 }
 
 impl Model for Text {
@@ -24,9 +28,9 @@ impl Model for Text {
 
     ghost Value = { List ℕ };
 
-    ghost view = { λ text. text.bytes.items };
+    ghost view = { λ text. text.bytes };
 
-    ghost invariant = { λ text. is_text text.bytes.items ≡ true };
+    ghost invariant = { λ text. is_text text.bytes ≡ true };
 }
 
 /// The bytes are no text: there are none or more than 64, or one is outside 0x21 to 0x7E.
@@ -51,19 +55,22 @@ pub fn is_text(bytes: &[u8]) -> bool
 }
 
 impl Text {
-    ghost use Rattle.std.specs.Prelude.{OnOk, OnErr};
+    ghost use Rattle.std.specs.Prelude.{IsOk, OnOk, OnErr};
 
-    /// A text of these bytes, in memory of its own.
+    /// Copies these bytes. It allocates only for more than 14 of them.
     pub fn from_bytes(alloc: Global, bytes: &[u8]) -> Result<Result<Text, BadText>, AllocError>
         ensures text { IfOk result (λ tested. IfOk tested (λ text. text ≡ bytes.now)) }
         ensures good { IfOk result (λ tested. OnOk tested (is_text bytes.now ≡ true)) }
         ensures bad { IfOk result (λ tested. OnErr tested (is_text bytes.now ≡ false)) }
+        ensures short { IsShort bytes.now → IsOk result }
     {
         if !is_text(bytes) {
             return Ok(Err(BadText));
         }
-        let bytes = Vec::from_slice(alloc, bytes)?;
-        Ok(Ok(Text { bytes }))
+        match Bytes::from_slice(alloc, bytes)? {
+            Ok(bytes) => Ok(Ok(Text { bytes })),
+            Err(_) => unreachable!(),
+        }
     }
 
     /// The decimal digits of a number, without zeros in front.
@@ -71,31 +78,34 @@ impl Text {
         ensures { IfOk result (λ text. text ≡ decimal number) }
     {
         let digits = number.to_string(alloc)?;
-        Ok(Text {
-            bytes: digits.into_bytes(),
-        })
+        match Bytes::from_vec(alloc, digits.into_bytes())? {
+            Ok(bytes) => Ok(Text { bytes }),
+            Err(_) => unreachable!(),
+        }
     }
 
     pub fn as_bytes(&self) -> &[u8]
         ensures bytes { result.now ≡ self.now }
         ensures text { is_text result.now ≡ true }
     {
-        &self.bytes
+        self.bytes.as_slice()
     }
 
     pub fn as_str(&self) -> &str
         ensures bytes { result.now ≡ self.now }
     {
-        match str::from_utf8(&self.bytes) {
+        match str::from_utf8(self.bytes.as_slice()) {
             Ok(text) => text,
             Err(_) => unreachable!(),
         }
     }
 }
 
-/// A second text of the same bytes, in memory of its own.
+/// A clone copies up to 14 bytes, and then never fails. A clone of more is one owner more of their memory, and copies none.
 impl Clone for Text {
     ghost is_clone = { λ text copy. copy ≡ text };
+
+    ghost is_infallible = { IsShort };
 
     fn clone(&self) -> Result<Text, AllocError> {
         let bytes = self.bytes.clone()?;

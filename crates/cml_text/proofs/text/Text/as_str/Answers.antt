@@ -4,4 +4,4 @@ use Rattle.cml_text.proofs.TextLemmas.{text_is_utf8}
 use Rattle.cml_text.proofs.text.Text.as_str.Goals as goal
 
 pub unreachable-requires : goal.unreachable-requires
-unreachable-requires c = absurd (c.in-Err.ensures.cases.0 (subst IsUtf8 (sym c.deref.ensures.value) (text_is_utf8 _ c.self.invariant)))
+unreachable-requires c = absurd (c.in-Err.ensures.cases.0 (subst IsUtf8 (sym c.as_slice.ensures.bytes) (text_is_utf8 _ c.self.invariant)))
