@@ -1,25 +1,28 @@
 -- What C is told of a seat's call.
-use Rattle.std.specs.Prelude.{ℕ, ◌≡◌, Bool, true, false}
+use Rattle.std.specs.Prelude.{ℕ, ◌≡◌, ◌⊎◌, Bool, true, false, List, Some}
 use Rattle.cml_log.specs.PlainLog.{chunk_of}
 use Rattle.cml_board.specs.declared.call.Call.{Call}
+use Rattle.cml_board.specs.declared.call.Call.TheVariants as call
 use Rattle.cml_board.specs.declared.entry.Reply.{Reply}
 use Rattle.cml_board.specs.declared.entry.Reply.TheVariants as reply
 use Rattle.cml_room.specs.Room.{RoomShown, MayAsk, MayAskAgain}
 use Rattle.cml_room.specs.Asking.{Asks}
 use Rattle.cml_room.specs.declared.asked.Asked.{Asked}
 use Rattle.cml_room.specs.declared.asked.Asked.TheVariants as asked
+use Rattle.cml_c.specs.declared.bare.Bare.{Bare}
+use Rattle.cml_c.specs.declared.bare.Bare.TheVariants as bare
 use Rattle.cml_c.specs.declared.code.Code.{Code}
 use Rattle.cml_c.specs.declared.code.Code.TheVariants.{Done, Nothing, Put, Closed, Parked}
 use Rattle.cml_c.specs.declared.kept.Kept.{Kept}
 use Rattle.cml_c.specs.Codes.{number, of_refusal}
-use Rattle.cml_c.specs.Rooms.{OnRoom}
+use Rattle.cml_c.specs.Rooms.{OnRoom, OnNumbers, OnBytes}
 
 -- how many messages a room's chunks hold
 abbrev pub chunk : ℕ
 chunk = chunk_of 4
 
--- the code of a reply, and what stands then where its number is written: a message, or a name
-abbrev pub told_reply : Reply ℕ → Code
+-- the code of a reply
+abbrev pub told_reply : {M : Type 0} → Reply M → Code
 told_reply reply.Done = Done
 told_reply (reply.Made name) = Done
 told_reply (reply.Got message) = Done
@@ -27,16 +30,27 @@ told_reply reply.Nothing = Nothing
 told_reply reply.Put = Put
 told_reply reply.Closed = Closed
 
+-- the code of what becomes of a call
+abbrev pub told_asked : {M : Type 0} → Asked M → Code
+told_asked (asked.Answered answer) = told_reply answer.reply
+told_asked (asked.Parked back) = Parked
+told_asked (asked.Refused refusal back) = of_refusal refusal
+
+-- what a number is then that takes a name that is given, or a message too
+abbrev pub named_reply : {M : Type 0} → ℕ → Reply M → ℕ
+named_reply before (reply.Made name) = name.0
+named_reply before other = before
+
 abbrev pub written_reply : ℕ → Reply ℕ → ℕ
 written_reply before (reply.Made name) = name.0
 written_reply before (reply.Got message) = message
 written_reply before other = before
 
 -- the same of what becomes of a call
-abbrev pub told_asked : Asked ℕ → Code
-told_asked (asked.Answered answer) = told_reply answer.reply
-told_asked (asked.Parked back) = Parked
-told_asked (asked.Refused refusal back) = of_refusal refusal
+abbrev pub named_asked : {M : Type 0} → ℕ → Asked M → ℕ
+named_asked before (asked.Answered answer) = named_reply before answer.reply
+named_asked before (asked.Parked back) = before
+named_asked before (asked.Refused refusal back) = before
 
 abbrev pub written_asked : ℕ → Asked ℕ → ℕ
 written_asked before (asked.Answered answer) = written_reply before answer.reply
@@ -44,20 +58,40 @@ written_asked before (asked.Parked back) = before
 written_asked before (asked.Refused refusal back) = before
 
 -- the seat may make the call for the first time, or again after it was parked
-abbrev pub MayMake : Bool → RoomShown ℕ → ℕ → Call ℕ → Type 0
+abbrev pub MayMake : {M : Type 0} → Bool → RoomShown M → ℕ → Call M → Type 0
 MayMake false room seat call = MayAsk room seat
 MayMake true room seat call = MayAskAgain room seat call
 
--- what becomes of the call in the room, with the code that tells it, and what stood and then stands where a number is written
-pub record Makes (again : Bool) (seat : ℕ) (call : Call ℕ) (code before after : ℕ) (old new : RoomShown ℕ) : Type 0 where
-  pub becomes : Asked ℕ
-  pub asks : Asks chunk true (MayMake again old seat call) old new seat call becomes
+-- what becomes of the call in the room, with the code that tells it, and what is given
+pub record Makes {M : Type 0} (sure again : Bool) (seat : ℕ) (call : Call M) (code : ℕ) (Gives : Asked M → Type 0) (old new : RoomShown M) : Type 0 where
+  pub becomes : Asked M
+  pub asks : Asks chunk sure (MayMake again old seat call) old new seat call becomes
   pub told : code ≡ number (told_asked becomes)
-  pub written : after ≡ written_asked before becomes
+  pub gives : Gives becomes
 
--- the same of whatever a handle leads to
+-- a call without a message, as one of a room
+abbrev pub bare_call : {M : Type 0} → Bare → Call M
+bare_call bare.NewMailbox = call.NewMailbox
+bare_call bare.NewChannel = call.NewChannel
+bare_call (bare.NewPort channel) = call.NewPort channel
+bare_call (bare.CopyPort port) = call.CopyPort port
+bare_call (bare.ClosePort port) = call.ClosePort port
+bare_call bare.NewIVar = call.NewIVar
+bare_call bare.NewMVar = call.NewMVar
+
+-- such a call in whichever room a handle leads to, with what stood and then stands where a name is written
+abbrev pub Names : ℕ → Bare → Kept → Kept → ℕ → ℕ → ℕ → Type 0
+Names seat call old new code before after =
+    OnRoom (λ M sure from to. Makes sure false seat (bare_call call) code (λ becomes. after ≡ named_asked before becomes) from to) (after ≡ before) code old new
+
+-- the same where nothing is written
+abbrev pub NamesNothing : ℕ → Bare → Kept → Kept → ℕ → Type 0
+NamesNothing seat call old new code = (after : ℕ) × Names seat call old new code 0 after
+
+-- a call in a room of numbers, with what stood and then stands where a number is written
 abbrev pub Calls : Bool → ℕ → Call ℕ → Kept → Kept → ℕ → ℕ → ℕ → Type 0
-Calls again seat call old new code before after = OnRoom (Makes again seat call code before after) (after ≡ before) code old new
+Calls again seat call old new code before after =
+    OnNumbers (Makes true again seat call code (λ becomes. after ≡ written_asked before becomes)) (after ≡ before) code old new
 
 -- the same of a call that gives no number
 abbrev pub CallsPlain : Bool → ℕ → Call ℕ → Kept → Kept → ℕ → Type 0

@@ -23,6 +23,7 @@ number code.Full = 13
 number code.StillOpen = 14
 number code.WrongHandle = 15
 number code.OutOfBounds = 16
+number code.Unlawful = 17
 
 -- a refusal is told by its own name
 abbrev pub of_refusal : Refusal → Code

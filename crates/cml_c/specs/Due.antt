@@ -10,44 +10,44 @@ use Rattle.cml_c.specs.Codes.{number}
 use Rattle.cml_c.specs.Rooms.{OnRoom}
 
 -- the same seats are due, those that were woken still count as woken, no seat's state is changed, and nothing else in the room
-pub record KeepsDue (old new : RoomShown ℕ) : Type 0 where
+pub record KeepsDue {M : Type 0} (old new : RoomShown M) : Type 0 where
   pub due : (seat : ℕ) → is_due new seat ≡ is_due old seat
   pub woken : (seat : ℕ) → slice_get old.notices seat ≡ Some Woken → slice_get new.notices seat ≡ Some Woken
   pub seats : new.seats ≡ old.seats
   pub floor : floor_of new ≡ floor_of old
 
 -- a seat that is due, and wasn't woken before, is written, and counts as woken; or each that is due was woken before since it last asked
-pub record GivesASeat (code after : ℕ) (old new : RoomShown ℕ) : Type 0 where
+pub record GivesASeat {M : Type 0} (code after : ℕ) (old new : RoomShown M) : Type 0 where
   pub told : code ≡ number Done
   pub due : is_due old after ≡ true
   pub first : slice_get old.notices after ≢ Some Woken
   pub woken : slice_get new.notices after ≡ Some Woken
   pub kept : KeepsDue old new
 
-pub record GivesNoSeat (code before after : ℕ) (old new : RoomShown ℕ) : Type 0 where
+pub record GivesNoSeat {M : Type 0} (code before after : ℕ) (old new : RoomShown M) : Type 0 where
   pub told : code ≡ number Nothing
   pub written : after ≡ before
   pub woken : (seat : ℕ) → is_due new seat ≡ true → slice_get new.notices seat ≡ Some Woken
   pub kept : KeepsDue old new
 
-abbrev pub GivesNext : ℕ → ℕ → ℕ → RoomShown ℕ → RoomShown ℕ → Type 0
+abbrev pub GivesNext : {M : Type 0} → ℕ → ℕ → ℕ → RoomShown M → RoomShown M → Type 0
 GivesNext code before after old new = GivesASeat code after old new ⊎ GivesNoSeat code before after old new
 
 abbrev pub GivesNextOn : Kept → Kept → ℕ → ℕ → ℕ → Type 0
-GivesNextOn old new code before after = OnRoom (GivesNext code before after) (after ≡ before) code old new
+GivesNextOn old new code before after = OnRoom (λ M sure from to. GivesNext code before after from to) (after ≡ before) code old new
 
 -- the seat is due; or it isn't, and sleeps rightly if it waits
-pub record SeatIsDue (seat code : ℕ) (room : RoomShown ℕ) : Type 0 where
+pub record SeatIsDue {M : Type 0} (seat code : ℕ) (room : RoomShown M) : Type 0 where
   pub told : code ≡ number Done
   pub due : is_due room seat ≡ true
 
-pub record SeatIsNotDue (seat code : ℕ) (room : RoomShown ℕ) : Type 0 where
+pub record SeatIsNotDue {M : Type 0} (seat code : ℕ) (room : RoomShown M) : Type 0 where
   pub told : code ≡ number Nothing
   pub due : is_due room seat ≡ false
   pub asleep : (on : Want) → state_of room seat ≡ Some (Parked on) → SleepsRightly room on
 
-abbrev pub TellsDue : ℕ → ℕ → RoomShown ℕ → Type 0
+abbrev pub TellsDue : {M : Type 0} → ℕ → ℕ → RoomShown M → Type 0
 TellsDue seat code room = SeatIsDue seat code room ⊎ SeatIsNotDue seat code room
 
 abbrev pub DueOn : ℕ → Kept → Kept → ℕ → Type 0
-DueOn seat old new code = OnRoom (λ from to. (to ≡ from) × TellsDue seat code from) ⊤ code old new
+DueOn seat old new code = OnRoom (λ M sure from to. (to ≡ from) × TellsDue seat code from) ⊤ code old new

@@ -1,5 +1,5 @@
 -- An entry of the journal, as C is shown it.
-use Rattle.std.specs.Prelude.{ℕ, ◌≡◌, ◌-◌, ◌<◌, ◌≤◌, ◌⊎◌, List, ◌++◌, reverse, slice_get, Some, None}
+use Rattle.std.specs.Prelude.{ℕ, ◌≡◌, ◌-◌, ◌<◌, ◌≤◌, ◌⊎◌, List, length, ◌++◌, reverse, slice_get, Option, Some, None}
 use Rattle.cml_board.specs.declared.call.Call.{Call}
 use Rattle.cml_board.specs.declared.call.Call.TheVariants as call
 use Rattle.cml_board.specs.declared.entry.Entry.{Entry}
@@ -9,50 +9,143 @@ use Rattle.cml_board.specs.declared.entry.Who.{Who}
 use Rattle.cml_board.specs.declared.entry.Who.TheVariants.{Seat, Lane, Feed}
 use Rattle.cml_board.specs.History.{entries_in}
 use Rattle.cml_room.specs.Room.{RoomShown}
-use Rattle.cml_c.specs.declared.code.Code.TheVariants.{Done, NoSuch}
+use Rattle.cml_c.specs.declared.code.Code.TheVariants.{Done, NoSuch, NoMemory}
 use Rattle.cml_c.specs.declared.entries.SeryugoCall.{SeryugoCall}
 use Rattle.cml_c.specs.declared.entries.SeryugoEntry.{SeryugoEntry}
 use Rattle.cml_c.specs.declared.entries.SeryugoMaker.{SeryugoMaker}
 use Rattle.cml_c.specs.declared.entries.SeryugoReply.{SeryugoReply}
 use Rattle.cml_c.specs.declared.kept.Kept.{Kept}
+use Rattle.cml_c.specs.declared.kept.Kept.TheVariants as kept
 use Rattle.cml_c.specs.Codes.{number}
-use Rattle.cml_c.specs.Rooms.{OnRoom}
+use Rattle.cml_c.specs.declared.bytes_entries.SeryugoBytesEntry.{SeryugoBytesEntry}
+use Rattle.cml_c.specs.Rooms.{OnNumbers, OnBytes}
 
 abbrev pub maker_of : Who → SeryugoMaker
 maker_of (Seat n) = record { kind = 0; number = n }
 maker_of (Lane n) = record { kind = 1; number = n }
 maker_of (Feed n) = record { kind = 2; number = n }
 
+-- which call it is, its object's number or 0, and its message if it has one
+abbrev pub call_kind : {M : Type 0} → Call M → ℕ
+call_kind call.NewMailbox = 0
+call_kind call.NewChannel = 1
+call_kind (call.NewPort name) = 2
+call_kind (call.CopyPort name) = 3
+call_kind (call.ClosePort name) = 4
+call_kind call.NewIVar = 5
+call_kind call.NewMVar = 6
+call_kind (call.MVarInit message) = 7
+call_kind (call.Send name message) = 8
+call_kind (call.Cast name message) = 9
+call_kind (call.Recv name) = 10
+call_kind (call.Poll name) = 11
+call_kind (call.Put name message) = 12
+call_kind (call.Get name) = 13
+call_kind (call.GetPoll name) = 14
+call_kind (call.Take name) = 15
+call_kind (call.TakePoll name) = 16
+call_kind (call.Swap name message) = 17
+
+abbrev pub call_object : {M : Type 0} → Call M → ℕ
+call_object call.NewMailbox = 0
+call_object call.NewChannel = 0
+call_object (call.NewPort name) = name.0
+call_object (call.CopyPort name) = name.0
+call_object (call.ClosePort name) = name.0
+call_object call.NewIVar = 0
+call_object call.NewMVar = 0
+call_object (call.MVarInit message) = 0
+call_object (call.Send name message) = name.0
+call_object (call.Cast name message) = name.0
+call_object (call.Recv name) = name.0
+call_object (call.Poll name) = name.0
+call_object (call.Put name message) = name.0
+call_object (call.Get name) = name.0
+call_object (call.GetPoll name) = name.0
+call_object (call.Take name) = name.0
+call_object (call.TakePoll name) = name.0
+call_object (call.Swap name message) = name.0
+
+abbrev pub call_message : {M : Type 0} → Call M → Option M
+call_message call.NewMailbox = None
+call_message call.NewChannel = None
+call_message (call.NewPort name) = None
+call_message (call.CopyPort name) = None
+call_message (call.ClosePort name) = None
+call_message call.NewIVar = None
+call_message call.NewMVar = None
+call_message (call.MVarInit message) = Some message
+call_message (call.Send name message) = Some message
+call_message (call.Cast name message) = Some message
+call_message (call.Recv name) = None
+call_message (call.Poll name) = None
+call_message (call.Put name message) = Some message
+call_message (call.Get name) = None
+call_message (call.GetPoll name) = None
+call_message (call.Take name) = None
+call_message (call.TakePoll name) = None
+call_message (call.Swap name message) = Some message
+
+-- the same of a reply, with the name that it gives
+abbrev pub reply_kind : {M : Type 0} → Reply M → ℕ
+reply_kind reply.Done = 0
+reply_kind (reply.Made name) = 1
+reply_kind (reply.Got message) = 2
+reply_kind reply.Nothing = 3
+reply_kind reply.Put = 4
+reply_kind reply.Closed = 5
+
+abbrev pub reply_name : {M : Type 0} → Reply M → ℕ
+reply_name reply.Done = 0
+reply_name (reply.Made name) = name.0
+reply_name (reply.Got message) = 0
+reply_name reply.Nothing = 0
+reply_name reply.Put = 0
+reply_name reply.Closed = 0
+
+abbrev pub reply_message : {M : Type 0} → Reply M → Option M
+reply_message reply.Done = None
+reply_message (reply.Made name) = None
+reply_message (reply.Got message) = Some message
+reply_message reply.Nothing = None
+reply_message reply.Put = None
+reply_message reply.Closed = None
+
+-- a number, or 0
+abbrev pub or_zero : Option ℕ → ℕ
+or_zero (Some number) = number
+or_zero None = 0
+
 abbrev pub call_of : Call ℕ → SeryugoCall
-call_of call.NewMailbox = record { kind = 0; object = 0; message = 0 }
-call_of call.NewChannel = record { kind = 1; object = 0; message = 0 }
-call_of (call.NewPort name) = record { kind = 2; object = name.0; message = 0 }
-call_of (call.CopyPort name) = record { kind = 3; object = name.0; message = 0 }
-call_of (call.ClosePort name) = record { kind = 4; object = name.0; message = 0 }
-call_of call.NewIVar = record { kind = 5; object = 0; message = 0 }
-call_of call.NewMVar = record { kind = 6; object = 0; message = 0 }
-call_of (call.MVarInit message) = record { kind = 7; object = 0; message = message }
-call_of (call.Send name message) = record { kind = 8; object = name.0; message = message }
-call_of (call.Cast name message) = record { kind = 9; object = name.0; message = message }
-call_of (call.Recv name) = record { kind = 10; object = name.0; message = 0 }
-call_of (call.Poll name) = record { kind = 11; object = name.0; message = 0 }
-call_of (call.Put name message) = record { kind = 12; object = name.0; message = message }
-call_of (call.Get name) = record { kind = 13; object = name.0; message = 0 }
-call_of (call.GetPoll name) = record { kind = 14; object = name.0; message = 0 }
-call_of (call.Take name) = record { kind = 15; object = name.0; message = 0 }
-call_of (call.TakePoll name) = record { kind = 16; object = name.0; message = 0 }
-call_of (call.Swap name message) = record { kind = 17; object = name.0; message = message }
+call_of call = record { kind = call_kind call; object = call_object call; message = or_zero (call_message call) }
+
+-- what a reply gives: a name, or a message
+abbrev pub given_by : Reply ℕ → ℕ
+given_by (reply.Made name) = name.0
+given_by (reply.Got message) = message
+given_by other = 0
 
 abbrev pub reply_of : Reply ℕ → SeryugoReply
-reply_of reply.Done = record { kind = 0; given = 0 }
-reply_of (reply.Made name) = record { kind = 1; given = name.0 }
-reply_of (reply.Got message) = record { kind = 2; given = message }
-reply_of reply.Nothing = record { kind = 3; given = 0 }
-reply_of reply.Put = record { kind = 4; given = 0 }
-reply_of reply.Closed = record { kind = 5; given = 0 }
+reply_of reply = record { kind = reply_kind reply; given = given_by reply }
 
 abbrev pub flat : Entry ℕ → SeryugoEntry
 flat entry = record { maker = maker_of entry.who; call = call_of entry.call; reply = reply_of entry.reply }
+
+-- how many bytes a message has, or 0
+abbrev pub count_of : Option (List ℕ) → ℕ
+count_of (Some message) = length message
+count_of None = 0
+
+-- a handle to this entry is written, with all that isn't bytes, and how many these are
+pub record IsShown (entry : Entry (List ℕ)) (to : SeryugoBytesEntry) : Type 0 where
+  pub owns : to.owner.kept ≡ Some (kept.Entry entry)
+  pub maker : to.maker ≡ maker_of entry.who
+  pub call : to.call.kind ≡ call_kind entry.call
+  pub object : to.call.object ≡ call_object entry.call
+  pub sent : to.call.message.length ≡ count_of (call_message entry.call)
+  pub reply : to.reply.kind ≡ reply_kind entry.reply
+  pub name : to.reply.name ≡ reply_name entry.reply
+  pub got : to.reply.message.length ≡ count_of (reply_message entry.reply)
 
 -- the journal has an entry of this place, which is written; or none
 abbrev pub Finds : List (Entry ℕ) → ℕ → ℕ → SeryugoEntry → SeryugoEntry → Type 0
@@ -61,7 +154,7 @@ Finds journal place code before after =
     ⊎ ((slice_get journal place ≡ None) × (code ≡ number NoSuch) × (after ≡ before))
 
 -- the journal, oldest first, is what was accepted since the last cut
-abbrev pub IsJournal : RoomShown ℕ → List (Entry ℕ) → Type 0
+abbrev pub IsJournal : {M : Type 0} → RoomShown M → List (Entry M) → Type 0
 IsJournal room journal = reverse journal ++ room.board.past ≡ room.board.history
 
 -- the position was cut away; or it is that of a place in the journal, which is looked at
@@ -71,4 +164,25 @@ FindsIn at code before after old new = (new ≡ old)
     ⊎ ((entries_in old.board.past ≤ at) × (journal : List (Entry ℕ)) × IsJournal old journal × Finds journal (at - entries_in old.board.past) code before after))
 
 abbrev pub FindsOn : ℕ → Kept → Kept → ℕ → SeryugoEntry → SeryugoEntry → Type 0
-FindsOn at old new code before after = OnRoom (FindsIn at code before after) (after ≡ before) code old new
+FindsOn at old new code before after = OnNumbers (FindsIn at code before after) (after ≡ before) code old new
+
+-- the same of bytes: the entry of this place is handed over, or there is none, or there is no memory for its handle
+pub record HandsEntry (journal : List (Entry (List ℕ))) (place code : ℕ) (to : SeryugoBytesEntry) : Type 0 where
+  pub told : code ≡ number Done
+  pub entry : Entry (List ℕ)
+  pub found : slice_get journal place ≡ Some entry
+  pub shown : IsShown entry to
+
+abbrev pub FindsBytes : List (Entry (List ℕ)) → ℕ → ℕ → SeryugoBytesEntry → SeryugoBytesEntry → Type 0
+FindsBytes journal place code from to =
+    HandsEntry journal place code to
+    ⊎ ((slice_get journal place ≡ None) × (code ≡ number NoSuch) × (to ≡ from))
+    ⊎ ((code ≡ number NoMemory) × (to ≡ from))
+
+abbrev pub FindsBytesIn : ℕ → ℕ → SeryugoBytesEntry → SeryugoBytesEntry → RoomShown (List ℕ) → RoomShown (List ℕ) → Type 0
+FindsBytesIn at code from to old new = (new ≡ old)
+    × (((at < entries_in old.board.past) × (code ≡ number NoSuch) × (to ≡ from))
+    ⊎ ((entries_in old.board.past ≤ at) × (journal : List (Entry (List ℕ))) × IsJournal old journal × FindsBytes journal (at - entries_in old.board.past) code from to))
+
+abbrev pub FindsBytesOn : ℕ → Kept → Kept → ℕ → SeryugoBytesEntry → SeryugoBytesEntry → Type 0
+FindsBytesOn at old new code from to = OnBytes (FindsBytesIn at code from to) (to ≡ from) code old new

@@ -3,6 +3,7 @@ pub mod Lending
 pub mod Codes
 pub mod Rooms
 pub mod Asking
+pub mod Messages
 pub mod Opening
 pub mod Seats
 pub mod Due
@@ -13,3 +14,4 @@ pub mod Feeds
 pub mod Reading
 pub mod Entries
 pub mod Journals
+pub mod Checkers

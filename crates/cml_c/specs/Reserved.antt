@@ -5,9 +5,9 @@ use Rattle.cml_lanes.specs.Floor.{FloorShown}
 use Rattle.cml_lanes.specs.Reserving.{Reserves}
 use Rattle.cml_lanes.specs.Cutting.{CutsAFloor}
 
-abbrev pub ReservesSome : ℕ → FloorShown ℕ → FloorShown ℕ → Result ⊤ Refusal → Type 0
+abbrev pub ReservesSome : {M : Type 0} → ℕ → FloorShown M → FloorShown M → Result ⊤ Refusal → Type 0
 ReservesSome entries old new outcome = Reserves old new entries outcome
 
 -- the cut loses nothing of what was reserved
-abbrev pub CutsReserved : FloorShown ℕ → FloorShown ℕ → Result ⊤ Refusal → Type 0
+abbrev pub CutsReserved : {M : Type 0} → FloorShown M → FloorShown M → Result ⊤ Refusal → Type 0
 CutsReserved old new outcome = CutsAFloor old new outcome × (old.board.reserved ≤ new.board.reserved)

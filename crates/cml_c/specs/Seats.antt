@@ -9,34 +9,34 @@ use Rattle.cml_c.specs.Rooms.{OnRoom}
 
 -- a seat is made: it is free, and its number, which is written, is how many were made before; else there is no memory, and
 -- nothing is changed
-pub record SeatIsMade (code before after : ℕ) (old new : RoomShown ℕ) : Type 0 where
+pub record SeatIsMade {M : Type 0} (code before after : ℕ) (old new : RoomShown M) : Type 0 where
   pub told : code ≡ number Done
   pub number : after ≡ length old.seats
   pub seats : new.seats ≡ old.seats ++ Free ∷ []
   pub floor : floor_of new ≡ floor_of old
 
-pub record NoSeatIsMade (code before after : ℕ) (old new : RoomShown ℕ) : Type 0 where
+pub record NoSeatIsMade {M : Type 0} (code before after : ℕ) (old new : RoomShown M) : Type 0 where
   pub told : code ≡ number NoMemory
   pub written : after ≡ before
   pub room : new ≡ old
 
-abbrev pub MakesSeat : ℕ → ℕ → ℕ → RoomShown ℕ → RoomShown ℕ → Type 0
+abbrev pub MakesSeat : {M : Type 0} → ℕ → ℕ → ℕ → RoomShown M → RoomShown M → Type 0
 MakesSeat code before after old new = SeatIsMade code before after old new ⊎ NoSeatIsMade code before after old new
 
 abbrev pub MakesASeat : Kept → Kept → ℕ → ℕ → ℕ → Type 0
-MakesASeat old new code before after = OnRoom (MakesSeat code before after) (after ≡ before) code old new
+MakesASeat old new code before after = OnRoom (λ M sure from to. MakesSeat code before after from to) (after ≡ before) code old new
 
 -- a free seat leaves, and no other's state is changed; else it may make no call, and nothing is changed
-pub record SeatLeaves (seat code : ℕ) (old new : RoomShown ℕ) : Type 0 where
+pub record SeatLeaves {M : Type 0} (seat code : ℕ) (old new : RoomShown M) : Type 0 where
   pub told : code ≡ number Done
   pub may : MayAsk old seat
   pub seats : new.seats ≡ with_state old seat Left
   pub floor : floor_of new ≡ floor_of old
 
-pub record SeatMayNot (seat code : ℕ) (old new : RoomShown ℕ) : Type 0 where
+pub record SeatMayNot {M : Type 0} (seat code : ℕ) (old new : RoomShown M) : Type 0 where
   pub told : code ≡ number Gone
   pub may_not : ¬ (MayAsk old seat)
   pub room : new ≡ old
 
 abbrev pub Leaves : ℕ → Kept → Kept → ℕ → Type 0
-Leaves seat old new code = OnRoom (λ from to. SeatLeaves seat code from to ⊎ SeatMayNot seat code from to) ⊤ code old new
+Leaves seat old new code = OnRoom (λ M sure from to. SeatLeaves seat code from to ⊎ SeatMayNot seat code from to) ⊤ code old new

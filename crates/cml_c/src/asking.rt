@@ -1,15 +1,71 @@
-//! A seat's call, whatever it is.
-ghost use Rattle.std.specs.Prelude.{◌≡◌};
+//! A seat's call that gives a number at most.
+ghost use Rattle.std.specs.Prelude.{◌≡◌, true, false};
 ghost use Rattle.cml_c.specs.Codes.{number};
-ghost use Rattle.cml_c.specs.Asking.{Calls, CallsPlain, Makes, told_asked, written_asked, told_reply, written_reply};
+ghost use Rattle.cml_c.specs.Asking.{Names, NamesNothing, Calls, CallsPlain, Makes, bare_call, told_asked, named_asked, written_asked, told_reply};
 
+use crate::bare::Bare;
 use crate::code::Code;
 use crate::handle::Handle;
-use crate::kept::{Kept, NumberRoom};
-use cml_board::{Call, Reply};
+use crate::kept::{Kept, RoomOf};
+use cml_board::{Call, Message, Reply};
 use cml_room::Asked;
 
-/// Makes a call that gives a number, which is written where it is answered with one.
+/// Makes a call without a message, and writes the name of the object that it makes, if it makes one.
+pub(crate) fn make_bare_call(handle: &mut Handle, seat: u64, call: Bare, name: &mut u64) -> u32
+    ensures { Names seat call handle.old.kept handle.new.kept result name.old name.new }
+{
+    match handle.as_mut() {
+        Kept::Room(room) => make_bare_in_room(room, seat, call, name),
+        Kept::BytesRoom(room) => make_bare_in_room(room, seat, call, name),
+        _ => Code::WrongHandle.number(),
+    }
+}
+
+/// Makes one that makes no object.
+pub(crate) fn make_nameless_call(handle: &mut Handle, seat: u64, call: Bare) -> u32
+    ensures { NamesNothing seat call handle.old.kept handle.new.kept result }
+{
+    let mut name = 0;
+    make_bare_call(handle, seat, call, &mut name)
+}
+
+fn make_bare_in_room<M: Message>(room: &mut RoomOf<M>, seat: u64, call: Bare, name: &mut u64) -> u32
+    ensures { Makes M.SURE false seat (bare_call call) result (λ becomes. name.new ≡ named_asked name.old becomes) room.old room.new }
+{
+    tell_name(room.ask(seat, call.into_call()), name)
+}
+
+/// The code of what became of a call. A name that it gave is written.
+pub(crate) fn tell_name<M: Message>(asked: Asked<M>, name: &mut u64) -> u32
+    ensures code { result ≡ number (told_asked asked) }
+    ensures written { name.new ≡ named_asked name.old asked }
+{
+    match asked {
+        Asked::Answered(answer) => {
+            let reply = answer.into_reply();
+            if let Reply::Made(made) = &reply {
+                *name = made.0;
+            }
+            code_of_reply(&reply).number()
+        }
+        Asked::Parked(_) => Code::Parked.number(),
+        Asked::Refused(refusal, _) => Code::of_refusal(refusal).number(),
+    }
+}
+
+/// The code of a reply.
+pub(crate) fn code_of_reply<M>(reply: &Reply<M>) -> Code
+    ensures { result ≡ told_reply reply.now }
+{
+    match reply {
+        Reply::Done | Reply::Made(_) | Reply::Got(_) => Code::Done,
+        Reply::Nothing => Code::Nothing,
+        Reply::Put => Code::Put,
+        Reply::Closed => Code::Closed,
+    }
+}
+
+/// Makes a call in a room of numbers, and writes the name or the message that it gives.
 pub(crate) fn make_call(
     handle: &mut Handle,
     seat: u64,
@@ -39,13 +95,13 @@ pub(crate) fn make_plain_call(
 }
 
 fn make_in_room(
-    room: &mut NumberRoom,
+    room: &mut RoomOf<u64>,
     seat: u64,
     is_again: bool,
     call: Call<u64>,
     given: &mut u64,
 ) -> u32
-    ensures { Makes is_again seat call result given.old given.new room.old room.new }
+    ensures { Makes true is_again seat call result (λ becomes. given.new ≡ written_asked given.old becomes) room.old room.new }
 {
     if is_again {
         return tell(room.ask_again(seat, call), given);
@@ -53,34 +109,22 @@ fn make_in_room(
     tell(room.ask(seat, call), given)
 }
 
-/// The code of what became of a call; where it gave a number, that is written.
+/// The code of what became of a call. A number that it gave is written.
 fn tell(asked: Asked<u64>, given: &mut u64) -> u32
     ensures code { result ≡ number (told_asked asked) }
     ensures written { given.new ≡ written_asked given.old asked }
 {
     match asked {
-        Asked::Answered(answer) => tell_reply(answer.into_reply(), given).number(),
+        Asked::Answered(answer) => {
+            let reply = answer.into_reply();
+            match &reply {
+                Reply::Made(name) => *given = name.0,
+                Reply::Got(message) => *given = *message,
+                _ => {}
+            }
+            code_of_reply(&reply).number()
+        }
         Asked::Parked(_) => Code::Parked.number(),
         Asked::Refused(refusal, _) => Code::of_refusal(refusal).number(),
-    }
-}
-
-fn tell_reply(reply: Reply<u64>, given: &mut u64) -> Code
-    ensures code { result ≡ told_reply reply }
-    ensures written { given.new ≡ written_reply given.old reply }
-{
-    match reply {
-        Reply::Done => Code::Done,
-        Reply::Made(name) => {
-            *given = name.0;
-            Code::Done
-        }
-        Reply::Got(message) => {
-            *given = message;
-            Code::Done
-        }
-        Reply::Nothing => Code::Nothing,
-        Reply::Put => Code::Put,
-        Reply::Closed => Code::Closed,
     }
 }

@@ -1,18 +1,20 @@
 //! Channels and their ports.
 ghost use Rattle.std.specs.Prelude.{false};
-ghost use Rattle.cml_board.specs.declared.call.Call.TheVariants.{NewChannel, NewPort, CopyPort, ClosePort, Cast};
-ghost use Rattle.cml_c.specs.Asking.{Calls, CallsPlain};
+ghost use Rattle.cml_board.specs.declared.call.Call.TheVariants.{Cast};
+ghost use Rattle.cml_c.specs.declared.bare.Bare.TheVariants.{NewChannel, NewPort, CopyPort, ClosePort};
+ghost use Rattle.cml_c.specs.Asking.{Names, NamesNothing, CallsPlain};
 
-use crate::asking::{make_call, make_plain_call};
+use crate::asking::{make_bare_call, make_nameless_call, make_plain_call};
+use crate::bare::Bare;
 use crate::handle::Handle;
 use cml_board::{Call, Name};
 
 /// Makes a channel, and writes its name.
 #[unsafe(no_mangle)]
 pub extern "C" fn seryugo_new_channel(room: &mut Handle, seat: u64, channel: &mut u64) -> u32
-    ensures { Calls false seat NewChannel room.old.kept room.new.kept result channel.old channel.new }
+    ensures { Names seat NewChannel room.old.kept room.new.kept result channel.old channel.new }
 {
-    make_call(room, seat, false, Call::NewChannel, channel)
+    make_bare_call(room, seat, Bare::NewChannel, channel)
 }
 
 /// Makes a port of a channel, which receives what is multicast from now on, and writes its name.
@@ -23,25 +25,25 @@ pub extern "C" fn seryugo_new_port(
     channel: u64,
     port: &mut u64,
 ) -> u32
-    ensures { Calls false seat (NewPort (record { 0 = channel })) room.old.kept room.new.kept result port.old port.new }
+    ensures { Names seat (NewPort (record { 0 = channel })) room.old.kept room.new.kept result port.old port.new }
 {
-    make_call(room, seat, false, Call::NewPort(Name(channel)), port)
+    make_bare_call(room, seat, Bare::NewPort(Name(channel)), port)
 }
 
 /// Makes a port that stands where this one does, and writes its name.
 #[unsafe(no_mangle)]
 pub extern "C" fn seryugo_copy_port(room: &mut Handle, seat: u64, port: u64, copy: &mut u64) -> u32
-    ensures { Calls false seat (CopyPort (record { 0 = port })) room.old.kept room.new.kept result copy.old copy.new }
+    ensures { Names seat (CopyPort (record { 0 = port })) room.old.kept room.new.kept result copy.old copy.new }
 {
-    make_call(room, seat, false, Call::CopyPort(Name(port)), copy)
+    make_bare_call(room, seat, Bare::CopyPort(Name(port)), copy)
 }
 
 /// Closes a port.
 #[unsafe(no_mangle)]
 pub extern "C" fn seryugo_close_port(room: &mut Handle, seat: u64, port: u64) -> u32
-    ensures { CallsPlain false seat (ClosePort (record { 0 = port })) room.old.kept room.new.kept result }
+    ensures { NamesNothing seat (ClosePort (record { 0 = port })) room.old.kept room.new.kept result }
 {
-    make_plain_call(room, seat, false, Call::ClosePort(Name(port)))
+    make_nameless_call(room, seat, Bare::ClosePort(Name(port)))
 }
 
 /// Sends a message to every port of a channel.

@@ -30,8 +30,10 @@ pub enum Code {
     StillOpen,
     /// What the handle leads to takes no such call.
     WrongHandle,
-    /// A limit or a capacity is out of its bounds.
+    /// A limit, a capacity, a message's length, or an entry's kind is out of its bounds.
     OutOfBounds,
+    /// An entry is unlawful.
+    Unlawful,
 }
 
 impl Code {
@@ -56,6 +58,7 @@ impl Code {
             Code::StillOpen => 14,
             Code::WrongHandle => 15,
             Code::OutOfBounds => 16,
+            Code::Unlawful => 17,
         }
     }
 

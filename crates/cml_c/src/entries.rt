@@ -1,11 +1,11 @@
 //! Entries of the journal.
-ghost use Rattle.std.specs.Prelude.{◌≡◌};
+ghost use Rattle.std.specs.Prelude.{◌≡◌, option_copied};
 ghost use Rattle.cml_c.specs.Codes.{number};
-ghost use Rattle.cml_c.specs.Entries.{flat, maker_of, call_of, reply_of, FindsIn, FindsOn, Finds};
+ghost use Rattle.cml_c.specs.Entries.{flat, maker_of, call_of, call_kind, call_object, call_message, reply_of, reply_kind, reply_name, reply_message, FindsIn, FindsOn, Finds};
 
 use crate::code::Code;
 use crate::handle::Handle;
-use crate::kept::{Kept, NumberRoom};
+use crate::kept::{Kept, RoomOf};
 use cml_board::{Call, Entry, Reply, Who};
 
 /// Who made a call: a seat (0), a lane (1) or a feed (2), by its number.
@@ -54,7 +54,7 @@ pub extern "C" fn seryugo_entry(room: &mut Handle, at: u64, entry: &mut SeryugoE
     }
 }
 
-fn find_in(room: &mut NumberRoom, at: u64, entry: &mut SeryugoEntry) -> u32
+fn find_in(room: &mut RoomOf<u64>, at: u64, entry: &mut SeryugoEntry) -> u32
     ensures { FindsIn at result entry.old entry.new room.old room.new }
 {
     let board = room.board();
@@ -85,7 +85,8 @@ fn flat(entry: &Entry<u64>) -> SeryugoEntry
     }
 }
 
-fn maker_of(who: Who) -> SeryugoMaker
+/// Who made a call, as C is shown it.
+pub(crate) fn maker_of(who: Who) -> SeryugoMaker
     ensures { result ≡ maker_of who }
 {
     let (kind, number) = match who {
@@ -99,43 +100,64 @@ fn maker_of(who: Who) -> SeryugoMaker
 fn call_of(call: &Call<u64>) -> SeryugoCall
     ensures { result ≡ call_of call.now }
 {
-    let (kind, object, message) = match call {
-        Call::NewMailbox => (0, 0, 0),
-        Call::NewChannel => (1, 0, 0),
-        Call::NewPort(name) => (2, name.0, 0),
-        Call::CopyPort(name) => (3, name.0, 0),
-        Call::ClosePort(name) => (4, name.0, 0),
-        Call::NewIVar => (5, 0, 0),
-        Call::NewMVar => (6, 0, 0),
-        Call::MVarInit(message) => (7, 0, *message),
-        Call::Send(name, message) => (8, name.0, *message),
-        Call::Cast(name, message) => (9, name.0, *message),
-        Call::Recv(name) => (10, name.0, 0),
-        Call::Poll(name) => (11, name.0, 0),
-        Call::Put(name, message) => (12, name.0, *message),
-        Call::Get(name) => (13, name.0, 0),
-        Call::GetPoll(name) => (14, name.0, 0),
-        Call::Take(name) => (15, name.0, 0),
-        Call::TakePoll(name) => (16, name.0, 0),
-        Call::Swap(name, message) => (17, name.0, *message),
-    };
+    let (kind, object, message) = call_parts(call);
     SeryugoCall {
         kind,
         object,
-        message,
+        message: *message.unwrap_or(&0),
+    }
+}
+
+/// Which call it is, its object's number or 0, and its message if it has one.
+pub(crate) fn call_parts<M>(call: &Call<M>) -> (u32, u64, Option<&M>)
+    ensures kind { result.0 ≡ call_kind call.now }
+    ensures object { result.1 ≡ call_object call.now }
+    ensures message { option_copied result.2 ≡ call_message call.now }
+{
+    match call {
+        Call::NewMailbox => (0, 0, None),
+        Call::NewChannel => (1, 0, None),
+        Call::NewPort(name) => (2, name.0, None),
+        Call::CopyPort(name) => (3, name.0, None),
+        Call::ClosePort(name) => (4, name.0, None),
+        Call::NewIVar => (5, 0, None),
+        Call::NewMVar => (6, 0, None),
+        Call::MVarInit(message) => (7, 0, Some(message)),
+        Call::Send(name, message) => (8, name.0, Some(message)),
+        Call::Cast(name, message) => (9, name.0, Some(message)),
+        Call::Recv(name) => (10, name.0, None),
+        Call::Poll(name) => (11, name.0, None),
+        Call::Put(name, message) => (12, name.0, Some(message)),
+        Call::Get(name) => (13, name.0, None),
+        Call::GetPoll(name) => (14, name.0, None),
+        Call::Take(name) => (15, name.0, None),
+        Call::TakePoll(name) => (16, name.0, None),
+        Call::Swap(name, message) => (17, name.0, Some(message)),
     }
 }
 
 fn reply_of(reply: &Reply<u64>) -> SeryugoReply
     ensures { result ≡ reply_of reply.now }
 {
-    let (kind, given) = match reply {
-        Reply::Done => (0, 0),
-        Reply::Made(name) => (1, name.0),
-        Reply::Got(message) => (2, *message),
-        Reply::Nothing => (3, 0),
-        Reply::Put => (4, 0),
-        Reply::Closed => (5, 0),
-    };
-    SeryugoReply { kind, given }
+    let (kind, name, message) = reply_parts(reply);
+    SeryugoReply {
+        kind,
+        given: *message.unwrap_or(&name),
+    }
+}
+
+/// Which reply it is, the name that it gives or 0, and its message if it has one.
+pub(crate) fn reply_parts<M>(reply: &Reply<M>) -> (u32, u64, Option<&M>)
+    ensures kind { result.0 ≡ reply_kind reply.now }
+    ensures name { result.1 ≡ reply_name reply.now }
+    ensures message { option_copied result.2 ≡ reply_message reply.now }
+{
+    match reply {
+        Reply::Done => (0, 0, None),
+        Reply::Made(name) => (1, name.0, None),
+        Reply::Got(message) => (2, 0, Some(message)),
+        Reply::Nothing => (3, 0, None),
+        Reply::Put => (4, 0, None),
+        Reply::Closed => (5, 0, None),
+    }
 }

@@ -1,9 +1,15 @@
-//! Rooms, lanes and feeds of 64-bit messages for C and whatever calls C. `include/seryugo.h` says in plain words what the
+//! Rooms, lanes and feeds for C and whatever calls C. Messages are 64-bit numbers, or bytes. `include/seryugo.h` says in plain words what the
 //! clauses say here.
 #![tactic(auto)]
 
 mod asking;
+mod bare;
+mod bytes;
+mod bytes_asking;
+mod bytes_entries;
 mod channels;
+mod checked_entries;
+mod checkers;
 mod code;
 mod due;
 mod entries;
@@ -13,8 +19,10 @@ mod journals;
 mod kept;
 mod lanes;
 mod mailboxes;
+mod messages;
 mod raw;
 mod readers;
 mod rooms;
+mod sort;
 mod telling;
 mod variables;

@@ -1,18 +1,20 @@
 //! Mailboxes.
 ghost use Rattle.std.specs.Prelude.{false};
-ghost use Rattle.cml_board.specs.declared.call.Call.TheVariants.{NewMailbox, Send, Recv, Poll};
-ghost use Rattle.cml_c.specs.Asking.{Calls, CallsPlain};
+ghost use Rattle.cml_board.specs.declared.call.Call.TheVariants.{Send, Recv, Poll};
+ghost use Rattle.cml_c.specs.declared.bare.Bare.TheVariants.{NewMailbox};
+ghost use Rattle.cml_c.specs.Asking.{Names, Calls, CallsPlain};
 
-use crate::asking::{make_call, make_plain_call};
+use crate::asking::{make_bare_call, make_call, make_plain_call};
+use crate::bare::Bare;
 use crate::handle::Handle;
 use cml_board::{Call, Name};
 
 /// Makes a mailbox, and writes its name.
 #[unsafe(no_mangle)]
 pub extern "C" fn seryugo_new_mailbox(room: &mut Handle, seat: u64, mailbox: &mut u64) -> u32
-    ensures { Calls false seat NewMailbox room.old.kept room.new.kept result mailbox.old mailbox.new }
+    ensures { Names seat NewMailbox room.old.kept room.new.kept result mailbox.old mailbox.new }
 {
-    make_call(room, seat, false, Call::NewMailbox, mailbox)
+    make_bare_call(room, seat, Bare::NewMailbox, mailbox)
 }
 
 /// Sends a message to a mailbox.

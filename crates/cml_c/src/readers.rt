@@ -1,12 +1,14 @@
 //! What a room has, told without changing it.
 ghost use Rattle.std.specs.Prelude.{◌≡◌, option_map};
-ghost use Rattle.cml_c.specs.Reading.{number_of_kind, bare, ReadsOn, HeldOn, OpenOn, FullOn, sent_in, got_in, owed_in, kept_in, first_in, kind_in, channel_in, start_in, entries_of, cut_at_of, limit_of};
+ghost use Rattle.cml_c.specs.Reading.{number_of_kind, bare, ReadsOn, HeldOn, HeldBytesOn, OpenOn, FullOn, sent_in, got_in, owed_in, kept_in, first_in, kind_in, channel_in, start_in, entries_of, cut_at_of, limit_of};
 
 use crate::code::Code;
 use crate::handle::Handle;
 use crate::kept::Kept;
-use crate::telling::{tell_found, tell_held, tell_open};
+use crate::messages::{SeryugoBytes, hand_over_held};
+use crate::telling::{tell_found, tell_full, tell_held, tell_open};
 use cml_board::{Kind, Name};
+use std::alloc::Global;
 
 /// How many messages were sent to a mailbox, or multicast on a channel. It is told `NoSuch` where no object of the name has such a count.
 #[unsafe(no_mangle)]
@@ -15,6 +17,7 @@ pub extern "C" fn seryugo_sent(room: &mut Handle, object: u64, count: &mut u64) 
 {
     match room.as_mut() {
         Kept::Room(room) => tell_found(room.board().sent_count(Name(object)), count),
+        Kept::BytesRoom(room) => tell_found(room.board().sent_count(Name(object)), count),
         _ => Code::WrongHandle.number(),
     }
 }
@@ -26,6 +29,7 @@ pub extern "C" fn seryugo_got(room: &mut Handle, object: u64, count: &mut u64) -
 {
     match room.as_mut() {
         Kept::Room(room) => tell_found(room.board().got_count(Name(object)), count),
+        Kept::BytesRoom(room) => tell_found(room.board().got_count(Name(object)), count),
         _ => Code::WrongHandle.number(),
     }
 }
@@ -37,6 +41,7 @@ pub extern "C" fn seryugo_owed(room: &mut Handle, object: u64, count: &mut u64) 
 {
     match room.as_mut() {
         Kept::Room(room) => tell_found(room.board().owed_count(Name(object)), count),
+        Kept::BytesRoom(room) => tell_found(room.board().owed_count(Name(object)), count),
         _ => Code::WrongHandle.number(),
     }
 }
@@ -48,6 +53,7 @@ pub extern "C" fn seryugo_kept(room: &mut Handle, object: u64, count: &mut u64) 
 {
     match room.as_mut() {
         Kept::Room(room) => tell_found(room.board().kept_count(Name(object)), count),
+        Kept::BytesRoom(room) => tell_found(room.board().kept_count(Name(object)), count),
         _ => Code::WrongHandle.number(),
     }
 }
@@ -59,6 +65,7 @@ pub extern "C" fn seryugo_first(room: &mut Handle, object: u64, count: &mut u64)
 {
     match room.as_mut() {
         Kept::Room(room) => tell_found(room.board().first_of(Name(object)), count),
+        Kept::BytesRoom(room) => tell_found(room.board().first_of(Name(object)), count),
         _ => Code::WrongHandle.number(),
     }
 }
@@ -71,6 +78,7 @@ pub extern "C" fn seryugo_kind(room: &mut Handle, object: u64, kind: &mut u64) -
 {
     match room.as_mut() {
         Kept::Room(room) => tell_found(number_of(room.board().kind(Name(object))), kind),
+        Kept::BytesRoom(room) => tell_found(number_of(room.board().kind(Name(object))), kind),
         _ => Code::WrongHandle.number(),
     }
 }
@@ -94,6 +102,7 @@ pub extern "C" fn seryugo_channel_of(room: &mut Handle, port: u64, channel: &mut
 {
     match room.as_mut() {
         Kept::Room(room) => tell_found(bare(room.board().channel_of(Name(port))), channel),
+        Kept::BytesRoom(room) => tell_found(bare(room.board().channel_of(Name(port))), channel),
         _ => Code::WrongHandle.number(),
     }
 }
@@ -112,6 +121,7 @@ pub extern "C" fn seryugo_start_of(room: &mut Handle, port: u64, start: &mut u64
 {
     match room.as_mut() {
         Kept::Room(room) => tell_found(room.board().start_of(Name(port)), start),
+        Kept::BytesRoom(room) => tell_found(room.board().start_of(Name(port)), start),
         _ => Code::WrongHandle.number(),
     }
 }
@@ -123,6 +133,7 @@ pub extern "C" fn seryugo_entries(room: &mut Handle, count: &mut u64) -> u32
 {
     match room.as_mut() {
         Kept::Room(room) => tell_found(Some(room.board().entries()), count),
+        Kept::BytesRoom(room) => tell_found(Some(room.board().entries()), count),
         _ => Code::WrongHandle.number(),
     }
 }
@@ -134,6 +145,7 @@ pub extern "C" fn seryugo_cut_at(room: &mut Handle, count: &mut u64) -> u32
 {
     match room.as_mut() {
         Kept::Room(room) => tell_found(Some(room.board().cut_at()), count),
+        Kept::BytesRoom(room) => tell_found(Some(room.board().cut_at()), count),
         _ => Code::WrongHandle.number(),
     }
 }
@@ -145,17 +157,34 @@ pub extern "C" fn seryugo_limit(room: &mut Handle, count: &mut u64) -> u32
 {
     match room.as_mut() {
         Kept::Room(room) => tell_found(Some(room.board().limit()), count),
+        Kept::BytesRoom(room) => tell_found(Some(room.board().limit()), count),
         _ => Code::WrongHandle.number(),
     }
 }
 
-/// What a variable holds. It is told `Nothing` where it is empty, and `NoSuch` where no variable has the name.
+/// What a variable of a room of numbers holds. It is told `Nothing` where it is empty, and `NoSuch` where no variable has the name.
 #[unsafe(no_mangle)]
 pub extern "C" fn seryugo_held(room: &mut Handle, variable: u64, message: &mut u64) -> u32
     ensures { HeldOn variable room.old.kept room.new.kept result message.old message.new }
 {
     match room.as_mut() {
         Kept::Room(room) => tell_held(room.board().held(Name(variable)), message),
+        _ => Code::WrongHandle.number(),
+    }
+}
+
+/// Hands over what a variable of a room of bytes holds. Fails with `NoSuch` if no variable has the name.
+#[unsafe(no_mangle)]
+pub extern "C" fn seryugo_bytes_held(
+    alloc: Global,
+    room: &mut Handle,
+    variable: u64,
+    message: &mut SeryugoBytes,
+) -> u32
+    ensures { HeldBytesOn variable room.old.kept room.new.kept result message.old message.new }
+{
+    match room.as_mut() {
+        Kept::BytesRoom(room) => hand_over_held(alloc, room.board().held(Name(variable)), message),
         _ => Code::WrongHandle.number(),
     }
 }
@@ -167,6 +196,7 @@ pub extern "C" fn seryugo_is_open(room: &mut Handle, port: u64) -> u32
 {
     match room.as_mut() {
         Kept::Room(room) => tell_open(room.board().is_open(Name(port))),
+        Kept::BytesRoom(room) => tell_open(room.board().is_open(Name(port))),
         _ => Code::WrongHandle.number(),
     }
 }
@@ -177,12 +207,8 @@ pub extern "C" fn seryugo_is_full(room: &mut Handle) -> u32
     ensures { FullOn room.old.kept room.new.kept result }
 {
     match room.as_mut() {
-        Kept::Room(room) => {
-            if room.board().is_full() {
-                return Code::JournalFull.number();
-            }
-            Code::Done.number()
-        }
+        Kept::Room(room) => tell_full(room.board().is_full()),
+        Kept::BytesRoom(room) => tell_full(room.board().is_full()),
         _ => Code::WrongHandle.number(),
     }
 }

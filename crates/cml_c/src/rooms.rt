@@ -1,53 +1,70 @@
 //! Rooms are opened and closed, and seats are made and leave.
-ghost use Rattle.std.specs.Prelude.{◌≡◌, ◌≤◌, ◌⊎◌, [], IfOk, IfErr, OnErr};
-ghost use Rattle.cml_board.specs.History.{no_entries};
-ghost use Rattle.cml_c.specs.declared.code.Code.TheVariants.{Done, NoMemory, OutOfBounds};
+ghost use Rattle.std.specs.Prelude.{◌≡◌, ◌⊎◌, IfOk, IfErr};
+ghost use Rattle.cml_c.specs.declared.code.Code.TheVariants.{NoMemory, OutOfBounds};
+ghost use Rattle.cml_c.specs.declared.kept.Kept.TheVariants as kept;
 ghost use Rattle.cml_c.specs.Codes.{number, told_outcome};
 ghost use Rattle.cml_c.specs.Seats.{MakesSeat, MakesASeat, Leaves};
-ghost use Rattle.cml_c.specs.Opening.{IsLimit, OpensRoom, OpensARoom};
+ghost use Rattle.cml_c.specs.Opening.{IsLimit, IsNew, OpensARoom, Writes};
 
 use crate::code::Code;
 use crate::handle::{Handle, Slot};
-use crate::kept::{Kept, NumberRoom};
-use cml_board::Refusal;
+use crate::kept::{Kept, RoomOf};
+use cml_board::{Message, Refusal};
 use cml_room::Room;
 use std::alloc::Global;
 
 /// The largest limit that a journal may have: 2^32.
 const MOST: u64 = 4_294_967_296;
 
-/// Opens a room whose journal takes `limit` entries between two cuts, and writes a handle to it.
+/// Opens a room of numbers whose journal takes `limit` entries between two cuts, and writes a handle to it.
 #[unsafe(no_mangle)]
 pub extern "C" fn seryugo_room_open(alloc: Global, limit: u64, room: &mut Slot) -> u32
-    ensures { OpensARoom limit result room.old room.new }
+    ensures { OpensARoom kept.Room limit result room.old room.new }
 {
     match new_room(alloc, limit) {
-        Ok(handle) => {
-            *room = handle.into_slot();
-            Code::Done.number()
-        }
+        Ok(opened) => write_handle(alloc, Kept::Room(opened), room),
         Err(code) => code.number(),
     }
 }
 
-/// A handle to a new room.
-fn new_room(alloc: Global, limit: u64) -> Result<Handle, Code>
-    ensures opened { IfOk result (λ handle. IsLimit limit × OpensRoom limit handle.kept) }
+/// Opens a room of bytes whose journal takes `limit` entries between two cuts, and writes a handle to it.
+#[unsafe(no_mangle)]
+pub extern "C" fn seryugo_bytes_room_open(alloc: Global, limit: u64, room: &mut Slot) -> u32
+    ensures { OpensARoom kept.BytesRoom limit result room.old room.new }
+{
+    match new_room(alloc, limit) {
+        Ok(opened) => write_handle(alloc, Kept::BytesRoom(opened), room),
+        Err(code) => code.number(),
+    }
+}
+
+fn new_room<M: Message>(alloc: Global, limit: u64) -> Result<RoomOf<M>, Code>
+    ensures opened { IfOk result (λ room. IsLimit limit × IsNew limit room) }
     ensures refused { IfErr result (λ code. (code ≡ NoMemory × IsLimit limit) ⊎ (code ≡ OutOfBounds × ¬ (IsLimit limit))) }
 {
     if limit < 1 || limit > MOST {
         return Err(Code::OutOfBounds);
     }
-    let Ok(room) = Room::new(alloc, limit) else {
-        return Err(Code::NoMemory);
-    };
-    let Ok(handle) = Handle::new(alloc, Kept::Room(room)) else {
-        return Err(Code::NoMemory);
-    };
-    Ok(handle)
+    match Room::new(alloc, limit) {
+        Ok(room) => Ok(room),
+        Err(_) => Err(Code::NoMemory),
+    }
 }
 
-/// Closes a room, a lane or a feed: it is dropped, and its memory is given back.
+/// Writes a handle to this. If there is no memory for one, this is dropped.
+pub(crate) fn write_handle(alloc: Global, kept: Kept, slot: &mut Slot) -> u32
+    ensures { Writes kept result slot.old slot.new }
+{
+    match Handle::new(alloc, kept) {
+        Ok(handle) => {
+            *slot = handle.into_slot();
+            Code::Done.number()
+        }
+        Err(_) => Code::NoMemory.number(),
+    }
+}
+
+/// Closes what a handle leads to: it is dropped, and its memory is freed.
 #[unsafe(no_mangle)]
 pub extern "C" fn seryugo_close(handle: Handle) {
     drop(handle);
@@ -60,11 +77,12 @@ pub extern "C" fn seryugo_new_seat(room: &mut Handle, seat: &mut u64) -> u32
 {
     match room.as_mut() {
         Kept::Room(room) => new_seat_in(room, seat),
+        Kept::BytesRoom(room) => new_seat_in(room, seat),
         _ => Code::WrongHandle.number(),
     }
 }
 
-fn new_seat_in(room: &mut NumberRoom, seat: &mut u64) -> u32
+fn new_seat_in<M: Message>(room: &mut RoomOf<M>, seat: &mut u64) -> u32
     ensures { MakesSeat result seat.old seat.new room.old room.new }
 {
     match room.new_seat() {
@@ -83,6 +101,7 @@ pub extern "C" fn seryugo_leave(room: &mut Handle, seat: u64) -> u32
 {
     match room.as_mut() {
         Kept::Room(room) => code_of(room.leave(seat)),
+        Kept::BytesRoom(room) => code_of(room.leave(seat)),
         _ => Code::WrongHandle.number(),
     }
 }

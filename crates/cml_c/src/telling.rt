@@ -1,5 +1,6 @@
 //! What was found, told by its code.
-ghost use Rattle.std.specs.Prelude.{◌≡◌, option_map, option_copied};
+ghost use Rattle.std.specs.Prelude.{◌≡◌, MatchBool, option_map, option_copied};
+ghost use Rattle.cml_c.specs.declared.code.Code.TheVariants.{Done, JournalFull};
 ghost use Rattle.cml_c.specs.Codes.{number};
 ghost use Rattle.cml_c.specs.Reading.{told_found, written_found, told_held, written_held, told_open};
 
@@ -42,4 +43,14 @@ pub fn tell_open(found: Option<bool>) -> u32
         Some(false) => Code::Closed.number(),
         None => Code::NoSuch.number(),
     }
+}
+
+/// `Done`, or `JournalFull`.
+pub fn tell_full(is_full: bool) -> u32
+    ensures { MatchBool is_full (result ≡ number JournalFull) (result ≡ number Done) }
+{
+    if is_full {
+        return Code::JournalFull.number();
+    }
+    Code::Done.number()
 }

@@ -1,26 +1,28 @@
 //! Variables: those that are filled once, and those that are filled and emptied again.
 ghost use Rattle.std.specs.Prelude.{false};
-ghost use Rattle.cml_board.specs.declared.call.Call.TheVariants.{NewIVar, NewMVar, MVarInit, Put, Get, GetPoll, Take, TakePoll, Swap};
-ghost use Rattle.cml_c.specs.Asking.{Calls, CallsPlain};
+ghost use Rattle.cml_board.specs.declared.call.Call.TheVariants.{MVarInit, Put, Get, GetPoll, Take, TakePoll, Swap};
+ghost use Rattle.cml_c.specs.declared.bare.Bare.TheVariants.{NewIVar, NewMVar};
+ghost use Rattle.cml_c.specs.Asking.{Names, Calls, CallsPlain};
 
-use crate::asking::{make_call, make_plain_call};
+use crate::asking::{make_bare_call, make_call, make_plain_call};
+use crate::bare::Bare;
 use crate::handle::Handle;
 use cml_board::{Call, Name};
 
 /// Makes an empty i-variable, and writes its name.
 #[unsafe(no_mangle)]
 pub extern "C" fn seryugo_new_ivar(room: &mut Handle, seat: u64, variable: &mut u64) -> u32
-    ensures { Calls false seat NewIVar room.old.kept room.new.kept result variable.old variable.new }
+    ensures { Names seat NewIVar room.old.kept room.new.kept result variable.old variable.new }
 {
-    make_call(room, seat, false, Call::NewIVar, variable)
+    make_bare_call(room, seat, Bare::NewIVar, variable)
 }
 
 /// Makes an empty m-variable, and writes its name.
 #[unsafe(no_mangle)]
 pub extern "C" fn seryugo_new_mvar(room: &mut Handle, seat: u64, variable: &mut u64) -> u32
-    ensures { Calls false seat NewMVar room.old.kept room.new.kept result variable.old variable.new }
+    ensures { Names seat NewMVar room.old.kept room.new.kept result variable.old variable.new }
 {
-    make_call(room, seat, false, Call::NewMVar, variable)
+    make_bare_call(room, seat, Bare::NewMVar, variable)
 }
 
 /// Makes an m-variable that holds this, and writes its name.

@@ -3,7 +3,7 @@ use Rattle.cml_c.proofs.journals.take_in.Goals as goal
 
 -- src/journals.rt:66:1
 pub returns-in-Ok-take_journal : goal.returns-in-Ok-take_journal
-returns-in-Ok-take_journal c = inl
+returns-in-Ok-take_journal g c = inl
     (record {
       told = search rules;
       cut = search rules;

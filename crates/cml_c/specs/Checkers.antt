@@ -1,0 +1,134 @@
+-- What C is told of a journal that is checked.
+use Rattle.std.specs.Prelude.{ℕ, ◌≡◌, ◌+◌, ◌<◌, ◌≤◌, ◌^◌, ◌⊎◌, List, [], ◌∷◌, length, drop, slice_get, Option, Some, None, Result, Ok, Err, ⊤}
+use Rattle.cml_board.specs.declared.call.Call.{Call}
+use Rattle.cml_board.specs.declared.call.Call.TheVariants as call
+use Rattle.cml_board.specs.declared.call.Name.{Name}
+use Rattle.cml_board.specs.declared.entry.Entry.{Entry}
+use Rattle.cml_board.specs.declared.entry.Reply.{Reply}
+use Rattle.cml_board.specs.declared.entry.Reply.TheVariants as reply
+use Rattle.cml_board.specs.declared.entry.Who.{Who}
+use Rattle.cml_board.specs.declared.entry.Who.TheVariants as who
+use Rattle.cml_board.specs.Checking.{Feeds, Pauses, count_of}
+use Rattle.cml_c.specs.declared.code.Code.{Code}
+use Rattle.cml_c.specs.declared.code.Code.TheVariants.{Done, NoSuch, NoMemory, OutOfBounds, Unlawful}
+use Rattle.cml_c.specs.declared.entries.SeryugoEntry.{SeryugoEntry}
+use Rattle.cml_c.specs.declared.entries.SeryugoMaker.{SeryugoMaker}
+use Rattle.cml_c.specs.declared.kept.Kept.{Kept}
+use Rattle.cml_c.specs.declared.kept.Kept.TheVariants.{Journal, BytesJournal, Checker, BytesChecker}
+use Rattle.cml_c.specs.Codes.{number}
+use Rattle.cml_c.specs.Rooms.{IsWrong}
+use Rattle.cml_c.specs.Messages.{NotCopied}
+
+-- what a checker shows: the history that it found lawful, or the first position that isn't
+abbrev pub Seen : Type 0 → Type 0
+Seen M = Result (List (Entry M)) ℕ
+
+-- the code of a verdict
+abbrev pub told_verdict : Result ⊤ ℕ → Code
+told_verdict (Ok done) = Done
+told_verdict (Err at) = Unlawful
+
+-- the entries are lawful behind those before, or one is not
+pub record Judges {M : Type 0} (entries : List (Entry M)) (code : ℕ) (old new : Seen M) : Type 0 where
+  pub verdict : Result ⊤ ℕ
+  pub feeds : Feeds old entries new verdict
+  pub told : code ≡ number (told_verdict verdict)
+
+-- or there is no memory to go on, and some were seen; or they would be more than a position can tell
+abbrev pub FeedsIn : {M : Type 0} → List (Entry M) → ℕ → Seen M → Seen M → Type 0
+FeedsIn entries code old new =
+    Judges entries code old new
+    ⊎ ((code ≡ number NoMemory) × Pauses old entries new)
+    ⊎ ((code ≡ number OutOfBounds) × (2 ^ 64 ≤ count_of old + length entries) × (new ≡ old))
+
+-- the journal has this place, and the entries from there on are fed; or it is shorter
+abbrev pub FeedsFrom : {M : Type 0} → List (Entry M) → ℕ → ℕ → Seen M → Seen M → Type 0
+FeedsFrom journal place code old new =
+    ((place ≤ length journal) × FeedsIn (drop place journal) code old new)
+    ⊎ ((length journal < place) × (code ≡ number NoSuch) × (new ≡ old))
+
+-- the checker's handle and the journal's: their messages are of one type, or nothing is changed
+pub record FeedsPart {M : Type 0} (wrap : Seen M → Kept) (journal : List (Entry M)) (place code : ℕ) (old : Seen M) (new : Kept) : Type 0 where
+  pub seen : Seen M
+  pub leads : new ≡ wrap seen
+  pub feeds : FeedsFrom journal place code old seen
+
+abbrev pub FeedsJournal : ℕ → Kept → Kept → Kept → Kept → ℕ → Type 0
+FeedsJournal place (Checker old) new (Journal taken) left code = (left ≡ Journal taken) × FeedsPart Checker taken.items place code old new
+FeedsJournal place (BytesChecker old) new (BytesJournal taken) left code = (left ≡ BytesJournal taken) × FeedsPart BytesChecker taken.items place code old new
+FeedsJournal place old new journal left code = (left ≡ journal) × IsWrong ⊤ code old new
+
+-- who made a call, which call it is, and its reply, in the order of their kinds
+abbrev pub makers : ℕ → List Who
+makers number_of = who.Seat number_of ∷ who.Lane number_of ∷ who.Feed number_of ∷ []
+
+abbrev pub calls : {M : Type 0} → Name → M → List (Call M)
+calls object message =
+    call.NewMailbox ∷ call.NewChannel ∷ call.NewPort object ∷ call.CopyPort object ∷ call.ClosePort object ∷ call.NewIVar ∷ call.NewMVar
+    ∷ call.MVarInit message ∷ call.Send object message ∷ call.Cast object message ∷ call.Recv object ∷ call.Poll object
+    ∷ call.Put object message ∷ call.Get object ∷ call.GetPoll object ∷ call.Take object ∷ call.TakePoll object ∷ call.Swap object message ∷ []
+
+abbrev pub replies : {M : Type 0} → Name → M → List (Reply M)
+replies name message = reply.Done ∷ reply.Made name ∷ reply.Got message ∷ reply.Nothing ∷ reply.Put ∷ reply.Closed ∷ []
+
+-- the entry that has all three, if each kind is one
+abbrev pub entry_of : {M : Type 0} → Option Who → Option (Call M) → Option (Reply M) → Option (Entry M)
+entry_of (Some who) (Some call) (Some reply) = Some (record { who = who; call = call; reply = reply })
+entry_of who call reply = None
+
+abbrev pub who_in : SeryugoMaker → Option Who
+who_in maker = slice_get (makers maker.number) maker.kind
+
+-- the entry that C has, whose messages are numbers
+abbrev pub entry_in : SeryugoEntry → Option (Entry ℕ)
+entry_in given = entry_of (who_in given.maker)
+    (slice_get (calls (record { 0 = given.call.object }) given.call.message) given.call.kind)
+    (slice_get (replies (record { 0 = given.reply.given }) given.reply.given) given.reply.kind)
+
+-- the same of bytes, and the parts of such an entry
+pub record Parts : Type 0 where
+  pub maker : SeryugoMaker
+  pub call : ℕ
+  pub object : ℕ
+  pub sent : List ℕ
+  pub reply : ℕ
+  pub name : ℕ
+  pub got : List ℕ
+
+abbrev pub entry_with : Parts → Option (Entry (List ℕ))
+entry_with given = entry_of (who_in given.maker)
+    (slice_get (calls (record { 0 = given.object }) given.sent) given.call)
+    (slice_get (replies (record { 0 = given.name }) given.got) given.reply)
+
+-- it is fed to the checker, if it is one; else nothing is changed
+abbrev pub FeedsEntry : {M : Type 0} → Option (Entry M) → ℕ → Seen M → Seen M → Type 0
+FeedsEntry (Some entry) code old new = FeedsIn (entry ∷ []) code old new
+FeedsEntry None code old new = (code ≡ number OutOfBounds) × (new ≡ old)
+
+abbrev pub FeedsNumbers : Option (Entry ℕ) → Kept → Kept → ℕ → Type 0
+FeedsNumbers entry (Checker old) new code = (seen : Seen ℕ) × (new ≡ Checker seen) × FeedsEntry entry code old seen
+FeedsNumbers entry other new code = IsWrong ⊤ code other new
+
+-- the same of bytes, which are copied first, or there is no memory for them, or they are too many
+pub record CopiesNeither (sent got : List ℕ) (code : ℕ) (old new : Kept) : Type 0 where
+  pub refused : NotCopied sent code ⊎ NotCopied got code
+  pub kept : new ≡ old
+
+abbrev pub FeedsBytes : Option (Entry (List ℕ)) → Kept → Kept → ℕ → Type 0
+FeedsBytes entry (BytesChecker old) new code = (seen : Seen (List ℕ)) × (new ≡ BytesChecker seen) × FeedsEntry entry code old seen
+FeedsBytes entry other new code = IsWrong ⊤ code other new
+
+abbrev pub FeedsParts : Parts → Kept → Kept → ℕ → Type 0
+FeedsParts given old new code = FeedsBytes (entry_with given) old new code ⊎ CopiesNeither given.sent given.got code old new
+
+-- how many entries were found lawful, and the verdict where nothing more is fed
+pub record TellsSeen {M : Type 0} (wrap : Seen M → Kept) (code after : ℕ) (old : Seen M) (new : Kept) : Type 0 where
+  pub seen : Seen M
+  pub leads : new ≡ wrap seen
+  pub verdict : FeedsIn [] code old seen
+  pub count : after ≡ count_of old
+
+abbrev pub TellsVerdict : Kept → Kept → ℕ → ℕ → ℕ → Type 0
+TellsVerdict (Checker old) new code before after = TellsSeen Checker code after old new
+TellsVerdict (BytesChecker old) new code before after = TellsSeen BytesChecker code after old new
+TellsVerdict other new code before after = IsWrong (after ≡ before) code other new

@@ -1,0 +1,226 @@
+//! Calls with messages of bytes, which a room of bytes alone takes.
+ghost use Rattle.std.specs.Prelude.{false};
+ghost use Rattle.cml_board.specs.declared.call.Call.TheVariants.{Send, Cast, Recv, Poll, MVarInit, Put, Get, GetPoll, Take, TakePoll, Swap};
+ghost use Rattle.cml_c.specs.Messages.{CallsBytes, SendsBytes, FillsBytes, SwapsBytes};
+
+use crate::bytes_asking::{make_call, make_naming_call, make_plain_call};
+use crate::handle::Handle;
+use crate::messages::{SeryugoBytes, copied};
+use cml_board::{Call, Name};
+use std::alloc::Global;
+
+/// Copies a message, and sends it to a mailbox.
+#[unsafe(no_mangle)]
+pub extern "C" fn seryugo_bytes_send_from(
+    alloc: Global,
+    room: &mut Handle,
+    seat: u64,
+    mailbox: u64,
+    message: &[u8],
+) -> u32
+    ensures { SendsBytes seat message.now (Send (record { 0 = mailbox }) message.now) room.old.kept room.new.kept result }
+{
+    match copied(alloc, message) {
+        Ok(bytes) => make_plain_call(room, seat, Call::Send(Name(mailbox), bytes)),
+        Err(code) => code.number(),
+    }
+}
+
+/// Copies a message, and sends it to every port of a channel.
+#[unsafe(no_mangle)]
+pub extern "C" fn seryugo_bytes_multicast_from(
+    alloc: Global,
+    room: &mut Handle,
+    seat: u64,
+    channel: u64,
+    message: &[u8],
+) -> u32
+    ensures { SendsBytes seat message.now (Cast (record { 0 = channel }) message.now) room.old.kept room.new.kept result }
+{
+    match copied(alloc, message) {
+        Ok(bytes) => make_plain_call(room, seat, Call::Cast(Name(channel), bytes)),
+        Err(code) => code.number(),
+    }
+}
+
+/// Receives the next message of a mailbox or a port, and hands it over. If there is none, the seat is parked.
+#[unsafe(no_mangle)]
+pub extern "C" fn seryugo_bytes_recv(
+    alloc: Global,
+    room: &mut Handle,
+    seat: u64,
+    source: u64,
+    is_again: bool,
+    message: &mut SeryugoBytes,
+) -> u32
+    ensures { CallsBytes is_again seat (Recv (record { 0 = source })) room.old.kept room.new.kept result message.old message.new }
+{
+    make_call(
+        alloc,
+        room,
+        seat,
+        is_again,
+        Call::Recv(Name(source)),
+        message,
+    )
+}
+
+/// Receives the next message of a mailbox or a port, if there is one.
+#[unsafe(no_mangle)]
+pub extern "C" fn seryugo_bytes_recv_poll(
+    alloc: Global,
+    room: &mut Handle,
+    seat: u64,
+    source: u64,
+    message: &mut SeryugoBytes,
+) -> u32
+    ensures { CallsBytes false seat (Poll (record { 0 = source })) room.old.kept room.new.kept result message.old message.new }
+{
+    make_call(alloc, room, seat, false, Call::Poll(Name(source)), message)
+}
+
+/// Makes an m-variable that holds a copy of these bytes, and writes its name.
+#[unsafe(no_mangle)]
+pub extern "C" fn seryugo_bytes_mvar_init_from(
+    alloc: Global,
+    room: &mut Handle,
+    seat: u64,
+    message: &[u8],
+    variable: &mut u64,
+) -> u32
+    ensures { FillsBytes seat message.now (MVarInit message.now) room.old.kept room.new.kept result variable.old variable.new }
+{
+    match copied(alloc, message) {
+        Ok(bytes) => make_naming_call(room, seat, Call::MVarInit(bytes), variable),
+        Err(code) => code.number(),
+    }
+}
+
+/// Fills an empty variable with a copy of these bytes.
+#[unsafe(no_mangle)]
+pub extern "C" fn seryugo_bytes_put_from(
+    alloc: Global,
+    room: &mut Handle,
+    seat: u64,
+    variable: u64,
+    message: &[u8],
+) -> u32
+    ensures { SendsBytes seat message.now (Put (record { 0 = variable }) message.now) room.old.kept room.new.kept result }
+{
+    match copied(alloc, message) {
+        Ok(bytes) => make_plain_call(room, seat, Call::Put(Name(variable), bytes)),
+        Err(code) => code.number(),
+    }
+}
+
+/// Reads a variable, which keeps what it holds. If it is empty, the seat is parked.
+#[unsafe(no_mangle)]
+pub extern "C" fn seryugo_bytes_get(
+    alloc: Global,
+    room: &mut Handle,
+    seat: u64,
+    variable: u64,
+    is_again: bool,
+    message: &mut SeryugoBytes,
+) -> u32
+    ensures { CallsBytes is_again seat (Get (record { 0 = variable })) room.old.kept room.new.kept result message.old message.new }
+{
+    make_call(
+        alloc,
+        room,
+        seat,
+        is_again,
+        Call::Get(Name(variable)),
+        message,
+    )
+}
+
+/// Reads a variable, if it is full.
+#[unsafe(no_mangle)]
+pub extern "C" fn seryugo_bytes_get_poll(
+    alloc: Global,
+    room: &mut Handle,
+    seat: u64,
+    variable: u64,
+    message: &mut SeryugoBytes,
+) -> u32
+    ensures { CallsBytes false seat (GetPoll (record { 0 = variable })) room.old.kept room.new.kept result message.old message.new }
+{
+    make_call(
+        alloc,
+        room,
+        seat,
+        false,
+        Call::GetPoll(Name(variable)),
+        message,
+    )
+}
+
+/// Reads and empties an m-variable. If it is empty, the seat is parked.
+#[unsafe(no_mangle)]
+pub extern "C" fn seryugo_bytes_take(
+    alloc: Global,
+    room: &mut Handle,
+    seat: u64,
+    variable: u64,
+    is_again: bool,
+    message: &mut SeryugoBytes,
+) -> u32
+    ensures { CallsBytes is_again seat (Take (record { 0 = variable })) room.old.kept room.new.kept result message.old message.new }
+{
+    make_call(
+        alloc,
+        room,
+        seat,
+        is_again,
+        Call::Take(Name(variable)),
+        message,
+    )
+}
+
+/// Reads and empties an m-variable, if it is full.
+#[unsafe(no_mangle)]
+pub extern "C" fn seryugo_bytes_take_poll(
+    alloc: Global,
+    room: &mut Handle,
+    seat: u64,
+    variable: u64,
+    message: &mut SeryugoBytes,
+) -> u32
+    ensures { CallsBytes false seat (TakePoll (record { 0 = variable })) room.old.kept room.new.kept result message.old message.new }
+{
+    make_call(
+        alloc,
+        room,
+        seat,
+        false,
+        Call::TakePoll(Name(variable)),
+        message,
+    )
+}
+
+/// Stores a copy of these bytes in an m-variable, and hands over what it held. If it is empty, the seat is parked.
+#[unsafe(no_mangle)]
+pub extern "C" fn seryugo_bytes_swap_from(
+    alloc: Global,
+    room: &mut Handle,
+    seat: u64,
+    variable: u64,
+    message: &[u8],
+    is_again: bool,
+    held: &mut SeryugoBytes,
+) -> u32
+    ensures { SwapsBytes is_again seat message.now (Swap (record { 0 = variable }) message.now) room.old.kept room.new.kept result held.old held.new }
+{
+    match copied(alloc, message) {
+        Ok(bytes) => make_call(
+            alloc,
+            room,
+            seat,
+            is_again,
+            Call::Swap(Name(variable), bytes),
+            held,
+        ),
+        Err(code) => code.number(),
+    }
+}

@@ -1,0 +1,183 @@
+//! Entries of a journal whose messages are bytes.
+ghost use Rattle.std.specs.Prelude.{◌≡◌, IfOk, option_copied};
+ghost use Rattle.cml_c.specs.Entries.{call_kind, call_object, call_message, count_of, reply_kind, reply_name, reply_message, IsShown, FindsBytes, FindsBytesIn, FindsBytesOn};
+
+use crate::code::Code;
+use crate::entries::{SeryugoMaker, call_parts, maker_of, reply_parts};
+use crate::handle::{Handle, Slot};
+use crate::kept::{Kept, RoomOf};
+use crate::messages::place_of;
+use cml_board::{Bytes, Call, Entry, Message, Reply};
+use std::alloc::{AllocError, Global};
+use std::ptr;
+
+/// Where a message's bytes are, and how many they are. Both are 0 where there is no message.
+#[repr(C)]
+#[derive(Drop)]
+pub struct SeryugoPlace {
+    pub at: *const u8,
+    pub length: usize,
+}
+
+/// A call: which one it is, its object's number or 0, and its message.
+#[repr(C)]
+#[derive(Drop)]
+pub struct SeryugoBytesCall {
+    pub kind: u32,
+    pub object: u64,
+    pub message: SeryugoPlace,
+}
+
+/// A reply: which one it is, the name that it gives or 0, and its message.
+#[repr(C)]
+#[derive(Drop)]
+pub struct SeryugoBytesReply {
+    pub kind: u32,
+    pub name: u64,
+    pub message: SeryugoPlace,
+}
+
+/// One accepted call in the journal. Its messages stay where they are until C frees the entry.
+#[repr(C)]
+#[derive(Drop)]
+pub struct SeryugoBytesEntry {
+    pub maker: SeryugoMaker,
+    pub call: SeryugoBytesCall,
+    pub reply: SeryugoBytesReply,
+    pub owner: Slot,
+}
+
+/// An entry that C has. In C it is the same struct as `SeryugoBytesEntry`.
+#[repr(C)]
+#[derive(Drop)]
+pub struct OwnedEntry {
+    maker: SeryugoMaker,
+    call: SeryugoBytesCall,
+    reply: SeryugoBytesReply,
+    owner: Handle,
+}
+
+/// Frees an entry with its messages.
+#[unsafe(no_mangle)]
+pub extern "C" fn seryugo_bytes_entry_free(entry: OwnedEntry) {
+    drop(entry);
+}
+
+/// Hands over the journal's entry at this position, counted from 0 since the room was opened. Fails with `NoSuch` if there is
+/// none yet, or if it was cut away.
+#[unsafe(no_mangle)]
+pub extern "C" fn seryugo_bytes_entry(
+    alloc: Global,
+    room: &mut Handle,
+    at: u64,
+    entry: &mut SeryugoBytesEntry,
+) -> u32
+    ensures { FindsBytesOn at room.old.kept room.new.kept result entry.old entry.new }
+{
+    match room.as_mut() {
+        Kept::BytesRoom(room) => find_in(alloc, room, at, entry),
+        _ => Code::WrongHandle.number(),
+    }
+}
+
+fn find_in(alloc: Global, room: &mut RoomOf<Bytes>, at: u64, entry: &mut SeryugoBytesEntry) -> u32
+    ensures { FindsBytesIn at result entry.old entry.new room.old room.new }
+{
+    let board = room.board();
+    let Some(place) = at.checked_sub(board.cut_at()) else {
+        return Code::NoSuch.number();
+    };
+    hand_over_at(alloc, board.journal(), place, entry)
+}
+
+/// Hands over the entry of this place, if there is one.
+pub(crate) fn hand_over_at(
+    alloc: Global,
+    journal: &[Entry<Bytes>],
+    place: u64,
+    entry: &mut SeryugoBytesEntry,
+) -> u32
+    ensures { FindsBytes journal.now place result entry.old entry.new }
+{
+    let Some(found) = journal.get(place as usize) else {
+        return Code::NoSuch.number();
+    };
+    match shown(alloc, found) {
+        Ok(shown) => {
+            *entry = shown;
+            Code::Done.number()
+        }
+        Err(_) => Code::NoMemory.number(),
+    }
+}
+
+/// An entry as C is shown it, with a share of each message.
+fn shown(alloc: Global, entry: &Entry<Bytes>) -> Result<SeryugoBytesEntry, AllocError>
+    ensures { IfOk result (λ shown. IsShown entry.now shown) }
+{
+    let shared = Entry {
+        who: entry.who,
+        call: entry.call.share(alloc)?,
+        reply: share_reply(alloc, &entry.reply)?,
+    };
+    let mut owner = Handle::new(alloc, Kept::Entry(shared))?;
+    let (call, reply) = match owner.as_mut() {
+        Kept::Entry(kept) => (shown_call(&kept.call), shown_reply(&kept.reply)),
+        _ => unreachable!(),
+    };
+    Ok(SeryugoBytesEntry {
+        maker: maker_of(entry.who),
+        call,
+        reply,
+        owner: owner.into_slot(),
+    })
+}
+
+fn share_reply<M: Message>(alloc: Global, reply: &Reply<M>) -> Result<Reply<M>, AllocError>
+    ensures { IfOk result (λ copy. copy ≡ reply.now) }
+{
+    Ok(match reply {
+        Reply::Done => Reply::Done,
+        Reply::Made(name) => Reply::Made(*name),
+        Reply::Got(message) => Reply::Got(message.share(alloc)?),
+        Reply::Nothing => Reply::Nothing,
+        Reply::Put => Reply::Put,
+        Reply::Closed => Reply::Closed,
+    })
+}
+
+fn shown_call(call: &Call<Bytes>) -> SeryugoBytesCall
+    ensures kind { result.kind ≡ call_kind call.now }
+    ensures object { result.object ≡ call_object call.now }
+    ensures message { result.message.length ≡ count_of (call_message call.now) }
+{
+    let (kind, object, message) = call_parts(call);
+    SeryugoBytesCall {
+        kind,
+        object,
+        message: place_of_message(message),
+    }
+}
+
+fn shown_reply(reply: &Reply<Bytes>) -> SeryugoBytesReply
+    ensures kind { result.kind ≡ reply_kind reply.now }
+    ensures name { result.name ≡ reply_name reply.now }
+    ensures message { result.message.length ≡ count_of (reply_message reply.now) }
+{
+    let (kind, name, message) = reply_parts(reply);
+    SeryugoBytesReply {
+        kind,
+        name,
+        message: place_of_message(message),
+    }
+}
+
+fn place_of_message(message: Option<&Bytes>) -> SeryugoPlace
+    ensures { result.length ≡ count_of (option_copied message.entry) }
+{
+    let (at, length) = match message {
+        Some(message) => place_of(message.as_slice()),
+        None => (ptr::null(), 0),
+    };
+    SeryugoPlace { at, length }
+}

@@ -1,0 +1,154 @@
+//! Entries from C are checked, wherever C has them from.
+ghost use Rattle.std.specs.Prelude.{◌≡◌, slice_get};
+ghost use Rattle.cml_c.specs.Checkers.{who_in, calls, replies, entry_in, entry_with, entry_of, FeedsNumbers, FeedsBytes, FeedsParts};
+
+use crate::checkers::feed;
+use crate::code::Code;
+use crate::entries::{SeryugoEntry, SeryugoMaker};
+use crate::handle::Handle;
+use crate::kept::Kept;
+use crate::messages::copied;
+use cml_board::{Bytes, Call, Entry, Message, Name, Reply, Who};
+use std::alloc::Global;
+
+/// Checks an entry of numbers behind those before. What its kind doesn't have is not read.
+#[unsafe(no_mangle)]
+pub extern "C" fn seryugo_checker_feed(checker: &mut Handle, entry: &SeryugoEntry) -> u32
+    ensures { FeedsNumbers (entry_in entry.now) checker.old.kept checker.new.kept result }
+{
+    match checker.as_mut() {
+        Kept::Checker(checker) => match entry_in(entry) {
+            Some(entry) => feed(checker, &[entry]),
+            None => Code::OutOfBounds.number(),
+        },
+        _ => Code::WrongHandle.number(),
+    }
+}
+
+/// Copies an entry of bytes, and checks it behind those before. What its kind doesn't have is not read.
+#[unsafe(no_mangle)]
+pub extern "C" fn seryugo_bytes_checker_feed_from(
+    alloc: Global,
+    checker: &mut Handle,
+    maker: &SeryugoMaker,
+    call: u32,
+    object: u64,
+    sent: &[u8],
+    reply: u32,
+    name: u64,
+    got: &[u8],
+) -> u32
+    ensures { FeedsParts (record { maker = maker.now; call = call; object = object; sent = sent.now; reply = reply; name = name; got = got.now }) checker.old.kept checker.new.kept result }
+{
+    let sent = match copied(alloc, sent) {
+        Ok(sent) => sent,
+        Err(code) => return code.number(),
+    };
+    let got = match copied(alloc, got) {
+        Ok(got) => got,
+        Err(code) => return code.number(),
+    };
+    let entry = entry_with(maker, call, object, sent, reply, name, got);
+    feed_bytes(checker.as_mut(), entry)
+}
+
+fn entry_with(
+    maker: &SeryugoMaker,
+    call: u32,
+    object: u64,
+    sent: Bytes,
+    reply: u32,
+    name: u64,
+    got: Bytes,
+) -> Option<Entry<Bytes>>
+    ensures { result ≡ entry_with (record { maker = maker.now; call = call; object = object; sent = sent; reply = reply; name = name; got = got }) }
+{
+    let call = call_of(call, Name(object), sent);
+    let reply = reply_of(reply, Name(name), got);
+    entry_of(who_of(maker), call, reply)
+}
+
+fn feed_bytes(checker: &mut Kept, entry: Option<Entry<Bytes>>) -> u32
+    ensures { FeedsBytes entry checker.old checker.new result }
+{
+    match checker {
+        Kept::BytesChecker(checker) => match entry {
+            Some(entry) => feed(checker, &[entry]),
+            None => Code::OutOfBounds.number(),
+        },
+        _ => Code::WrongHandle.number(),
+    }
+}
+
+fn entry_in(given: &SeryugoEntry) -> Option<Entry<u64>>
+    ensures { result ≡ entry_in given.now }
+{
+    let call = call_of(given.call.kind, Name(given.call.object), given.call.message);
+    let reply = reply_of(given.reply.kind, Name(given.reply.given), given.reply.given);
+    entry_of(who_of(&given.maker), call, reply)
+}
+
+fn entry_of<M: Message>(
+    who: Option<Who>,
+    call: Option<Call<M>>,
+    reply: Option<Reply<M>>,
+) -> Option<Entry<M>>
+    ensures { result ≡ entry_of who call reply }
+{
+    Some(Entry {
+        who: who?,
+        call: call?,
+        reply: reply?,
+    })
+}
+
+fn who_of(maker: &SeryugoMaker) -> Option<Who>
+    ensures { result ≡ who_in maker.now }
+{
+    match maker.kind {
+        0 => Some(Who::Seat(maker.number)),
+        1 => Some(Who::Lane(maker.number)),
+        2 => Some(Who::Feed(maker.number)),
+        _ => None,
+    }
+}
+
+fn call_of<M: Message>(kind: u32, object: Name, message: M) -> Option<Call<M>>
+    ensures { result ≡ slice_get (calls object message) kind }
+{
+    Some(match kind {
+        0 => Call::NewMailbox,
+        1 => Call::NewChannel,
+        2 => Call::NewPort(object),
+        3 => Call::CopyPort(object),
+        4 => Call::ClosePort(object),
+        5 => Call::NewIVar,
+        6 => Call::NewMVar,
+        7 => Call::MVarInit(message),
+        8 => Call::Send(object, message),
+        9 => Call::Cast(object, message),
+        10 => Call::Recv(object),
+        11 => Call::Poll(object),
+        12 => Call::Put(object, message),
+        13 => Call::Get(object),
+        14 => Call::GetPoll(object),
+        15 => Call::Take(object),
+        16 => Call::TakePoll(object),
+        17 => Call::Swap(object, message),
+        _ => return None,
+    })
+}
+
+fn reply_of<M: Message>(kind: u32, name: Name, message: M) -> Option<Reply<M>>
+    ensures { result ≡ slice_get (replies name message) kind }
+{
+    Some(match kind {
+        0 => Reply::Done,
+        1 => Reply::Made(name),
+        2 => Reply::Got(message),
+        3 => Reply::Nothing,
+        4 => Reply::Put,
+        5 => Reply::Closed,
+        _ => return None,
+    })
+}
