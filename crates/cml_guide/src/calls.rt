@@ -23,6 +23,8 @@ pub enum Trouble {
     Unsettled,
     /// Of a lane without an end: a message was refused when it was dropped.
     Unclosed,
+    /// Of bytes: they are more than 4,294,967,295.
+    TooLong,
 }
 
 impl From<AllocError> for Trouble {

@@ -1,6 +1,7 @@
 //! Short examples of calls on a board, each with what it comes to. `docs/GUIDE.md` shows most, word for word.
 #![tactic(auto)]
 
+mod bytes;
 mod calls;
 mod channels;
 mod clients;
@@ -117,6 +118,7 @@ fn show_journals(rt: &HostRuntime) -> io::Result<()> {
 fn show_messages(rt: &HostRuntime) -> io::Result<()> {
     let alloc = rt.alloc();
     show(rt, "messages::greeted", &messages::greeted(alloc))?;
+    show(rt, "bytes::answered_each", &bytes::answered_each(alloc))?;
     show(rt, "requests::kept", &requests::kept(alloc))?;
     show(
         rt,
