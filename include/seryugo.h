@@ -1,5 +1,6 @@
 /*
- * Mailboxes, channels and variables for threads: the static library libcml_c.a, whose messages are 64-bit numbers.
+ * Mailboxes, channels and variables for threads: the static library libcml_c.a. The messages of a room are 64-bit numbers, or
+ * bytes.
  *
  * A room is a board of objects with a journal of every call that was accepted, and seats from which the calls are made. A
  * lane is a ring on which a thread sends without the room's lock, a feed one on which it receives. docs/BINDINGS.md says how
@@ -61,23 +62,29 @@ enum seryugo_code {
     SERYUGO_STILL_OPEN = 14,
     /* The handle leads to what takes no such call, as a lane's where a room's is wanted. Nothing was changed. */
     SERYUGO_WRONG_HANDLE = 15,
-    /* A limit isn't from 1 to 2^32, or a capacity not from 1 to 1024. Nothing was changed. */
-    SERYUGO_OUT_OF_BOUNDS = 16
+    /* Nothing was changed. A limit isn't from 1 to 2^32, a capacity isn't from 1 to 1024, a message has more than 2^32 - 1 bytes,
+     * a null pointer has a length, or a kind in an entry is none. */
+    SERYUGO_OUT_OF_BOUNDS = 16,
+    /* A checked journal is unlawful. */
+    SERYUGO_UNLAWFUL = 17
 };
 
-/* A handle to a room, a lane, a feed or a journal that was taken. It is opened by a call that writes it, and closed by
- * seryugo_close. */
+/* A handle to a room, a lane, a feed, a checker or a journal that was taken. A call that opens it writes it, and seryugo_close
+ * closes it. */
 struct seryugo {
     void *at;
 };
 
 /* ---- rooms and seats ---- */
 
-/* Opens a room with no objects and no seats, whose journal takes `limit` entries between two cuts. SERYUGO_OUT_OF_BOUNDS or
+/* Opens a room of numbers with no objects and no seats, whose journal takes `limit` entries between two cuts. SERYUGO_OUT_OF_BOUNDS or
  * SERYUGO_NO_MEMORY: *room is as it was. */
 uint32_t seryugo_room_open(uint64_t limit, struct seryugo *room);
 
-/* Closes a room, a lane, a feed or a taken journal: its memory is given back, with all that it holds. A room doesn't close its
+/* Opens a room of bytes. It differs from one of numbers only in the calls that have a message. */
+uint32_t seryugo_bytes_room_open(uint64_t limit, struct seryugo *room);
+
+/* Closes a room, a lane, a feed, a checker or a taken journal: its memory is given back, with all that it holds. A room doesn't close its
  * lanes, its feeds and what was taken of it: each of these handles is closed by itself, before or after. */
 void seryugo_close(struct seryugo handle);
 
@@ -153,6 +160,93 @@ uint32_t seryugo_take_poll(struct seryugo *room, uint64_t seat, uint64_t variabl
 uint32_t seryugo_swap(struct seryugo *room, uint64_t seat, uint64_t variable, uint64_t message, bool is_again, uint64_t *held);
 
 /*
+ * ---- messages of bytes ----
+ *
+ * In a room of bytes these calls take the place of those of the same name. SERYUGO_WRONG_HANDLE: a room of numbers doesn't take
+ * them, and a room of bytes doesn't take the calls above that have a message. All other calls are the same for both.
+ *
+ * A call that sends copies the bytes once, before it returns: the buffer stays yours. A message has 0 to 2^32 - 1 bytes. A null
+ * pointer with length 0 is the empty message. SERYUGO_OUT_OF_BOUNDS: the pointer is null and the length isn't 0, or the length
+ * is larger. Then, and if there is no memory for the copy (SERYUGO_NO_MEMORY), nothing is changed. Up to 14 bytes need no memory.
+ *
+ * A call that receives hands a message over: it writes where the bytes are and how many they are, and you own the message until
+ * you free it. Nothing is copied of more than 14 bytes: the journal, other receivers and you share them. The bytes never change,
+ * and don't write to them. `at` is good until seryugo_bytes_free, also in a copy of the struct. If there is no memory for the
+ * message's handle, the call fails with SERYUGO_NO_MEMORY before anything is received, and nothing is changed.
+ *
+ * One case is special: a seat that is parked in seryugo_bytes_recv, _get, _take or _swap makes its call again with is_again, and
+ * it fails with SERYUGO_NO_MEMORY. Then the seat may still be parked, or be free. Make the call again with is_again: if that
+ * returns SERYUGO_GONE, the seat is free.
+ */
+
+/* A message: its bytes, and the handle that keeps them. The empty message has a null pointer. */
+struct seryugo_bytes {
+    const uint8_t *at;
+    size_t length;
+    struct seryugo owner;
+};
+
+/* Frees a message that a call handed over. Call it once for each. The room needn't be open any more. */
+void seryugo_bytes_free(struct seryugo_bytes message);
+
+/* As seryugo_recv, seryugo_recv_poll, seryugo_get, seryugo_get_poll, seryugo_take and seryugo_take_poll. */
+uint32_t seryugo_bytes_recv(struct seryugo *room, uint64_t seat, uint64_t source, bool is_again, struct seryugo_bytes *message);
+uint32_t seryugo_bytes_recv_poll(struct seryugo *room, uint64_t seat, uint64_t source, struct seryugo_bytes *message);
+uint32_t seryugo_bytes_get(struct seryugo *room, uint64_t seat, uint64_t variable, bool is_again, struct seryugo_bytes *message);
+uint32_t seryugo_bytes_get_poll(struct seryugo *room, uint64_t seat, uint64_t variable, struct seryugo_bytes *message);
+uint32_t seryugo_bytes_take(struct seryugo *room, uint64_t seat, uint64_t variable, bool is_again, struct seryugo_bytes *message);
+uint32_t seryugo_bytes_take_poll(struct seryugo *room, uint64_t seat, uint64_t variable, struct seryugo_bytes *message);
+
+/* What the library exports of the calls that send. They don't test the pointer: unless the length is 0, it has to be good. From
+ * C, call the functions without `_from` below, which test it. */
+uint32_t seryugo_bytes_send_from(struct seryugo *room, uint64_t seat, uint64_t mailbox, const void *at, size_t length);
+uint32_t seryugo_bytes_multicast_from(struct seryugo *room, uint64_t seat, uint64_t channel, const void *at, size_t length);
+uint32_t seryugo_bytes_mvar_init_from(struct seryugo *room, uint64_t seat, const void *at, size_t length, uint64_t *variable);
+uint32_t seryugo_bytes_put_from(struct seryugo *room, uint64_t seat, uint64_t variable, const void *at, size_t length);
+uint32_t seryugo_bytes_swap_from(struct seryugo *room, uint64_t seat, uint64_t variable, const void *at, size_t length, bool is_again,
+                                 struct seryugo_bytes *held);
+
+/* Whether a pointer is null though it has a length. */
+static inline bool seryugo_is_astray(const void *at, size_t length)
+{
+    return at == NULL && length != 0;
+}
+
+/* As seryugo_send. */
+static inline uint32_t seryugo_bytes_send(struct seryugo *room, uint64_t seat, uint64_t mailbox, const void *at, size_t length)
+{
+    return seryugo_is_astray(at, length) ? (uint32_t)SERYUGO_OUT_OF_BOUNDS : seryugo_bytes_send_from(room, seat, mailbox, at, length);
+}
+
+/* As seryugo_multicast. */
+static inline uint32_t seryugo_bytes_multicast(struct seryugo *room, uint64_t seat, uint64_t channel, const void *at, size_t length)
+{
+    return seryugo_is_astray(at, length) ? (uint32_t)SERYUGO_OUT_OF_BOUNDS
+                                         : seryugo_bytes_multicast_from(room, seat, channel, at, length);
+}
+
+/* As seryugo_mvar_init. */
+static inline uint32_t seryugo_bytes_mvar_init(struct seryugo *room, uint64_t seat, const void *at, size_t length, uint64_t *variable)
+{
+    return seryugo_is_astray(at, length) ? (uint32_t)SERYUGO_OUT_OF_BOUNDS
+                                         : seryugo_bytes_mvar_init_from(room, seat, at, length, variable);
+}
+
+/* As seryugo_put. */
+static inline uint32_t seryugo_bytes_put(struct seryugo *room, uint64_t seat, uint64_t variable, const void *at, size_t length)
+{
+    return seryugo_is_astray(at, length) ? (uint32_t)SERYUGO_OUT_OF_BOUNDS : seryugo_bytes_put_from(room, seat, variable, at, length);
+}
+
+/* As seryugo_swap. What the variable held is handed over. */
+static inline uint32_t seryugo_bytes_swap(struct seryugo *room, uint64_t seat, uint64_t variable, const void *at, size_t length,
+                                          bool is_again, struct seryugo_bytes *held)
+{
+    return seryugo_is_astray(at, length) ? (uint32_t)SERYUGO_OUT_OF_BOUNDS
+                                         : seryugo_bytes_swap_from(room, seat, variable, at, length, is_again, held);
+}
+
+/*
  * ---- who is woken ----
  *
  * The room knows which parked seats may go on: these are due. A message makes one seat due that waits at the mailbox, and a
@@ -198,6 +292,14 @@ uint32_t seryugo_lane_open(struct seryugo *room, uint64_t target, size_t capacit
  * SERYUGO_FULL where no free slot is seen, never while the lane has accepted fewer messages than its capacity. */
 uint32_t seryugo_lane_send(struct seryugo *lane, uint64_t message);
 
+/* The same of a lane in a room of bytes: copies the message, and sends it. A message that finds no free slot isn't sent. */
+uint32_t seryugo_bytes_lane_send_from(struct seryugo *lane, const void *at, size_t length);
+
+static inline uint32_t seryugo_bytes_lane_send(struct seryugo *lane, const void *at, size_t length)
+{
+    return seryugo_is_astray(at, length) ? (uint32_t)SERYUGO_OUT_OF_BOUNDS : seryugo_bytes_lane_send_from(lane, at, length);
+}
+
 /* Ends a lane, without the room's lock: nothing more is sent on it, and seryugo_lane_close takes its handle. SERYUGO_GONE: its
  * room had let go of it. The lane has ended then too, and its handle leads to nothing: only seryugo_close takes that. */
 uint32_t seryugo_lane_finish(struct seryugo *lane);
@@ -236,6 +338,9 @@ uint32_t seryugo_feed_pump(struct seryugo *room, uint64_t feed_number, uint64_t 
 
 /* Takes the next message that was pumped, without the room's lock; told SERYUGO_NOTHING where none is seen. */
 uint32_t seryugo_feed_recv(struct seryugo *feed, uint64_t *message);
+
+/* The same of a feed in a room of bytes: hands the message over. SERYUGO_NO_MEMORY: the message is still to be taken. */
+uint32_t seryugo_bytes_feed_recv(struct seryugo *feed, struct seryugo_bytes *message);
 
 /* Writes the name of a feed's port. */
 uint32_t seryugo_feed_port(struct seryugo *feed, uint64_t *port);
@@ -286,13 +391,16 @@ enum seryugo_reply_kind {
     SERYUGO_REPLY_CLOSED = 5
 };
 
+/* Who made a call: a seat, a lane or a feed, by its number. */
+struct seryugo_maker {
+    uint32_t kind;
+    uint64_t number;
+};
+
 /* One accepted call: who made it, by its number; the call, with its object and its message, each 0 where it has none; and the
  * reply, with the name or the message that it gives, else 0. */
 struct seryugo_entry {
-    struct {
-        uint32_t kind;
-        uint64_t number;
-    } maker;
+    struct seryugo_maker maker;
     struct {
         uint32_t kind;
         uint64_t object;
@@ -304,9 +412,39 @@ struct seryugo_entry {
     } reply;
 };
 
+/* Bytes that an entry has: where they are, and how many. Both are 0 for the empty message, and where the entry has none. */
+struct seryugo_place {
+    const uint8_t *at;
+    size_t length;
+};
+
+/* The same of a room of bytes: the call, with its object and the message that was sent; and the reply, with the name that it
+ * gives or the message that was received. The entry's handle keeps both messages. */
+struct seryugo_bytes_entry {
+    struct seryugo_maker maker;
+    struct {
+        uint32_t kind;
+        uint64_t object;
+        struct seryugo_place message;
+    } call;
+    struct {
+        uint32_t kind;
+        uint64_t name;
+        struct seryugo_place message;
+    } reply;
+    struct seryugo owner;
+};
+
 /* Writes the journal's entry at this position, counted from 0 since the room was opened. SERYUGO_NO_SUCH where there is none
  * yet, and where it was cut away. */
 uint32_t seryugo_entry(struct seryugo *room, uint64_t at, struct seryugo_entry *entry);
+
+/* The same of a room of bytes: hands the entry over. Free it by seryugo_bytes_entry_free. SERYUGO_NO_MEMORY: nothing is
+ * written. */
+uint32_t seryugo_bytes_entry(struct seryugo *room, uint64_t at, struct seryugo_bytes_entry *entry);
+
+/* Frees an entry that was handed over, with its messages. Call it once for each. */
+void seryugo_bytes_entry_free(struct seryugo_bytes_entry entry);
 
 /* Cuts the journal, and writes a handle to the entries that it had, oldest first, and how many they are. Unlike seryugo_cut it
  * takes what was reserved along with them: reserve again. SERYUGO_NO_MEMORY or SERYUGO_BUSY: nothing is cut, and *journal is as
@@ -315,6 +453,52 @@ uint32_t seryugo_take_journal(struct seryugo *room, struct seryugo *journal, uin
 
 /* Writes the entry of this place, from 0, of a journal that was taken; SERYUGO_NO_SUCH behind the last one. */
 uint32_t seryugo_taken_entry(struct seryugo *journal, uint64_t place, struct seryugo_entry *entry);
+
+/* The same of a room of bytes: hands the entry over. */
+uint32_t seryugo_bytes_taken_entry(struct seryugo *journal, uint64_t place, struct seryugo_bytes_entry *entry);
+
+/*
+ * ---- checked journals ----
+ *
+ * A checker says how far a journal is a lawful history of one thread, wherever the journal comes from. Feed it the entries in
+ * order, from the first that the journal ever had. It keeps what the objects need, and no entry.
+ *
+ * A call that feeds returns SERYUGO_DONE if all entries are lawful so far. Once it returns SERYUGO_UNLAWFUL, each later one does
+ * too. SERYUGO_NO_MEMORY: some of the entries were seen. seryugo_checker_verdict says how many in all: go on behind them.
+ */
+
+/* Opens a checker of journals of numbers, or of bytes. SERYUGO_NO_MEMORY: *checker is as it was. */
+uint32_t seryugo_checker_open(struct seryugo *checker);
+uint32_t seryugo_bytes_checker_open(struct seryugo *checker);
+
+/* Checks one entry of numbers, as seryugo_entry and seryugo_taken_entry write it. It doesn't read what the entry's kinds don't
+ * have. SERYUGO_OUT_OF_BOUNDS: one of the kinds is none, and nothing is changed. */
+uint32_t seryugo_checker_feed(struct seryugo *checker, const struct seryugo_entry *entry);
+
+/* Checks the entries of a taken journal of the same messages, from this place on. SERYUGO_NO_SUCH: the journal is shorter, and
+ * nothing is changed. */
+uint32_t seryugo_checker_feed_journal(struct seryugo *checker, struct seryugo *journal, uint64_t place);
+
+/* What the library exports to check one entry of bytes. It doesn't test the pointers. From C, call the next function. */
+uint32_t seryugo_bytes_checker_feed_from(struct seryugo *checker, const struct seryugo_maker *maker, uint32_t call, uint64_t object,
+                                         const void *sent, size_t sent_length, uint32_t reply, uint64_t name, const void *got,
+                                         size_t got_length);
+
+/* Checks one entry of bytes, whether it was handed over or you filled the struct. It copies the bytes, and doesn't read `owner`.
+ * SERYUGO_OUT_OF_BOUNDS: one of the kinds is none, or a pointer is null with a length, and nothing is changed. */
+static inline uint32_t seryugo_bytes_checker_feed(struct seryugo *checker, const struct seryugo_bytes_entry *entry)
+{
+    if (seryugo_is_astray(entry->call.message.at, entry->call.message.length)
+        || seryugo_is_astray(entry->reply.message.at, entry->reply.message.length)) {
+        return SERYUGO_OUT_OF_BOUNDS;
+    }
+    return seryugo_bytes_checker_feed_from(checker, &entry->maker, entry->call.kind, entry->call.object, entry->call.message.at,
+                                           entry->call.message.length, entry->reply.kind, entry->reply.name,
+                                           entry->reply.message.at, entry->reply.message.length);
+}
+
+/* Writes how many entries were found lawful. SERYUGO_UNLAWFUL: the entry at that position is not. */
+uint32_t seryugo_checker_verdict(struct seryugo *checker, uint64_t *count);
 
 /*
  * ---- readers ----
@@ -352,6 +536,9 @@ uint32_t seryugo_first(struct seryugo *room, uint64_t object, uint64_t *count);
 
 /* What a variable holds; SERYUGO_NOTHING where it is empty. */
 uint32_t seryugo_held(struct seryugo *room, uint64_t variable, uint64_t *message);
+
+/* The same of a room of bytes: hands the message over. */
+uint32_t seryugo_bytes_held(struct seryugo *room, uint64_t variable, struct seryugo_bytes *message);
 
 /* Whether a port is open: SERYUGO_DONE, or SERYUGO_CLOSED. */
 uint32_t seryugo_is_open(struct seryugo *room, uint64_t port);

@@ -1,5 +1,5 @@
 -- What C is told of a seat's call.
-use Rattle.std.specs.Prelude.{ℕ, ◌≡◌, ◌⊎◌, Bool, true, false, List, Some}
+use Rattle.std.specs.Prelude.{ℕ, ◌≡◌, Bool, true, false}
 use Rattle.cml_log.specs.PlainLog.{chunk_of}
 use Rattle.cml_board.specs.declared.call.Call.{Call}
 use Rattle.cml_board.specs.declared.call.Call.TheVariants as call
@@ -15,7 +15,7 @@ use Rattle.cml_c.specs.declared.code.Code.{Code}
 use Rattle.cml_c.specs.declared.code.Code.TheVariants.{Done, Nothing, Put, Closed, Parked}
 use Rattle.cml_c.specs.declared.kept.Kept.{Kept}
 use Rattle.cml_c.specs.Codes.{number, of_refusal}
-use Rattle.cml_c.specs.Rooms.{OnRoom, OnNumbers, OnBytes}
+use Rattle.cml_c.specs.Rooms.{OnRoom, OnNumbers}
 
 -- how many messages a room's chunks hold
 abbrev pub chunk : ℕ

@@ -62,6 +62,11 @@ OpensALaneIn target capacity (BytesRoom old) new from to code before after =
     (room : RoomShown (List ℕ)) × (new ≡ BytesRoom room) × OpensIn BytesLane (record { 0 = target }) capacity from to code before after old room
 OpensALaneIn target capacity other new from to code before after = IsWrong ((after ≡ before) × (to ≡ from)) code other new
 
+-- what is told of a message that is sent
+abbrev pub told_sent : {X : Type 0} → Result ⊤ X → Code
+told_sent (Ok done) = Done
+told_sent (Err back) = Full
+
 -- the lane accepted the message, or has no free slot, which isn't so while it accepted fewer than it has room for
 pub record Accepts {M : Type 0} (wrap : LaneShown M → Kept) (message : M) (told : ℕ) (lane : LaneShown M) (new : Kept) : Type 0 where
   pub done : told ≡ number Done

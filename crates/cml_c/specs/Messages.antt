@@ -1,5 +1,5 @@
 -- What C is told of a call in a room of bytes, and the messages that it is handed.
-use Rattle.std.specs.Prelude.{ℕ, ◌≡◌, ◌⊎◌, Bool, true, false, List, length, Option, Some, None, ⊤}
+use Rattle.std.specs.Prelude.{ℕ, ◌≡◌, ◌⊎◌, Bool, false, List, length, Option, Some, None, ⊤}
 use Rattle.cml_bytes.specs.Sizes.{IsLong, IsTooLong}
 use Rattle.cml_board.specs.declared.call.Call.{Call}
 use Rattle.cml_board.specs.declared.entry.Reply.{Reply}

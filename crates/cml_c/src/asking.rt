@@ -40,16 +40,22 @@ pub(crate) fn tell_name<M: Message>(asked: Asked<M>, name: &mut u64) -> u32
     ensures code { result ≡ number (told_asked asked) }
     ensures written { name.new ≡ named_asked name.old asked }
 {
+    if let Asked::Answered(answer) = &asked
+        && let Reply::Made(made) = answer.reply()
+    {
+        *name = made.0;
+    }
+    code_of_asked(&asked).number()
+}
+
+/// The code of what became of a call.
+pub(crate) fn code_of_asked<M>(asked: &Asked<M>) -> Code
+    ensures { result ≡ told_asked asked.now }
+{
     match asked {
-        Asked::Answered(answer) => {
-            let reply = answer.into_reply();
-            if let Reply::Made(made) = &reply {
-                *name = made.0;
-            }
-            code_of_reply(&reply).number()
-        }
-        Asked::Parked(_) => Code::Parked.number(),
-        Asked::Refused(refusal, _) => Code::of_refusal(refusal).number(),
+        Asked::Answered(answer) => code_of_reply(answer.reply()),
+        Asked::Parked(_) => Code::Parked,
+        Asked::Refused(refusal, _) => Code::of_refusal(*refusal),
     }
 }
 
@@ -114,17 +120,13 @@ fn tell(asked: Asked<u64>, given: &mut u64) -> u32
     ensures code { result ≡ number (told_asked asked) }
     ensures written { given.new ≡ written_asked given.old asked }
 {
-    match asked {
-        Asked::Answered(answer) => {
-            let reply = answer.into_reply();
-            match &reply {
-                Reply::Made(name) => *given = name.0,
-                Reply::Got(message) => *given = *message,
-                _ => {}
-            }
-            code_of_reply(&reply).number()
+    let code = code_of_asked(&asked);
+    if let Asked::Answered(answer) = asked {
+        match answer.into_reply() {
+            Reply::Made(name) => *given = name.0,
+            Reply::Got(message) => *given = message,
+            _ => {}
         }
-        Asked::Parked(_) => Code::Parked.number(),
-        Asked::Refused(refusal, _) => Code::of_refusal(refusal).number(),
     }
+    code.number()
 }

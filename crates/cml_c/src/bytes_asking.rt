@@ -4,7 +4,7 @@ ghost use Rattle.cml_c.specs.Codes.{number};
 ghost use Rattle.cml_c.specs.Asking.{told_asked};
 ghost use Rattle.cml_c.specs.Messages.{CallsBytes, NamesBytes, NamesNoBytes, MakesBytes, HandsAsked};
 
-use crate::asking::{code_of_reply, tell_name};
+use crate::asking::{code_of_asked, code_of_reply, tell_name};
 use crate::code::Code;
 use crate::handle::Handle;
 use crate::kept::{Kept, RoomOf};
@@ -63,8 +63,7 @@ fn tell(owner: Handle, asked: Asked<Bytes>, given: &mut SeryugoBytes) -> u32
             }
             other => code_of_reply(&other).number(),
         },
-        Asked::Parked(_) => Code::Parked.number(),
-        Asked::Refused(refusal, _) => Code::of_refusal(refusal).number(),
+        other => code_of_asked(&other).number(),
     }
 }
 

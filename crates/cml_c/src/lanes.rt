@@ -4,7 +4,7 @@ ghost use Rattle.cml_lanes.specs.Lanes.{Drains, Abandons};
 ghost use Rattle.cml_c.specs.Codes.{number, told_count, written_count};
 ghost use Rattle.cml_c.specs.Asking.{chunk};
 ghost use Rattle.cml_c.specs.Floors.{Does, DoesOn, Counts, CountsOn};
-ghost use Rattle.cml_c.specs.Lanes.{SendsOn, SendsBytesOn, TakesBytes, Finishes, FinishesLane, ClosesNumbers, ClosesBytes, Closes, ClosesALane, DropsIn, DropsALane, OpensIn, OpensALaneIn};
+ghost use Rattle.cml_c.specs.Lanes.{told_sent, SendsOn, SendsBytesOn, TakesBytes, Finishes, FinishesLane, ClosesNumbers, ClosesBytes, Closes, ClosesALane, DropsIn, DropsALane, OpensIn, OpensALaneIn};
 
 use crate::code::Code;
 use crate::handle::{Handle, Slot};
@@ -13,7 +13,7 @@ use crate::messages::copied;
 use crate::rooms::code_of;
 use crate::sort::Sort;
 use cml_board::{Bytes, Message, Name, Refusal};
-use cml_lanes::{Lane, LaneEnd, MAX_CAPACITY};
+use cml_lanes::{Lane, LaneEnd, LaneFull, MAX_CAPACITY};
 use std::alloc::Global;
 use std::mem;
 
@@ -70,10 +70,7 @@ pub extern "C" fn seryugo_lane_send(lane: &mut Handle, message: u64) -> u32
     ensures { SendsOn message lane.old.kept lane.new.kept result }
 {
     match lane.as_mut() {
-        Kept::Lane(lane) => match lane.send(message) {
-            Ok(()) => Code::Done.number(),
-            Err(_) => Code::Full.number(),
-        },
+        Kept::Lane(lane) => code_of_send(lane.send(message)),
         _ => Code::WrongHandle.number(),
     }
 }
@@ -97,11 +94,18 @@ fn send_bytes(lane: &mut Kept, message: Bytes) -> u32
     ensures { TakesBytes message lane.old lane.new result }
 {
     match lane {
-        Kept::BytesLane(lane) => match lane.send(message) {
-            Ok(()) => Code::Done.number(),
-            Err(_) => Code::Full.number(),
-        },
+        Kept::BytesLane(lane) => code_of_send(lane.send(message)),
         _ => Code::WrongHandle.number(),
+    }
+}
+
+/// The code of a message that was sent on a lane. One that found no free slot is dropped.
+fn code_of_send<M: Message>(sent: Result<(), LaneFull<M>>) -> u32
+    ensures { result ≡ number (told_sent sent) }
+{
+    match sent {
+        Ok(()) => Code::Done.number(),
+        Err(_) => Code::Full.number(),
     }
 }
 
