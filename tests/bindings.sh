@@ -1,7 +1,7 @@
 #!/bin/sh
 # The libraries for C, from C and from Rust: `sh tests/bindings.sh ROOMS REPLAY`, with the archives of cml_c and cml_script_c.
-# The programs of bindings/c are built with them: one that replays a script is to write the report beside each example, and two
-# try rooms, one of them with threads. Then the tests of the crate of bindings/rust run, and its documented examples. Where
+# The programs of bindings/c are built with them: one that replays a script is to write the report beside each example, and four
+# try rooms, two of them with threads. Then the tests of the crate of bindings/rust run, and its documented examples. Where
 # there is no C compiler, or no cargo, that is said and counts for nothing. The last line is `N passed, M failed`.
 rooms=$(cd "$(dirname "$1")" && pwd)/$(basename "$1")
 replay=$(cd "$(dirname "$2")" && pwd)/$(basename "$2")
@@ -55,33 +55,61 @@ replay_from_c() {
     fi
 }
 
-# refused N: with its N-th request for memory refused, the program that makes each call ends with status 5: the call that asked
-# tells of it, and all that was opened before is closed.
+# refused PROGRAM N: with its N-th request for memory refused, a program that makes each call ends with status 5: the call that
+# asked fails, and all that was opened before is closed.
 refused() {
-    rm -f "$work/met"
-    REFUSE=$1 TOLD="$work/met" LD_PRELOAD="$work/refuse.so" "$work/calls"
+    REFUSE=$2 LD_PRELOAD="$work/refuse.so" "$work/$1"
     [ $? -eq 5 ]
 }
 
-# Each request of the library's in turn, until a run makes no more. The last one is the C library's own, for what is printed.
+# refuse_each PROGRAM LINE: each request of the library's in turn, until a run makes no more, and ends with this line. The last
+# request is the C library's own, for what is printed.
 refuse_each() {
-    cc -O2 -shared -fPIC -o "$work/refuse.so" tests/refuse.c -ldl || return
     request=1
-    while refused $request > "$work/printed" 2>&1; do
+    while refused "$1" $request > "$work/printed" 2>&1; do
         request=$((request + 1))
     done
-    grep -q 'each call is told' "$work/printed" && [ $request -gt 20 ]
+    grep -q "$2" "$work/printed" && [ $request -gt 20 ]
+}
+
+# Each request for memory of a program that makes a call again if there is none: each run ends well. The requests come in no
+# fixed order, so the last run is one that makes fewer.
+refuse_each_again() {
+    request=1
+    while rm -f "$work/met"; do
+        REFUSE=$request TOLD="$work/met" LD_PRELOAD="$work/refuse.so" timeout 60 "$work/requests" 2 || return
+        [ -e "$work/met" ] || break
+        request=$((request + 1))
+    done
+    [ $request -gt 20 ]
+}
+
+# sanitized PROGRAM WORD..: built and run with the sanitizers of addresses and of undefined behaviour.
+sanitized() {
+    program=$1
+    shift
+    cc -g -O1 -fsanitize=address,undefined -fno-sanitize-recover=undefined -Wall -Wextra -pthread -I include \
+        -o "$work/sanitized" "bindings/c/$program.c" "$rooms" "$kit/liblibc_c.a" || return
+    timeout 120 "$work/sanitized" "$@"
 }
 
 rooms_from_c() {
-    for program in calls threads; do
+    for program in calls messages threads requests; do
         check "a program in C of rooms is built: $program" compile $program "$rooms"
         [ -x "$work/$program" ] && check "rooms from C: $program" timeout 60 "$work/$program"
     done
-    [ -x "$work/calls" ] && check 'each request for memory refused' refuse_each
-    if command -v valgrind > /dev/null && [ -x "$work/calls" ]; then
-        check 'rooms without a fault of memory' is_clean "$work/calls"
+    check 'requests for memory can be refused' cc -O2 -shared -fPIC -o "$work/refuse.so" tests/refuse.c -ldl
+    [ -x "$work/calls" ] && check 'each request for memory refused' refuse_each calls 'each call is told'
+    [ -x "$work/messages" ] && check 'the same with messages of bytes' refuse_each messages 'each call returns'
+    [ -x "$work/requests" ] && check 'the same with threads that try again' refuse_each_again
+    if command -v valgrind > /dev/null; then
+        for program in calls messages; do
+            [ -x "$work/$program" ] && check "without a fault of memory: $program" is_clean "$work/$program"
+        done
+        [ -x "$work/requests" ] && check 'without a fault of memory: requests' is_clean "$work/requests" 5
     fi
+    check 'the sanitizers find nothing: messages' sanitized messages
+    check 'the sanitizers find nothing: requests' sanitized requests 20
 }
 
 # cargo_does COMMAND WORD..: a command of cargo's on a copy of the crate, with the archives.

@@ -60,8 +60,8 @@ guide_refused() {
     [ "$met" -gt 0 ] || failed=$((failed + 1))
 }
 
-# Each sweep's words, a line each. With texts for messages a few tables are performed too, with which all that shares a
-# message is met: a send, a receive, a multicast, each call on a variable, a drain and a pump.
+# Each sweep's words, a line each. A few tables are performed with texts too. A text of more than 14 bytes takes memory when it is
+# made. The numbers of the other sweeps take memory for each share.
 sweeps() {
     for table in board/mailboxes board/variables floors/feeds floors/lanes; do
         echo "texts once tests/$table.rows $rows texts"

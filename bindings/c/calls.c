@@ -9,10 +9,12 @@ static struct seryugo room;
 static struct seryugo lane;
 static struct seryugo feed;
 static struct seryugo journal;
+static struct seryugo checker;
 static int room_is_open;
 static int lane_is_open;
 static int feed_is_open;
 static int journal_is_open;
+static int checker_is_open;
 
 static void close_all(void)
 {
@@ -24,6 +26,9 @@ static void close_all(void)
     }
     if (journal_is_open) {
         seryugo_close(journal);
+    }
+    if (checker_is_open) {
+        seryugo_close(checker);
     }
     if (room_is_open) {
         seryugo_close(room);
@@ -300,6 +305,50 @@ static void try_a_taken_journal(uint64_t seat)
     TOLD(NO_SUCH, seryugo_entry(&room, count, &entry));
 }
 
+/* The journal of a room of its own, which is checked from its first entry on. */
+static void try_a_checker(void)
+{
+    struct seryugo_entry entry;
+    struct seryugo_bytes message;
+    uint64_t seat, mailbox, count = 77, found = 77;
+
+    seryugo_close(journal);
+    journal_is_open = 0;
+    seryugo_close(room);
+    room_is_open = 0;
+    TOLD(DONE, seryugo_room_open(100, &room));
+    room_is_open = 1;
+    TOLD(DONE, seryugo_new_seat(&room, &seat));
+    TOLD(DONE, seryugo_new_mailbox(&room, seat, &mailbox));
+    TOLD(DONE, seryugo_send(&room, seat, mailbox, 50));
+    TOLD(DONE, seryugo_recv(&room, seat, mailbox, false, &found));
+    TOLD(WRONG_HANDLE, seryugo_bytes_send(&room, seat, mailbox, "x", 1));
+    TOLD(WRONG_HANDLE, seryugo_bytes_recv_poll(&room, seat, mailbox, &message));
+    TOLD(DONE, seryugo_take_journal(&room, &journal, &count));
+    journal_is_open = 1;
+    IS(3, count);
+    TOLD(DONE, seryugo_checker_open(&checker));
+    checker_is_open = 1;
+    TOLD(DONE, seryugo_checker_feed_journal(&checker, &journal, 0));
+    TOLD(DONE, seryugo_checker_verdict(&checker, &found));
+    IS(count, found);
+    seryugo_close(checker);
+    checker_is_open = 0;
+    TOLD(DONE, seryugo_checker_open(&checker));
+    checker_is_open = 1;
+    for (uint64_t place = 0; place < count; place++) {
+        TOLD(DONE, seryugo_taken_entry(&journal, place, &entry));
+        TOLD(DONE, seryugo_checker_feed(&checker, &entry));
+    }
+    entry.maker.kind = 3;
+    TOLD(OUT_OF_BOUNDS, seryugo_checker_feed(&checker, &entry));
+    entry.maker.kind = SERYUGO_SEAT;
+    TOLD(WRONG_HANDLE, seryugo_checker_feed(&room, &entry));
+    TOLD(UNLAWFUL, seryugo_checker_feed(&checker, &entry));
+    TOLD(UNLAWFUL, seryugo_checker_verdict(&checker, &found));
+    IS(count, found);
+}
+
 int main(void)
 {
     uint64_t one, two;
@@ -315,6 +364,7 @@ int main(void)
     try_a_taken_journal(one);
     TOLD(DONE, seryugo_leave(&room, two));
     TOLD(GONE, seryugo_leave(&room, two));
+    try_a_checker();
     close_all();
     puts("each call is told as it should be");
     return 0;
