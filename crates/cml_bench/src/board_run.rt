@@ -1,5 +1,5 @@
 //! Workloads on a board: messages are given to one object, and received from it or from its ports.
-use crate::messages::Numbered;
+use crate::messages::{Numbered, Supply};
 use crate::{LIMIT, Tally};
 use cml_board::{Board, BoardLog, Call, Name, Outcome, Reply, Who};
 use std::alloc::Global;
@@ -31,6 +31,10 @@ pub enum Order {
 pub struct Workload {
     pub object: Object,
     pub order: Order,
+    /// The number of its first message.
+    pub first: u64,
+    /// How many bytes a message has, if it is made of bytes.
+    pub length: usize,
 }
 
 /// Nothing, of calls that are to be answered.
@@ -39,33 +43,32 @@ type Done = Result<(), io::ErrorKind>;
 /// A board with its object, and a sum over the messages that were received, which their order changes.
 #[derive(Drop)]
 pub struct Run<M: Numbered> {
-    alloc: Global,
+    supply: Supply,
     pub board: Board<M, BoardLog<M>>,
     object: Object,
     pub sum: u64,
 }
 
-/// A workload with the messages from `start` until before `end`, on a board whose object was made before.
+/// A workload with so many messages, on a board whose object was made before.
 pub fn performed<M: Numbered>(
     rt: &HostRuntime,
     workload: Workload,
-    start: u64,
-    end: u64,
+    count: u64,
 ) -> io::Result<Tally> {
-    let mut run = Run::<M>::new(rt.alloc(), workload.object)?;
-    time_of(rt, &mut run, workload.order, start, end)
+    let mut run = Run::<M>::new(rt.alloc(), workload)?;
+    time_of(rt, &mut run, workload, count)
 }
 
 fn time_of<M: Numbered>(
     rt: &HostRuntime,
     run: &mut Run<M>,
-    order: Order,
-    start: u64,
-    end: u64,
+    workload: Workload,
+    count: u64,
 ) -> io::Result<Tally> {
     let made = run.board.entries();
+    let end = workload.first.saturating_add(count);
     let clock = Instant::now(rt)?;
-    run.perform(order, start, end)?;
+    run.perform(workload.order, workload.first, end)?;
     let time = clock.elapsed(rt)?;
     Ok(Tally {
         sum: run.sum,
@@ -100,15 +103,15 @@ impl Object {
 }
 
 impl<M: Numbered> Run<M> {
-    pub fn new(alloc: Global, object: Object) -> io::Result<Run<M>> {
+    pub fn new(alloc: Global, workload: Workload) -> io::Result<Run<M>> {
         let mut run = Run {
-            alloc,
+            supply: Supply::new(alloc, workload.length)?,
             board: Board::new(alloc, LIMIT)?,
-            object,
+            object: workload.object,
             sum: 0,
         };
-        run.make(object.making())?;
-        for _ in 0..object.ports() {
+        run.make(workload.object.making())?;
+        for _ in 0..workload.object.ports() {
             run.make(Call::NewPort(OBJECT))?;
         }
         Ok(run)
@@ -148,7 +151,7 @@ impl<M: Numbered> Run<M> {
     }
 
     fn give(&mut self, number: u64) -> Done {
-        match M::of_number(self.alloc, number) {
+        match M::of_number(&self.supply, number) {
             Ok(message) => self.make(self.object.giving(message)),
             Err(_) => Err(io::ErrorKind::OutOfMemory),
         }

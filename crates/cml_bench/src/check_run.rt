@@ -1,6 +1,6 @@
 //! A journal that is checked: each of its calls is made again, on a board of the check's own.
-use crate::Tally;
-use crate::board_run::{Object, Run};
+use crate::board_run::Run;
+use crate::{PAIRS, Tally};
 use cml_board::{Entry, check};
 use std::io;
 use std::time::Instant;
@@ -10,7 +10,7 @@ const MOST_ENTRIES: usize = 4_294_967_296;
 
 /// Checks the journal of so many sends and receives. How many entries it has counts as the sum.
 pub fn performed(rt: &HostRuntime, count: u64) -> io::Result<Tally> {
-    let mut run = Run::<u64>::new(rt.alloc(), Object::Mailbox)?;
+    let mut run = Run::<u64>::new(rt.alloc(), PAIRS)?;
     run.pass(0, count)?;
     time_of(rt, run.board.journal())
 }

@@ -1,7 +1,7 @@
 //! A lane to a mailbox. One thread fills it and drains it in turn, so that each side's own time is told apart; beside
 //! them a bare ring, and the same sends made on the board.
-use crate::board_run::{OBJECT, Object, Run};
-use crate::{LIMIT, Tally};
+use crate::board_run::{OBJECT, Run};
+use crate::{LIMIT, PAIRS, Tally};
 use cml_board::{Board, BoardLog, Call};
 use cml_lanes::{Floor, Lane};
 use rtrb::{Consumer, Producer, RingBuffer};
@@ -51,7 +51,7 @@ pub fn performed(rt: &HostRuntime, count: u64) -> io::Result<Tally> {
 pub fn measured(rt: &HostRuntime, count: u64) -> io::Result<Times> {
     let mut lane = LaneRun::new(rt.alloc())?;
     let mut ring = Ring::new(rt.alloc())?;
-    let mut run = Run::new(rt.alloc(), Object::Mailbox)?;
+    let mut run = Run::new(rt.alloc(), PAIRS)?;
     measure(rt, &mut lane, &mut ring, &mut run, count)
 }
 

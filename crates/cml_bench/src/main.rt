@@ -4,6 +4,7 @@
 
 mod board_run;
 mod check_run;
+mod copied;
 mod lane_run;
 mod log_run;
 mod messages;
@@ -11,8 +12,9 @@ mod soak_run;
 mod switchboard_run;
 
 use board_run::{Object, Order, Workload};
-use cml_board::Text;
+use cml_board::{Bytes, Text};
 use cml_log::{ChunkLog, PlainLog};
+use copied::Copied;
 use std::alloc::Global;
 use std::process::ExitCode;
 use std::rt::Clock;
@@ -34,11 +36,19 @@ const LIMIT: u64 = 4_294_967_296;
 const PAIRS: Workload = Workload {
     object: Object::Mailbox,
     order: Order::InTurn,
+    first: 0,
+    length: 0,
 };
 
 const CAST: Workload = Workload {
     object: Object::Channel(8),
-    order: Order::InTurn,
+    ..PAIRS
+};
+
+/// Each number has 20 digits.
+const LONG_PAIRS: Workload = Workload {
+    first: 10_000_000_000_000_000_000,
+    ..PAIRS
 };
 
 /// A workload of one thread.
@@ -46,6 +56,10 @@ const CAST: Workload = Workload {
 enum Work {
     Numbers(Workload),
     Texts(Workload),
+    /// With messages of so many bytes.
+    Bytes(Workload, usize),
+    /// The same in vectors, which each share copies.
+    Copied(Workload, usize),
     /// One message for so many ports.
     Ports(u64),
     LogInDeque,
@@ -60,8 +74,8 @@ const WORKS: &[(&str, Work)] = &[
     (
         "burst1",
         Work::Numbers(Workload {
-            object: Object::Mailbox,
             order: Order::AllAtTheEnd,
+            ..PAIRS
         }),
     ),
     ("cast8", Work::Numbers(CAST)),
@@ -69,11 +83,18 @@ const WORKS: &[(&str, Work)] = &[
         "var1",
         Work::Numbers(Workload {
             object: Object::Variable,
-            order: Order::InTurn,
+            ..PAIRS
         }),
     ),
     ("pairs1_text", Work::Texts(PAIRS)),
+    ("pairs1_text20", Work::Texts(LONG_PAIRS)),
     ("cast8_text", Work::Texts(CAST)),
+    ("pairs1_bytes8", Work::Bytes(PAIRS, 8)),
+    ("pairs1_bytes64", Work::Bytes(PAIRS, 64)),
+    ("pairs1_bytes1000", Work::Bytes(PAIRS, 1_000)),
+    ("cast8_bytes64", Work::Bytes(CAST, 64)),
+    ("pairs1_vec64", Work::Copied(PAIRS, 64)),
+    ("pairs1_vec1000", Work::Copied(PAIRS, 1_000)),
     ("ports1000", Work::Ports(1_000)),
     ("ports10000", Work::Ports(10_000)),
     ("ports100000", Work::Ports(100_000)),
@@ -110,7 +131,7 @@ struct Asked {
 fn main(rt: HostRuntime) -> io::Result<ExitCode> {
     let Some(asked) = read_words(&rt)? else {
         eprintln!(rt;
-            "usage: cml_bench [N [log8|soak1|a text's or a switchboard's workload]], N from 1 to {MOST}"
+            "usage: cml_bench [N [log8|soak1|a workload of texts, of bytes, or on a switchboard]], N from 1 to {MOST}"
         )?;
         return Ok(ExitCode::from(2));
     };
@@ -179,7 +200,12 @@ impl Work {
     fn can_be_alone(self) -> bool {
         matches!(
             self,
-            Work::Texts(_) | Work::LogInDeque | Work::LogInChunks | Work::Soak
+            Work::Texts(_)
+                | Work::Bytes(_, _)
+                | Work::Copied(_, _)
+                | Work::LogInDeque
+                | Work::LogInChunks
+                | Work::Soak
         )
     }
 
@@ -262,17 +288,29 @@ fn print_soak_times(rt: &HostRuntime, name: &str, count: u64) -> io::Result<()> 
 
 fn performed(rt: &HostRuntime, work: Work, count: u64) -> io::Result<Tally> {
     match work {
-        Work::Numbers(workload) => board_run::performed::<u64>(rt, workload, 0, count),
-        Work::Texts(workload) => board_run::performed::<Text>(rt, workload, 0, count),
-        Work::Ports(ports) => {
-            let object = Object::Channel(ports);
-            board_run::performed::<u64>(rt, Workload { object, ..CAST }, 1, 2)
+        Work::Numbers(workload) => board_run::performed::<u64>(rt, workload, count),
+        Work::Texts(workload) => board_run::performed::<Text>(rt, workload, count),
+        Work::Bytes(workload, length) => {
+            board_run::performed::<Bytes>(rt, Workload { length, ..workload }, count)
         }
+        Work::Copied(workload, length) => {
+            board_run::performed::<Copied>(rt, Workload { length, ..workload }, count)
+        }
+        Work::Ports(ports) => board_run::performed::<u64>(rt, to_ports(ports), 1),
         Work::LogInDeque => log_run::performed::<PlainLog<u64, 4>>(rt, count),
         Work::LogInChunks => log_run::performed::<ChunkLog<u64, 4>>(rt, count),
         Work::Lane => lane_run::performed(rt, count),
         Work::Check => check_run::performed(rt, count),
         Work::Soak => Ok(soak_run::soaked(rt, 1, count)?.all),
+    }
+}
+
+/// One message is enough: each port receives it.
+fn to_ports(ports: u64) -> Workload {
+    Workload {
+        object: Object::Channel(ports),
+        first: 1,
+        ..CAST
     }
 }
 

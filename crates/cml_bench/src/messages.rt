@@ -1,21 +1,56 @@
-//! What the messages of a board can be: numbers, or texts, each share of which takes memory.
-use cml_board::{Entry, Message, Text};
+//! What the messages of a workload can be: numbers, texts, bytes that all shares own together, or bytes that each share copies.
+use crate::copied::Copied;
+use cml_board::{Bytes, Entry, Message, Text};
 use std::alloc::{AllocError, Global};
 use std::mem;
 
 /// An entry of a text's board is at most 88 bytes, those that its texts own apart.
 const _: () = prove!(mem::size_of::<Entry<Text>>() <= 88);
 
+/// As many values as a byte has.
+const BYTES: u64 = 256;
+
+/// What messages are made with. Bytes are copied from one list, so that making them takes little.
+#[derive(Drop)]
+pub struct Supply {
+    alloc: Global,
+    /// 0, 1, 2 and so on, and 0 again behind 255.
+    bytes: Vec<u8>,
+    length: usize,
+}
+
+impl Supply {
+    /// Messages of bytes have so many.
+    pub fn new(alloc: Global, length: usize) -> Result<Supply, AllocError> {
+        let mut bytes = Vec::new(alloc);
+        for place in 0..(length as u64).saturating_add(BYTES) {
+            bytes.push((place % BYTES) as u8)?;
+        }
+        Ok(Supply {
+            alloc,
+            bytes,
+            length,
+        })
+    }
+
+    /// The bytes of this number's message: they begin with its lowest one.
+    fn bytes(&self, number: u64) -> &[u8] {
+        let start = (number % BYTES) as usize;
+        let end = start.saturating_add(self.length);
+        self.bytes.get(start..end).unwrap_or(&[])
+    }
+}
+
 /// A message for each number.
 pub trait Numbered: Message {
-    fn of_number(alloc: Global, number: u64) -> Result<Self, AllocError>;
+    fn of_number(supply: &Supply, number: u64) -> Result<Self, AllocError>;
 
     /// The sum with this message behind it. The order of messages changes it.
     fn added_to(&self, sum: u64) -> u64;
 }
 
 impl Numbered for u64 {
-    fn of_number(_alloc: Global, number: u64) -> Result<u64, AllocError> {
+    fn of_number(_supply: &Supply, number: u64) -> Result<u64, AllocError> {
         Ok(number)
     }
 
@@ -26,8 +61,8 @@ impl Numbered for u64 {
 
 /// The number's digits. Each byte is added.
 impl Numbered for Text {
-    fn of_number(alloc: Global, number: u64) -> Result<Text, AllocError> {
-        Text::of_number(alloc, number)
+    fn of_number(supply: &Supply, number: u64) -> Result<Text, AllocError> {
+        Text::of_number(supply.alloc, number)
     }
 
     fn added_to(&self, sum: u64) -> u64 {
@@ -37,4 +72,34 @@ impl Numbered for Text {
         }
         sum
     }
+}
+
+impl Numbered for Bytes {
+    fn of_number(supply: &Supply, number: u64) -> Result<Bytes, AllocError> {
+        match Bytes::from_slice(supply.alloc, supply.bytes(number))? {
+            Ok(bytes) => Ok(bytes),
+            Err(_) => Err(AllocError),
+        }
+    }
+
+    fn added_to(&self, sum: u64) -> u64 {
+        with_ends(sum, self.as_slice())
+    }
+}
+
+impl Numbered for Copied {
+    fn of_number(supply: &Supply, number: u64) -> Result<Copied, AllocError> {
+        Copied::from_slice(supply.alloc, supply.bytes(number))
+    }
+
+    fn added_to(&self, sum: u64) -> u64 {
+        with_ends(sum, self.as_slice())
+    }
+}
+
+/// The sum with the first and the last byte behind it. To add all bytes would take longer than to send them.
+fn with_ends(sum: u64, bytes: &[u8]) -> u64 {
+    let first = bytes.first().copied().unwrap_or(0) as u64;
+    let last = bytes.last().copied().unwrap_or(0) as u64;
+    last.added_to(first.added_to(sum))
 }

@@ -1,6 +1,6 @@
 //! A board that runs on: its journal is cut again and again, so that it takes the same memory however long that is.
-use crate::Tally;
-use crate::board_run::{Object, Run};
+use crate::board_run::Run;
+use crate::{PAIRS, Tally};
 use std::io;
 use std::time::{Duration, Instant};
 
@@ -17,7 +17,7 @@ pub struct Soak {
 
 /// On one mailbox a send and a receive in turn, `between` times, and then a cut; and all that so many times.
 pub fn soaked(rt: &HostRuntime, rounds: u64, between: u64) -> io::Result<Soak> {
-    let mut run = Run::new(rt.alloc(), Object::Mailbox)?;
+    let mut run = Run::new(rt.alloc(), PAIRS)?;
     cut_again_and_again(rt, &mut run, rounds, between)
 }
 
