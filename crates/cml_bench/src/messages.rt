@@ -10,7 +10,7 @@ const _: () = prove!(mem::size_of::<Entry<Text>>() <= 88);
 /// As many values as a byte has.
 const BYTES: u64 = 256;
 
-/// What messages are made with. Bytes are copied from one list, so that making them takes little.
+/// What messages are made with. All bytes are copied from one list, so making a message takes little time.
 #[derive(Drop)]
 pub struct Supply {
     alloc: Global,

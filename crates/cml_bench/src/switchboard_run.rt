@@ -9,8 +9,9 @@ mod lanes;
 mod rounds;
 mod soak;
 
+use crate::messages::{Numbered, Supply};
 use crate::{LIMIT, Tally};
-use cml_board::BoardLog;
+use cml_board::{BoardLog, Bytes};
 use cml_threads::{Left, PARTS, Switchboard};
 use crew::{Job, run};
 use crowds::split_among;
@@ -32,7 +33,11 @@ const READERS: u64 = 8;
 const TURNS: u64 = 100_000_000_000;
 
 /// What the threads share.
-type Shared<Led> = Switchboard<u64, BoardLog<u64>, Led>;
+#[derive(Drop)]
+struct Shared<M: Numbered, Led: Ledger> {
+    board: Switchboard<M, BoardLog<M>, Led>,
+    supply: Supply,
+}
 
 #[derive(Clone, Copy)]
 pub enum Workload {
@@ -50,35 +55,51 @@ pub enum Workload {
     Server(u64),
 }
 
-pub const WORKLOADS: &[(&str, Workload)] = &[
-    ("pairs1", Workload::Pairs),
-    ("pipe2", Workload::Pipe),
-    ("fanin4", Workload::FanIn),
-    ("fanin4_lanes", Workload::Lanes),
-    ("cast8", Workload::Ports),
-    ("feed8", Workload::Feeds),
-    ("var2", Workload::Variables),
-    ("soak2", Workload::Soak),
-    ("token8", Workload::Token(8)),
-    ("token63", Workload::Token(63)),
-    ("server32", Workload::Server(32)),
-    ("server128", Workload::Server(128)),
+/// A workload and its messages.
+#[derive(Clone, Copy)]
+pub enum Task {
+    Numbers(Workload),
+    /// With messages of so many bytes.
+    Bytes(Workload, usize),
+}
+
+pub const WORKLOADS: &[(&str, Task)] = &[
+    ("pairs1", Task::Numbers(Workload::Pairs)),
+    ("pipe2", Task::Numbers(Workload::Pipe)),
+    ("pipe2_bytes64", Task::Bytes(Workload::Pipe, 64)),
+    ("fanin4", Task::Numbers(Workload::FanIn)),
+    ("fanin4_lanes", Task::Numbers(Workload::Lanes)),
+    ("cast8", Task::Numbers(Workload::Ports)),
+    ("feed8", Task::Numbers(Workload::Feeds)),
+    ("var2", Task::Numbers(Workload::Variables)),
+    ("soak2", Task::Numbers(Workload::Soak)),
+    ("token8", Task::Numbers(Workload::Token(8))),
+    ("token63", Task::Numbers(Workload::Token(63))),
+    ("server32", Task::Numbers(Workload::Server(32))),
+    ("server128", Task::Numbers(Workload::Server(128))),
 ];
 
-/// Does a workload so many times, on a switchboard of its own.
+/// Does a workload so many times, on a new switchboard.
 pub fn performed<R: Clock + Threads + Wait + Sync>(
     rt: &R,
     alloc: Global,
-    workload: Workload,
+    task: Task,
     count: u64,
 ) -> io::Result<Tally> {
-    perform::<Brand, R>(rt, alloc, workload, count, Blank::new(PARTS))
+    let blank = Blank::new(PARTS);
+    match task {
+        Task::Numbers(workload) => perform::<u64, Brand, R>(rt, alloc, workload, 0, count, blank),
+        Task::Bytes(workload, length) => {
+            perform::<Bytes, Brand, R>(rt, alloc, workload, length, count, blank)
+        }
+    }
 }
 
-fn perform<Led: Ledger + Send + Sync, R: Clock + Threads + Wait + Sync>(
+fn perform<M: Numbered + Send + Sync, Led: Ledger + Send + Sync, R: Clock + Threads + Wait + Sync>(
     rt: &R,
     alloc: Global,
     workload: Workload,
+    length: usize,
     count: u64,
     blank: Blank,
 ) -> io::Result<Tally>
@@ -86,10 +107,12 @@ fn perform<Led: Ledger + Send + Sync, R: Clock + Threads + Wait + Sync>(
     requires parts { blank.parts ≡ Led.parts }
     requires enough { blank.parts ≡ 2 ^ 63 }
 {
-    let shared = Shared::<Led>::new(alloc, LIMIT, blank)?;
+    let supply = Supply::new(alloc, length)?;
+    let board = Switchboard::new(alloc, LIMIT, blank)?;
+    let shared = Shared::<M, Led> { board, supply };
     let mut lefts = Vec::new(alloc);
     let tally = work(rt, alloc, &shared, &mut lefts, workload, count)?;
-    let Ok(settled) = shared.settle(lefts) else {
+    let Ok(settled) = shared.board.settle(lefts) else {
         return Err(io::ErrorKind::InvalidData.into());
     };
     if settled.count().total != workload.entries(count) {
@@ -99,10 +122,10 @@ fn perform<Led: Ledger + Send + Sync, R: Clock + Threads + Wait + Sync>(
 }
 
 /// What a workload comes to, if it makes as many calls as it is to make.
-fn work<Led: Ledger + Send + Sync, R: Clock + Threads + Wait + Sync>(
+fn work<M: Numbered + Send + Sync, Led: Ledger + Send + Sync, R: Clock + Threads + Wait + Sync>(
     rt: &R,
     alloc: Global,
-    shared: &Shared<Led>,
+    shared: &Shared<M, Led>,
     lefts: &mut Vec<Left<Led>>,
     workload: Workload,
     count: u64,

@@ -3,6 +3,7 @@ use super::Shared;
 use super::crew::{Job, Part};
 use super::filling::{Added, add};
 use super::rounds::{Adding, FIRST, Rounds, Verb};
+use crate::messages::Numbered;
 use cml_board::Name;
 use std::sync::Wait;
 use std::sync::ledger::Ledger;
@@ -21,10 +22,10 @@ pub fn split_among(count: u64, threads: u64) -> u64 {
 }
 
 /// Threads that each receive the token at a mailbox of their own, and send it to the next thread's.
-pub fn add_ring<Led: Ledger, R: Wait>(
+pub fn add_ring<M: Numbered, Led: Ledger, R: Wait>(
     rt: &R,
-    shared: &Shared<Led>,
-    jobs: &mut Vec<Job<Led>>,
+    shared: &Shared<M, Led>,
+    jobs: &mut Vec<Job<M, Led>>,
     threads: u64,
     count: u64,
 ) -> Added {
@@ -39,10 +40,10 @@ pub fn add_ring<Led: Ledger, R: Wait>(
 }
 
 /// The threads that answer, and the clients.
-pub fn add_server<Led: Ledger, R: Wait>(
+pub fn add_server<M: Numbered, Led: Ledger, R: Wait>(
     rt: &R,
-    shared: &Shared<Led>,
-    jobs: &mut Vec<Job<Led>>,
+    shared: &Shared<M, Led>,
+    jobs: &mut Vec<Job<M, Led>>,
     clients: u64,
     count: u64,
 ) -> Added {
@@ -52,10 +53,10 @@ pub fn add_server<Led: Ledger, R: Wait>(
 }
 
 /// Threads that receive so many requests each at one mailbox, and answer each where the client waits.
-fn add_workers<Led: Ledger, R: Wait>(
+fn add_workers<M: Numbered, Led: Ledger, R: Wait>(
     rt: &R,
-    shared: &Shared<Led>,
-    jobs: &mut Vec<Job<Led>>,
+    shared: &Shared<M, Led>,
+    jobs: &mut Vec<Job<M, Led>>,
     each: u64,
 ) -> Added {
     for _ in 0..WORKERS {
@@ -67,10 +68,10 @@ fn add_workers<Led: Ledger, R: Wait>(
 }
 
 /// Clients that ask so often each, and receive each answer at a mailbox of their own.
-fn add_clients<Led: Ledger, R: Wait>(
+fn add_clients<M: Numbered, Led: Ledger, R: Wait>(
     rt: &R,
-    shared: &Shared<Led>,
-    jobs: &mut Vec<Job<Led>>,
+    shared: &Shared<M, Led>,
+    jobs: &mut Vec<Job<M, Led>>,
     clients: u64,
     each: u64,
 ) -> Added {

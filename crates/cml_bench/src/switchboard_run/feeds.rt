@@ -1,6 +1,7 @@
 //! A thread that multicasts and pumps the feeds, and threads that read by them.
 use super::rounds::{FIRST, Verb};
 use super::{READERS, Shared, TURNS};
+use crate::messages::Numbered;
 use cml_lanes::Feed;
 use cml_threads::Seat;
 use std::rt::Clock;
@@ -16,9 +17,9 @@ const BATCH: u64 = 256;
 const PAUSE: u64 = 20;
 
 /// Multicasts all, and pumps the feeds until they have all of it. It receives nothing.
-pub fn tell_and_pump<Led: Ledger, R: Wait>(
+pub fn tell_and_pump<M: Numbered, Led: Ledger, R: Wait>(
     rt: &R,
-    shared: &Shared<Led>,
+    shared: &Shared<M, Led>,
     seat: &mut Seat<Led>,
     count: u64,
 ) -> u64 {
@@ -42,16 +43,16 @@ pub fn tell_and_pump<Led: Ledger, R: Wait>(
 }
 
 /// Pumps each feed once: how many messages went.
-fn pump_each<Led: Ledger, R: Wait>(rt: &R, shared: &Shared<Led>) -> u64 {
+fn pump_each<M: Numbered, Led: Ledger, R: Wait>(rt: &R, shared: &Shared<M, Led>) -> u64 {
     let mut moved = 0u64;
     for feed in 0..READERS {
-        moved = moved.saturating_add(shared.pump(rt, feed).unwrap_or(0) as u64);
+        moved = moved.saturating_add(shared.board.pump(rt, feed).unwrap_or(0) as u64);
     }
     moved
 }
 
 /// Takes so many messages from a feed: their sum.
-pub fn take<R: Clock>(rt: &R, feed: Feed<u64>, count: u64) -> u64 {
+pub fn take<M: Numbered, R: Clock>(rt: &R, feed: Feed<M>, count: u64) -> u64 {
     let (mut feed, mut taken, mut sum) = (feed, 0u64, 0u64);
     for _ in 0..TURNS {
         if taken >= count {
@@ -60,7 +61,7 @@ pub fn take<R: Clock>(rt: &R, feed: Feed<u64>, count: u64) -> u64 {
         match feed.recv() {
             Some(message) => {
                 taken = taken.saturating_add(1);
-                sum = sum.wrapping_add(message);
+                sum = sum.wrapping_add(message.added_to(0));
             }
             None => thread::sleep(rt, Duration::from_micros(PAUSE)),
         }

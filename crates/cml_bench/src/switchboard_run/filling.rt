@@ -3,6 +3,7 @@ use super::crew::{Job, Part};
 use super::crowds::{add_ring, add_server};
 use super::rounds::{Adding, FIRST, Rounds, SECOND, Verb};
 use super::{READERS, SENDERS, Shared, Workload};
+use crate::messages::Numbered;
 use cml_board::Name;
 use cml_threads::Left;
 use std::io;
@@ -16,12 +17,12 @@ pub type Added = Result<(), io::ErrorKind>;
 
 /// Makes the objects by a seat of its own, and sends a token on its way. Where one is refused there are too few entries at
 /// the end.
-pub fn make_objects<Led: Ledger, R: Wait>(
+pub fn make_objects<M: Numbered, Led: Ledger, R: Wait>(
     rt: &R,
-    shared: &Shared<Led>,
+    shared: &Shared<M, Led>,
     workload: Workload,
 ) -> Result<Left<Led>, io::ErrorKind> {
-    let Ok(seat) = shared.seat(rt) else {
+    let Ok(seat) = shared.board.seat(rt) else {
         return Err(io::ErrorKind::OutOfMemory);
     };
     let mut seat = seat;
@@ -33,7 +34,7 @@ pub fn make_objects<Led: Ledger, R: Wait>(
     if let Workload::Token(_) = workload {
         Verb::Send(FIRST).make(rt, shared, &mut seat, 1);
     }
-    Ok(shared.leave(rt, seat))
+    Ok(shared.board.leave(rt, seat))
 }
 
 /// The first object, and how many others there are.
@@ -54,12 +55,12 @@ fn objects(workload: Workload) -> (Verb, Verb, u64) {
 }
 
 /// Adds a job for each thread. Those who receive stand before those for whom they wait.
-pub fn fill<Led: Ledger, R: Wait>(
+pub fn fill<M: Numbered, Led: Ledger, R: Wait>(
     rt: &R,
-    shared: &Shared<Led>,
+    shared: &Shared<M, Led>,
     workload: Workload,
     count: u64,
-    jobs: &mut Vec<Job<Led>>,
+    jobs: &mut Vec<Job<M, Led>>,
 ) -> Added {
     match workload {
         Workload::Feeds => add_feeds(rt, shared, jobs)?,
@@ -114,19 +115,19 @@ fn partner(workload: Workload, count: u64) -> Part {
 }
 
 /// A job for a thread with a new seat.
-pub fn add<Led: Ledger, R: Wait>(
+pub fn add<M: Numbered, Led: Ledger, R: Wait>(
     rt: &R,
-    shared: &Shared<Led>,
-    jobs: &mut Vec<Job<Led>>,
+    shared: &Shared<M, Led>,
+    jobs: &mut Vec<Job<M, Led>>,
     part: Part,
 ) -> Added {
-    match shared.seat(rt) {
+    match shared.board.seat(rt) {
         Ok(seat) => push(jobs, Job::BySeat(seat, part)),
         Err(_) => Err(io::ErrorKind::OutOfMemory),
     }
 }
 
-fn push<Led: Ledger>(jobs: &mut Vec<Job<Led>>, job: Job<Led>) -> Added {
+fn push<M: Numbered, Led: Ledger>(jobs: &mut Vec<Job<M, Led>>, job: Job<M, Led>) -> Added {
     match jobs.push(job) {
         Ok(()) => Ok(()),
         Err(_) => Err(io::ErrorKind::OutOfMemory),
@@ -134,10 +135,10 @@ fn push<Led: Ledger>(jobs: &mut Vec<Job<Led>>, job: Job<Led>) -> Added {
 }
 
 /// So many threads that send so many messages each.
-fn add_senders<Led: Ledger, R: Wait>(
+fn add_senders<M: Numbered, Led: Ledger, R: Wait>(
     rt: &R,
-    shared: &Shared<Led>,
-    jobs: &mut Vec<Job<Led>>,
+    shared: &Shared<M, Led>,
+    jobs: &mut Vec<Job<M, Led>>,
     senders: u64,
     each: u64,
 ) -> Added {
@@ -153,14 +154,14 @@ fn add_senders<Led: Ledger, R: Wait>(
 }
 
 /// Threads that send so many messages each, on lanes.
-fn add_lanes<Led: Ledger, R: Wait>(
+fn add_lanes<M: Numbered, Led: Ledger, R: Wait>(
     rt: &R,
-    shared: &Shared<Led>,
-    jobs: &mut Vec<Job<Led>>,
+    shared: &Shared<M, Led>,
+    jobs: &mut Vec<Job<M, Led>>,
     each: u64,
 ) -> Added {
     for sender in 0..SENDERS {
-        let Ok((lane, _)) = shared.open_lane(rt, FIRST, ROOM) else {
+        let Ok((lane, _)) = shared.board.open_lane(rt, FIRST, ROOM) else {
             return Err(io::ErrorKind::OutOfMemory);
         };
         let (start, end) = (
@@ -173,10 +174,10 @@ fn add_lanes<Led: Ledger, R: Wait>(
 }
 
 /// Threads that receive so many messages each, by ports.
-fn add_readers<Led: Ledger, R: Wait>(
+fn add_readers<M: Numbered, Led: Ledger, R: Wait>(
     rt: &R,
-    shared: &Shared<Led>,
-    jobs: &mut Vec<Job<Led>>,
+    shared: &Shared<M, Led>,
+    jobs: &mut Vec<Job<M, Led>>,
     count: u64,
 ) -> Added {
     for port in 1..=READERS {
@@ -187,13 +188,13 @@ fn add_readers<Led: Ledger, R: Wait>(
 }
 
 /// Threads that take from feeds.
-fn add_feeds<Led: Ledger, R: Wait>(
+fn add_feeds<M: Numbered, Led: Ledger, R: Wait>(
     rt: &R,
-    shared: &Shared<Led>,
-    jobs: &mut Vec<Job<Led>>,
+    shared: &Shared<M, Led>,
+    jobs: &mut Vec<Job<M, Led>>,
 ) -> Added {
     for _ in 0..READERS {
-        let Ok((feed, number)) = shared.open_feed(rt, FIRST, ROOM) else {
+        let Ok((feed, number)) = shared.board.open_feed(rt, FIRST, ROOM) else {
             return Err(io::ErrorKind::OutOfMemory);
         };
         push(jobs, Job::ByFeed(feed, number))?;

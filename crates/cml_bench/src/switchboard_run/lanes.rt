@@ -1,6 +1,7 @@
 //! Threads that send on lanes, and one that drains them and receives.
 use super::rounds::{FIRST, Verb};
 use super::{SENDERS, Shared, TURNS};
+use crate::messages::{Numbered, Supply};
 use cml_lanes::{Lane, LaneEnd};
 use cml_threads::Seat;
 use std::rt::Clock;
@@ -13,13 +14,22 @@ use std::time::Duration;
 const PAUSE: u64 = 20;
 
 /// Sends the messages from `start` until before `end`, each again until there is room for it.
-pub fn send_on<R: Clock>(rt: &R, lane: Lane<u64>, start: u64, end: u64) -> Option<LaneEnd<u64>> {
+pub fn send_on<M: Numbered, R: Clock>(
+    rt: &R,
+    supply: &Supply,
+    lane: Lane<M>,
+    start: u64,
+    end: u64,
+) -> Option<LaneEnd<M>> {
     let (mut lane, mut next) = (lane, start);
     for _ in 0..TURNS {
         if next >= end {
             break;
         }
-        match lane.send(next) {
+        let Ok(message) = M::of_number(supply, next) else {
+            break;
+        };
+        match lane.send(message) {
             Ok(()) => next = next.saturating_add(1),
             Err(_) => thread::sleep(rt, Duration::from_micros(PAUSE)),
         }
@@ -28,9 +38,9 @@ pub fn send_on<R: Clock>(rt: &R, lane: Lane<u64>, start: u64, end: u64) -> Optio
 }
 
 /// Drains the lanes in turn and receives what came, until each sender's share of so many messages has come: their sum.
-pub fn drain_all<Led: Ledger, R: Wait>(
+pub fn drain_all<M: Numbered, Led: Ledger, R: Wait>(
     rt: &R,
-    shared: &Shared<Led>,
+    shared: &Shared<M, Led>,
     seat: &mut Seat<Led>,
     count: u64,
 ) -> u64 {
@@ -53,10 +63,10 @@ pub fn drain_all<Led: Ledger, R: Wait>(
 }
 
 /// Drains each lane once: how many messages came.
-fn drain_each<Led: Ledger, R: Wait>(rt: &R, shared: &Shared<Led>) -> u64 {
+fn drain_each<M: Numbered, Led: Ledger, R: Wait>(rt: &R, shared: &Shared<M, Led>) -> u64 {
     let mut moved = 0u64;
     for lane in 0..SENDERS {
-        moved = moved.saturating_add(shared.drain(rt, lane).unwrap_or(0) as u64);
+        moved = moved.saturating_add(shared.board.drain(rt, lane).unwrap_or(0) as u64);
     }
     moved
 }

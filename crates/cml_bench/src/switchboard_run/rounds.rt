@@ -1,8 +1,10 @@
 //! What most threads of a workload do: the same calls in turn, round after round. A call that is refused ends them, and then
 //! whoever waits for it is told that all are stalled.
 use super::Shared;
+use crate::messages::{Numbered, Supply};
 use cml_board::{Call, Name, Reply};
 use cml_threads::Seat;
+use std::alloc::AllocError;
 use std::sync::Wait;
 use std::sync::ledger::Ledger;
 
@@ -51,34 +53,38 @@ pub struct Rounds {
 }
 
 impl Verb {
-    fn call(self, message: u64) -> Call<u64> {
-        match self {
+    /// The call, with this number's message if it gives one.
+    fn call<M: Numbered>(self, supply: &Supply, number: u64) -> Result<Call<M>, AllocError> {
+        Ok(match self {
             Verb::NewMailbox => Call::NewMailbox,
             Verb::NewChannel => Call::NewChannel,
             Verb::NewPort(name) => Call::NewPort(name),
             Verb::NewMVar => Call::NewMVar,
-            Verb::Send(name) => Call::Send(name, message),
-            Verb::Cast(name) => Call::Cast(name, message),
+            Verb::Send(name) => Call::Send(name, M::of_number(supply, number)?),
+            Verb::Cast(name) => Call::Cast(name, M::of_number(supply, number)?),
             Verb::Recv(name) => Call::Recv(name),
-            Verb::Put(name) => Call::Put(name, message),
+            Verb::Put(name) => Call::Put(name, M::of_number(supply, number)?),
             Verb::Take(name) => Call::Take(name),
-            Verb::Ask(name) => Call::Send(FIRST, name.0),
-            Verb::Answer => Call::Send(Name(message), message),
-        }
+            Verb::Ask(name) => Call::Send(FIRST, M::of_number(supply, name.0)?),
+            Verb::Answer => Call::Send(Name(number), M::of_number(supply, number)?),
+        })
     }
 
-    /// The message that was got, or else the one that was given.
-    pub fn make<Led: Ledger, R: Wait>(
+    /// The number that the call got, or the given one if it gets none. Bytes count as what they add to a sum of 0.
+    pub fn make<M: Numbered, Led: Ledger, R: Wait>(
         self,
         rt: &R,
-        shared: &Shared<Led>,
+        shared: &Shared<M, Led>,
         seat: &mut Seat<Led>,
-        message: u64,
+        number: u64,
     ) -> Option<u64> {
-        match shared.call(rt, seat, self.call(message)) {
+        let Ok(call) = self.call(&shared.supply, number) else {
+            return None;
+        };
+        match shared.board.call(rt, seat, call) {
             Ok(answer) => match answer.reply() {
-                Reply::Got(got) => Some(*got),
-                _ => Some(message),
+                Reply::Got(got) => Some(got.added_to(0)),
+                _ => Some(number),
             },
             Err(_) => None,
         }
@@ -108,10 +114,10 @@ impl Rounds {
     }
 
     /// A sum over the messages.
-    pub fn perform<Led: Ledger, R: Wait>(
+    pub fn perform<M: Numbered, Led: Ledger, R: Wait>(
         self,
         rt: &R,
-        shared: &Shared<Led>,
+        shared: &Shared<M, Led>,
         seat: &mut Seat<Led>,
     ) -> u64 {
         let mut sum = 0u64;
@@ -124,10 +130,10 @@ impl Rounds {
         sum
     }
 
-    fn turn<Led: Ledger, R: Wait>(
+    fn turn<M: Numbered, Led: Ledger, R: Wait>(
         self,
         rt: &R,
-        shared: &Shared<Led>,
+        shared: &Shared<M, Led>,
         seat: &mut Seat<Led>,
         number: u64,
     ) -> Option<u64> {

@@ -1,6 +1,7 @@
 //! A switchboard that runs on: one thread sends, and the other receives and takes the journal again and again.
 use super::Shared;
 use super::rounds::{Adding, FIRST, SECOND, Verb};
+use crate::messages::Numbered;
 use cml_board::{Call, Reply};
 use cml_threads::Seat;
 use std::sync::Wait;
@@ -27,9 +28,9 @@ fn ends_window(message: u64, count: u64) -> bool {
 }
 
 /// Sends all messages, and waits behind each window until it is told to go on. None of the messages is received here.
-pub fn send_windows<Led: Ledger, R: Wait>(
+pub fn send_windows<M: Numbered, Led: Ledger, R: Wait>(
     rt: &R,
-    shared: &Shared<Led>,
+    shared: &Shared<M, Led>,
     seat: &mut Seat<Led>,
     count: u64,
 ) -> u64 {
@@ -45,9 +46,9 @@ pub fn send_windows<Led: Ledger, R: Wait>(
 }
 
 /// Receives all messages, and takes the journal whenever it is due: a sum over the messages.
-pub fn receive_and_take<Led: Ledger, R: Wait>(
+pub fn receive_and_take<M: Numbered, Led: Ledger, R: Wait>(
     rt: &R,
-    shared: &Shared<Led>,
+    shared: &Shared<M, Led>,
     seat: &mut Seat<Led>,
     count: u64,
 ) -> u64 {
@@ -68,14 +69,14 @@ pub fn receive_and_take<Led: Ledger, R: Wait>(
 }
 
 /// A message, and the position of its entry.
-fn receive<Led: Ledger, R: Wait>(
+fn receive<M: Numbered, Led: Ledger, R: Wait>(
     rt: &R,
-    shared: &Shared<Led>,
+    shared: &Shared<M, Led>,
     seat: &mut Seat<Led>,
 ) -> Option<(u64, u64)> {
-    match shared.call(rt, seat, Call::Recv(FIRST)) {
+    match shared.board.call(rt, seat, Call::Recv(FIRST)) {
         Ok(answer) => match answer.reply() {
-            Reply::Got(message) => Some((*message, answer.at())),
+            Reply::Got(message) => Some((message.added_to(0), answer.at())),
             _ => None,
         },
         Err(_) => None,
@@ -83,8 +84,8 @@ fn receive<Led: Ledger, R: Wait>(
 }
 
 /// How many entries were taken. They are dropped here, without the lock.
-fn take_journal<Led: Ledger, R: Wait>(rt: &R, shared: &Shared<Led>) -> u64 {
-    match shared.take_journal(rt) {
+fn take_journal<M: Numbered, Led: Ledger, R: Wait>(rt: &R, shared: &Shared<M, Led>) -> u64 {
+    match shared.board.take_journal(rt) {
         Ok(entries) => entries.len() as u64,
         Err(_) => 0,
     }
