@@ -40,7 +40,7 @@ fn make<C: Caller>(plan: &Plan<'_>, makes: &Makes, caller: &mut C) -> Result<(),
     }
     match making(plan, makes) {
         Ok(Some(call)) => {
-            caller.call(call)?;
+            drop(caller.call(call)?);
             Ok(())
         }
         Ok(None) => Ok(()),
