@@ -2,18 +2,19 @@
  * Mailboxes, channels and variables for threads: the static library libcml_c.a. The messages of a room are 64-bit numbers, or
  * bytes.
  *
- * A room is a board of objects with a journal of every call that was accepted, and seats from which the calls are made. A
- * lane is a ring on which a thread sends without the room's lock, a feed one on which it receives. docs/BINDINGS.md says how
- * a program is linked with the library, and what of it is proved.
+ * A room is a board of objects with a journal of every accepted call, and seats that make the calls. A thread sends on a lane
+ * without the room's lock, and receives on a feed without it. docs/BINDINGS.md says how you link a program with the library, and
+ * what is proved.
  *
- * Who calls has to keep these rules; all else is tested inside.
+ * Keep these rules. The library tests all else.
  *
- * - One call at a time on a handle, each ordered after the one before by a lock, or by the start or the join of a thread.
- *   So a room that several threads use stands under a lock of theirs, and no call here waits.
- * - A lane or a feed is a handle of its own: one thread may use it, without the room's lock, while others use the room.
- * - A handle is used from its opening until it is closed, and not after, nor is a copy of it.
- * - Pointers are good, and none overlaps another.
- * - No call from a signal handler, nor from the child of a fork of a process with threads.
+ * - Make one call at a time on a handle. Order each after the one before by a lock, or by the start or the join of a thread. If
+ *   several threads use a room, put a lock round it. No call here blocks.
+ * - A lane and a feed have handles of their own. One thread may use such a handle without the room's lock while others use the
+ *   room.
+ * - Use a handle after it was opened and until it is closed. Don't use it or a copy of it after that.
+ * - Pass good pointers that don't overlap.
+ * - Make no call from a signal handler, nor from the child of a fork of a process with threads.
  */
 #ifndef SERYUGO_H
 #define SERYUGO_H
@@ -26,22 +27,22 @@
 extern "C" {
 #endif
 
-/* What a call is told. With a refusal (SERYUGO_GONE to SERYUGO_UNSEEN) and with SERYUGO_WRONG_HANDLE and
- * SERYUGO_OUT_OF_BOUNDS nothing is written; what a refusal leaves as it was, each function says. */
+/* What a call returns. If it returns a refusal (SERYUGO_GONE to SERYUGO_UNSEEN), SERYUGO_WRONG_HANDLE or SERYUGO_OUT_OF_BOUNDS,
+ * it writes nothing. Each function says what a refusal leaves as it was. */
 enum seryugo_code {
-    /* It was done, and what it gives, if it gives anything, is written. */
+    /* The call is done, and has written what it gives, if it gives anything. */
     SERYUGO_DONE = 0,
-    /* A poll found nothing, a variable is empty, or no seat is due. Nothing is written. */
+    /* A poll found nothing, a variable is empty, or no seat is due. The call wrote nothing. */
     SERYUGO_NOTHING = 1,
-    /* The variable was full before, and stays as it was. */
+    /* The variable was full, and stays as it was. */
     SERYUGO_PUT = 2,
-    /* The port is closed. Nothing is written. */
+    /* The port is closed. The call wrote nothing. */
     SERYUGO_CLOSED = 3,
-    /* The call would wait: its seat is parked. It makes the same call again with is_again once it is due, and no other
-     * call. Nothing is written. */
+    /* The call would block: its seat is parked. Once the seat is due, it makes the same call again with is_again, and no other
+     * call. The call wrote nothing. */
     SERYUGO_PARKED = 4,
-    /* The seat can't make this call: it was never made, or has left; it waits, and this isn't its call made again with is_again;
-     * or is_again is true, and it doesn't wait. Of a lane: its room has let go of it. */
+    /* The seat can't make this call. There is no such seat, or it has left. Or it is parked, and this isn't its call made again
+     * with is_again. Or is_again is true, and it isn't parked. Of a lane: its room has closed it. */
     SERYUGO_GONE = 5,
     /* A lane or a feed is open, so that the journal can't be cut. */
     SERYUGO_BUSY = 6,
@@ -51,16 +52,16 @@ enum seryugo_code {
     SERYUGO_WRONG_KIND = 8,
     /* The journal has as many entries since the last cut as its limit says. */
     SERYUGO_JOURNAL_FULL = 9,
-    /* The call would wait, and so does everybody else, and no lane is open: nobody is left who could answer it. */
+    /* The call would block, every other seat is parked or has left, and no lane is open: nothing could answer the call. */
     SERYUGO_STALLED = 10,
     SERYUGO_NO_MEMORY = 11,
-    /* Not as many messages were seen of a lane as were sent on it. */
+    /* The room saw fewer of the lane's messages than were sent on it. */
     SERYUGO_UNSEEN = 12,
-    /* The lane has no free slot: the message isn't sent. */
+    /* The lane has no free slot. The message isn't sent. */
     SERYUGO_FULL = 13,
-    /* The lane is still open, since one of its messages was refused. The count of those before it is written. */
+    /* The lane is still open, because one of its messages was refused. The call wrote the count of those before it. */
     SERYUGO_STILL_OPEN = 14,
-    /* The handle leads to what takes no such call, as a lane's where a room's is wanted. Nothing was changed. */
+    /* The handle leads to something that takes no such call, such as a lane in place of a room. Nothing was changed. */
     SERYUGO_WRONG_HANDLE = 15,
     /* Nothing was changed. A limit isn't from 1 to 2^32, a capacity isn't from 1 to 1024, a message has more than 2^32 - 1 bytes,
      * a null pointer has a length, or a kind in an entry is none. */
@@ -77,36 +78,36 @@ struct seryugo {
 
 /* ---- rooms and seats ---- */
 
-/* Opens a room of numbers with no objects and no seats, whose journal takes `limit` entries between two cuts. SERYUGO_OUT_OF_BOUNDS or
- * SERYUGO_NO_MEMORY: *room is as it was. */
+/* Opens a room of numbers with no objects and no seats. Its journal takes `limit` entries between two cuts. If the call fails
+ * with SERYUGO_OUT_OF_BOUNDS or SERYUGO_NO_MEMORY, *room is as it was. */
 uint32_t seryugo_room_open(uint64_t limit, struct seryugo *room);
 
 /* Opens a room of bytes. It differs from one of numbers only in the calls that have a message. */
 uint32_t seryugo_bytes_room_open(uint64_t limit, struct seryugo *room);
 
-/* Closes a room, a lane, a feed, a checker or a taken journal: its memory is given back, with all that it holds. A room doesn't close its
- * lanes, its feeds and what was taken of it: each of these handles is closed by itself, before or after. */
+/* Closes a room, a lane, a feed, a checker or a taken journal, and frees its memory. A room doesn't close its lanes, its feeds
+ * and its taken journals. Close each of these handles too, before the room or after it. */
 void seryugo_close(struct seryugo handle);
 
-/* Makes a seat, which is free, and writes its number: how many were made before. The only refusal is SERYUGO_NO_MEMORY. While
- * a seat is free nobody is told of a stall: make all seats before the first one waits, and leave with each. */
+/* Makes a free seat, and writes its number: how many seats were made before. The only refusal is SERYUGO_NO_MEMORY. While a seat
+ * is free, no call fails with SERYUGO_STALLED. So make all seats before the first one blocks, and let each leave at its end. */
 uint32_t seryugo_new_seat(struct seryugo *room, uint64_t *seat);
 
-/* A free seat leaves: it makes no more calls. SERYUGO_GONE where it may make none. Then call seryugo_next_due: those who wait
- * may be stalled. */
+/* A free seat leaves: it makes no more calls. SERYUGO_GONE if it may make none. Then call seryugo_next_due, because parked seats
+ * may be stalled now. */
 uint32_t seryugo_leave(struct seryugo *room, uint64_t seat);
 
 /*
  * ---- a seat's calls ----
  *
- * Each is refused, in this order, SERYUGO_GONE, SERYUGO_NO_SUCH, SERYUGO_WRONG_KIND, SERYUGO_JOURNAL_FULL, SERYUGO_STALLED
- * and SERYUGO_NO_MEMORY. SERYUGO_GONE changes nothing: a parked seat stays parked. After any other refusal the seat is free,
- * and nothing else is changed. What is answered adds one entry to the journal. A name is told by the call that makes the
- * object; it is never given again.
+ * A call is tested for these refusals in this order: SERYUGO_GONE, SERYUGO_NO_SUCH, SERYUGO_WRONG_KIND, SERYUGO_JOURNAL_FULL,
+ * SERYUGO_STALLED and SERYUGO_NO_MEMORY. SERYUGO_GONE changes nothing: a parked seat stays parked. After any other refusal the
+ * seat is free, and nothing else is changed. An answered call adds one entry to the journal. The call that makes an object
+ * writes its name, which no other object gets.
  *
- * Those with `is_again` may wait. Make such a call with false. Where it returns SERYUGO_PARKED, let the lock go and sleep until
- * the seat is woken. Then make the call again with true, until it returns something else. After each call, also after one that
- * returned SERYUGO_PARKED, ask seryugo_next_due whom to wake.
+ * A call with `is_again` may block. Make it with false first. If it returns SERYUGO_PARKED, release the lock and sleep until the
+ * seat is woken. Then make the call again with true, until it returns something else. After each call, also after one that
+ * returned SERYUGO_PARKED, ask seryugo_next_due which seat to wake.
  */
 
 /* Makes a mailbox, and writes its name. */
@@ -115,10 +116,10 @@ uint32_t seryugo_new_mailbox(struct seryugo *room, uint64_t seat, uint64_t *mail
 /* Sends a message to a mailbox. */
 uint32_t seryugo_send(struct seryugo *room, uint64_t seat, uint64_t mailbox, uint64_t message);
 
-/* Receives the next message of a mailbox or a port, and writes it. A port that was closed is told SERYUGO_CLOSED. */
+/* Receives the next message of a mailbox or a port, and writes it. Returns SERYUGO_CLOSED if the port is closed. */
 uint32_t seryugo_recv(struct seryugo *room, uint64_t seat, uint64_t source, bool is_again, uint64_t *message);
 
-/* The same, but told SERYUGO_NOTHING where there is none. */
+/* The same, but it never blocks: returns SERYUGO_NOTHING if there is no message. */
 uint32_t seryugo_recv_poll(struct seryugo *room, uint64_t seat, uint64_t source, uint64_t *message);
 
 /* Makes a channel, and writes its name. */
@@ -127,36 +128,36 @@ uint32_t seryugo_new_channel(struct seryugo *room, uint64_t seat, uint64_t *chan
 /* Makes a port of a channel, which receives what is multicast from now on, and writes its name. */
 uint32_t seryugo_new_port(struct seryugo *room, uint64_t seat, uint64_t channel, uint64_t *port);
 
-/* Makes a port that stands where this one does, and writes its name. A port that was closed is told SERYUGO_CLOSED. */
+/* Makes a port at the same place as this one, and writes its name. Returns SERYUGO_CLOSED if this one is closed. */
 uint32_t seryugo_copy_port(struct seryugo *room, uint64_t seat, uint64_t port, uint64_t *copy);
 
-/* Closes a port; told SERYUGO_CLOSED where it was closed before. */
+/* Closes a port. Returns SERYUGO_CLOSED if it was closed before. */
 uint32_t seryugo_close_port(struct seryugo *room, uint64_t seat, uint64_t port);
 
 /* Sends a message to every port of a channel. */
 uint32_t seryugo_multicast(struct seryugo *room, uint64_t seat, uint64_t channel, uint64_t message);
 
-/* Makes an empty i-variable, which is filled once for good, and writes its name. */
+/* Makes an empty i-variable, which can be filled once, and writes its name. */
 uint32_t seryugo_new_ivar(struct seryugo *room, uint64_t seat, uint64_t *variable);
 
 /* Makes an empty m-variable, which can be emptied again, and writes its name. */
 uint32_t seryugo_new_mvar(struct seryugo *room, uint64_t seat, uint64_t *variable);
 
-/* Makes an m-variable that holds this, and writes its name. */
+/* Makes an m-variable that holds this message, and writes its name. */
 uint32_t seryugo_mvar_init(struct seryugo *room, uint64_t seat, uint64_t message, uint64_t *variable);
 
-/* Fills an empty variable; a full one stays, and is told SERYUGO_PUT. */
+/* Fills an empty variable. Returns SERYUGO_PUT if it is full, and leaves it as it was. */
 uint32_t seryugo_put(struct seryugo *room, uint64_t seat, uint64_t variable, uint64_t message);
 
-/* Reads a variable, which keeps what it holds; and the same, told SERYUGO_NOTHING where it is empty. */
+/* Reads a variable, which keeps its message. The second never blocks: returns SERYUGO_NOTHING if the variable is empty. */
 uint32_t seryugo_get(struct seryugo *room, uint64_t seat, uint64_t variable, bool is_again, uint64_t *message);
 uint32_t seryugo_get_poll(struct seryugo *room, uint64_t seat, uint64_t variable, uint64_t *message);
 
-/* Reads and empties an m-variable; and the same, told SERYUGO_NOTHING where it is empty. */
+/* Reads and empties an m-variable. The second never blocks: returns SERYUGO_NOTHING if the variable is empty. */
 uint32_t seryugo_take(struct seryugo *room, uint64_t seat, uint64_t variable, bool is_again, uint64_t *message);
 uint32_t seryugo_take_poll(struct seryugo *room, uint64_t seat, uint64_t variable, uint64_t *message);
 
-/* Stores a message in a full m-variable, and writes what that held. */
+/* Stores a message in a full m-variable, and writes the message that it held before. */
 uint32_t seryugo_swap(struct seryugo *room, uint64_t seat, uint64_t variable, uint64_t message, bool is_again, uint64_t *held);
 
 /*
@@ -249,47 +250,47 @@ static inline uint32_t seryugo_bytes_swap(struct seryugo *room, uint64_t seat, u
 /*
  * ---- who is woken ----
  *
- * The room knows which parked seats may go on: these are due. A message makes one seat due that waits at the mailbox, and a
- * value one of each kind of call that waits at the m-variable. All become due that wait at a port of the channel, at the
- * i-variable or at the port that closes. Where the journal becomes full, and where nobody can go on, all parked seats are due.
+ * The room knows which parked seats may go on: these are due. A message makes one seat due that waits at the mailbox. A value
+ * makes one seat due for each kind of call that waits at the m-variable. All seats become due that wait at a port of the channel,
+ * at the i-variable or at the port that closes. If the journal becomes full, or no seat can go on, all parked seats are due.
  *
- * Call seryugo_next_due before you let the lock go that you took for one of these:
+ * Call seryugo_next_due before you release the lock after one of these:
  *
  * - a seat's call, whether it was answered, refused or parked, and seryugo_leave;
  * - seryugo_lane_close, seryugo_lane_drain, seryugo_lane_drop and seryugo_lane_abandon;
  * - seryugo_feed_open and seryugo_feed_pump.
  *
- * The other calls make no seat due. Let the lock go, and then wake the thread of the seat that was written. A woken thread takes
+ * The other calls make no seat due. Release the lock, and then wake the thread of the seat that was written. A woken thread takes
  * the lock, makes its seat's call again with is_again, and calls seryugo_next_due as after any call. So one seryugo_next_due for
- * each of these calls is enough: a woken thread wakes the next. A caller may also call it until it returns SERYUGO_NOTHING, and
- * wake all these threads.
+ * each of these calls is enough: a woken thread wakes the next. You may also call it until it returns SERYUGO_NOTHING, and wake
+ * all these threads.
  *
  * Keep two rules, or a thread sleeps for ever. Each seat that was written asks again. A wake that comes before the sleep isn't
  * lost: keep a flag for each seat, or call seryugo_is_due under the lock before each sleep. A thread that nobody woke may sleep
  * on, or ask again at once.
  */
 
-/* Writes the next seat that is due and wasn't written before since it last asked. The seat that has been due the longest comes
- * first. SERYUGO_NOTHING: each seat that is due was written before. */
+/* Writes the next due seat that wasn't written since it last asked. The seat that has been due the longest comes first.
+ * SERYUGO_NOTHING: each due seat was written before. */
 uint32_t seryugo_next_due(struct seryugo *room, uint64_t *seat);
 
-/* Whether a seat is due: SERYUGO_DONE, or SERYUGO_NOTHING where it may sleep on, and where it doesn't wait. It changes
- * nothing. */
+/* Returns SERYUGO_DONE if a seat is due, and SERYUGO_NOTHING if it may sleep on or isn't parked. It changes nothing. */
 uint32_t seryugo_is_due(struct seryugo *room, uint64_t seat);
 
 /*
  * ---- lanes ----
  *
- * While a lane is open nobody is told of a stall, and the journal isn't cut.
+ * While a lane is open, no call fails with SERYUGO_STALLED, and seryugo_cut fails with SERYUGO_BUSY. Close your lanes before you
+ * block.
  */
 
-/* Opens a lane to a mailbox or a channel, whose ring has room for `capacity` messages (1 to 1024), and writes a handle to it
- * and its number. SERYUGO_NO_SUCH, SERYUGO_WRONG_KIND, SERYUGO_NO_MEMORY or SERYUGO_OUT_OF_BOUNDS: the room and *lane are as
- * they were. */
+/* Opens a lane to a mailbox or a channel, whose ring has room for `capacity` messages (1 to 1024). It writes a handle to the lane
+ * and the lane's number. If it fails with SERYUGO_NO_SUCH, SERYUGO_WRONG_KIND, SERYUGO_NO_MEMORY or SERYUGO_OUT_OF_BOUNDS, the
+ * room and *lane are as they were. */
 uint32_t seryugo_lane_open(struct seryugo *room, uint64_t target, size_t capacity, struct seryugo *lane, uint64_t *lane_number);
 
-/* Sends a message on a lane, without the room's lock: the room's next drain may move it into the journal. It is told
- * SERYUGO_FULL where no free slot is seen, never while the lane has accepted fewer messages than its capacity. */
+/* Sends a message on a lane, without the room's lock. The room's next drain may move it into the journal. Returns SERYUGO_FULL if
+ * it sees no free slot, but never while the lane has accepted fewer messages than its capacity. */
 uint32_t seryugo_lane_send(struct seryugo *lane, uint64_t message);
 
 /* The same of a lane in a room of bytes: copies the message, and sends it. A message that finds no free slot isn't sent. */
@@ -300,43 +301,45 @@ static inline uint32_t seryugo_bytes_lane_send(struct seryugo *lane, const void 
     return seryugo_is_astray(at, length) ? (uint32_t)SERYUGO_OUT_OF_BOUNDS : seryugo_bytes_lane_send_from(lane, at, length);
 }
 
-/* Ends a lane, without the room's lock: nothing more is sent on it, and seryugo_lane_close takes its handle. SERYUGO_GONE: its
- * room had let go of it. The lane has ended then too, and its handle leads to nothing: only seryugo_close takes that. */
+/* Ends a lane, without the room's lock: nothing more is sent on it, and seryugo_lane_close takes its handle. SERYUGO_GONE: the
+ * room had closed the lane. The lane has ended then too, and only seryugo_close takes its handle. */
 uint32_t seryugo_lane_finish(struct seryugo *lane);
 
-/* Moves what is seen of a lane that has finished, and closes it where then as many of its messages stand in the journal as
- * were sent on it; its handle leads to nothing then, and is closed as ever. Else it may be tried again. SERYUGO_UNSEEN: the
- * counts differ; what was seen has moved. SERYUGO_JOURNAL_FULL or SERYUGO_NO_MEMORY: one was refused; those before it have
- * moved. SERYUGO_NO_SUCH: the room has no open lane of its number, and nothing was changed. SERYUGO_WRONG_HANDLE: the lane has
- * not finished, or was closed. Both handles are used by this call. It asks for no handle of this very room, but counts alone. */
+/* Moves what it sees of a finished lane into the journal. If the journal has as many of the lane's messages then as were sent on
+ * it, the call closes the lane, and only seryugo_close takes the lane's handle. Else you may try again.
+ *
+ * SERYUGO_UNSEEN: the counts differ, and what was seen has moved. SERYUGO_JOURNAL_FULL or SERYUGO_NO_MEMORY: a message was
+ * refused, and those before it have moved. SERYUGO_NO_SUCH: the room has no open lane of this number, and nothing was changed.
+ * SERYUGO_WRONG_HANDLE: the lane has not finished, or was closed. The call uses both handles. It doesn't test that the lane is
+ * this room's: it compares counts. */
 uint32_t seryugo_lane_close(struct seryugo *room, struct seryugo *lane);
 
-/* Moves what is seen of an open lane into the journal, in order, and writes how many messages. It stops where one is refused.
+/* Moves what it sees of an open lane into the journal, in order, and writes how many messages. It stops if one is refused.
  * SERYUGO_JOURNAL_FULL or SERYUGO_NO_MEMORY: the first was refused, and none has moved. SERYUGO_NO_SUCH: no open lane has the
  * number. */
 uint32_t seryugo_lane_drain(struct seryugo *room, uint64_t lane_number, uint64_t *count);
 
-/* The same, and closes the lane where none was refused, whether or not all that was sent was seen. SERYUGO_STILL_OPEN: one was
- * refused, but not the first. It is refused as seryugo_lane_drain is, and then the lane stays open. */
+/* The same, and closes the lane if no message was refused, even if some were not seen: those are lost. SERYUGO_STILL_OPEN: one was
+ * refused, but not the first. It fails as seryugo_lane_drain does, and then the lane stays open. */
 uint32_t seryugo_lane_drop(struct seryugo *room, uint64_t lane_number, uint64_t *count);
 
-/* Closes an open lane at once, and drops what is left in its ring. The only refusal is SERYUGO_NO_SUCH, where no open lane has
- * the number. */
+/* Closes an open lane at once. Messages still in its ring are lost. The only refusal is SERYUGO_NO_SUCH: no open lane has the
+ * number. */
 uint32_t seryugo_lane_abandon(struct seryugo *room, uint64_t lane_number);
 
 /* ---- feeds ---- */
 
-/* Opens a feed of what is multicast on a channel from now on, whose ring has room for `capacity` messages (1 to 1024), and
- * writes a handle to it and its number. It makes a port of the feed's own, by an entry of the journal, and is refused as that
- * would be. A refusal or SERYUGO_OUT_OF_BOUNDS: *feed is as it was, no port is made, and nothing is opened. */
+/* Opens a feed of what is multicast on a channel from now on. Its ring has room for `capacity` messages (1 to 1024). It writes a
+ * handle to the feed and the feed's number. It makes a port for the feed, by an entry of the journal, and fails as that would. If
+ * it fails, *feed is as it was, and no port is made. */
 uint32_t seryugo_feed_open(struct seryugo *room, uint64_t channel, size_t capacity, struct seryugo *feed, uint64_t *feed_number);
 
-/* Receives what an open feed is owed into its ring, while that has a free slot, and writes how many messages. It stops where
- * one is refused. SERYUGO_JOURNAL_FULL or SERYUGO_NO_MEMORY: the first was refused, and none was received. SERYUGO_NO_SUCH: no
+/* Receives what an open feed is owed into its ring, while the ring has a free slot, and writes how many messages. It stops if one
+ * is refused. SERYUGO_JOURNAL_FULL or SERYUGO_NO_MEMORY: the first was refused, and none was received. SERYUGO_NO_SUCH: no
  * open feed has the number. */
 uint32_t seryugo_feed_pump(struct seryugo *room, uint64_t feed_number, uint64_t *count);
 
-/* Takes the next message that was pumped, without the room's lock; told SERYUGO_NOTHING where none is seen. */
+/* Takes the next message that was pumped, without the room's lock. Returns SERYUGO_NOTHING if it sees none. */
 uint32_t seryugo_feed_recv(struct seryugo *feed, uint64_t *message);
 
 /* The same of a feed in a room of bytes: hands the message over. SERYUGO_NO_MEMORY: the message is still to be taken. */
@@ -345,18 +348,17 @@ uint32_t seryugo_bytes_feed_recv(struct seryugo *feed, struct seryugo_bytes *mes
 /* Writes the name of a feed's port. */
 uint32_t seryugo_feed_port(struct seryugo *feed, uint64_t *port);
 
-/* Ends an open feed for good: nothing more is pumped into it. What is left in it can still be taken, and its port is a port
- * like any other from now on. The only refusal is SERYUGO_NO_SUCH, where no open feed has the number. */
+/* Ends an open feed: nothing more is pumped into it. You can still take what is left in it, and its port is a port like any other
+ * from now on. The only refusal is SERYUGO_NO_SUCH: no open feed has the number. */
 uint32_t seryugo_feed_end(struct seryugo *room, uint64_t feed_number);
 
 /* ---- the journal ---- */
 
-/* Takes memory for `entries` more entries. The only refusal is SERYUGO_NO_MEMORY. Nothing of what was reserved before is
- * lost. */
+/* Allocates memory for `entries` more entries. The only refusal is SERYUGO_NO_MEMORY. What was reserved before stays reserved. */
 uint32_t seryugo_reserve(struct seryugo *room, size_t entries);
 
-/* Cuts the journal: what it has is dropped, and it has room for as many entries again. Objects stay, and names and positions
- * go on counting. Nothing of what was reserved is lost. The only refusal is SERYUGO_BUSY, where a lane or a feed is open. */
+/* Cuts the journal: drops its entries, so that it takes as many again. Objects stay, and names and positions go on counting. What
+ * was reserved stays reserved. The only refusal is SERYUGO_BUSY: a lane or a feed is open. */
 uint32_t seryugo_cut(struct seryugo *room);
 
 enum seryugo_maker_kind { SERYUGO_SEAT = 0, SERYUGO_LANE = 1, SERYUGO_FEED = 2 };
@@ -397,8 +399,8 @@ struct seryugo_maker {
     uint64_t number;
 };
 
-/* One accepted call: who made it, by its number; the call, with its object and its message, each 0 where it has none; and the
- * reply, with the name or the message that it gives, else 0. */
+/* One accepted call: who made it, by its number; the call, with its object and its message, each 0 if it has none; and the reply,
+ * with the name or the message that it gives, or 0. */
 struct seryugo_entry {
     struct seryugo_maker maker;
     struct {
@@ -435,8 +437,8 @@ struct seryugo_bytes_entry {
     struct seryugo owner;
 };
 
-/* Writes the journal's entry at this position, counted from 0 since the room was opened. SERYUGO_NO_SUCH where there is none
- * yet, and where it was cut away. */
+/* Writes the journal's entry at this position, counted from 0 since the room was opened. SERYUGO_NO_SUCH: there is none yet, or it
+ * was cut away. */
 uint32_t seryugo_entry(struct seryugo *room, uint64_t at, struct seryugo_entry *entry);
 
 /* The same of a room of bytes: hands the entry over. Free it by seryugo_bytes_entry_free. SERYUGO_NO_MEMORY: nothing is
@@ -446,12 +448,12 @@ uint32_t seryugo_bytes_entry(struct seryugo *room, uint64_t at, struct seryugo_b
 /* Frees an entry that was handed over, with its messages. Call it once for each. */
 void seryugo_bytes_entry_free(struct seryugo_bytes_entry entry);
 
-/* Cuts the journal, and writes a handle to the entries that it had, oldest first, and how many they are. Unlike seryugo_cut it
- * takes what was reserved along with them: reserve again. SERYUGO_NO_MEMORY or SERYUGO_BUSY: nothing is cut, and *journal is as
- * it was. The handle is the caller's own: it is used without the room's lock, and is closed like any other. */
+/* Cuts the journal, and writes a handle to its entries, oldest first, and how many they are. Unlike seryugo_cut it takes what was
+ * reserved along with them: reserve again. SERYUGO_NO_MEMORY or SERYUGO_BUSY: nothing is cut, and *journal is as it was. Use the
+ * handle without the room's lock, and close it like any other. */
 uint32_t seryugo_take_journal(struct seryugo *room, struct seryugo *journal, uint64_t *count);
 
-/* Writes the entry of this place, from 0, of a journal that was taken; SERYUGO_NO_SUCH behind the last one. */
+/* Writes the entry at this place, from 0, of a taken journal. SERYUGO_NO_SUCH: the place is behind the last entry. */
 uint32_t seryugo_taken_entry(struct seryugo *journal, uint64_t place, struct seryugo_entry *entry);
 
 /* The same of a room of bytes: hands the entry over. */
@@ -503,7 +505,7 @@ uint32_t seryugo_checker_verdict(struct seryugo *checker, uint64_t *count);
 /*
  * ---- readers ----
  *
- * None changes anything. Each writes a number, and is told SERYUGO_NO_SUCH where no object of the name has such a one.
+ * None changes anything. Each writes a number, or returns SERYUGO_NO_SUCH if no object of this name has such a number.
  */
 
 enum seryugo_object_kind {
@@ -517,7 +519,7 @@ enum seryugo_object_kind {
 /* An object's kind. */
 uint32_t seryugo_kind(struct seryugo *room, uint64_t object, uint64_t *kind);
 
-/* A port's channel; and how many messages had been multicast on that before the first that the port is to receive. */
+/* A port's channel; and how many messages were multicast on that channel before the first that the port receives. */
 uint32_t seryugo_channel_of(struct seryugo *room, uint64_t port, uint64_t *channel);
 uint32_t seryugo_start_of(struct seryugo *room, uint64_t port, uint64_t *start);
 
@@ -530,26 +532,26 @@ uint32_t seryugo_got(struct seryugo *room, uint64_t object, uint64_t *count);
 /* How many wait in a mailbox, or are owed to an open port. */
 uint32_t seryugo_owed(struct seryugo *room, uint64_t object, uint64_t *count);
 
-/* How many of a mailbox or a channel are kept, and the place of the first of these. */
+/* How many messages of a mailbox or a channel are kept, and the place of the first of these. */
 uint32_t seryugo_kept(struct seryugo *room, uint64_t object, uint64_t *count);
 uint32_t seryugo_first(struct seryugo *room, uint64_t object, uint64_t *count);
 
-/* What a variable holds; SERYUGO_NOTHING where it is empty. */
+/* The message that a variable holds. SERYUGO_NOTHING: it is empty. */
 uint32_t seryugo_held(struct seryugo *room, uint64_t variable, uint64_t *message);
 
 /* The same of a room of bytes: hands the message over. */
 uint32_t seryugo_bytes_held(struct seryugo *room, uint64_t variable, struct seryugo_bytes *message);
 
-/* Whether a port is open: SERYUGO_DONE, or SERYUGO_CLOSED. */
+/* Returns SERYUGO_DONE if a port is open, and else SERYUGO_CLOSED. */
 uint32_t seryugo_is_open(struct seryugo *room, uint64_t port);
 
-/* How many calls were accepted since the room was opened; how many of them were cut away; and how many entries the journal
- * takes between two cuts. */
+/* How many calls were accepted since the room was opened; how many of these entries were cut away; and how many entries the
+ * journal takes between two cuts. */
 uint32_t seryugo_entries(struct seryugo *room, uint64_t *count);
 uint32_t seryugo_cut_at(struct seryugo *room, uint64_t *count);
 uint32_t seryugo_limit(struct seryugo *room, uint64_t *count);
 
-/* Whether the journal takes more entries: SERYUGO_DONE, or else SERYUGO_JOURNAL_FULL. */
+/* Returns SERYUGO_DONE if the journal takes more entries, and else SERYUGO_JOURNAL_FULL. */
 uint32_t seryugo_is_full(struct seryugo *room);
 
 #ifdef __cplusplus
