@@ -7,6 +7,7 @@ pub mod Changing
 pub mod Showing
 pub mod Standing
 pub mod Keeping
+pub mod Limiting
 pub mod Unmade
 pub mod Telling
 pub mod Beginning

@@ -1,7 +1,9 @@
 -- An entry is added to a board's journal.
-use Rattle.std.proofs.Common.{◌≡◌, ℕ, ◌+◌, ◌≤◌, Bool, List, [], ◌∷◌, ◌++◌, length, reverse, Some, refl, sym, ap, subst, ◌∙◌, arith}
+use Rattle.std.proofs.Common.{◌≡◌, ℕ, ◌+◌, ◌≤◌, Bool, List, [], ◌∷◌, ◌++◌, length, reverse, Option, Some, Result, Ok, Err, IsErr, refl, sym, ap, subst, ◌∙◌, arith}
+use Rattle.std.proofs.lemmas.Bool.{false≢true}
 use Rattle.std.proofs.lemmas.List.{reverse-append}
 use Rattle.std.proofs.lemmas.Option.{none-some}
+use Rattle.std.specs.declared.alloc.AllocError.{AllocError}
 use Rattle.cml_log.specs.Log.{Log}
 use Rattle.cml_board.specs.declared.call.Call.{Call}
 use Rattle.cml_board.specs.declared.entry.Who.{Who}
@@ -9,15 +11,11 @@ use Rattle.cml_board.specs.declared.entry.Reply.{Reply}
 use Rattle.cml_board.specs.declared.entry.Reply.TheVariants.{Made}
 use Rattle.cml_board.specs.declared.entry.Entry.{Entry}
 use Rattle.cml_board.specs.declared.object.Object.{Object}
-use Rattle.cml_board.specs.declared.outcome.Outcome.{Outcome}
-use Rattle.cml_board.specs.declared.outcome.Outcome.TheVariants as outcome
-use Rattle.cml_board.specs.declared.outcome.Refusal.TheVariants.{NoMemory}
-use Rattle.cml_board.specs.Answered.{Answered}
 use Rattle.cml_board.specs.History.{Lawful, Fits, made, answer, new_name}
 use Rattle.cml_board.specs.Facts.{facts_of}
 use Rattle.cml_board.specs.Shown.{Shown}
 use Rattle.cml_board.specs.Keeps.{Shows, Keeps}
-use Rattle.cml_board.specs.Outcome.{HasRoom, Refuses, Applies, AddsEntry, IsAsBefore}
+use Rattle.cml_board.specs.Outcome.{HasRoom, Performs, AddsEntry, IsAsBefore}
 use Rattle.cml_board.specs.Sparing.{IsSpared}
 
 module _ {M : Type 0} where
@@ -85,11 +83,6 @@ module _ {M : Type 0} where
   pub keeps_at : (chunk : ℕ) {a b : Shown M} → a ≡ b → Keeps chunk a → Keeps chunk b
   keeps_at chunk {a} {b} e keeps = subst (λ (s : Shown M). Keeps chunk s) e keeps
 
-  pub applies_answered : (chunk : ℕ) (sure : Bool) (old new : Shown M) (who : Who) (call : Call M) (result : Outcome M) (a : Answered M) → result ≡ outcome.Answered a
-      → Fits old.history call → HasRoom old → answer old.history call ≡ Some a.reply → a.call ≡ call → a.at ≡ length old.history → AddsEntry old new who call a.reply
-      → Applies chunk sure old new who call result
-  applies_answered chunk sure old new who call result a e fits room answers same at adds = rw e (fits, room, answers, same, at, adds)
-
   pub adds_entry : {old : Shown M} {past journal reserved later : List (Entry M)} {limit spare left : ℕ} {objects after : List (Object M (Log M))} (who : Who) (call noted : Call M) (reply told : Reply M)
       → board_of past journal limit objects spare ≡ old
       → later ≡ reserved ++ record { who = who; call = noted; reply = reply } ∷ [] → reserved ≡ journal → noted ≡ call → reply ≡ told → spare ≤ left + 1
@@ -105,10 +98,11 @@ module _ {M : Type 0} where
     reserved = subst (λ (b : Shown M). b.reserved ≤ left + 1) view spares;
   }
 
-  -- a call that is answered may be refused for want of memory alone, where what was reserved does not do
-  pub refused : {chunk : ℕ} {sure : Bool} (board : Shown M) (call : Call M) (reply : Reply M) → Fits board.history call → HasRoom board → answer board.history call ≡ Some reply → ¬ (IsSpared chunk sure board call)
-      → Refuses chunk sure board call NoMemory
-  refused board call reply fits room answers takes = (fits, room, λ waits. none-some reply (sym waits ∙ answers), takes)
+  -- a call that is answered may be refused for want of memory, if it needs more than what is reserved
+  pub denied : (chunk : ℕ) (sure : Bool) (old new : Shown M) (who : Who) (call : Call M) (reply : Reply M) (result : Result (Option (Reply M)) AllocError) → IsErr result
+      → answer old.history call ≡ Some reply → ¬ (IsSpared chunk sure old call) → IsAsBefore old new → Performs chunk sure old new who call result
+  denied chunk sure old new who call reply (Ok given) failed answers takes same = absurd (false≢true failed)
+  denied chunk sure old new who call reply (Err error) failed answers takes same = (λ waits. none-some reply (sym waits ∙ answers), takes, same)
 
   -- the same for a call that was noted as an equal one
   pub keeps_call : (chunk : ℕ) {old : Shown M} {past journal reserved later : List (Entry M)} {limit spare left : ℕ} {objects after : List (Object M (Log M))}

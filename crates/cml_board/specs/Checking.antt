@@ -46,6 +46,24 @@ module _ {M : Type 0} where
   count_of (Ok history) = entries_in history
   count_of (Err at) = at
 
+  -- whether all that it was fed is lawful, or the first position that isn't
+  abbrev pub verdict_of : Result (List (Entry M)) ℕ → Result ⊤ ℕ
+  verdict_of (Ok history) = Ok tt
+  verdict_of (Err at) = Err at
+
+  -- a board that made each of these calls, and cut its journal then
+  pub record HasMade (calls : List (Entry M)) (most : ℕ) (board : Shown M) : Type 0 where
+    pub history : board.history ≡ calls
+    pub past : board.past ≡ calls
+    pub limit : board.limit ≡ most
+
+  -- what becomes of a checker from which a board is made: such a board, or the checker where an entry is unlawful
+  abbrev pub Restores : Result (List (Entry M)) ℕ → ℕ → Result (Shown M) (Result (List (Entry M)) ℕ) → Type 0
+  Restores (Ok history) limit (Ok board) = HasMade history limit board
+  Restores (Ok history) limit (Err back) = ⊥
+  Restores (Err at) limit (Ok board) = ⊥
+  Restores (Err at) limit (Err back) = back ≡ Err at
+
   -- what becomes of a checker that is fed a piece: the journal is lawful with it, or this is its first position that isn't;
   -- once there is one it stays so
   abbrev pub Feeds : Result (List (Entry M)) ℕ → List (Entry M) → Result (List (Entry M)) ℕ → Result ⊤ ℕ → Type 0

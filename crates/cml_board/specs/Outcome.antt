@@ -1,5 +1,6 @@
 -- What a board is to those who call it, and what becomes of a call.
-use Rattle.std.specs.Prelude.{ℕ, ◌≡◌, ◌≢◌, ◌+◌, ◌<◌, ◌≤◌, Bool, Some, None}
+use Rattle.std.specs.Prelude.{ℕ, ◌≡◌, ◌≢◌, ◌+◌, ◌<◌, ◌≤◌, Bool, Option, Some, None, Result, Ok, Err}
+use Rattle.std.specs.declared.alloc.AllocError.{AllocError}
 use Rattle.cml_board.specs.declared.call.Call.{Call}
 use Rattle.cml_board.specs.declared.entry.Who.{Who}
 use Rattle.cml_board.specs.declared.entry.Reply.{Reply}
@@ -50,6 +51,13 @@ module _ {M : Type 0} where
     pub past : new.past ≡ old.history
     pub limit : new.limit ≡ old.limit
     pub objects : new.objects ≡ old.objects
+
+  -- what becomes of a call that is refused for nothing but memory: it adds just its entry, or it would wait, or it needs more
+  -- memory than stands reserved; both change nothing
+  abbrev pub Performs : ℕ → Bool → Shown M → Shown M → Who → Call M → Result (Option (Reply M)) AllocError → Type 0
+  Performs chunk sure old new who call (Ok (Some reply)) = (answer old.history call ≡ Some reply) × AddsEntry old new who call reply
+  Performs chunk sure old new who call (Ok None) = (answer old.history call ≡ None) × IsAsBefore old new
+  Performs chunk sure old new who call (Err denied) = (answer old.history call ≢ None) × ¬ (IsSpared chunk sure old call) × IsAsBefore old new
 
   -- what becomes of a call: an answered one adds just its entry, and every other changes nothing and is handed back
   abbrev pub Applies : ℕ → Bool → Shown M → Shown M → Who → Call M → Outcome M → Type 0

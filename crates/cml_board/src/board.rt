@@ -150,6 +150,20 @@ impl<M: Message, L: MessageLog<M>> Board<M, L> {
         self.journal.clear();
     }
 
+    /// The same board with another limit, of which each entry was cut away.
+    pub(crate) fn with_limit(mut self, limit: u64) -> Board<M, L>
+        requires least { 1 ≤ limit }
+        requires most { limit ≤ 2 ^ 32 }
+        requires cut { self.past ≡ self.history }
+        ensures history { result.history ≡ self.history }
+        ensures past { result.past ≡ self.past }
+        ensures limit { result.limit ≡ limit }
+        ensures objects { result.objects ≡ self.objects }
+    {
+        self.limit = limit;
+        self
+    }
+
     /// Cuts the journal, and hands over the entries that it had, to be kept elsewhere. What stood reserved goes with them.
     pub fn take_journal(&mut self) -> Vec<Entry<M>>
         ensures taken { reverse result.items ++ self.old.past ≡ self.old.history }

@@ -1,7 +1,7 @@
 //! Whether a journal from elsewhere is a lawful history of one thread.
 ghost use Rattle.std.specs.Prelude.{◌≡◌, ◌+◌, ◌≤◌, ◌<◌, ◌^◌, length, IfOk, OnErr, MatchBool};
 ghost use Rattle.cml_board.specs.History.{no_entries, entries_in, with_entry};
-ghost use Rattle.cml_board.specs.Checking.{Checks, Feeds, Pauses, count_of, IsLawfulNext, IsClean, Follows, FollowsSome};
+ghost use Rattle.cml_board.specs.Checking.{Checks, Feeds, Pauses, Restores, count_of, verdict_of, IsLawfulNext, IsClean, Follows, FollowsSome};
 
 use crate::board::{Board, BoardLog};
 use crate::entry::Entry;
@@ -69,6 +69,31 @@ impl<M: Message> Checker<M> {
         match self.unlawful {
             Some(at) => at,
             None => self.board.entries(),
+        }
+    }
+
+    /// Whether all entries that it was fed are lawful; else the first position that isn't, counted from the journal's first
+    /// entry on.
+    pub fn verdict(&self) -> Result<(), u64>
+        ensures { result ≡ verdict_of self.now }
+    {
+        match self.unlawful {
+            Some(at) => Err(at),
+            None => Ok(()),
+        }
+    }
+
+    /// A board with the objects and the history that these entries give, as if it had made each call itself, and had cut its
+    /// journal then. Its journal takes `limit` entries until it is cut again. If an entry is unlawful, the checker is handed
+    /// back.
+    pub fn into_board(self, limit: u64) -> Result<Board<M, BoardLog<M>>, Checker<M>>
+        requires least { 1 ≤ limit }
+        requires most { limit ≤ 2 ^ 32 }
+        ensures { Restores self limit result }
+    {
+        match self.unlawful {
+            Some(_) => Err(self),
+            None => Ok(self.board.with_limit(limit)),
         }
     }
 

@@ -24,10 +24,12 @@ pub enum Refusal {
     Unseen,
 }
 
-/// What becomes of a call. A call that isn't answered is handed back.
+/// What becomes of a call, on a board, and of a seat's call in a room. A call that isn't answered is handed back.
 #[derive(Debug, Drop)]
 pub enum Outcome<M> {
     Answered(Answer<M>),
+    /// On a board nothing has changed. In a room the seat is parked now: once something has changed, `Room::ask_again` makes
+    /// the call again.
     WouldWait(Call<M>),
     Refused(Refusal, Call<M>),
 }

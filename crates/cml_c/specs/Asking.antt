@@ -7,8 +7,8 @@ use Rattle.cml_board.specs.declared.entry.Reply.{Reply}
 use Rattle.cml_board.specs.declared.entry.Reply.TheVariants as reply
 use Rattle.cml_room.specs.Room.{RoomShown, MayAsk, MayAskAgain}
 use Rattle.cml_room.specs.Asking.{Asks}
-use Rattle.cml_room.specs.declared.asked.Asked.{Asked}
-use Rattle.cml_room.specs.declared.asked.Asked.TheVariants as asked
+use Rattle.cml_board.specs.declared.outcome.Outcome.{Outcome}
+use Rattle.cml_board.specs.declared.outcome.Outcome.TheVariants as outcome
 use Rattle.cml_c.specs.declared.bare.Bare.{Bare}
 use Rattle.cml_c.specs.declared.bare.Bare.TheVariants as bare
 use Rattle.cml_c.specs.declared.code.Code.{Code}
@@ -31,10 +31,10 @@ told_reply reply.Put = Put
 told_reply reply.Closed = Closed
 
 -- the code of what becomes of a call
-abbrev pub told_asked : {M : Type 0} → Asked M → Code
-told_asked (asked.Answered answer) = told_reply answer.reply
-told_asked (asked.Parked back) = Parked
-told_asked (asked.Refused refusal back) = of_refusal refusal
+abbrev pub told_outcome : {M : Type 0} → Outcome M → Code
+told_outcome (outcome.Answered answer) = told_reply answer.reply
+told_outcome (outcome.WouldWait back) = Parked
+told_outcome (outcome.Refused refusal back) = of_refusal refusal
 
 -- what a number is then that takes a name that is given, or a message too
 abbrev pub named_reply : {M : Type 0} → ℕ → Reply M → ℕ
@@ -47,15 +47,15 @@ written_reply before (reply.Got message) = message
 written_reply before other = before
 
 -- the same of what becomes of a call
-abbrev pub named_asked : {M : Type 0} → ℕ → Asked M → ℕ
-named_asked before (asked.Answered answer) = named_reply before answer.reply
-named_asked before (asked.Parked back) = before
-named_asked before (asked.Refused refusal back) = before
+abbrev pub named_outcome : {M : Type 0} → ℕ → Outcome M → ℕ
+named_outcome before (outcome.Answered answer) = named_reply before answer.reply
+named_outcome before (outcome.WouldWait back) = before
+named_outcome before (outcome.Refused refusal back) = before
 
-abbrev pub written_asked : ℕ → Asked ℕ → ℕ
-written_asked before (asked.Answered answer) = written_reply before answer.reply
-written_asked before (asked.Parked back) = before
-written_asked before (asked.Refused refusal back) = before
+abbrev pub written_outcome : ℕ → Outcome ℕ → ℕ
+written_outcome before (outcome.Answered answer) = written_reply before answer.reply
+written_outcome before (outcome.WouldWait back) = before
+written_outcome before (outcome.Refused refusal back) = before
 
 -- the seat may make the call for the first time, or again after it was parked
 abbrev pub MayMake : {M : Type 0} → Bool → RoomShown M → ℕ → Call M → Type 0
@@ -63,10 +63,10 @@ MayMake false room seat call = MayAsk room seat
 MayMake true room seat call = MayAskAgain room seat call
 
 -- what becomes of the call in the room, with the code that tells it, and what is given
-pub record Makes {M : Type 0} (sure again : Bool) (seat : ℕ) (call : Call M) (code : ℕ) (Gives : Asked M → Type 0) (old new : RoomShown M) : Type 0 where
-  pub becomes : Asked M
+pub record Makes {M : Type 0} (sure again : Bool) (seat : ℕ) (call : Call M) (code : ℕ) (Gives : Outcome M → Type 0) (old new : RoomShown M) : Type 0 where
+  pub becomes : Outcome M
   pub asks : Asks chunk sure (MayMake again old seat call) old new seat call becomes
-  pub told : code ≡ number (told_asked becomes)
+  pub told : code ≡ number (told_outcome becomes)
   pub gives : Gives becomes
 
 -- a call without a message, as one of a room
@@ -82,7 +82,7 @@ bare_call bare.NewMVar = call.NewMVar
 -- such a call in whichever room a handle leads to, with what stood and then stands where a name is written
 abbrev pub Names : ℕ → Bare → Kept → Kept → ℕ → ℕ → ℕ → Type 0
 Names seat call old new code before after =
-    OnRoom (λ M sure from to. Makes sure false seat (bare_call call) code (λ becomes. after ≡ named_asked before becomes) from to) (after ≡ before) code old new
+    OnRoom (λ M sure from to. Makes sure false seat (bare_call call) code (λ becomes. after ≡ named_outcome before becomes) from to) (after ≡ before) code old new
 
 -- the same where nothing is written
 abbrev pub NamesNothing : ℕ → Bare → Kept → Kept → ℕ → Type 0
@@ -91,7 +91,7 @@ NamesNothing seat call old new code = (after : ℕ) × Names seat call old new c
 -- a call in a room of numbers, with what stood and then stands where a number is written
 abbrev pub Calls : Bool → ℕ → Call ℕ → Kept → Kept → ℕ → ℕ → ℕ → Type 0
 Calls again seat call old new code before after =
-    OnNumbers (Makes true again seat call code (λ becomes. after ≡ written_asked before becomes)) (after ≡ before) code old new
+    OnNumbers (Makes true again seat call code (λ becomes. after ≡ written_outcome before becomes)) (after ≡ before) code old new
 
 -- the same of a call that gives no number
 abbrev pub CallsPlain : Bool → ℕ → Call ℕ → Kept → Kept → ℕ → Type 0

@@ -5,15 +5,15 @@ use Rattle.cml_board.specs.declared.call.Call.{Call}
 use Rattle.cml_board.specs.declared.entry.Reply.{Reply}
 use Rattle.cml_board.specs.declared.entry.Reply.TheVariants as reply
 use Rattle.cml_room.specs.Room.{RoomShown}
-use Rattle.cml_room.specs.declared.asked.Asked.{Asked}
-use Rattle.cml_room.specs.declared.asked.Asked.TheVariants as asked
+use Rattle.cml_board.specs.declared.outcome.Outcome.{Outcome}
+use Rattle.cml_board.specs.declared.outcome.Outcome.TheVariants as outcome
 use Rattle.cml_c.specs.declared.code.Code.TheVariants.{Done, Nothing, NoSuch, NoMemory, OutOfBounds}
 use Rattle.cml_c.specs.declared.kept.Kept.{Kept}
 use Rattle.cml_c.specs.declared.kept.Kept.TheVariants.{Message}
 use Rattle.cml_c.specs.declared.messages.SeryugoBytes.{SeryugoBytes}
 use Rattle.cml_c.specs.Codes.{number}
 use Rattle.cml_c.specs.Rooms.{OnBytes}
-use Rattle.cml_c.specs.Asking.{Makes, named_asked}
+use Rattle.cml_c.specs.Asking.{Makes, named_outcome}
 
 -- a handle to this message is written, with how many bytes it has
 pub record IsHanded (message : List ℕ) (to : SeryugoBytes) : Type 0 where
@@ -25,10 +25,10 @@ abbrev pub HandsReply : SeryugoBytes → SeryugoBytes → Reply (List ℕ) → T
 HandsReply from to (reply.Got message) = IsHanded message to
 HandsReply from to other = to ≡ from
 
-abbrev pub HandsAsked : SeryugoBytes → SeryugoBytes → Asked (List ℕ) → Type 0
-HandsAsked from to (asked.Answered answer) = HandsReply from to answer.reply
-HandsAsked from to (asked.Parked back) = to ≡ from
-HandsAsked from to (asked.Refused refusal back) = to ≡ from
+abbrev pub HandsOutcome : SeryugoBytes → SeryugoBytes → Outcome (List ℕ) → Type 0
+HandsOutcome from to (outcome.Answered answer) = HandsReply from to answer.reply
+HandsOutcome from to (outcome.WouldWait back) = to ≡ from
+HandsOutcome from to (outcome.Refused refusal back) = to ≡ from
 
 -- a share of what is held is handed over, or there is no memory for it
 abbrev pub HandsShare : List ℕ → ℕ → SeryugoBytes → SeryugoBytes → Type 0
@@ -48,7 +48,7 @@ pub record HasNoMemory (from to : SeryugoBytes) (code : ℕ) (old new : RoomShow
 
 abbrev pub MakesBytes : Bool → ℕ → Call (List ℕ) → ℕ → SeryugoBytes → SeryugoBytes → RoomShown (List ℕ) → RoomShown (List ℕ) → Type 0
 MakesBytes again seat call code from to old new =
-    Makes false again seat call code (HandsAsked from to) old new ⊎ HasNoMemory from to code old new
+    Makes false again seat call code (HandsOutcome from to) old new ⊎ HasNoMemory from to code old new
 
 -- a call in a room of bytes, with what stood and then stands where a message is handed over
 abbrev pub CallsBytes : Bool → ℕ → Call (List ℕ) → Kept → Kept → ℕ → SeryugoBytes → SeryugoBytes → Type 0
@@ -57,7 +57,7 @@ CallsBytes again seat call old new code from to = OnBytes (MakesBytes again seat
 -- a call that gives no message, with what stood and then stands where a name is written
 abbrev pub NamesBytes : ℕ → Call (List ℕ) → Kept → Kept → ℕ → ℕ → ℕ → Type 0
 NamesBytes seat call old new code before after =
-    OnBytes (Makes false false seat call code (λ becomes. after ≡ named_asked before becomes)) (after ≡ before) code old new
+    OnBytes (Makes false false seat call code (λ becomes. after ≡ named_outcome before becomes)) (after ≡ before) code old new
 
 -- the same where nothing is written
 abbrev pub NamesNoBytes : ℕ → Call (List ℕ) → Kept → Kept → ℕ → Type 0

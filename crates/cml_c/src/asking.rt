@@ -1,14 +1,13 @@
 //! A seat's call that gives a number at most.
 ghost use Rattle.std.specs.Prelude.{◌≡◌, true, false};
 ghost use Rattle.cml_c.specs.Codes.{number};
-ghost use Rattle.cml_c.specs.Asking.{Names, NamesNothing, Calls, CallsPlain, Makes, bare_call, told_asked, named_asked, written_asked, told_reply};
+ghost use Rattle.cml_c.specs.Asking.{Names, NamesNothing, Calls, CallsPlain, Makes, bare_call, told_outcome, named_outcome, written_outcome, told_reply};
 
 use crate::bare::Bare;
 use crate::code::Code;
 use crate::handle::Handle;
 use crate::kept::{Kept, RoomOf};
-use cml_board::{Call, Message, Reply};
-use cml_room::Asked;
+use cml_board::{Call, Message, Outcome, Reply};
 
 /// Makes a call without a message, and writes the name of the object that it makes, if it makes one.
 pub(crate) fn make_bare_call(handle: &mut Handle, seat: u64, call: Bare, name: &mut u64) -> u32
@@ -30,32 +29,32 @@ pub(crate) fn make_nameless_call(handle: &mut Handle, seat: u64, call: Bare) -> 
 }
 
 fn make_bare_in_room<M: Message>(room: &mut RoomOf<M>, seat: u64, call: Bare, name: &mut u64) -> u32
-    ensures { Makes M.SURE false seat (bare_call call) result (λ becomes. name.new ≡ named_asked name.old becomes) room.old room.new }
+    ensures { Makes M.SURE false seat (bare_call call) result (λ becomes. name.new ≡ named_outcome name.old becomes) room.old room.new }
 {
     tell_name(room.ask(seat, call.into_call()), name)
 }
 
 /// The code of what became of a call. A name that it gave is written.
-pub(crate) fn tell_name<M: Message>(asked: Asked<M>, name: &mut u64) -> u32
-    ensures code { result ≡ number (told_asked asked) }
-    ensures written { name.new ≡ named_asked name.old asked }
+pub(crate) fn tell_name<M: Message>(outcome: Outcome<M>, name: &mut u64) -> u32
+    ensures code { result ≡ number (told_outcome outcome) }
+    ensures written { name.new ≡ named_outcome name.old outcome }
 {
-    if let Asked::Answered(answer) = &asked
+    if let Outcome::Answered(answer) = &outcome
         && let Reply::Made(made) = answer.reply()
     {
         *name = made.0;
     }
-    code_of_asked(&asked).number()
+    code_of_outcome(&outcome).number()
 }
 
 /// The code of what became of a call.
-pub(crate) fn code_of_asked<M>(asked: &Asked<M>) -> Code
-    ensures { result ≡ told_asked asked.now }
+pub(crate) fn code_of_outcome<M>(outcome: &Outcome<M>) -> Code
+    ensures { result ≡ told_outcome outcome.now }
 {
-    match asked {
-        Asked::Answered(answer) => code_of_reply(answer.reply()),
-        Asked::Parked(_) => Code::Parked,
-        Asked::Refused(refusal, _) => Code::of_refusal(*refusal),
+    match outcome {
+        Outcome::Answered(answer) => code_of_reply(answer.reply()),
+        Outcome::WouldWait(_) => Code::Parked,
+        Outcome::Refused(refusal, _) => Code::of_refusal(*refusal),
     }
 }
 
@@ -107,7 +106,7 @@ fn make_in_room(
     call: Call<u64>,
     given: &mut u64,
 ) -> u32
-    ensures { Makes true is_again seat call result (λ becomes. given.new ≡ written_asked given.old becomes) room.old room.new }
+    ensures { Makes true is_again seat call result (λ becomes. given.new ≡ written_outcome given.old becomes) room.old room.new }
 {
     if is_again {
         return tell(room.ask_again(seat, call), given);
@@ -116,12 +115,12 @@ fn make_in_room(
 }
 
 /// The code of what became of a call. A number that it gave is written.
-fn tell(asked: Asked<u64>, given: &mut u64) -> u32
-    ensures code { result ≡ number (told_asked asked) }
-    ensures written { given.new ≡ written_asked given.old asked }
+fn tell(outcome: Outcome<u64>, given: &mut u64) -> u32
+    ensures code { result ≡ number (told_outcome outcome) }
+    ensures written { given.new ≡ written_outcome given.old outcome }
 {
-    let code = code_of_asked(&asked);
-    if let Asked::Answered(answer) = asked {
+    let code = code_of_outcome(&outcome);
+    if let Outcome::Answered(answer) = outcome {
         match answer.into_reply() {
             Reply::Made(name) => *given = name.0,
             Reply::Got(message) => *given = message,

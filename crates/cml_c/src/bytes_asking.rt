@@ -1,16 +1,15 @@
 //! A seat's call in a room of bytes.
 ghost use Rattle.std.specs.Prelude.{◌≡◌};
 ghost use Rattle.cml_c.specs.Codes.{number};
-ghost use Rattle.cml_c.specs.Asking.{told_asked};
-ghost use Rattle.cml_c.specs.Messages.{CallsBytes, NamesBytes, NamesNoBytes, MakesBytes, HandsAsked};
+ghost use Rattle.cml_c.specs.Asking.{told_outcome};
+ghost use Rattle.cml_c.specs.Messages.{CallsBytes, NamesBytes, NamesNoBytes, MakesBytes, HandsOutcome};
 
-use crate::asking::{code_of_asked, code_of_reply, tell_name};
+use crate::asking::{code_of_outcome, code_of_reply, tell_name};
 use crate::code::Code;
 use crate::handle::Handle;
 use crate::kept::{Kept, RoomOf};
 use crate::messages::{SeryugoBytes, hand_over};
-use cml_board::{Bytes, Call, Reply};
-use cml_room::Asked;
+use cml_board::{Bytes, Call, Outcome, Reply};
 use std::alloc::Global;
 
 /// Makes a call, and hands over the message that it gives.
@@ -51,19 +50,19 @@ fn make_in_room(
 }
 
 /// The code of what became of a call. A message that it gave is handed over.
-fn tell(owner: Handle, asked: Asked<Bytes>, given: &mut SeryugoBytes) -> u32
-    ensures code { result ≡ number (told_asked asked) }
-    ensures written { HandsAsked given.old given.new asked }
+fn tell(owner: Handle, outcome: Outcome<Bytes>, given: &mut SeryugoBytes) -> u32
+    ensures code { result ≡ number (told_outcome outcome) }
+    ensures written { HandsOutcome given.old given.new outcome }
 {
-    match asked {
-        Asked::Answered(answer) => match answer.into_reply() {
+    match outcome {
+        Outcome::Answered(answer) => match answer.into_reply() {
             Reply::Got(message) => {
                 *given = hand_over(owner, message);
                 Code::Done.number()
             }
             other => code_of_reply(&other).number(),
         },
-        other => code_of_asked(&other).number(),
+        other => code_of_outcome(&other).number(),
     }
 }
 

@@ -1,8 +1,8 @@
 //! Seats that one thread plays in turn, or threads that bring a lock of their own: a room waits for nobody.
 
 use crate::calls::Trouble;
-use cml_board::{BoardLog, Call, Reply};
-use cml_room::{Asked, Room, State};
+use cml_board::{BoardLog, Call, Outcome, Reply};
+use cml_room::{Room, State};
 use std::alloc::Global;
 
 /// A room whose messages are numbers.
@@ -26,24 +26,24 @@ fn pass_on(
         return Err(Trouble::OtherReply);
     };
     match room.ask(one, Call::Recv(letters)) {
-        Asked::Parked(receive) => {
+        Outcome::WouldWait(receive) => {
             let meanwhile = room.state(one);
             reply(room.ask(two, Call::Send(letters, 5)))?;
             let due = room.next_due();
             let message = got(reply(room.ask_again(one, receive))?)?;
             Ok((message, meanwhile, due))
         }
-        Asked::Answered(_) => Err(Trouble::OtherReply),
-        Asked::Refused(refusal, _) => Err(Trouble::Refused(refusal)),
+        Outcome::Answered(_) => Err(Trouble::OtherReply),
+        Outcome::Refused(refusal, _) => Err(Trouble::Refused(refusal)),
     }
 }
 
 /// What a call replies that is to be answered at once.
-fn reply(asked: Asked<u64>) -> Result<Reply<u64>, Trouble> {
-    match asked {
-        Asked::Answered(answer) => Ok(answer.into_reply()),
-        Asked::Parked(_) => Err(Trouble::WouldWait),
-        Asked::Refused(refusal, _) => Err(Trouble::Refused(refusal)),
+fn reply(outcome: Outcome<u64>) -> Result<Reply<u64>, Trouble> {
+    match outcome {
+        Outcome::Answered(answer) => Ok(answer.into_reply()),
+        Outcome::WouldWait(_) => Err(Trouble::WouldWait),
+        Outcome::Refused(refusal, _) => Err(Trouble::Refused(refusal)),
     }
 }
 

@@ -23,7 +23,6 @@ use Rattle.cml_board.specs.Outcome.{Applies, IsAsBefore}
 use Rattle.cml_lanes.specs.Floor.{FloorShown}
 use Rattle.cml_lanes.specs.Barring.{is_barred}
 use Rattle.cml_lanes.proofs.Moves.{unchanged}
-use Rattle.cml_room.specs.declared.asked.Asked.TheVariants as asked
 use Rattle.cml_room.specs.declared.news.News.{News}
 use Rattle.cml_room.specs.declared.place.Place.{Place}
 use Rattle.cml_room.specs.declared.state.State.{State}
@@ -96,7 +95,7 @@ module _ {M : Type 0} where
 
   -- an answer has its call
   pub answered_news : (chunk : ℕ) (sure : Bool) (old new : Shown M) (who : Who) (call : Call M) (reply : Answer M) (news : Option News) → news ≡ news_in call
-      → Applies chunk sure old new who call (board.Answered reply) → news ≡ news_by (asked.Answered reply)
+      → Applies chunk sure old new who call (board.Answered reply) → news ≡ news_by (board.Answered reply)
   answered_news chunk sure old new who call reply news is applies = is ∙ ap news_in (sym applies.3)
 
   -- a refused call left the board as it was

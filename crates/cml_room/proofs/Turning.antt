@@ -13,8 +13,6 @@ use Rattle.cml_board.specs.Waiting.{want_in}
 use Rattle.cml_board.specs.Outcome.{Applies}
 use Rattle.cml_lanes.specs.Floor.{FloorShown}
 use Rattle.cml_lanes.specs.Barring.{is_barred}
-use Rattle.cml_room.specs.declared.asked.Asked.{Asked}
-use Rattle.cml_room.specs.declared.asked.Asked.TheVariants as asked
 use Rattle.cml_room.specs.declared.notice.Notice.{Notice}
 use Rattle.cml_room.specs.declared.state.State.{State}
 use Rattle.cml_room.specs.declared.state.State.TheVariants.{Free, Parked}
@@ -23,18 +21,18 @@ use Rattle.cml_room.specs.Room.{RoomShown, floor_of, Moves}
 use Rattle.cml_room.specs.Asking.{Reaches, IsBarred, Asks}
 
 module _ {M : Type 0} where
-  pub may_ask : (chunk : ℕ) (sure : Bool) (may : Type 0) (old new : RoomShown M) (number : ℕ) (call : Call M) (told : Asked M)
+  pub may_ask : (chunk : ℕ) (sure : Bool) (may : Type 0) (old new : RoomShown M) (number : ℕ) (call : Call M) (told : Outcome M)
       → may → Asks chunk sure ⊤ old new number call told → Asks chunk sure may old new number call told
-  may_ask chunk sure may old new number call (asked.Answered answer) can turn = (can, turn.1, turn.2, turn.3, turn.4)
-  may_ask chunk sure may old new number call (asked.Parked back) can turn = (can, turn.1, turn.2, turn.3, turn.4, turn.5)
-  may_ask chunk sure may old new number call (asked.Refused Gone back) can turn = elim (turn.0 tt) [ ]
-  may_ask chunk sure may old new number call (asked.Refused Stalled back) can turn = (can, turn.1, turn.2, turn.3, turn.4, turn.5)
-  may_ask chunk sure may old new number call (asked.Refused Busy back) can turn = (can, turn.1, turn.2)
-  may_ask chunk sure may old new number call (asked.Refused NoSuch back) can turn = (can, turn.1, turn.2)
-  may_ask chunk sure may old new number call (asked.Refused WrongKind back) can turn = (can, turn.1, turn.2)
-  may_ask chunk sure may old new number call (asked.Refused JournalFull back) can turn = (can, turn.1, turn.2)
-  may_ask chunk sure may old new number call (asked.Refused NoMemory back) can turn = (can, turn.1, turn.2)
-  may_ask chunk sure may old new number call (asked.Refused Unseen back) can turn = (can, turn.1, turn.2)
+  may_ask chunk sure may old new number call (Answered answer) can turn = (can, turn.1, turn.2, turn.3, turn.4)
+  may_ask chunk sure may old new number call (WouldWait back) can turn = (can, turn.1, turn.2, turn.3, turn.4, turn.5)
+  may_ask chunk sure may old new number call (Refused Gone back) can turn = elim (turn.0 tt) [ ]
+  may_ask chunk sure may old new number call (Refused Stalled back) can turn = (can, turn.1, turn.2, turn.3, turn.4, turn.5)
+  may_ask chunk sure may old new number call (Refused Busy back) can turn = (can, turn.1, turn.2)
+  may_ask chunk sure may old new number call (Refused NoSuch back) can turn = (can, turn.1, turn.2)
+  may_ask chunk sure may old new number call (Refused WrongKind back) can turn = (can, turn.1, turn.2)
+  may_ask chunk sure may old new number call (Refused JournalFull back) can turn = (can, turn.1, turn.2)
+  may_ask chunk sure may old new number call (Refused NoMemory back) can turn = (can, turn.1, turn.2)
+  may_ask chunk sure may old new number call (Refused Unseen back) can turn = (can, turn.1, turn.2)
 
   -- a call that isn't refused is not barred
   reached : (chunk : ℕ) (sure : Bool) (old new : FloorShown M) (number : ℕ) (call : Call M) (outcome : Outcome M) (barred : Bool) → is_barred old.feeds call ≡ barred
@@ -76,6 +74,17 @@ module _ {M : Type 0} where
   refused_reaches chunk sure old new number call back refusal =
       refused_cases chunk sure old new number call back refusal (is_barred old.feeds call) refl
 
+  -- what is known of an outcome is known of what it is
+  pub bars_at : (old new : FloorShown M) (call : Call M) {one two : Outcome M} → one ≡ two
+      → (is_barred old.feeds call ≡ true → (one ≡ Refused WrongKind call) × (new ≡ old)) → is_barred old.feeds call ≡ true → (two ≡ Refused WrongKind call) × (new ≡ old)
+  bars_at old new call {one} {two} same bars = subst (λ (o : Outcome M). is_barred old.feeds call ≡ true → (o ≡ Refused WrongKind call) × (new ≡ old)) same bars
+
+  pub applies_at : (chunk : ℕ) (sure : Bool) (old new : FloorShown M) (number : ℕ) (call : Call M) {one two : Outcome M} → one ≡ two
+      → (is_barred old.feeds call ≡ false → Applies chunk sure old.board new.board (Seat number) call one)
+      → is_barred old.feeds call ≡ false → Applies chunk sure old.board new.board (Seat number) call two
+  applies_at chunk sure old new number call {one} {two} same applies =
+      subst (λ (o : Outcome M). is_barred old.feeds call ≡ false → Applies chunk sure old.board new.board (Seat number) call o) same applies
+
   -- whether all are stalled stays, where no lane and no entry is another
   still_stalled : (old new : FloorShown M) (seats : List State) → new.lanes ≡ old.lanes → new.board.history ≡ old.board.history → IsStalled new seats → IsStalled old seats
   still_stalled old new seats lanes history stalled = (
@@ -93,11 +102,11 @@ module _ {M : Type 0} where
       → (is_barred floor.feeds call ≡ true → (Answered answer ≡ Refused WrongKind call) × (new ≡ floor))
       → (is_barred floor.feeds call ≡ false → Applies chunk sure floor.board new.board (Seat number) call (Answered answer))
       → new.lanes ≡ floor.lanes → new.feeds ≡ floor.feeds → seats' ≡ slice_set seats number Free
-      → Asks chunk sure ⊤ room (room_of new seats' notices' all') number call (asked.Answered answer)
+      → Asks chunk sure ⊤ room (room_of new seats' notices' all') number call (Answered answer)
   answered_asks chunk sure room floor new seats seats' notices notices' all all' number call answer view bars applies lanes feeds set =
       let reaches = answered_reaches chunk sure floor new number call answer bars applies in
-      let told : Asks chunk sure ⊤ (room_of floor seats notices all) (room_of new seats' notices' all') number call (asked.Answered answer) = (tt, reaches, set, lanes, feeds) in
-      subst (λ (r : RoomShown M). Asks chunk sure ⊤ r (room_of new seats' notices' all') number call (asked.Answered answer)) view told
+      let told : Asks chunk sure ⊤ (room_of floor seats notices all) (room_of new seats' notices' all') number call (Answered answer) = (tt, reaches, set, lanes, feeds) in
+      subst (λ (r : RoomShown M). Asks chunk sure ⊤ r (room_of new seats' notices' all') number call (Answered answer)) view told
 
   pub parked_asks : (chunk : ℕ) (sure : Bool) (room : RoomShown M) (floor new : FloorShown M) (seats seats' : List State) (notices notices' : List Notice) (all all' : Bool) (number : ℕ)
       (call back : Call M) (on : Want) → room_of floor seats notices all ≡ room
@@ -105,12 +114,12 @@ module _ {M : Type 0} where
       → (is_barred floor.feeds call ≡ false → Applies chunk sure floor.board new.board (Seat number) call (WouldWait back))
       → new.lanes ≡ floor.lanes → new.feeds ≡ floor.feeds → want_in back ≡ Some on
       → ¬ (IsStalled new (slice_set seats number (Parked on))) × (seats' ≡ slice_set seats number (Parked on))
-      → Asks chunk sure ⊤ room (room_of new seats' notices' all') number call (asked.Parked back)
+      → Asks chunk sure ⊤ room (room_of new seats' notices' all') number call (WouldWait back)
   parked_asks chunk sure room floor new seats seats' notices notices' all all' number call back on view bars applies lanes feeds wants goes_on =
       let reaches = waiting_reaches chunk sure floor new number call back bars applies in
       let moving : ¬ (IsStalled floor (slice_set seats number (Parked on))) = λ stalled.
       goes_on.0 (still_stalled new floor (slice_set seats number (Parked on)) (sym lanes) (sym reaches.applies.4.history) stalled) in
-      let told : Asks chunk sure ⊤ (room_of floor seats notices all) (room_of new seats' notices' all') number call (asked.Parked back) = (
+      let told : Asks chunk sure ⊤ (room_of floor seats notices all) (room_of new seats' notices' all') number call (WouldWait back) = (
         tt,
         reaches,
         on,
@@ -118,7 +127,7 @@ module _ {M : Type 0} where
         moving,
         record { seats = goes_on.1; lanes = lanes; feeds = feeds },
       ) in
-      subst (λ (r : RoomShown M). Asks chunk sure ⊤ r (room_of new seats' notices' all') number call (asked.Parked back)) view told
+      subst (λ (r : RoomShown M). Asks chunk sure ⊤ r (room_of new seats' notices' all') number call (WouldWait back)) view told
 
   pub stalled_asks : (chunk : ℕ) (sure : Bool) (room : RoomShown M) (floor new : FloorShown M) (seats seats' : List State) (notices notices' : List Notice) (all all' : Bool) (number : ℕ)
       (call back : Call M) (on : Want) → room_of floor seats notices all ≡ room
@@ -126,12 +135,12 @@ module _ {M : Type 0} where
       → (is_barred floor.feeds call ≡ false → Applies chunk sure floor.board new.board (Seat number) call (WouldWait back))
       → new.lanes ≡ floor.lanes → new.feeds ≡ floor.feeds → want_in back ≡ Some on
       → IsStalled new (slice_set seats number (Parked on)) × (seats' ≡ slice_set seats number Free)
-      → Asks chunk sure ⊤ room (room_of new seats' notices' all') number call (asked.Refused Stalled back)
+      → Asks chunk sure ⊤ room (room_of new seats' notices' all') number call (Refused Stalled back)
   stalled_asks chunk sure room floor new seats seats' notices notices' all all' number call back on view bars applies lanes feeds wants stuck =
       let reaches = waiting_reaches chunk sure floor new number call back bars applies in
       let stalled : IsStalled floor (slice_set seats number (Parked on)) =
       still_stalled floor new (slice_set seats number (Parked on)) lanes reaches.applies.4.history stuck.0 in
-      let told : Asks chunk sure ⊤ (room_of floor seats notices all) (room_of new seats' notices' all') number call (asked.Refused Stalled back) = (
+      let told : Asks chunk sure ⊤ (room_of floor seats notices all) (room_of new seats' notices' all') number call (Refused Stalled back) = (
         tt,
         reaches,
         on,
@@ -139,12 +148,12 @@ module _ {M : Type 0} where
         stalled,
         record { seats = stuck.1; lanes = lanes; feeds = feeds },
       ) in
-      subst (λ (r : RoomShown M). Asks chunk sure ⊤ r (room_of new seats' notices' all') number call (asked.Refused Stalled back)) view told
+      subst (λ (r : RoomShown M). Asks chunk sure ⊤ r (room_of new seats' notices' all') number call (Refused Stalled back)) view told
 
   -- neither the board nor a feed gives the refusals of a room
   by_refusal : (chunk : ℕ) (sure : Bool) (old new : RoomShown M) (number : ℕ) (call back : Call M) (refusal : Refusal)
       → Reaches chunk sure (floor_of old) (floor_of new) number call (Refused refusal back) ⊎ IsBarred (floor_of old) (floor_of new) call refusal back
-      → Moves old new number Free → Asks chunk sure ⊤ old new number call (asked.Refused refusal back)
+      → Moves old new number Free → Asks chunk sure ⊤ old new number call (Refused refusal back)
   by_refusal chunk sure old new number call back Gone (inl reaches) moves = absurd reaches.applies.0
   by_refusal chunk sure old new number call back Gone (inr barred) moves = absurd (let clash : Gone ≡ WrongKind = barred.wrong in cc)
   by_refusal chunk sure old new number call back Stalled (inl reaches) moves = absurd reaches.applies.0
@@ -161,9 +170,9 @@ module _ {M : Type 0} where
       → (is_barred floor.feeds call ≡ true → (Refused refusal back ≡ Refused WrongKind call) × (new ≡ floor))
       → (is_barred floor.feeds call ≡ false → Applies chunk sure floor.board new.board (Seat number) call (Refused refusal back))
       → new.lanes ≡ floor.lanes → new.feeds ≡ floor.feeds → seats' ≡ slice_set seats number Free
-      → Asks chunk sure ⊤ room (room_of new seats' notices' all') number call (asked.Refused refusal back)
+      → Asks chunk sure ⊤ room (room_of new seats' notices' all') number call (Refused refusal back)
   refused_asks chunk sure room floor new seats seats' notices notices' all all' number call back refusal view bars applies lanes feeds set =
       let why = refused_reaches chunk sure floor new number call back refusal bars applies in
       let moves : Moves (room_of floor seats notices all) (room_of new seats' notices' all') number Free = record { seats = set; lanes = lanes; feeds = feeds } in
-      subst (λ (r : RoomShown M). Asks chunk sure ⊤ r (room_of new seats' notices' all') number call (asked.Refused refusal back)) view
+      subst (λ (r : RoomShown M). Asks chunk sure ⊤ r (room_of new seats' notices' all') number call (Refused refusal back)) view
       (by_refusal chunk sure (room_of floor seats notices all) (room_of new seats' notices' all') number call back refusal why moves)

@@ -4,8 +4,8 @@ use Rattle.cml_board.specs.declared.call.Kind.TheVariants.{MVar}
 use Rattle.cml_board.specs.declared.entry.Entry.{Entry}
 use Rattle.cml_board.specs.declared.want.Want.{Want}
 use Rattle.cml_board.specs.History.{kind_of}
-use Rattle.cml_room.specs.declared.asked.Asked.{Asked}
-use Rattle.cml_room.specs.declared.asked.Asked.TheVariants.{Answered}
+use Rattle.cml_board.specs.declared.outcome.Outcome.{Outcome}
+use Rattle.cml_board.specs.declared.outcome.Outcome.TheVariants.{Answered}
 use Rattle.cml_room.specs.declared.news.News.{News}
 use Rattle.cml_room.specs.declared.news.News.TheVariants.{Message, Value}
 use Rattle.cml_room.specs.declared.place.Place.{Place}
@@ -68,6 +68,6 @@ module _ {M : Type 0} where
   MakesNoneDue old new = (number : ℕ) (on : Want) → ¬ (BecomesDue old new number on)
 
   -- what a call's answer brings; one that wasn't answered brings nothing
-  abbrev pub news_by : Asked M → Option News
+  abbrev pub news_by : Outcome M → Option News
   news_by (Answered answer) = news_in answer.call
   news_by asked = None

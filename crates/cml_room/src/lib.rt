@@ -2,7 +2,6 @@
 //! None of its calls waits.
 #![tactic(auto)]
 
-mod asked;
 mod news;
 mod notice;
 mod place;
@@ -13,7 +12,6 @@ mod turns;
 mod waiting;
 mod waking;
 
-pub use asked::Asked;
 pub use notice::Notice;
 pub use room::Room;
 pub use state::State;

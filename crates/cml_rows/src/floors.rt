@@ -9,7 +9,6 @@ use crate::told::Told;
 use crate::words::limit_in;
 use cml_board::{BoardLog, Call, Entry, Name, Outcome, Refusal};
 use cml_lanes::{Feed, Floor, Lane, LaneEnd, MAX_CAPACITY};
-use cml_threads::Asked;
 
 /// Performs the lines of a case on a floor.
 pub fn perform<M: Numbered>(told: &mut Told, maker: &Maker<M>, lines: &[String], way: Option<Way>) {
@@ -50,16 +49,12 @@ impl<M: Numbered> Ground<M> for Floor<M, BoardLog<M>> {
         Err(Refusal::Gone)
     }
 
-    fn ask(&mut self, seat: usize, call: Call<M>) -> Asked<M> {
-        match self.apply(seat as u64, call) {
-            Outcome::Answered(answer) => Asked::Answered(answer),
-            Outcome::WouldWait(back) => Asked::Parked(back),
-            Outcome::Refused(refusal, back) => Asked::Refused(refusal, back),
-        }
+    fn ask(&mut self, seat: usize, call: Call<M>) -> Outcome<M> {
+        self.apply(seat as u64, call)
     }
 
-    fn ask_again(&mut self, _seat: usize, call: Call<M>) -> Asked<M> {
-        Asked::Refused(Refusal::Gone, call)
+    fn ask_again(&mut self, _seat: usize, call: Call<M>) -> Outcome<M> {
+        Outcome::Refused(Refusal::Gone, call)
     }
 
     fn open_lane(&mut self, target: Name, capacity: usize) -> Result<(Lane<M>, u64), Refusal> {

@@ -1,9 +1,8 @@
 use crate::cutting::Journaled;
 use crate::moving::Moves;
 use crate::numbered::Numbered;
-use cml_board::{Call, Name, Refusal};
+use cml_board::{Call, Name, Outcome, Refusal};
 use cml_lanes::{Feed, Lane, LaneEnd};
-use cml_threads::Asked;
 
 /// What a table's calls are made on beside a board: a floor, or a hall with its seats. On a floor a call that would wait
 /// parks no seat.
@@ -18,9 +17,9 @@ pub trait Ground<M: Numbered>: Journaled<M> {
 
     fn leave(&mut self, seat: usize) -> Result<(), Refusal>;
 
-    fn ask(&mut self, seat: usize, call: Call<M>) -> Asked<M>;
+    fn ask(&mut self, seat: usize, call: Call<M>) -> Outcome<M>;
 
-    fn ask_again(&mut self, seat: usize, call: Call<M>) -> Asked<M>;
+    fn ask_again(&mut self, seat: usize, call: Call<M>) -> Outcome<M>;
 
     /// A capacity that is none is taken as the nearest that is.
     fn open_lane(&mut self, target: Name, capacity: usize) -> Result<(Lane<M>, u64), Refusal>;

@@ -10,8 +10,7 @@ use crate::performing::{Performs, is_over, retell};
 use crate::rings::Rings;
 use crate::told::Told;
 use crate::words::{call_and_copy, is_note, number, object};
-use cml_board::{Call, Refusal};
-use cml_threads::Asked;
+use cml_board::{Call, Outcome, Refusal};
 
 /// Writes each line of a case again, with what it comes to on this ground, whose journal is cut behind each.
 pub fn perform_on<M: Numbered, G: Ground<M> + Drop>(
@@ -138,7 +137,7 @@ impl<'a, M: Numbered, G: Ground<M> + Drop> GroundTable<'a, M, G> {
         } else {
             self.ground.ask(seat, call)
         };
-        tell_asked(told, self.ground.board(), came, &asked);
+        tell_outcome(told, self.ground.board(), came, &asked);
     }
 
     /// A line that is no seat's: a look, or something done to a lane or a feed.
@@ -177,11 +176,11 @@ fn tell_seat(told: &mut Told, seat: Result<u64, Refusal>) {
 }
 
 /// Tells what a seat's call came to.
-fn tell_asked<M: Numbered>(told: &mut Told, board: &Numbers<M>, came: Asked<M>, asked: &Call<M>) {
+fn tell_outcome<M: Numbered>(told: &mut Told, board: &Numbers<M>, came: Outcome<M>, asked: &Call<M>) {
     match came {
-        Asked::Answered(answer) => tell_answer(told, board, &answer, asked),
-        Asked::Parked(back) => tell_back(told, "waits", &back, asked),
-        Asked::Refused(refusal, back) => tell_back(told, refusal_word(refusal), &back, asked),
+        Outcome::Answered(answer) => tell_answer(told, board, &answer, asked),
+        Outcome::WouldWait(back) => tell_back(told, "waits", &back, asked),
+        Outcome::Refused(refusal, back) => tell_back(told, refusal_word(refusal), &back, asked),
     }
 }
 

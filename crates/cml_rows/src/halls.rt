@@ -9,9 +9,9 @@ use crate::numbered::{Maker, Numbered};
 use crate::outcome::Numbers;
 use crate::told::Told;
 use crate::words::limit_in;
-use cml_board::{BoardLog, Call, Entry, Name, Refusal};
+use cml_board::{BoardLog, Call, Entry, Name, Outcome, Refusal};
 use cml_lanes::{Feed, Lane, LaneEnd, MAX_CAPACITY};
-use cml_threads::{Asked, Hall, PARTS, Seat};
+use cml_threads::{Hall, PARTS, Seat};
 use std::marker::Brand;
 use std::sync::ledger::{Blank, Ledger};
 
@@ -88,17 +88,17 @@ impl<M: Numbered, Led: Ledger> Ground<M> for Seated<M, Led> {
         }
     }
 
-    fn ask(&mut self, seat: usize, call: Call<M>) -> Asked<M> {
+    fn ask(&mut self, seat: usize, call: Call<M>) -> Outcome<M> {
         match self.seats.get_mut(seat) {
             Some(seat) => self.hall.ask(seat, call),
-            None => Asked::Refused(Refusal::Gone, call),
+            None => Outcome::Refused(Refusal::Gone, call),
         }
     }
 
-    fn ask_again(&mut self, seat: usize, call: Call<M>) -> Asked<M> {
+    fn ask_again(&mut self, seat: usize, call: Call<M>) -> Outcome<M> {
         match self.seats.get_mut(seat) {
             Some(seat) => self.hall.ask_again(seat, call),
-            None => Asked::Refused(Refusal::Gone, call),
+            None => Outcome::Refused(Refusal::Gone, call),
         }
     }
 

@@ -13,8 +13,6 @@ use Rattle.cml_lanes.specs.Feeds.{Starves}
 use Rattle.cml_lanes.specs.Reserving.{added_since, TakesEntryAlone, LaneTakesEntryAlone, FeedTakesEntryAlone}
 use Rattle.cml_lanes.specs.Steps.{FloorCall, Apply, AppliesSeat, IsCalled, AreCalled, takes_journal, keeps_journal}
 use Rattle.cml_lanes.proofs.Reserving.{reserved_lasts, seats_served, lanes_served, feeds_served}
-use Rattle.cml_room.specs.declared.asked.Asked.{Asked}
-use Rattle.cml_room.specs.declared.asked.Asked.TheVariants as asked
 use Rattle.cml_threads.specs.Seating.{Sitting}
 use Rattle.cml_threads.specs.Hosting.{Hosted, floor_of}
 use Rattle.cml_room.specs.Room as room
@@ -82,24 +80,24 @@ module _ {M : Type 0} where
       one_under chunk sure old new (Apply number call (board.Refused refusal back)) (refused_applies chunk sure old new number call back refusal why lanes feeds)
 
   -- by a seat's call
-  asked_under : (chunk : ℕ) (sure : Bool) (may : Type 0) (old new : Hosted M) (before after : Sitting) (call : Call M) (told : Asked M)
+  asked_under : (chunk : ℕ) (sure : Bool) (may : Type 0) (old new : Hosted M) (before after : Sitting) (call : Call M) (told : Outcome M)
       → Asks chunk sure may old new before after call told → Under chunk sure true old new
-  asked_under chunk sure may old new before after call (asked.Answered answer) asks =
+  asked_under chunk sure may old new before after call (board.Answered answer) asks =
       one_under chunk sure old new (Apply before.number call (board.Answered answer))
       (reached_applies chunk sure old new before.number call (board.Answered answer) asks.0.1 asks.0.3 asks.0.4)
-  asked_under chunk sure may old new before after call (asked.Parked back) asks =
+  asked_under chunk sure may old new before after call (board.WouldWait back) asks =
       one_under chunk sure old new (Apply before.number call (board.WouldWait back))
       (reached_applies chunk sure old new before.number call (board.WouldWait back) asks.0.1 asks.0.5.lanes asks.0.5.feeds)
-  asked_under chunk sure may old new before after call (asked.Refused Stalled back) asks =
+  asked_under chunk sure may old new before after call (board.Refused Stalled back) asks =
       one_under chunk sure old new (Apply before.number call (board.WouldWait back))
       (reached_applies chunk sure old new before.number call (board.WouldWait back) asks.0.1 asks.0.5.lanes asks.0.5.feeds)
-  asked_under chunk sure may old new before after call (asked.Refused Gone back) asks = ([], ap room.floor_of asks.0.2, λ keeps. keeps)
-  asked_under chunk sure may old new before after call (asked.Refused Busy back) asks = refused_under chunk sure old new before.number call back Busy asks.0.1 asks.0.2.lanes asks.0.2.feeds
-  asked_under chunk sure may old new before after call (asked.Refused NoSuch back) asks = refused_under chunk sure old new before.number call back NoSuch asks.0.1 asks.0.2.lanes asks.0.2.feeds
-  asked_under chunk sure may old new before after call (asked.Refused WrongKind back) asks = refused_under chunk sure old new before.number call back WrongKind asks.0.1 asks.0.2.lanes asks.0.2.feeds
-  asked_under chunk sure may old new before after call (asked.Refused JournalFull back) asks = refused_under chunk sure old new before.number call back JournalFull asks.0.1 asks.0.2.lanes asks.0.2.feeds
-  asked_under chunk sure may old new before after call (asked.Refused NoMemory back) asks = refused_under chunk sure old new before.number call back NoMemory asks.0.1 asks.0.2.lanes asks.0.2.feeds
-  asked_under chunk sure may old new before after call (asked.Refused Unseen back) asks = refused_under chunk sure old new before.number call back Unseen asks.0.1 asks.0.2.lanes asks.0.2.feeds
+  asked_under chunk sure may old new before after call (board.Refused Gone back) asks = ([], ap room.floor_of asks.0.2, λ keeps. keeps)
+  asked_under chunk sure may old new before after call (board.Refused Busy back) asks = refused_under chunk sure old new before.number call back Busy asks.0.1 asks.0.2.lanes asks.0.2.feeds
+  asked_under chunk sure may old new before after call (board.Refused NoSuch back) asks = refused_under chunk sure old new before.number call back NoSuch asks.0.1 asks.0.2.lanes asks.0.2.feeds
+  asked_under chunk sure may old new before after call (board.Refused WrongKind back) asks = refused_under chunk sure old new before.number call back WrongKind asks.0.1 asks.0.2.lanes asks.0.2.feeds
+  asked_under chunk sure may old new before after call (board.Refused JournalFull back) asks = refused_under chunk sure old new before.number call back JournalFull asks.0.1 asks.0.2.lanes asks.0.2.feeds
+  asked_under chunk sure may old new before after call (board.Refused NoMemory back) asks = refused_under chunk sure old new before.number call back NoMemory asks.0.1 asks.0.2.lanes asks.0.2.feeds
+  asked_under chunk sure may old new before after call (board.Refused Unseen back) asks = refused_under chunk sure old new before.number call back Unseen asks.0.1 asks.0.2.lanes asks.0.2.feeds
 
   -- by one call
   made_under : (chunk : ℕ) (sure : Bool) (call : HallCall M) (old new : Hosted M) → IsMade chunk sure call old new → Under chunk sure (not (hands_over call)) old new
@@ -135,7 +133,7 @@ module _ {M : Type 0} where
 
   pub asks_served : (chunk : ℕ) (sure : Bool) (calls : List (HallCall M)) (old new after : Hosted M) (may : Type 0) (seat seat' : Sitting) (call back : Call M)
       → AreMade chunk sure calls old new → keeps_entries calls ≡ true → added_since old.board new.board < old.board.reserved → TakesEntryAlone chunk sure new.board.history call
-      → ¬ (Asks chunk sure may new after seat seat' call (asked.Refused NoMemory back))
+      → ¬ (Asks chunk sure may new after seat seat' call (board.Refused NoMemory back))
   asks_served chunk sure calls old new after may seat seat' call back run keeps fewer takes = λ asks.
       let under = calls_under chunk sure calls old new run in
       seats_served chunk sure under.0 (floor_of old) (floor_of new) (floor_of after) seat.number call back under.1 (under.2 keeps) fewer takes

@@ -2,7 +2,7 @@
 use Rattle.std.specs.Prelude.{◌≡◌, ℕ, Bool, true, false, not, ◌&&◌, List, [], ◌∷◌}
 use Rattle.cml_board.specs.declared.call.Call.{Call}
 use Rattle.cml_lanes.specs.Steps.{FloorCall, IsCalled, takes_journal}
-use Rattle.cml_room.specs.declared.asked.Asked.{Asked}
+use Rattle.cml_board.specs.declared.outcome.Outcome.{Outcome}
 use Rattle.cml_threads.specs.Seating.{Sitting}
 use Rattle.cml_threads.specs.Hosting.{Hosted, floor_of, MayAsk, MayAskAgain}
 use Rattle.cml_threads.specs.Asking.{Asks}
@@ -11,8 +11,8 @@ use Rattle.cml_threads.specs.Asking.{Asks}
 -- same made again; a new seat; a seat that leaves; one that is due and was given; or a call that is its floor's, and of no
 -- seat
 pub data HallCall (M : Type 0) : Type 0 where
-  Ask : Sitting → Sitting → Call M → Asked M → HallCall M
-  AskAgain : Sitting → Sitting → Call M → Asked M → HallCall M
+  Ask : Sitting → Sitting → Call M → Outcome M → HallCall M
+  AskAgain : Sitting → Sitting → Call M → Outcome M → HallCall M
   NewSeat : HallCall M
   Leave : HallCall M
   NextDue : HallCall M

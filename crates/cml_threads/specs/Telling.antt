@@ -8,8 +8,8 @@ use Rattle.cml_board.specs.declared.entry.Reply.{Reply}
 use Rattle.cml_board.specs.declared.entry.Reply.TheVariants as reply
 use Rattle.cml_board.specs.declared.outcome.Refusal.{Refusal}
 use Rattle.cml_board.specs.declared.outcome.Refusal.TheVariants.{NoSuch, WrongKind, JournalFull, NoMemory, Busy, Stalled, Unseen}
-use Rattle.cml_room.specs.declared.asked.Asked.{Asked}
-use Rattle.cml_room.specs.declared.asked.Asked.TheVariants as asked
+use Rattle.cml_board.specs.declared.outcome.Outcome.{Outcome}
+use Rattle.cml_board.specs.declared.outcome.Outcome.TheVariants as outcome
 use Rattle.cml_threads.specs.Seating.{Sitting, raised}
 
 -- the refusals that a seat's call may be given, by what it waits for: that all are stalled is told only where it may wait
@@ -75,11 +75,11 @@ module _ {M : Type 0} where
   suits call reply = false
 
   -- the call is answered, in a form that it has, and counted for its seat, or else handed back, and not counted
-  abbrev pub Tells : Sitting → Sitting → Call M → Asked M → Type 0
-  Tells before after call (asked.Answered answer) =
+  abbrev pub Tells : Sitting → Sitting → Call M → Outcome M → Type 0
+  Tells before after call (outcome.Answered answer) =
       (answer.call ≡ call) × (suits call answer.reply ≡ true) × (after ≡ raised before)
-  Tells before after call (asked.Parked back) = (back ≡ call) × (after ≡ before)
-  Tells before after call (asked.Refused refusal back) = MayRefuse (want_in call) refusal × (back ≡ call) × (after ≡ before)
+  Tells before after call (outcome.WouldWait back) = (back ≡ call) × (after ≡ before)
+  Tells before after call (outcome.Refused refusal back) = MayRefuse (want_in call) refusal × (back ≡ call) × (after ≡ before)
 
   -- the same of the reply alone
   abbrev pub Replies : Sitting → Sitting → Call M → Result (Reply M) (Refusal × Call M) → Type 0

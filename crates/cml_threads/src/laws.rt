@@ -7,7 +7,7 @@ ghost use Rattle.cml_lanes.specs.Lanes.{HoldsUp};
 ghost use Rattle.cml_lanes.specs.Feeds.{Starves};
 ghost use Rattle.cml_lanes.specs.Reserving.{added_since, TakesEntryAlone, LaneTakesEntryAlone, FeedTakesEntryAlone};
 ghost use Rattle.cml_lanes.specs.Steps.{FloorCall, AreCalled};
-ghost use Rattle.cml_room.specs.declared.asked.Asked.TheVariants.{Refused};
+ghost use Rattle.cml_board.specs.declared.outcome.Outcome.TheVariants.{Refused};
 ghost use Rattle.cml_threads.specs.Seating.{Sitting};
 ghost use Rattle.cml_threads.specs.Hosting.{Hosted, floor_of, MayAsk, MayAskAgain};
 ghost use Rattle.cml_threads.specs.Asking.{Asks};

@@ -9,7 +9,7 @@ mod seat;
 mod settled;
 mod switchboard;
 
-pub use cml_room::{Asked, State};
+pub use cml_room::State;
 pub use hall::{Hall, PARTS};
 pub use laws::{halls_call_their_floor, reserved_lasts_in_a_hall};
 pub use seat::{Left, Seat};

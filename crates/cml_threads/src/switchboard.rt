@@ -15,9 +15,8 @@ use crate::bells::Bells;
 use crate::hall::Hall;
 use crate::seat::{Left, Seat};
 use crate::settled::Settled;
-use cml_board::{Answer, Call, Entry, Message, Refusal, Reply};
+use cml_board::{Answer, Call, Entry, Message, Outcome, Refusal, Reply};
 use cml_log::MessageLog;
-use cml_room::Asked;
 use crossbeam_utils::CachePadded;
 use std::alloc::{AllocError, Global};
 use std::sync::ledger::{Blank, Ledger};
@@ -116,14 +115,14 @@ impl<M: Message, L: MessageLog<M>, Led: Ledger> Switchboard<M, L, Led> {
         ensures counted { OnOk result (seat.new ≡ raised seat.old) }
         ensures back { IfErr result (λ back. MayRefuse (want_in call) back.0 × (back.1 ≡ call) × (seat.new ≡ seat.old)) }
     {
-        let mut asked = self.ask(rt, seat, call);
+        let mut outcome = self.ask(rt, seat, call);
         for _ in rt.forever() {
-            match asked {
-                Asked::Answered(answer) => return Ok(answer),
-                Asked::Refused(refusal, call) => return Err((refusal, call)),
-                Asked::Parked(call) => {
+            match outcome {
+                Outcome::Answered(answer) => return Ok(answer),
+                Outcome::Refused(refusal, call) => return Err((refusal, call)),
+                Outcome::WouldWait(call) => {
                     self.bells.wait(rt, seat.number());
-                    asked = self.ask_again(rt, seat, call);
+                    outcome = self.ask_again(rt, seat, call);
                 }
             }
         }
@@ -172,23 +171,23 @@ impl<M: Message, L: MessageLog<M>, Led: Ledger> Switchboard<M, L, Led> {
 
     /// Makes the seat's call, and wakes one that is due. Parked, the seat waits at its bell next: what comes for it from now on
     /// has it rung, and the ring is kept.
-    fn ask<R: Wait>(&self, rt: &R, seat: &mut Seat<Led>, call: Call<M>) -> Asked<M>
+    fn ask<R: Wait>(&self, rt: &R, seat: &mut Seat<Led>, call: Call<M>) -> Outcome<M>
         ensures { Tells seat.old seat.new call result }
     {
         let mut hall = self.hall.lock(rt);
-        let asked = ask(&mut hall, seat, call);
+        let outcome = ask(&mut hall, seat, call);
         self.let_go_by(hall, seat.number());
-        asked
+        outcome
     }
 
     /// The same where the seat is parked.
-    fn ask_again<R: Wait>(&self, rt: &R, seat: &mut Seat<Led>, call: Call<M>) -> Asked<M>
+    fn ask_again<R: Wait>(&self, rt: &R, seat: &mut Seat<Led>, call: Call<M>) -> Outcome<M>
         ensures { Tells seat.old seat.new call result }
     {
         let mut hall = self.hall.lock(rt);
-        let asked = ask_again(&mut hall, seat, call);
+        let outcome = ask_again(&mut hall, seat, call);
         self.let_go_by(hall, seat.number());
-        asked
+        outcome
     }
 
     /// Unlocks the hall, and then wakes one seat that is due, if there is one that wasn't woken. It is taken under the lock. Its
@@ -231,7 +230,7 @@ fn ask<M: Message, L: MessageLog<M>, Led: Ledger>(
     hall: &mut Hall<M, L, Led>,
     seat: &mut Seat<Led>,
     call: Call<M>,
-) -> Asked<M>
+) -> Outcome<M>
     ensures { Tells seat.old seat.new call result }
 {
     hall.ask(seat, call)
@@ -242,7 +241,7 @@ fn ask_again<M: Message, L: MessageLog<M>, Led: Ledger>(
     hall: &mut Hall<M, L, Led>,
     seat: &mut Seat<Led>,
     call: Call<M>,
-) -> Asked<M>
+) -> Outcome<M>
     ensures { Tells seat.old seat.new call result }
 {
     hall.ask_again(seat, call)

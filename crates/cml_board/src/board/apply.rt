@@ -1,19 +1,20 @@
 //! What becomes of a call: first whether it is refused, and then one function for each kind of call.
 ghost use Rattle.std.specs.Prelude.{◌≢◌, MatchOption};
 ghost use Rattle.cml_board.specs.History.{Fits};
-ghost use Rattle.cml_board.specs.Outcome.{Applies, Refuses, HasRoom};
+ghost use Rattle.cml_board.specs.Outcome.{Applies, Performs, Refuses, HasRoom};
 
 use super::Board;
-use super::note::{Looking, Putting};
+use super::note::{Looking, Performed, Putting};
+use crate::answer::Answer;
 use crate::call::Call;
-use crate::entry::Who;
+use crate::entry::{Reply, Who};
 use crate::message::Message;
 use crate::outcome::{Outcome, Refusal};
 use cml_log::MessageLog;
+use std::alloc::AllocError;
 
 impl<M: Message, L: MessageLog<M>> Board<M, L> {
     /// Makes a call for `who`. An answered call adds its entry to the journal, and nothing else changes the board.
-    // Inlined, and what it calls is not: so each outcome is written once, where the caller looks at it.
     #[inline(always)]
     pub fn apply(&mut self, who: Who, call: Call<M>) -> Outcome<M>
         ensures { Applies L.CHUNK M.SURE self.old self.new who call result }
@@ -21,25 +22,40 @@ impl<M: Message, L: MessageLog<M>> Board<M, L> {
         if let Some(refusal) = self.refusal(&call) {
             return Outcome::Refused(refusal, call);
         }
+        let at = self.entries();
+        match self.perform(who, &call) {
+            Ok(Some(reply)) => Outcome::Answered(Answer::new(call, reply, at)),
+            Ok(None) => Outcome::WouldWait(call),
+            Err(AllocError) => Outcome::Refused(Refusal::NoMemory, call),
+        }
+    }
+
+    /// Makes a call that isn't refused unless memory is. `None` is of one that would wait.
+    #[inline(always)]
+    fn perform(&mut self, who: Who, call: &Call<M>) -> Performed<M>
+        requires fits { Fits self.old.history call.now }
+        requires room { HasRoom self.old }
+        ensures { Performs L.CHUNK M.SURE self.old self.new who call.now result }
+    {
         match call {
             Call::NewMailbox
             | Call::NewChannel
             | Call::NewPort(_)
             | Call::NewIVar
             | Call::NewMVar => self.make_by(who, call),
-            Call::CopyPort(port) => self.copy_port(who, port),
-            Call::ClosePort(port) => self.close_port(who, port),
-            Call::Send(name, message) => self.put(who, name, message, Putting::Sending),
-            Call::Cast(name, message) => self.put(who, name, message, Putting::Casting),
-            Call::Recv(name) => self.receive(who, name),
-            Call::Poll(name) => self.poll(who, name),
+            Call::CopyPort(port) => self.copy_port(who, *port),
+            Call::ClosePort(port) => self.close_port(who, *port),
+            Call::Send(name, message) => self.put(who, *name, message, Putting::Sending),
+            Call::Cast(name, message) => self.put(who, *name, message, Putting::Casting),
+            Call::Recv(name) => self.receive(who, *name),
+            Call::Poll(name) => self.poll(who, *name),
             Call::MVarInit(message) => self.make_full(who, message),
-            Call::Put(name, message) => self.fill(who, name, message),
-            Call::Get(name) => self.look(who, name, Looking::Get),
-            Call::GetPoll(name) => self.look(who, name, Looking::GetPoll),
-            Call::Take(name) => self.look(who, name, Looking::Take),
-            Call::TakePoll(name) => self.look(who, name, Looking::TakePoll),
-            Call::Swap(name, message) => self.swap(who, name, message),
+            Call::Put(name, message) => self.fill(who, *name, message),
+            Call::Get(name) => self.look(who, *name, Looking::Get),
+            Call::GetPoll(name) => self.look(who, *name, Looking::GetPoll),
+            Call::Take(name) => self.look(who, *name, Looking::Take),
+            Call::TakePoll(name) => self.look(who, *name, Looking::TakePoll),
+            Call::Swap(name, message) => self.swap(who, *name, message),
         }
     }
 

@@ -6,31 +6,30 @@ ghost use Rattle.cml_board.specs.Making.{CanMake};
 ghost use Rattle.cml_board.specs.Counts.{is_a};
 ghost use Rattle.cml_board.specs.History.{is_open, Fits};
 ghost use Rattle.cml_board.specs.Holdings.{open_port};
-ghost use Rattle.cml_board.specs.Outcome.{Applies, HasRoom};
+ghost use Rattle.cml_board.specs.Outcome.{Performs, HasRoom};
 
 use super::Board;
-use super::note::{Asking, Making, note};
+use super::note::{Asking, Making, Performed, note};
 use super::objects::{add_made, close_port};
 use crate::call::{Call, Name};
 use crate::entry::{Entry, Reply, Who};
 use crate::message::Message;
 use crate::object::{Form, Object, Reading};
-use crate::outcome::{Outcome, Refusal};
 use cml_log::{Key, MessageLog};
 
 impl<M: Message, L: MessageLog<M>> Board<M, L> {
     /// A call that makes an object which holds no message.
     #[inline(never)]
-    pub(super) fn make_by(&mut self, who: Who, call: Call<M>) -> Outcome<M>
-        requires fits { Fits self.old.history call }
+    pub(super) fn make_by(&mut self, who: Who, call: &Call<M>) -> Performed<M>
+        requires fits { Fits self.old.history call.now }
         requires room { HasRoom self.old }
-        requires makes { makes_empty call ≡ true }
-        ensures { Applies L.CHUNK M.SURE self.old self.new who call result }
+        requires makes { makes_empty call.now ≡ true }
+        ensures { Performs L.CHUNK M.SURE self.old self.new who call.now result }
     {
         match call {
             Call::NewMailbox => self.make(who, Making::Mailbox),
             Call::NewChannel => self.make(who, Making::Channel),
-            Call::NewPort(channel) => self.make(who, Making::Port(channel)),
+            Call::NewPort(channel) => self.make(who, Making::Port(*channel)),
             Call::NewIVar => self.make(who, Making::Variable(Form::Once)),
             Call::NewMVar => self.make(who, Making::Variable(Form::Mutable)),
             _ => unreachable!(),
@@ -38,33 +37,28 @@ impl<M: Message, L: MessageLog<M>> Board<M, L> {
     }
 
     /// Makes an object that holds no message.
-    pub(super) fn make(&mut self, who: Who, making: Making) -> Outcome<M>
+    pub(super) fn make(&mut self, who: Who, making: Making) -> Performed<M>
         requires can { CanMake self.old making }
         requires room { HasRoom self.old }
-        ensures { Applies L.CHUNK M.SURE self.old self.new who (making_call making) result }
+        ensures { Performs L.CHUNK M.SURE self.old self.new who (making_call making) result }
     {
-        let at = self.entries();
-        if self.journal.reserve(1).is_err() {
-            return Outcome::Refused(Refusal::NoMemory, making.call());
-        }
+        self.journal.reserve(1)?;
         let reply = Name(self.objects.len() as u64);
-        let Ok(()) = add_made(&mut self.objects, self.alloc, making) else {
-            return Outcome::Refused(Refusal::NoMemory, making.call());
-        };
+        add_made(&mut self.objects, self.alloc, making)?;
         let entry = Entry {
             who,
             call: making.call(),
             reply: Reply::Made(reply),
         };
-        let call = making.call();
-        note(&mut self.journal, at, entry, call, Reply::Made(reply))
+        note(&mut self.journal, entry);
+        Ok(Some(Reply::Made(reply)))
     }
 
     #[inline(never)]
-    pub(super) fn copy_port(&mut self, who: Who, port: Name) -> Outcome<M>
+    pub(super) fn copy_port(&mut self, who: Who, port: Name) -> Performed<M>
         requires fits { is_a is_port self.old.history port.0 ≡ true }
         requires room { HasRoom self.old }
-        ensures { Applies L.CHUNK M.SURE self.old self.new who (Call.CopyPort port) result }
+        ensures { Performs L.CHUNK M.SURE self.old self.new who (Call.CopyPort port) result }
     {
         match self.cursor(port) {
             None => self.find_closed(who, port, Asking::Copy),
@@ -73,10 +67,10 @@ impl<M: Message, L: MessageLog<M>> Board<M, L> {
     }
 
     #[inline(never)]
-    pub(super) fn close_port(&mut self, who: Who, port: Name) -> Outcome<M>
+    pub(super) fn close_port(&mut self, who: Who, port: Name) -> Performed<M>
         requires fits { is_a is_port self.old.history port.0 ≡ true }
         requires room { HasRoom self.old }
-        ensures { Applies L.CHUNK M.SURE self.old self.new who (Call.ClosePort port) result }
+        ensures { Performs L.CHUNK M.SURE self.old self.new who (Call.ClosePort port) result }
     {
         match self.open_port(port) {
             None => self.find_closed(who, port, Asking::Close),
@@ -106,27 +100,19 @@ impl<M: Message, L: MessageLog<M>> Board<M, L> {
         channel: Name,
         start: u64,
         key: Key,
-    ) -> Outcome<M>
+    ) -> Performed<M>
         requires stands { slice_get self.old.objects port.0 ≡ Some (open_port channel.0 start key) }
         requires room { HasRoom self.old }
-        ensures { Applies L.CHUNK M.SURE self.old self.new who (Call.ClosePort port) result }
+        ensures { Performs L.CHUNK M.SURE self.old self.new who (Call.ClosePort port) result }
     {
-        let at = self.entries();
-        if self.journal.reserve(1).is_err() {
-            return Outcome::Refused(Refusal::NoMemory, Call::ClosePort(port));
-        }
+        self.journal.reserve(1)?;
         close_port(&mut self.objects, port, channel, start, key);
         let entry = Entry {
             who,
             call: Call::ClosePort(port),
             reply: Reply::Done,
         };
-        note(
-            &mut self.journal,
-            at,
-            entry,
-            Call::ClosePort(port),
-            Reply::Done,
-        )
+        note(&mut self.journal, entry);
+        Ok(Some(Reply::Done))
     }
 }

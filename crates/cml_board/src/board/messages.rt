@@ -6,65 +6,65 @@ ghost use Rattle.cml_board.specs.Counts.{is_a};
 ghost use Rattle.cml_board.specs.History.{owed, is_open, Fits};
 ghost use Rattle.cml_board.specs.Calls.{taking_call, putting_call, asking_call};
 ghost use Rattle.cml_board.specs.Standing.{ReadsAt};
-ghost use Rattle.cml_board.specs.Outcome.{Applies, HasRoom};
+ghost use Rattle.cml_board.specs.Outcome.{Performs, HasRoom};
 
 use super::Board;
-use super::note::{Asking, Putting, Taking, note};
+use super::note::{Asking, Performed, Putting, Taking, note};
 use super::objects::{advance_at, push_at};
 use crate::call::{Call, Name};
 use crate::entry::{Entry, Reply, Who};
 use crate::message::Message;
-use crate::outcome::{Outcome, Refusal};
 use cml_log::{Key, MessageLog};
 use std::alloc::{AllocError, Global};
 
 impl<M: Message, L: MessageLog<M>> Board<M, L> {
     /// Sends a message to a mailbox, or multicasts it on a channel.
     #[inline(never)]
-    pub(super) fn put(&mut self, who: Who, name: Name, message: M, putting: Putting) -> Outcome<M>
-        requires fits { Fits self.old.history (putting_call putting name message) }
+    pub(super) fn put(
+        &mut self,
+        who: Who,
+        name: Name,
+        message: &M,
+        putting: Putting,
+    ) -> Performed<M>
+        requires fits { Fits self.old.history (putting_call putting name message.now) }
         requires room { HasRoom self.old }
-        ensures { Applies L.CHUNK M.SURE self.old self.new who (putting_call putting name message) result }
+        ensures { Performs L.CHUNK M.SURE self.old self.new who (putting_call putting name message.now) result }
     {
-        let at = self.entries();
-        let Ok((stored, noted)) = share_twice(self.alloc, &message) else {
-            return Outcome::Refused(Refusal::NoMemory, putting.call(name, message));
-        };
-        if self.journal.reserve(1).is_err() {
-            return Outcome::Refused(Refusal::NoMemory, putting.call(name, message));
-        }
+        let (stored, noted) = share_twice(self.alloc, message)?;
+        self.journal.reserve(1)?;
         let Ok(()) = push_at(&mut self.objects, name, stored) else {
-            return Outcome::Refused(Refusal::NoMemory, putting.call(name, message));
+            return Err(AllocError);
         };
         let entry = Entry {
             who,
             call: putting.call(name, noted),
             reply: Reply::Done,
         };
-        let call = putting.call(name, message);
-        note(&mut self.journal, at, entry, call, Reply::Done)
+        note(&mut self.journal, entry);
+        Ok(Some(Reply::Done))
     }
 
     #[inline(never)]
-    pub(super) fn receive(&mut self, who: Who, name: Name) -> Outcome<M>
+    pub(super) fn receive(&mut self, who: Who, name: Name) -> Performed<M>
         requires fits { is_a is_receiver self.old.history name.0 ≡ true }
         requires room { HasRoom self.old }
-        ensures { Applies L.CHUNK M.SURE self.old self.new who (Call.Recv name) result }
+        ensures { Performs L.CHUNK M.SURE self.old self.new who (Call.Recv name) result }
     {
         let Some((source, key)) = self.cursor(name) else {
             return self.find_closed(who, name, Asking::Receive);
         };
         if self.log(source).owed(key) == 0 {
-            return Outcome::WouldWait(Call::Recv(name));
+            return Ok(None);
         }
         self.take(who, name, source, key, Taking::Waiting)
     }
 
     #[inline(never)]
-    pub(super) fn poll(&mut self, who: Who, name: Name) -> Outcome<M>
+    pub(super) fn poll(&mut self, who: Who, name: Name) -> Performed<M>
         requires fits { is_a is_receiver self.old.history name.0 ≡ true }
         requires room { HasRoom self.old }
-        ensures { Applies L.CHUNK M.SURE self.old self.new who (Call.Poll name) result }
+        ensures { Performs L.CHUNK M.SURE self.old self.new who (Call.Poll name) result }
     {
         let Some((source, key)) = self.cursor(name) else {
             return self.find_closed(who, name, Asking::Poll);
@@ -77,75 +77,59 @@ impl<M: Message, L: MessageLog<M>> Board<M, L> {
 
     /// A call on a port that was closed before.
     #[inline(always)]
-    pub(super) fn find_closed(&mut self, who: Who, name: Name, asking: Asking) -> Outcome<M>
+    pub(super) fn find_closed(&mut self, who: Who, name: Name, asking: Asking) -> Performed<M>
         requires fits { Fits self.old.history (asking_call asking name) }
         requires closed { is_open self.old.history name.0 ≡ false }
         requires room { HasRoom self.old }
-        ensures { Applies L.CHUNK M.SURE self.old self.new who (asking_call asking name) result }
+        ensures { Performs L.CHUNK M.SURE self.old self.new who (asking_call asking name) result }
     {
-        let at = self.entries();
-        if self.journal.reserve(1).is_err() {
-            return Outcome::Refused(Refusal::NoMemory, asking.call(name));
-        }
+        self.journal.reserve(1)?;
         let entry = Entry {
             who,
             call: asking.call(name),
             reply: Reply::Closed,
         };
-        let call = asking.call(name);
-        note(&mut self.journal, at, entry, call, Reply::Closed)
+        note(&mut self.journal, entry);
+        Ok(Some(Reply::Closed))
     }
 
     /// A poll where nothing is owed.
     #[inline(always)]
-    fn find_nothing(&mut self, who: Who, name: Name) -> Outcome<M>
+    fn find_nothing(&mut self, who: Who, name: Name) -> Performed<M>
         requires fits { is_a is_receiver self.old.history name.0 ≡ true }
         requires opened { is_open self.old.history name.0 ≡ true }
         requires empty { owed self.old.history name.0 ≡ [] }
         requires room { HasRoom self.old }
-        ensures { Applies L.CHUNK M.SURE self.old self.new who (Call.Poll name) result }
+        ensures { Performs L.CHUNK M.SURE self.old self.new who (Call.Poll name) result }
     {
-        let at = self.entries();
-        if self.journal.reserve(1).is_err() {
-            return Outcome::Refused(Refusal::NoMemory, Call::Poll(name));
-        }
+        self.journal.reserve(1)?;
         let entry = Entry {
             who,
             call: Call::Poll(name),
             reply: Reply::Nothing,
         };
-        note(
-            &mut self.journal,
-            at,
-            entry,
-            Call::Poll(name),
-            Reply::Nothing,
-        )
+        note(&mut self.journal, entry);
+        Ok(Some(Reply::Nothing))
     }
 
     /// Takes the first message that is owed.
     #[inline(always)]
-    fn take(&mut self, who: Who, name: Name, source: Name, key: Key, taking: Taking) -> Outcome<M>
+    fn take(&mut self, who: Who, name: Name, source: Name, key: Key, taking: Taking) -> Performed<M>
         requires reads { ReadsAt self.old name.0 source.0 key }
         requires owed { owed self.old.history name.0 ≢ [] }
         requires room { HasRoom self.old }
-        ensures { Applies L.CHUNK M.SURE self.old self.new who (taking_call taking name) result }
+        ensures { Performs L.CHUNK M.SURE self.old self.new who (taking_call taking name) result }
     {
-        let at = self.entries();
-        let Ok((message, noted)) = share_first(self.log(source), self.alloc, key) else {
-            return Outcome::Refused(Refusal::NoMemory, taking.call(name));
-        };
-        if self.journal.reserve(1).is_err() {
-            return Outcome::Refused(Refusal::NoMemory, taking.call(name));
-        }
+        let (message, noted) = share_first(self.log(source), self.alloc, key)?;
+        self.journal.reserve(1)?;
         advance_at(&mut self.objects, source, key);
         let entry = Entry {
             who,
             call: taking.call(name),
             reply: Reply::Got(noted),
         };
-        let call = taking.call(name);
-        note(&mut self.journal, at, entry, call, Reply::Got(message))
+        note(&mut self.journal, entry);
+        Ok(Some(Reply::Got(message)))
     }
 }
 

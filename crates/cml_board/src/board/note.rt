@@ -1,13 +1,15 @@
-//! An entry is added to the journal, and told of.
+//! The calls that are answered alike, and how an entry is added to the journal.
 ghost use Rattle.std.specs.Prelude.{◌≡◌, ◌+◌, ◌-◌, ◌<◌, [], ◌∷◌, ◌++◌, length, vec_len, vec_capacity};
 ghost use Rattle.cml_board.specs.Calls.{making_call, taking_call, asking_call, putting_call, looking_call, waits, empties};
 
-use crate::answer::Answer;
 use crate::call::{Call, Name};
 use crate::entry::{Entry, Reply};
 use crate::object::Form;
-use crate::outcome::Outcome;
 use cml_log::Key;
+use std::alloc::AllocError;
+
+/// What becomes of a call that is refused for nothing but memory: its reply, or `None` where it would wait.
+pub type Performed<M> = Result<Option<Reply<M>>, AllocError>;
 
 /// The calls that take a message: one waits for it.
 #[derive(Clone, Copy)]
@@ -135,19 +137,11 @@ impl Looking {
     }
 }
 
-/// Adds an entry to a journal that has room for it, and tells of it: it is the one at this position.
-pub fn note<M>(
-    journal: &mut Vec<Entry<M>>,
-    at: u64,
-    entry: Entry<M>,
-    call: Call<M>,
-    reply: Reply<M>,
-) -> Outcome<M>
+/// Adds an entry to a journal that has room for it.
+pub fn note<M>(journal: &mut Vec<Entry<M>>, entry: Entry<M>)
     requires { vec_len journal.old < vec_capacity journal.old }
     ensures entries { journal.new.items ≡ journal.old.items ++ entry ∷ [] }
     ensures spare { vec_capacity journal.old - vec_len journal.old ≡ vec_capacity journal.new - vec_len journal.new + 1 }
-    ensures answer { result ≡ Outcome.Answered (record { call = call; reply = reply; at = at }) }
 {
     journal.push_reserved(entry);
-    Outcome::Answered(Answer::new(call, reply, at))
 }

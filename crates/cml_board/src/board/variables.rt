@@ -5,58 +5,45 @@ ghost use Rattle.cml_board.specs.Counts.{is_a};
 ghost use Rattle.cml_board.specs.Held.{held};
 ghost use Rattle.cml_board.specs.History.{Fits};
 ghost use Rattle.cml_board.specs.Calls.{looking_call, waits, empties};
-ghost use Rattle.cml_board.specs.Outcome.{Applies, HasRoom};
+ghost use Rattle.cml_board.specs.Outcome.{Performs, HasRoom};
 
 use super::Board;
 use super::messages::share_twice;
-use super::note::{Looking, note};
+use super::note::{Looking, Performed, note};
 use super::objects::{add_variable, hold_at};
 use crate::call::{Call, Name};
 use crate::entry::{Entry, Reply, Who};
 use crate::message::Message;
 use crate::object::Form;
-use crate::outcome::{Outcome, Refusal};
 use cml_log::MessageLog;
 use std::alloc::AllocError;
 
 impl<M: Message, L: MessageLog<M>> Board<M, L> {
     /// Makes an m-variable that holds this.
     #[inline(never)]
-    pub(super) fn make_full(&mut self, who: Who, message: M) -> Outcome<M>
+    pub(super) fn make_full(&mut self, who: Who, message: &M) -> Performed<M>
         requires { HasRoom self.old }
-        ensures { Applies L.CHUNK M.SURE self.old self.new who (Call.MVarInit message) result }
+        ensures { Performs L.CHUNK M.SURE self.old self.new who (Call.MVarInit message.now) result }
     {
-        let at = self.entries();
-        let Ok((stored, noted)) = share_twice(self.alloc, &message) else {
-            return Outcome::Refused(Refusal::NoMemory, Call::MVarInit(message));
-        };
-        if self.journal.reserve(1).is_err() {
-            return Outcome::Refused(Refusal::NoMemory, Call::MVarInit(message));
-        }
+        let (stored, noted) = share_twice(self.alloc, message)?;
+        self.journal.reserve(1)?;
         let reply = Name(self.objects.len() as u64);
-        let Ok(()) = add_variable(&mut self.objects, Form::Mutable, Some(stored)) else {
-            return Outcome::Refused(Refusal::NoMemory, Call::MVarInit(message));
-        };
+        add_variable(&mut self.objects, Form::Mutable, Some(stored))?;
         let entry = Entry {
             who,
             call: Call::MVarInit(noted),
             reply: Reply::Made(reply),
         };
-        note(
-            &mut self.journal,
-            at,
-            entry,
-            Call::MVarInit(message),
-            Reply::Made(reply),
-        )
+        note(&mut self.journal, entry);
+        Ok(Some(Reply::Made(reply)))
     }
 
     /// Puts a message into a variable, unless it is full.
     #[inline(never)]
-    pub(super) fn fill(&mut self, who: Who, name: Name, message: M) -> Outcome<M>
-        requires fits { Fits self.old.history (Call.Put name message) }
+    pub(super) fn fill(&mut self, who: Who, name: Name, message: &M) -> Performed<M>
+        requires fits { Fits self.old.history (Call.Put name message.now) }
         requires room { HasRoom self.old }
-        ensures { Applies L.CHUNK M.SURE self.old self.new who (Call.Put name message) result }
+        ensures { Performs L.CHUNK M.SURE self.old self.new who (Call.Put name message.now) result }
     {
         if self.content(name).is_some() {
             return self.find_full(who, name, message);
@@ -64,68 +51,48 @@ impl<M: Message, L: MessageLog<M>> Board<M, L> {
         self.fill_empty(who, name, message)
     }
 
-    fn fill_empty(&mut self, who: Who, name: Name, message: M) -> Outcome<M>
-        requires fits { Fits self.old.history (Call.Put name message) }
+    fn fill_empty(&mut self, who: Who, name: Name, message: &M) -> Performed<M>
+        requires fits { Fits self.old.history (Call.Put name message.now) }
         requires empty { held self.old.history name.0 ≡ None }
         requires room { HasRoom self.old }
-        ensures { Applies L.CHUNK M.SURE self.old self.new who (Call.Put name message) result }
+        ensures { Performs L.CHUNK M.SURE self.old self.new who (Call.Put name message.now) result }
     {
-        let at = self.entries();
-        let Ok((stored, noted)) = share_twice(self.alloc, &message) else {
-            return Outcome::Refused(Refusal::NoMemory, Call::Put(name, message));
-        };
-        if self.journal.reserve(1).is_err() {
-            return Outcome::Refused(Refusal::NoMemory, Call::Put(name, message));
-        }
+        let (stored, noted) = share_twice(self.alloc, message)?;
+        self.journal.reserve(1)?;
         let _none = hold_at(&mut self.objects, name, Some(stored));
         let entry = Entry {
             who,
             call: Call::Put(name, noted),
             reply: Reply::Done,
         };
-        note(
-            &mut self.journal,
-            at,
-            entry,
-            Call::Put(name, message),
-            Reply::Done,
-        )
+        note(&mut self.journal, entry);
+        Ok(Some(Reply::Done))
     }
 
     /// A put on a variable that is full.
-    fn find_full(&mut self, who: Who, name: Name, message: M) -> Outcome<M>
-        requires fits { Fits self.old.history (Call.Put name message) }
+    fn find_full(&mut self, who: Who, name: Name, message: &M) -> Performed<M>
+        requires fits { Fits self.old.history (Call.Put name message.now) }
         requires full { held self.old.history name.0 ≢ None }
         requires room { HasRoom self.old }
-        ensures { Applies L.CHUNK M.SURE self.old self.new who (Call.Put name message) result }
+        ensures { Performs L.CHUNK M.SURE self.old self.new who (Call.Put name message.now) result }
     {
-        let at = self.entries();
-        let Ok(noted) = message.share(self.alloc) else {
-            return Outcome::Refused(Refusal::NoMemory, Call::Put(name, message));
-        };
-        if self.journal.reserve(1).is_err() {
-            return Outcome::Refused(Refusal::NoMemory, Call::Put(name, message));
-        }
+        let noted = message.share(self.alloc)?;
+        self.journal.reserve(1)?;
         let entry = Entry {
             who,
             call: Call::Put(name, noted),
             reply: Reply::Put,
         };
-        note(
-            &mut self.journal,
-            at,
-            entry,
-            Call::Put(name, message),
-            Reply::Put,
-        )
+        note(&mut self.journal, entry);
+        Ok(Some(Reply::Put))
     }
 
     /// Gives what a variable holds, and empties it or not.
     #[inline(never)]
-    pub(super) fn look(&mut self, who: Who, name: Name, looking: Looking) -> Outcome<M>
+    pub(super) fn look(&mut self, who: Who, name: Name, looking: Looking) -> Performed<M>
         requires fits { Fits self.old.history (looking_call looking name) }
         requires room { HasRoom self.old }
-        ensures { Applies L.CHUNK M.SURE self.old self.new who (looking_call looking name) result }
+        ensures { Performs L.CHUNK M.SURE self.old self.new who (looking_call looking name) result }
     {
         if self.content(name).is_some() {
             return if looking.empties() {
@@ -135,51 +102,39 @@ impl<M: Message, L: MessageLog<M>> Board<M, L> {
             };
         }
         if looking.waits() {
-            return Outcome::WouldWait(looking.call(name));
+            return Ok(None);
         }
         self.find_empty(who, name, looking)
     }
 
-    fn read(&mut self, who: Who, name: Name, looking: Looking) -> Outcome<M>
+    fn read(&mut self, who: Who, name: Name, looking: Looking) -> Performed<M>
         requires fits { Fits self.old.history (looking_call looking name) }
         requires leaves { empties looking ≡ false }
         requires full { held self.old.history name.0 ≢ None }
         requires room { HasRoom self.old }
-        ensures { Applies L.CHUNK M.SURE self.old self.new who (looking_call looking name) result }
+        ensures { Performs L.CHUNK M.SURE self.old self.new who (looking_call looking name) result }
     {
-        let at = self.entries();
-        let Ok(message) = self.share_held(name) else {
-            return Outcome::Refused(Refusal::NoMemory, looking.call(name));
-        };
-        let Ok(noted) = message.share(self.alloc) else {
-            return Outcome::Refused(Refusal::NoMemory, looking.call(name));
-        };
-        if self.journal.reserve(1).is_err() {
-            return Outcome::Refused(Refusal::NoMemory, looking.call(name));
-        }
+        let message = self.share_held(name)?;
+        let noted = message.share(self.alloc)?;
+        self.journal.reserve(1)?;
         let entry = Entry {
             who,
             call: looking.call(name),
             reply: Reply::Got(noted),
         };
-        let call = looking.call(name);
-        note(&mut self.journal, at, entry, call, Reply::Got(message))
+        note(&mut self.journal, entry);
+        Ok(Some(Reply::Got(message)))
     }
 
-    fn empty(&mut self, who: Who, name: Name, looking: Looking) -> Outcome<M>
+    fn empty(&mut self, who: Who, name: Name, looking: Looking) -> Performed<M>
         requires fits { Fits self.old.history (looking_call looking name) }
         requires empties { empties looking ≡ true }
         requires full { held self.old.history name.0 ≢ None }
         requires room { HasRoom self.old }
-        ensures { Applies L.CHUNK M.SURE self.old self.new who (looking_call looking name) result }
+        ensures { Performs L.CHUNK M.SURE self.old self.new who (looking_call looking name) result }
     {
-        let at = self.entries();
-        let Ok(noted) = self.share_held(name) else {
-            return Outcome::Refused(Refusal::NoMemory, looking.call(name));
-        };
-        if self.journal.reserve(1).is_err() {
-            return Outcome::Refused(Refusal::NoMemory, looking.call(name));
-        }
+        let noted = self.share_held(name)?;
+        self.journal.reserve(1)?;
         let Some(message) = hold_at(&mut self.objects, name, None) else {
             unreachable!()
         };
@@ -188,60 +143,50 @@ impl<M: Message, L: MessageLog<M>> Board<M, L> {
             call: looking.call(name),
             reply: Reply::Got(noted),
         };
-        let call = looking.call(name);
-        note(&mut self.journal, at, entry, call, Reply::Got(message))
+        note(&mut self.journal, entry);
+        Ok(Some(Reply::Got(message)))
     }
 
     /// A poll of an empty variable.
-    fn find_empty(&mut self, who: Who, name: Name, looking: Looking) -> Outcome<M>
+    fn find_empty(&mut self, who: Who, name: Name, looking: Looking) -> Performed<M>
         requires fits { Fits self.old.history (looking_call looking name) }
         requires polls { waits looking ≡ false }
         requires empty { held self.old.history name.0 ≡ None }
         requires room { HasRoom self.old }
-        ensures { Applies L.CHUNK M.SURE self.old self.new who (looking_call looking name) result }
+        ensures { Performs L.CHUNK M.SURE self.old self.new who (looking_call looking name) result }
     {
-        let at = self.entries();
-        if self.journal.reserve(1).is_err() {
-            return Outcome::Refused(Refusal::NoMemory, looking.call(name));
-        }
+        self.journal.reserve(1)?;
         let entry = Entry {
             who,
             call: looking.call(name),
             reply: Reply::Nothing,
         };
-        let call = looking.call(name);
-        note(&mut self.journal, at, entry, call, Reply::Nothing)
+        note(&mut self.journal, entry);
+        Ok(Some(Reply::Nothing))
     }
 
     /// Stores a message in an m-variable and gives what it held.
     #[inline(never)]
-    pub(super) fn swap(&mut self, who: Who, name: Name, message: M) -> Outcome<M>
-        requires fits { Fits self.old.history (Call.Swap name message) }
+    pub(super) fn swap(&mut self, who: Who, name: Name, message: &M) -> Performed<M>
+        requires fits { Fits self.old.history (Call.Swap name message.now) }
         requires room { HasRoom self.old }
-        ensures { Applies L.CHUNK M.SURE self.old self.new who (Call.Swap name message) result }
+        ensures { Performs L.CHUNK M.SURE self.old self.new who (Call.Swap name message.now) result }
     {
         if self.content(name).is_some() {
             return self.swap_full(who, name, message);
         }
-        Outcome::WouldWait(Call::Swap(name, message))
+        Ok(None)
     }
 
-    fn swap_full(&mut self, who: Who, name: Name, message: M) -> Outcome<M>
-        requires fits { Fits self.old.history (Call.Swap name message) }
+    fn swap_full(&mut self, who: Who, name: Name, message: &M) -> Performed<M>
+        requires fits { Fits self.old.history (Call.Swap name message.now) }
         requires full { held self.old.history name.0 ≢ None }
         requires room { HasRoom self.old }
-        ensures { Applies L.CHUNK M.SURE self.old self.new who (Call.Swap name message) result }
+        ensures { Performs L.CHUNK M.SURE self.old self.new who (Call.Swap name message.now) result }
     {
-        let at = self.entries();
-        let Ok((stored, noted)) = share_twice(self.alloc, &message) else {
-            return Outcome::Refused(Refusal::NoMemory, Call::Swap(name, message));
-        };
-        let Ok(told) = self.share_held(name) else {
-            return Outcome::Refused(Refusal::NoMemory, Call::Swap(name, message));
-        };
-        if self.journal.reserve(1).is_err() {
-            return Outcome::Refused(Refusal::NoMemory, Call::Swap(name, message));
-        }
+        let (stored, noted) = share_twice(self.alloc, message)?;
+        let told = self.share_held(name)?;
+        self.journal.reserve(1)?;
         let Some(old) = hold_at(&mut self.objects, name, Some(stored)) else {
             unreachable!()
         };
@@ -250,13 +195,8 @@ impl<M: Message, L: MessageLog<M>> Board<M, L> {
             call: Call::Swap(name, noted),
             reply: Reply::Got(told),
         };
-        note(
-            &mut self.journal,
-            at,
-            entry,
-            Call::Swap(name, message),
-            Reply::Got(old),
-        )
+        note(&mut self.journal, entry);
+        Ok(Some(Reply::Got(old)))
     }
 
     /// What a variable holds.

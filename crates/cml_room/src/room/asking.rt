@@ -1,12 +1,12 @@
 //! A seat's calls.
-ghost use Rattle.std.specs.Prelude.{◌⊎◌, ⊤};
+ghost use Rattle.std.specs.Prelude.{◌≡◌, ◌⊎◌, ⊤};
+ghost use Rattle.cml_board.specs.declared.outcome.Outcome.TheVariants.{WouldWait, Refused};
 ghost use Rattle.cml_board.specs.Outcome.{HasRoom};
 ghost use Rattle.cml_room.specs.Room.{MayAsk, MayAskAgain};
 ghost use Rattle.cml_room.specs.Asking.{Asks};
 ghost use Rattle.cml_room.specs.Rising.{MakesFewDue, WantOf, news_by};
 
 use super::Room;
-use crate::asked::Asked;
 use crate::news::news_in;
 use crate::state::State;
 use crate::turns::{answer_turn, end_turn, park};
@@ -17,12 +17,12 @@ impl<M: Message, L: MessageLog<M>> Room<M, L> {
     /// Makes a free seat's call. If the call would wait, the seat is parked, and nothing else happens. If no seat could go on
     /// then, the call fails with `Stalled`, and the seat stays free. If there is no such seat, or it waits or has left, the
     /// call fails with `Gone`. That is tested first.
-    pub fn ask(&mut self, seat: u64, call: Call<M>) -> Asked<M>
+    pub fn ask(&mut self, seat: u64, call: Call<M>) -> Outcome<M>
         ensures asks { Asks L.CHUNK M.SURE (MayAsk self.old seat) self.old self.new seat call result }
         ensures few { HasRoom self.new.board → MakesFewDue self.old self.new (WantOf self.old seat) (news_by result) }
     {
         if self.seats.state(seat) != Some(State::Free) {
-            return Asked::Refused(Refusal::Gone, call);
+            return Outcome::Refused(Refusal::Gone, call);
         }
         self.take_turn(seat, call)
     }
@@ -30,44 +30,50 @@ impl<M: Message, L: MessageLog<M>> Room<M, L> {
     /// Makes a parked seat's call again. If it isn't answered, the seat is parked as before, or the call fails and the seat is
     /// free. If one seat fails with `Stalled`, the others wait on: each fails by its next call, if all are still stalled. If
     /// the seat doesn't wait on such a call, of this kind and on this object, the call fails with `Gone`. That is tested first.
-    pub fn ask_again(&mut self, seat: u64, call: Call<M>) -> Asked<M>
+    pub fn ask_again(&mut self, seat: u64, call: Call<M>) -> Outcome<M>
         ensures asks { Asks L.CHUNK M.SURE (MayAskAgain self.old seat call) self.old self.new seat call result }
         ensures few { HasRoom self.new.board → MakesFewDue self.old self.new (WantOf self.old seat) (news_by result) }
     {
         let Some(want) = call.want() else {
-            return Asked::Refused(Refusal::Gone, call);
+            return Outcome::Refused(Refusal::Gone, call);
         };
         if self.seats.state(seat) != Some(State::Parked(want)) {
-            return Asked::Refused(Refusal::Gone, call);
+            return Outcome::Refused(Refusal::Gone, call);
         }
         self.take_turn(seat, call)
     }
 
     /// Makes the call of a seat that may make it.
-    fn take_turn(&mut self, seat: u64, call: Call<M>) -> Asked<M>
+    fn take_turn(&mut self, seat: u64, call: Call<M>) -> Outcome<M>
         requires { MayAsk self.old seat ⊎ MayAskAgain self.old seat call }
         ensures asks { Asks L.CHUNK M.SURE ⊤ self.old self.new seat call result }
         ensures few { HasRoom self.new.board → MakesFewDue self.old self.new (WantOf self.old seat) (news_by result) }
     {
         let news = news_in(&call);
-        match self.floor.apply(seat, call) {
-            Outcome::Answered(answer) => {
-                answer_turn(&self.floor, &mut self.seats, seat, news);
-                Asked::Answered(answer)
-            }
-            Outcome::Refused(refusal, call) => {
-                end_turn(&self.floor, &mut self.seats, seat, None);
-                Asked::Refused(refusal, call)
-            }
+        let outcome = self.floor.apply(seat, call);
+        match &outcome {
+            Outcome::Answered(_) => answer_turn(&self.floor, &mut self.seats, seat, news),
+            Outcome::Refused(_, _) => end_turn(&self.floor, &mut self.seats, seat, None),
             Outcome::WouldWait(call) => {
                 let Some(want) = call.want() else {
                     unreachable!()
                 };
-                if park(&self.floor, &mut self.seats, seat, want) {
-                    return Asked::Parked(call);
+                if !park(&self.floor, &mut self.seats, seat, want) {
+                    return stalled(outcome);
                 }
-                Asked::Refused(Refusal::Stalled, call)
             }
         }
+        outcome
     }
+}
+
+/// What would wait is refused, since no seat could go on then.
+fn stalled<M: Message>(outcome: Outcome<M>) -> Outcome<M>
+    requires { (back : Call M) × (outcome ≡ WouldWait back) }
+    ensures { (back : Call M) → outcome ≡ WouldWait back → result ≡ Refused Refusal.Stalled back }
+{
+    let Outcome::WouldWait(call) = outcome else {
+        unreachable!()
+    };
+    Outcome::Refused(Refusal::Stalled, call)
 }

@@ -1,36 +1,20 @@
-use Rattle.std.proofs.Common.{refl, sym, ◌∙◌, ◌≡◌, arith, reverse, Some, slice_get, ◌++◌}
-use Rattle.cml_board.proofs.ListLemmas.{on_ok, on_err}
+use Rattle.std.proofs.Common.{refl, ◌≡◌, arith, reverse, Some, slice_get, ◌++◌}
 use Rattle.cml_board.specs.declared.call.Call.TheVariants.{ClosePort}
 use Rattle.cml_board.specs.declared.entry.Reply.TheVariants.{Done}
 use Rattle.cml_board.specs.Objects.{is_port}
 use Rattle.cml_board.specs.Holdings.{seen_all, open_port}
 use Rattle.cml_board.specs.Shown.{Shown}
-use Rattle.cml_board.proofs.Noting.{keeps_at, keeps_call, as_before, inside, refused, applies_answered, adds_entry}
+use Rattle.cml_board.proofs.Noting.{keeps_at, keeps_call, inside, adds_entry}
 use Rattle.cml_board.proofs.Answering.{fits_by, answer_shut}
 use Rattle.cml_board.proofs.Sources.{open_port_told}
 use Rattle.cml_board.proofs.Stepping.{step_closed, has_port}
-use Rattle.cml_board.proofs.Sparing.{no_room}
 use Rattle.cml_board.proofs.board.Board.close_open.Goals as goal
-
-pub returns-then-is_err : goal.returns-then-is_err
-returns-then-is_err g c =
-    let h = c.args.self.now.history in
-    let told = open_port_told g.L.MessageLog.CHUNK c.args.self.now c.args.port.0 c.args.channel.0 c.args.start c.args.key (keeps_at g.L.MessageLog.CHUNK c.self.view_is c.self.invariant) c.requires.stands in (
-      refused c.args.self.now (ClosePort c.args.port) Done (fits_by is_port h c.args.port (ClosePort c.args.port) refl (λ k. refl) told.0) c.requires.room (answer_shut h c.args.port told.1)
-          (no_room (ClosePort c.args.port) c.self.view_is (omega (arith, on_err c.reserve.result (sym c.is_err.ensures.value ∙ c.if-is_err.true) c.reserve.ensures.full))),
-      refl,
-      as_before c.self.view_is c.reserve.ensures.items refl (omega (arith, c.reserve.ensures.len, c.reserve.ensures.capacity)),
-    )
 
 pub close_port-requires : goal.close_port-requires
 close_port-requires g c =
     let log = g.L.MessageLog.log in
     has_port g.L.MessageLog.CHUNK (reverse c.self.inside.journal.items ++ c.self.inside.past) (seen_all log c.self.inside.objects.items) c.args.port.0 c.args.channel.0 c.args.start c.args.key c.self.invariant.shows
     (inside (λ (b : Shown g.row.M.Denot). slice_get b.objects c.args.port.0 ≡ Some (open_port c.args.channel.0 c.args.start c.args.key)) c.self.view_is c.requires.stands)
-
-pub note-requires : goal.note-requires
-note-requires g c =
-    omega (arith, on_ok c.reserve.result (sym c.is_err.ensures.value ∙ c.if-is_err.false) c.reserve.ensures.ok, c.reserve.ensures.len)
 
 pub invariant_of-self-2 : goal.invariant_of-self-2
 invariant_of-self-2 g c =
@@ -49,9 +33,7 @@ pub returns : goal.returns
 returns g c =
     let chunk = g.L.MessageLog.CHUNK in
     let h = c.args.self.now.history in
-    let told = open_port_told chunk c.args.self.now c.args.port.0 c.args.channel.0 c.args.start c.args.key (keeps_at chunk c.self.view_is c.self.invariant) c.requires.stands in
-    applies_answered _ _ c.args.self.now _ c.args.who (ClosePort c.args.port) c.note.result _ c.note.ensures.answer
-    (fits_by is_port h c.args.port (ClosePort c.args.port) refl (λ k. refl) told.0) c.requires.room (answer_shut h c.args.port told.1)
-    refl
-    c.entries-at.ensures
-    (adds_entry c.args.who (ClosePort c.args.port) (ClosePort c.args.port) Done Done c.self.view_is c.note.ensures.entries c.reserve.ensures.items refl refl (omega (arith, c.reserve.ensures.len, c.reserve.ensures.capacity, c.note.ensures.spare)))
+    let told = open_port_told chunk c.args.self.now c.args.port.0 c.args.channel.0 c.args.start c.args.key (keeps_at chunk c.self.view_is c.self.invariant) c.requires.stands in (
+      answer_shut h c.args.port told.1,
+      adds_entry c.args.who (ClosePort c.args.port) (ClosePort c.args.port) Done Done c.self.view_is c.note.ensures.entries c.reserve.ensures.items refl refl (omega (arith, c.reserve.ensures.len, c.reserve.ensures.capacity, c.note.ensures.spare)),
+    )

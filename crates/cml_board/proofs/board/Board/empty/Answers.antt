@@ -5,36 +5,14 @@ use Rattle.cml_board.specs.Calls.{looking_call}
 use Rattle.cml_board.specs.Held.{held}
 use Rattle.cml_board.specs.Holdings.{seen_all, HasVariable}
 use Rattle.cml_board.specs.Shown.{Shown}
-use Rattle.cml_board.proofs.Noting.{keeps_at, keeps_call, as_before, inside, refused, applies_answered, adds_entry, unchanged}
-use Rattle.cml_board.proofs.Holding.{look_variable, some_message, answer_read, variable_stands, was_held}
+use Rattle.cml_board.proofs.Noting.{keeps_at, keeps_call, inside, adds_entry}
+use Rattle.cml_board.proofs.Holding.{look_variable, answer_read, variable_stands, was_held}
 use Rattle.cml_board.proofs.Leaving.{taken_sets}
 use Rattle.cml_board.proofs.Setting.{step_set}
-use Rattle.cml_board.proofs.ListLemmas.{on_err}
-use Rattle.cml_board.proofs.Sparing.{no_room, answer_takes}
 use Rattle.cml_board.proofs.board.Board.empty.Goals as goal
 
 pub share_held-requires-clause-stands : goal.share_held-requires-clause-stands
 share_held-requires-clause-stands g c = look_variable c.args.self.now.history c.args.looking c.args.name c.requires.fits
-
-pub returns-in_default : goal.returns-in_default
-returns-in_default g c =
-    let h = c.args.self.now.history in
-    let some = some_message (held h c.args.name.0) c.requires.full in (
-      refused c.args.self.now (looking_call c.args.looking c.args.name) (Got some.0) c.requires.fits c.requires.room (answer_read h c.args.looking c.args.name some.0 some.1)
-          (answer_takes c.args.self.now (looking_call c.args.looking c.args.name) some.0 (answer_read h c.args.looking c.args.name some.0 some.1) c.in_default.ensures.sure),
-      c.call.ensures,
-      unchanged c.args.self.now,
-    )
-
-pub returns-then-is_err : goal.returns-then-is_err
-returns-then-is_err g c =
-    let h = c.args.self.now.history in
-    let some = some_message (held h c.args.name.0) c.requires.full in (
-      refused c.args.self.now (looking_call c.args.looking c.args.name) (Got some.0) c.requires.fits c.requires.room (answer_read h c.args.looking c.args.name some.0 some.1)
-          (no_room (looking_call c.args.looking c.args.name) c.self.view_is (omega (arith, on_err c.reserve.result (sym c.is_err.ensures.value ∙ c.if-is_err.true) c.reserve.ensures.full))),
-      c.call-then-is_err.ensures,
-      as_before c.self.view_is c.reserve.ensures.items refl (omega (arith, c.reserve.ensures.len, c.reserve.ensures.capacity)),
-    )
 
 pub hold_at-requires : goal.hold_at-requires
 hold_at-requires g c =
@@ -47,19 +25,19 @@ pub unreachable-requires : goal.unreachable-requires
 unreachable-requires g c =
     c.requires.full
     (was_held g.L.MessageLog.CHUNK c.self.view_is c.self.invariant (seen_all g.L.MessageLog.log c.hold_at.new.objects.items) c.args.name.0 c.hold_at.result None c.hold_at.ensures
-    ∙ c.in_default-hold_at.is)
+    ∙ c.in_default.is)
 
 pub invariant_of-self-2 : goal.invariant_of-self-2
 invariant_of-self-2 g c =
     let chunk = g.L.MessageLog.CHUNK in
     let log = g.L.MessageLog.log in
     let asked = looking_call c.args.looking c.args.name in
-    keeps_call chunk c.args.who asked c.call-2.result (Got c.in-Ok.noted) (Got c.in-Ok.noted) c.self.view_is c.self.invariant c.note.ensures.entries c.reserve.ensures.items
-    c.call-2.ensures refl c.requires.room c.requires.fits
-    (answer_read c.args.self.now.history c.args.looking c.args.name c.in-Ok.noted c.in-Ok.ensures.copy)
-    (λ lawful shows. step_set chunk c.args.who asked (Got c.in-Ok.noted) c.args.name c.hold_at.result None
+    keeps_call chunk c.args.who asked c.call.result (Got c.in_ok-noted.noted) (Got c.in_ok-noted.noted) c.self.view_is c.self.invariant c.note.ensures.entries c.reserve.ensures.items
+    c.call.ensures refl c.requires.room c.requires.fits
+    (answer_read c.args.self.now.history c.args.looking c.args.name c.in_ok-noted.noted c.in_ok-noted.ensures.copy)
+    (λ lawful shows. step_set chunk c.args.who asked (Got c.in_ok-noted.noted) c.args.name c.hold_at.result None
     (reverse c.self.inside.journal.items ++ c.self.inside.past) (seen_all log c.self.inside.objects.items) (seen_all log c.hold_at.new.objects.items)
-    (taken_sets c.args.looking c.args.name c.in-Ok.noted c.requires.empties) shows c.hold_at.ensures)
+    (taken_sets c.args.looking c.args.name c.in_ok-noted.noted c.requires.empties) shows c.hold_at.ensures)
 
 pub returns : goal.returns
 returns g c =
@@ -68,10 +46,8 @@ returns g c =
     let asked = looking_call c.args.looking c.args.name in
     let full : held h c.args.name.0 ≡ Some c.in-Some.message =
     was_held chunk c.self.view_is c.self.invariant (seen_all g.L.MessageLog.log c.hold_at.new.objects.items) c.args.name.0 c.hold_at.result None c.hold_at.ensures ∙ c.in-Some.is in
-    let same : c.in-Ok.noted ≡ c.in-Some.message = same_Some _ _ (sym c.in-Ok.ensures.copy ∙ full) in
-    applies_answered _ _ c.args.self.now _ c.args.who asked c.note.result _ c.note.ensures.answer
-    c.requires.fits c.requires.room (answer_read h c.args.looking c.args.name c.in-Some.message full)
-    c.call-call.ensures
-    c.entries-at.ensures
-    (adds_entry c.args.who asked c.call-2.result (Got c.in-Ok.noted) (Got c.in-Some.message) c.self.view_is c.note.ensures.entries c.reserve.ensures.items
-    c.call-2.ensures (ap Got same) (omega (arith, c.reserve.ensures.len, c.reserve.ensures.capacity, c.note.ensures.spare)))
+    let same : c.in_ok-noted.noted ≡ c.in-Some.message = same_Some _ _ (sym c.in_ok-noted.ensures.copy ∙ full) in (
+      answer_read h c.args.looking c.args.name c.in-Some.message full,
+      adds_entry c.args.who asked c.call.result (Got c.in_ok-noted.noted) (Got c.in-Some.message) c.self.view_is c.note.ensures.entries c.reserve.ensures.items
+          c.call.ensures (ap Got same) (omega (arith, c.reserve.ensures.len, c.reserve.ensures.capacity, c.note.ensures.spare)),
+    )

@@ -1,62 +1,38 @@
-use Rattle.std.proofs.Common.{◌-◌, refl, ap, ◌∙◌, arith, Some, sym, vec_len, vec_capacity}
+use Rattle.std.proofs.Common.{◌-◌, refl, ap, ◌∙◌, arith, Some, vec_len, vec_capacity}
 use Rattle.std.proofs.lemmas.List.{length-map}
 use Rattle.cml_board.specs.declared.entry.Reply.TheVariants.{Made}
 use Rattle.cml_board.specs.Calls.{making_call}
-use Rattle.cml_board.specs.History.{new_name}
 use Rattle.cml_board.specs.Holdings.{map_log, seen_all}
 use Rattle.cml_board.specs.Shown.{Shown}
 use Rattle.cml_board.specs.Making.{CanMake, HasSource}
-use Rattle.cml_board.proofs.Noting.{board_of, keeps_at, keeps_call, made_name, as_before, inside, refused, applies_answered, adds_entry, keeps_same}
+use Rattle.cml_board.proofs.Noting.{board_of, keeps_at, keeps_call, made_name, inside, adds_entry, keeps_same}
 use Rattle.cml_board.proofs.Making.{fits_made, answer_made, has_source, step_made}
-use Rattle.cml_board.proofs.ListLemmas.{on_err}
-use Rattle.cml_board.proofs.Sparing.{no_room, making_takes}
 use Rattle.cml_board.proofs.board.Board.make.Goals as goal
+
+pub invariant_of-self-in_err-add_made : goal.invariant_of-self-in_err-add_made
+invariant_of-self-in_err-add_made g c = keeps_same g.L.MessageLog.CHUNK _ _ _ _ _ c.self.invariant c.reserve.ensures.items c.in_err-add_made.ensures.err
 
 pub add_made-requires : goal.add_made-requires
 add_made-requires g c =
     inside (λ (b : Shown g.row.M.Denot). HasSource b.objects c.args.making) c.self.view_is
     (has_source g.L.MessageLog.CHUNK c.args.self.now c.args.making (keeps_at g.L.MessageLog.CHUNK c.self.view_is c.self.invariant) c.requires.can)
 
-pub returns-then-is_err : goal.returns-then-is_err
-returns-then-is_err g c =
-    let h = c.args.self.now.history in (
-      refused c.args.self.now (making_call c.args.making) (new_name h) (fits_made c.args.self.now c.args.making c.requires.can) c.requires.room (answer_made c.args.self.now c.args.making c.requires.can)
-          (no_room (making_call c.args.making) c.self.view_is (omega (arith, on_err c.reserve.result (sym c.is_err.ensures.value ∙ c.if-is_err.true) c.reserve.ensures.full))),
-      c.call.ensures,
-      as_before c.self.view_is c.reserve.ensures.items refl (omega (arith, c.reserve.ensures.len, c.reserve.ensures.capacity)),
-    )
-
-pub returns-in_default : goal.returns-in_default
-returns-in_default g c =
-    let h = c.args.self.now.history in (
-      refused c.args.self.now (making_call c.args.making) (new_name h) (fits_made c.args.self.now c.args.making c.requires.can) c.requires.room (answer_made c.args.self.now c.args.making c.requires.can)
-          (making_takes c.args.self.now (making_call c.args.making) _ (answer_made c.args.self.now c.args.making c.requires.can)),
-      c.call-in_default.ensures,
-      as_before c.self.view_is c.reserve.ensures.items c.in_default.ensures.err (omega (arith, c.reserve.ensures.len, c.reserve.ensures.capacity)),
-    )
-
-pub invariant_of-self-in_default : goal.invariant_of-self-in_default
-invariant_of-self-in_default g c = keeps_same g.L.MessageLog.CHUNK _ _ _ _ _ c.self.invariant c.reserve.ensures.items c.in_default.ensures.err
-
 pub invariant_of-self-2 : goal.invariant_of-self-2
 invariant_of-self-2 g c =
     let chunk = g.L.MessageLog.CHUNK in
     let log = g.L.MessageLog.log in
     let h = c.args.self.now.history in
-    keeps_call chunk c.args.who (making_call c.args.making) c.call-2.result (Made (record { 0 = c.len.result })) (Made (record { 0 = c.len.result })) c.self.view_is c.self.invariant c.note.ensures.entries c.reserve.ensures.items
-    c.call-2.ensures refl c.requires.room (fits_made c.args.self.now c.args.making c.requires.can)
+    keeps_call chunk c.args.who (making_call c.args.making) c.call.result (Made (record { 0 = c.len.result })) (Made (record { 0 = c.len.result })) c.self.view_is c.self.invariant c.note.ensures.entries c.reserve.ensures.items
+    c.call.ensures refl c.requires.room (fits_made c.args.self.now c.args.making c.requires.can)
     (answer_made c.args.self.now c.args.making c.requires.can ∙ ap Some (made_name chunk c.self.view_is c.self.invariant c.len.result (omega (arith, c.len.ensures, length-map c.self.inside.objects.items (map_log log), c.self.inside.objects.ok.0))))
     (λ lawful shows. step_made chunk c.args.who c.args.making (record { 0 = c.len.result }) (board_of c.self.inside.past c.self.inside.journal.items c.self.inside.limit (seen_all log c.self.inside.objects.items) (vec_capacity c.self.inside.journal - vec_len c.self.inside.journal)) (seen_all log c.add_made.new.objects.items)
-    c.self.invariant (inside (λ (b : Shown g.row.M.Denot). CanMake b c.args.making) c.self.view_is c.requires.can) c.in-Ok.ensures.ok)
+    c.self.invariant (inside (λ (b : Shown g.row.M.Denot). CanMake b c.args.making) c.self.view_is c.requires.can) c.in_ok-add_made.ensures.ok)
 
 pub returns : goal.returns
 returns g c =
     let chunk = g.L.MessageLog.CHUNK in
     let log = g.L.MessageLog.log in
-    let h = c.args.self.now.history in
-    applies_answered _ _ c.args.self.now _ c.args.who (making_call c.args.making) c.note.result _ c.note.ensures.answer
-    (fits_made c.args.self.now c.args.making c.requires.can) c.requires.room
-    (answer_made c.args.self.now c.args.making c.requires.can ∙ ap Some (made_name chunk c.self.view_is c.self.invariant c.len.result (omega (arith, c.len.ensures, length-map c.self.inside.objects.items (map_log log), c.self.inside.objects.ok.0))))
-    c.call-call.ensures
-    c.entries-at.ensures
-    (adds_entry c.args.who (making_call c.args.making) c.call-2.result (Made (record { 0 = c.len.result })) (Made (record { 0 = c.len.result })) c.self.view_is c.note.ensures.entries c.reserve.ensures.items c.call-2.ensures refl (omega (arith, c.reserve.ensures.len, c.reserve.ensures.capacity, c.note.ensures.spare)))
+    let h = c.args.self.now.history in (
+      answer_made c.args.self.now c.args.making c.requires.can ∙ ap Some (made_name chunk c.self.view_is c.self.invariant c.len.result (omega (arith, c.len.ensures, length-map c.self.inside.objects.items (map_log log), c.self.inside.objects.ok.0))),
+      adds_entry c.args.who (making_call c.args.making) c.call.result (Made (record { 0 = c.len.result })) (Made (record { 0 = c.len.result })) c.self.view_is c.note.ensures.entries c.reserve.ensures.items c.call.ensures refl (omega (arith, c.reserve.ensures.len, c.reserve.ensures.capacity, c.note.ensures.spare)),
+    )

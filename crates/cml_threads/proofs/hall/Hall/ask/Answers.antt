@@ -4,11 +4,11 @@ use Rattle.cml_threads.proofs.hall.Hall.ask.Goals as goal
 
 pub returns-clause-asks : goal.returns-clause-asks
 returns-clause-asks g c =
-    told_asks g.L.MessageLog.CHUNK g.M.Message.SURE MayAsk c.args.self.now c.self.inside.room c.ask-asked.new.self
-    c.self.inside.book.total c.counted.new.book.total c.args.seat.now c.counted.new.seat c.number.result c.args.call c.ask-asked.result c.counted.result
-    c.self.view_is c.number.ensures c.counted.ensures.told c.ask-asked.ensures.asks c.counted.ensures.tallied
+    told_asks g.L.MessageLog.CHUNK g.M.Message.SURE MayAsk c.args.self.now c.self.inside.room c.ask-outcome.new.self
+    c.self.inside.book.total c.count.new.book.total c.args.seat.now c.count.new.seat c.number.result c.args.call c.ask-outcome.result
+    c.self.view_is c.number.ensures c.ask-outcome.ensures.asks c.count.ensures
 
 pub returns-clause-few : goal.returns-clause-few
 returns-clause-few g c =
-    told_few c.args.self.now c.self.inside.room c.ask-asked.new.self c.self.inside.book.total c.counted.new.book.total c.args.seat.now.number c.number.result
-    c.ask-asked.result c.counted.result c.self.view_is c.number.ensures c.counted.ensures.told c.ask-asked.ensures.few
+    told_few c.args.self.now c.self.inside.room c.ask-outcome.new.self c.self.inside.book.total c.count.new.book.total c.args.seat.now.number c.number.result
+    c.ask-outcome.result c.self.view_is c.number.ensures c.ask-outcome.ensures.few
