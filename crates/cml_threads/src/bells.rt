@@ -9,8 +9,8 @@ use std::sync::atomic::{AtomicU64, Ordering};
 
 /// How often a thread looks before it sleeps, and in how many waits not at all, at the most, once that was in vain.
 const FEW_LOOKS: (u32, u64) = (8, 16);
-/// The same if its last call has woken a thread that slept. That thread may answer as soon as it runs, and to wake it takes
-/// longer than the few looks. So two threads that answer each other don't sleep at each turn.
+/// The same if its last call has rung the bell of another. That thread may answer as soon as it runs, and if it slept, to wake
+/// it takes longer than the few looks. So two threads that answer each other don't sleep at each turn.
 const MANY_LOOKS: (u32, u64) = (50, 512);
 
 // What the word of a bell is.
@@ -25,8 +25,8 @@ const RUNG: u64 = 2;
 #[derive(Drop)]
 struct Bell {
     word: AtomicU64,
-    // The other three are for the seat's thread alone. Whether its last call woke another:
-    has_woken: AtomicU64,
+    // The other three are for the seat's thread alone. Whether its last call rang another's bell:
+    has_rung: AtomicU64,
     few: Looks,
     many: Looks,
 }
@@ -35,19 +35,17 @@ impl Bell {
     fn new() -> Bell {
         Bell {
             word: AtomicU64::new(QUIET),
-            has_woken: AtomicU64::new(0),
+            has_rung: AtomicU64::new(0),
             few: Looks::new(FEW_LOOKS.0, FEW_LOOKS.1),
             many: Looks::new(MANY_LOOKS.0, MANY_LOOKS.1),
         }
     }
 
-    /// Whether the thread slept, and was woken.
-    fn ring(&self) -> bool {
-        if self.word.swap(RUNG, Ordering::AcqRel) != ASLEEP {
-            return false;
+    /// Wakes the thread if it sleeps.
+    fn ring(&self) {
+        if self.word.swap(RUNG, Ordering::AcqRel) == ASLEEP {
+            self.word.wake_one();
         }
-        self.word.wake_one();
-        true
     }
 
     /// Looks for a while whether it is rung, then sleeps until it is.
@@ -65,11 +63,11 @@ impl Bell {
     }
 
     fn is_soon_rung(&self) -> bool {
-        let has_woken = self.has_woken.load(Ordering::Relaxed) != 0;
-        if has_woken {
-            self.has_woken.store(0, Ordering::Relaxed);
+        let has_rung = self.has_rung.load(Ordering::Relaxed) != 0;
+        if has_rung {
+            self.has_rung.store(0, Ordering::Relaxed);
         }
-        if has_woken && self.many.are_due() {
+        if has_rung && self.many.are_due() {
             return self.many.see(&self.word, RUNG);
         }
         self.few.are_due() && self.few.see(&self.word, RUNG)
@@ -113,18 +111,17 @@ impl Bells {
         }
     }
 
-    /// Wakes the seat's thread. If it doesn't sleep yet, it won't. Whether it slept.
-    pub fn ring(&self, seat: u64) -> bool {
-        match self.bells.get(seat as usize) {
-            Some(bell) => bell.ring(),
-            None => false,
+    /// Wakes the seat's thread. If it doesn't sleep yet, it won't.
+    pub fn ring(&self, seat: u64) {
+        if let Some(bell) = self.bells.get(seat as usize) {
+            bell.ring();
         }
     }
 
-    /// The seat's thread has just woken another: so in its next wait it may look for longer.
-    pub fn note_woken(&self, seat: u64) {
+    /// The seat's thread has just rung another's bell: so in its next wait it may look for longer.
+    pub fn note_ring(&self, seat: u64) {
         if let Some(bell) = self.bells.get(seat as usize) {
-            bell.has_woken.store(1, Ordering::Relaxed);
+            bell.has_rung.store(1, Ordering::Relaxed);
         }
     }
 

@@ -191,21 +191,24 @@ impl<M: Message, L: MessageLog<M>, Led: Ledger> Switchboard<M, L, Led> {
     }
 
     /// Unlocks the hall, and then wakes one seat that is due, if there is one that wasn't woken. It is taken under the lock. Its
-    /// thread locks the hall next, makes its call, and comes by here too. Whether that thread slept.
+    /// thread locks the hall next, makes its call, and comes by here too. Whether there was one.
     fn let_go(&self, hall: MutexGuard<'_, CachePadded<Hall<M, L, Led>>>) -> bool {
         let mut hall = hall;
         let due = hall.next_due();
         drop(hall);
         match due {
-            Some(seat) => self.bells.ring(seat),
+            Some(seat) => {
+                self.bells.ring(seat);
+                true
+            }
             None => false,
         }
     }
 
-    /// The same after a seat's call, whose thread waits next, maybe for what the woken one does.
+    /// The same after a seat's call, whose thread may wait next for what the woken one does.
     fn let_go_by(&self, hall: MutexGuard<'_, CachePadded<Hall<M, L, Led>>>, seat: u64) {
         if self.let_go(hall) {
-            self.bells.note_woken(seat);
+            self.bells.note_ring(seat);
         }
     }
 

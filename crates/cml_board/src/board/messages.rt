@@ -31,7 +31,8 @@ impl<M: Message, L: MessageLog<M>> Board<M, L> {
         requires room { HasRoom self.old }
         ensures { Performs L.CHUNK M.SURE self.old self.new who (putting_call putting name message.now) result }
     {
-        let (stored, noted) = share_twice(self.alloc, message)?;
+        let stored = message.share(self.alloc)?;
+        let noted = message.share(self.alloc)?;
         self.journal.reserve(1)?;
         let Ok(()) = push_at(&mut self.objects, name, stored) else {
             return Err(AllocError);
@@ -120,7 +121,8 @@ impl<M: Message, L: MessageLog<M>> Board<M, L> {
         requires room { HasRoom self.old }
         ensures { Performs L.CHUNK M.SURE self.old self.new who (taking_call taking name) result }
     {
-        let (message, noted) = share_first(self.log(source), self.alloc, key)?;
+        let message = share_first(self.log(source), self.alloc, key)?;
+        let noted = message.share(self.alloc)?;
         self.journal.reserve(1)?;
         advance_at(&mut self.objects, source, key);
         let entry = Entry {
@@ -133,29 +135,19 @@ impl<M: Message, L: MessageLog<M>> Board<M, L> {
     }
 }
 
-pub(super) fn share_twice<M: Message>(alloc: Global, message: &M) -> Result<(M, M), AllocError>
-    ensures copies { IfOk result (λ copies. (copies.0 ≡ message.now) × (copies.1 ≡ message.now)) }
-    ensures sure { OnErr result (M.SURE ≡ false) }
-{
-    let first = message.share(alloc)?;
-    let second = message.share(alloc)?;
-    Ok((first, second))
-}
-
-/// Two messages equal to the one at a cursor's place.
+/// A message equal to the one at a cursor's place.
 fn share_first<M: Message, L: MessageLog<M>>(
     log: &L,
     alloc: Global,
     key: Key,
-) -> Result<(M, M), AllocError>
+) -> Result<M, AllocError>
     requires opened { IsOpen (L.log log.now) key }
     requires owed { 0 < length (owed_items (L.log log.now) key) }
-    ensures copies { IfOk result (λ copies. (slice_get (owed_items (L.log log.now) key) 0 ≡ Some copies.0)
-        × (slice_get (owed_items (L.log log.now) key) 0 ≡ Some copies.1)) }
+    ensures copy { IfOk result (λ copy. slice_get (owed_items (L.log log.now) key) 0 ≡ Some copy) }
     ensures sure { OnErr result (M.SURE ≡ false) }
 {
     match log.peek(key) {
-        Some(message) => share_twice(alloc, message),
+        Some(message) => message.share(alloc),
         None => unreachable!(),
     }
 }

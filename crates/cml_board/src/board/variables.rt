@@ -8,7 +8,6 @@ ghost use Rattle.cml_board.specs.Calls.{looking_call, waits, empties};
 ghost use Rattle.cml_board.specs.Outcome.{Performs, HasRoom};
 
 use super::Board;
-use super::messages::share_twice;
 use super::note::{Looking, Performed, note};
 use super::objects::{add_variable, hold_at};
 use crate::call::{Call, Name};
@@ -25,7 +24,8 @@ impl<M: Message, L: MessageLog<M>> Board<M, L> {
         requires { HasRoom self.old }
         ensures { Performs L.CHUNK M.SURE self.old self.new who (Call.MVarInit message.now) result }
     {
-        let (stored, noted) = share_twice(self.alloc, message)?;
+        let stored = message.share(self.alloc)?;
+        let noted = message.share(self.alloc)?;
         self.journal.reserve(1)?;
         let reply = Name(self.objects.len() as u64);
         add_variable(&mut self.objects, Form::Mutable, Some(stored))?;
@@ -57,7 +57,8 @@ impl<M: Message, L: MessageLog<M>> Board<M, L> {
         requires room { HasRoom self.old }
         ensures { Performs L.CHUNK M.SURE self.old self.new who (Call.Put name message.now) result }
     {
-        let (stored, noted) = share_twice(self.alloc, message)?;
+        let stored = message.share(self.alloc)?;
+        let noted = message.share(self.alloc)?;
         self.journal.reserve(1)?;
         let _none = hold_at(&mut self.objects, name, Some(stored));
         let entry = Entry {
@@ -184,7 +185,8 @@ impl<M: Message, L: MessageLog<M>> Board<M, L> {
         requires room { HasRoom self.old }
         ensures { Performs L.CHUNK M.SURE self.old self.new who (Call.Swap name message.now) result }
     {
-        let (stored, noted) = share_twice(self.alloc, message)?;
+        let stored = message.share(self.alloc)?;
+        let noted = message.share(self.alloc)?;
         let told = self.share_held(name)?;
         self.journal.reserve(1)?;
         let Some(old) = hold_at(&mut self.objects, name, Some(stored)) else {

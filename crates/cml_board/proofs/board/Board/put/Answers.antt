@@ -39,9 +39,9 @@ invariant_of-self-2 g c =
     let stands = inside (λ (b : Shown g.row.M.Denot). HasLog b.objects c.args.name.0) c.self.view_is
     (put_stands chunk c.args.self.now c.args.putting c.args.name c.args.message.now keeps c.requires.fits) in
     keeps_call chunk c.args.who call c.call.result Done Done c.self.view_is c.self.invariant c.note.ensures.entries c.reserve.ensures.items
-    (c.call.ensures ∙ ap (putting_call c.args.putting c.args.name) c.in_ok-stored.ensures.copies.1) refl
+    (c.call.ensures ∙ ap (putting_call c.args.putting c.args.name) c.in_ok-noted.ensures.copy) refl
     c.requires.room c.requires.fits (answer_put c.args.self.now.history c.args.putting c.args.name c.args.message.now)
-    (λ lawful shows. rw (c.in-Ok.ensures.ok, c.in_ok-stored.ensures.copies.0)
+    (λ lawful shows. rw (c.in-Ok.ensures.ok, c.in_ok-stored.ensures.copy)
     (step_put chunk c.args.who c.args.putting c.args.name c.args.message.now (reverse c.self.inside.journal.items ++ c.self.inside.past) (seen_all g.L.MessageLog.log c.self.inside.objects.items) shows stands))
 
 pub returns : goal.returns
@@ -49,5 +49,5 @@ returns g c =
     let call = putting_call c.args.putting c.args.name c.args.message.now in (
       answer_put c.args.self.now.history c.args.putting c.args.name c.args.message.now,
       adds_entry c.args.who call c.call.result Done Done c.self.view_is c.note.ensures.entries c.reserve.ensures.items
-          (c.call.ensures ∙ ap (putting_call c.args.putting c.args.name) c.in_ok-stored.ensures.copies.1) refl (omega (arith, c.reserve.ensures.len, c.reserve.ensures.capacity, c.note.ensures.spare)),
+          (c.call.ensures ∙ ap (putting_call c.args.putting c.args.name) c.in_ok-noted.ensures.copy) refl (omega (arith, c.reserve.ensures.len, c.reserve.ensures.capacity, c.note.ensures.spare)),
     )
