@@ -48,9 +48,9 @@ fn check_both(
     second: &[Entry<u64>],
 ) -> Result<(bool, u64), Trouble> {
     let mut checker = Checker::new(alloc)?;
-    let was_lawful = feed(&mut checker, first)?;
-    let is_lawful = feed(&mut checker, second)?;
-    Ok((was_lawful && is_lawful, checker.entries()))
+    feed(&mut checker, first)?;
+    feed(&mut checker, second)?;
+    Ok((checker.verdict().is_ok(), checker.entries()))
 }
 
 /// Whether all that the checker was fed is lawful with these entries behind it.
@@ -60,4 +60,24 @@ pub fn feed(checker: &mut Checker<u64>, entries: &[Entry<u64>]) -> Result<bool, 
         return Err(Trouble::OtherReply);
     }
     Ok(checker.feed(entries)?.is_ok())
+}
+
+/// A new board goes on where the journal of an old one ends. It gives the message that waited there, and has three entries.
+pub fn restored(alloc: Global) -> Result<(u64, u64), Trouble> {
+    let mut old = Numbers::new(alloc, 100)?;
+    let letters = make(&mut old, Call::NewMailbox)?;
+    perform(&mut old, Call::Send(letters, 5))?;
+    let mut new = board_of(alloc, old.journal())?;
+    let received = fetch(&mut new, Call::Recv(letters))?;
+    Ok((received, new.entries()))
+}
+
+/// The board that these calls give.
+fn board_of(alloc: Global, entries: &[Entry<u64>]) -> Result<Numbers, Trouble> {
+    let mut checker = Checker::new(alloc)?;
+    feed(&mut checker, entries)?;
+    match checker.into_board(100) {
+        Ok(board) => Ok(board),
+        Err(_) => Err(Trouble::OtherReply),
+    }
 }

@@ -144,7 +144,8 @@ fn show_cutting(rt: &HostRuntime) -> io::Result<()> {
         rt,
         "cutting::checked_in_pieces",
         &cutting::checked_in_pieces(alloc),
-    )
+    )?;
+    show(rt, "cutting::restored", &cutting::restored(alloc))
 }
 
 fn show_rooms(rt: &HostRuntime) -> io::Result<()> {
