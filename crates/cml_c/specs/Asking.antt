@@ -15,7 +15,8 @@ use Rattle.cml_c.specs.declared.code.Code.{Code}
 use Rattle.cml_c.specs.declared.code.Code.TheVariants.{Done, Nothing, Put, Closed, Parked}
 use Rattle.cml_c.specs.declared.kept.Kept.{Kept}
 use Rattle.cml_c.specs.Codes.{number, of_refusal}
-use Rattle.cml_c.specs.Rooms.{OnRoom, OnNumbers}
+use Rattle.cml_c.specs.declared.kept.Resource.{Resource}
+use Rattle.cml_c.specs.Handles.{OnEither, OnNumbers, OnRoom}
 
 -- how many messages a room's chunks hold
 abbrev pub chunk : ℕ
@@ -79,10 +80,14 @@ bare_call (bare.ClosePort port) = call.ClosePort port
 bare_call bare.NewIVar = call.NewIVar
 bare_call bare.NewMVar = call.NewMVar
 
+-- the same in a room that a handle leads to, where the name that is given is written
+abbrev pub Gives : {M : Type 0} → Bool → ℕ → Call M → ℕ → ℕ → Type 0 → ℕ → Resource M → Resource M → Type 0
+Gives sure seat call before after same code old new =
+    OnRoom (Makes sure false seat call code (λ becomes. after ≡ named_outcome before becomes)) same code old new
+
 -- such a call in whichever room a handle leads to, with what stood and then stands where a name is written
 abbrev pub Names : ℕ → Bare → Kept → Kept → ℕ → ℕ → ℕ → Type 0
-Names seat call old new code before after =
-    OnRoom (λ M sure from to. Makes sure false seat (bare_call call) code (λ becomes. after ≡ named_outcome before becomes) from to) (after ≡ before) code old new
+Names seat call old new code before after = OnEither (λ M sure. Gives sure seat (bare_call call) before after) (after ≡ before) code old new
 
 -- the same where nothing is written
 abbrev pub NamesNothing : ℕ → Bare → Kept → Kept → ℕ → Type 0
@@ -91,7 +96,7 @@ NamesNothing seat call old new code = (after : ℕ) × Names seat call old new c
 -- a call in a room of numbers, with what stood and then stands where a number is written
 abbrev pub Calls : Bool → ℕ → Call ℕ → Kept → Kept → ℕ → ℕ → ℕ → Type 0
 Calls again seat call old new code before after =
-    OnNumbers (Makes true again seat call code (λ becomes. after ≡ written_outcome before becomes)) (after ≡ before) code old new
+    OnNumbers (OnRoom (Makes true again seat call code (λ becomes. after ≡ written_outcome before becomes))) (after ≡ before) code old new
 
 -- the same of a call that gives no number
 abbrev pub CallsPlain : Bool → ℕ → Call ℕ → Kept → Kept → ℕ → Type 0

@@ -8,20 +8,17 @@ use Rattle.cml_board.specs.declared.entry.Reply.{Reply}
 use Rattle.cml_board.specs.declared.entry.Reply.TheVariants as reply
 use Rattle.cml_board.specs.declared.entry.Who.{Who}
 use Rattle.cml_board.specs.declared.entry.Who.TheVariants as who
-use Rattle.cml_board.specs.Checking.{Feeds, Pauses, count_of}
+use Rattle.cml_board.specs.Checking.{Feeds, Pauses, count_of, verdict_of}
 use Rattle.cml_c.specs.declared.code.Code.{Code}
 use Rattle.cml_c.specs.declared.code.Code.TheVariants.{Done, NoSuch, NoMemory, OutOfBounds, Unlawful}
 use Rattle.cml_c.specs.declared.entries.SeryugoEntry.{SeryugoEntry}
 use Rattle.cml_c.specs.declared.entries.SeryugoMaker.{SeryugoMaker}
 use Rattle.cml_c.specs.declared.kept.Kept.{Kept}
-use Rattle.cml_c.specs.declared.kept.Kept.TheVariants.{Journal, BytesJournal, Checker, BytesChecker}
+use Rattle.cml_c.specs.declared.kept.Resource.{Resource}
+use Rattle.cml_c.specs.declared.kept.Resource.TheVariants.{Journal}
 use Rattle.cml_c.specs.Codes.{number}
-use Rattle.cml_c.specs.Rooms.{IsWrong}
+use Rattle.cml_c.specs.Handles.{Seen, IsWrong, OnBytes, OnChecker}
 use Rattle.cml_c.specs.Messages.{NotCopied}
-
--- what a checker shows: the history that it found lawful, or the first position that isn't
-abbrev pub Seen : Type 0 → Type 0
-Seen M = Result (List (Entry M)) ℕ
 
 -- the code of a verdict
 abbrev pub told_verdict : Result ⊤ ℕ → Code
@@ -42,21 +39,16 @@ FeedsIn entries code old new =
     ⊎ ((code ≡ number OutOfBounds) × (2 ^ 64 ≤ count_of old + length entries) × (new ≡ old))
 
 -- the journal has this place, and the entries from there on are fed; or it is shorter
-abbrev pub FeedsFrom : {M : Type 0} → List (Entry M) → ℕ → ℕ → Seen M → Seen M → Type 0
-FeedsFrom journal place code old new =
-    ((place ≤ length journal) × FeedsIn (drop place journal) code old new)
-    ⊎ ((length journal < place) × (code ≡ number NoSuch) × (new ≡ old))
+pub record FeedsFrom {M : Type 0} (journal : List (Entry M)) (place code : ℕ) (old new : Seen M) : Type 0 where
+  pub feeds : ((place ≤ length journal) × FeedsIn (drop place journal) code old new) ⊎ ((length journal < place) × (code ≡ number NoSuch) × (new ≡ old))
 
--- the checker's handle and the journal's: their messages are of one type, or nothing is changed
-pub record FeedsPart {M : Type 0} (wrap : Seen M → Kept) (journal : List (Entry M)) (place code : ℕ) (old : Seen M) (new : Kept) : Type 0 where
-  pub seen : Seen M
-  pub leads : new ≡ wrap seen
-  pub feeds : FeedsFrom journal place code old seen
+-- the handle leads to a journal that was taken, which stays, and its entries are fed to a checker; else nothing is changed
+abbrev pub FeedsTaken : {M : Type 0} → ℕ → ℕ → Resource M → Resource M → Seen M → Seen M → Type 0
+FeedsTaken place code (Journal taken) left old new = (left ≡ Journal taken) × FeedsFrom taken.items place code old new
+FeedsTaken place code other left old new = IsWrong (new ≡ old) code other left
 
-abbrev pub FeedsJournal : ℕ → Kept → Kept → Kept → Kept → ℕ → Type 0
-FeedsJournal place (Checker old) new (Journal taken) left code = (left ≡ Journal taken) × FeedsPart Checker taken.items place code old new
-FeedsJournal place (BytesChecker old) new (BytesJournal taken) left code = (left ≡ BytesJournal taken) × FeedsPart BytesChecker taken.items place code old new
-FeedsJournal place old new journal left code = (left ≡ journal) × IsWrong ⊤ code old new
+abbrev pub FeedsJournal : {M : Type 0} → ℕ → ℕ → Resource M → Resource M → Resource M → Resource M → Type 0
+FeedsJournal place code old new journal left = OnChecker (FeedsTaken place code journal left) (left ≡ journal) code old new
 
 -- who made a call, which call it is, and its reply, in the order of their kinds
 abbrev pub makers : ℕ → List Who
@@ -105,30 +97,15 @@ abbrev pub FeedsEntry : {M : Type 0} → Option (Entry M) → ℕ → Seen M →
 FeedsEntry (Some entry) code old new = FeedsIn (entry ∷ []) code old new
 FeedsEntry None code old new = (code ≡ number OutOfBounds) × (new ≡ old)
 
-abbrev pub FeedsNumbers : Option (Entry ℕ) → Kept → Kept → ℕ → Type 0
-FeedsNumbers entry (Checker old) new code = (seen : Seen ℕ) × (new ≡ Checker seen) × FeedsEntry entry code old seen
-FeedsNumbers entry other new code = IsWrong ⊤ code other new
-
 -- the same of bytes, which are copied first, or there is no memory for them, or they are too many
 pub record CopiesNeither (sent got : List ℕ) (code : ℕ) (old new : Kept) : Type 0 where
   pub refused : NotCopied sent code ⊎ NotCopied got code
   pub kept : new ≡ old
 
-abbrev pub FeedsBytes : Option (Entry (List ℕ)) → Kept → Kept → ℕ → Type 0
-FeedsBytes entry (BytesChecker old) new code = (seen : Seen (List ℕ)) × (new ≡ BytesChecker seen) × FeedsEntry entry code old seen
-FeedsBytes entry other new code = IsWrong ⊤ code other new
-
 abbrev pub FeedsParts : Parts → Kept → Kept → ℕ → Type 0
-FeedsParts given old new code = FeedsBytes (entry_with given) old new code ⊎ CopiesNeither given.sent given.got code old new
+FeedsParts given old new code = OnBytes (OnChecker (FeedsEntry (entry_with given) code)) ⊤ code old new ⊎ CopiesNeither given.sent given.got code old new
 
 -- how many entries were found lawful, and the verdict where nothing more is fed
-pub record TellsSeen {M : Type 0} (wrap : Seen M → Kept) (code after : ℕ) (old : Seen M) (new : Kept) : Type 0 where
-  pub seen : Seen M
-  pub leads : new ≡ wrap seen
-  pub verdict : FeedsIn [] code old seen
+pub record TellsVerdict {M : Type 0} (code after : ℕ) (old new : Seen M) : Type 0 where
+  pub verdict : FeedsIn [] code old new
   pub count : after ≡ count_of old
-
-abbrev pub TellsVerdict : Kept → Kept → ℕ → ℕ → ℕ → Type 0
-TellsVerdict (Checker old) new code before after = TellsSeen Checker code after old new
-TellsVerdict (BytesChecker old) new code before after = TellsSeen BytesChecker code after old new
-TellsVerdict other new code before after = IsWrong (after ≡ before) code other new

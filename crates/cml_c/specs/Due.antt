@@ -1,13 +1,11 @@
 -- Which seat C wakes next, and whether a seat is due.
-use Rattle.std.specs.Prelude.{ℕ, ◌≡◌, ◌≢◌, ◌⊎◌, true, false, Some, slice_get, ⊤}
+use Rattle.std.specs.Prelude.{ℕ, ◌≡◌, ◌≢◌, ◌⊎◌, true, false, Some, slice_get}
 use Rattle.cml_board.specs.declared.want.Want.{Want}
 use Rattle.cml_room.specs.declared.notice.Notice.TheVariants.{Woken}
 use Rattle.cml_room.specs.declared.state.State.TheVariants.{Parked}
 use Rattle.cml_room.specs.Room.{RoomShown, floor_of, state_of, is_due, SleepsRightly}
 use Rattle.cml_c.specs.declared.code.Code.TheVariants.{Done, Nothing}
-use Rattle.cml_c.specs.declared.kept.Kept.{Kept}
 use Rattle.cml_c.specs.Codes.{number}
-use Rattle.cml_c.specs.Rooms.{OnRoom}
 
 -- the same seats are due, those that were woken still count as woken, no seat's state is changed, and nothing else in the room
 pub record KeepsDue {M : Type 0} (old new : RoomShown M) : Type 0 where
@@ -33,9 +31,6 @@ pub record GivesNoSeat {M : Type 0} (code before after : ℕ) (old new : RoomSho
 abbrev pub GivesNext : {M : Type 0} → ℕ → ℕ → ℕ → RoomShown M → RoomShown M → Type 0
 GivesNext code before after old new = GivesASeat code after old new ⊎ GivesNoSeat code before after old new
 
-abbrev pub GivesNextOn : Kept → Kept → ℕ → ℕ → ℕ → Type 0
-GivesNextOn old new code before after = OnRoom (λ M sure from to. GivesNext code before after from to) (after ≡ before) code old new
-
 -- the seat is due; or it isn't, and sleeps rightly if it waits
 pub record SeatIsDue {M : Type 0} (seat code : ℕ) (room : RoomShown M) : Type 0 where
   pub told : code ≡ number Done
@@ -46,8 +41,5 @@ pub record SeatIsNotDue {M : Type 0} (seat code : ℕ) (room : RoomShown M) : Ty
   pub due : is_due room seat ≡ false
   pub asleep : (on : Want) → state_of room seat ≡ Some (Parked on) → SleepsRightly room on
 
-abbrev pub TellsDue : {M : Type 0} → ℕ → ℕ → RoomShown M → Type 0
-TellsDue seat code room = SeatIsDue seat code room ⊎ SeatIsNotDue seat code room
-
-abbrev pub DueOn : ℕ → Kept → Kept → ℕ → Type 0
-DueOn seat old new code = OnRoom (λ M sure from to. (to ≡ from) × TellsDue seat code from) ⊤ code old new
+abbrev pub TellsDue : {M : Type 0} → ℕ → ℕ → RoomShown M → RoomShown M → Type 0
+TellsDue seat code old new = (new ≡ old) × (SeatIsDue seat code old ⊎ SeatIsNotDue seat code old)

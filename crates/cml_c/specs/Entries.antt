@@ -1,5 +1,6 @@
 -- An entry of the journal, as C is shown it.
-use Rattle.std.specs.Prelude.{ℕ, ◌≡◌, ◌-◌, ◌<◌, ◌≤◌, ◌⊎◌, List, length, ◌++◌, reverse, slice_get, Option, Some, None}
+use Rattle.std.specs.Prelude.{ℕ, ◌≡◌, ◌-◌, ◌<◌, ◌≤◌, ◌⊎◌, List, length, ◌++◌, reverse, slice_get, Option, Some, None, Box}
+use Rattle.std.specs.declared.alloc.Global.{Global}
 use Rattle.cml_board.specs.declared.call.Call.{Call}
 use Rattle.cml_board.specs.declared.call.Call.TheVariants as call
 use Rattle.cml_board.specs.declared.entry.Entry.{Entry}
@@ -14,11 +15,10 @@ use Rattle.cml_c.specs.declared.entries.SeryugoCall.{SeryugoCall}
 use Rattle.cml_c.specs.declared.entries.SeryugoEntry.{SeryugoEntry}
 use Rattle.cml_c.specs.declared.entries.SeryugoMaker.{SeryugoMaker}
 use Rattle.cml_c.specs.declared.entries.SeryugoReply.{SeryugoReply}
-use Rattle.cml_c.specs.declared.kept.Kept.{Kept}
 use Rattle.cml_c.specs.declared.kept.Kept.TheVariants as kept
+use Rattle.cml_c.specs.declared.kept.Resource.TheVariants as resource
 use Rattle.cml_c.specs.Codes.{number}
 use Rattle.cml_c.specs.declared.bytes_entries.SeryugoBytesEntry.{SeryugoBytesEntry}
-use Rattle.cml_c.specs.Rooms.{OnNumbers, OnBytes}
 
 abbrev pub maker_of : Who → SeryugoMaker
 maker_of (Seat n) = record { kind = 0; number = n }
@@ -138,7 +138,9 @@ count_of None = 0
 
 -- a handle to this entry is written, with all that isn't bytes, and how many these are
 pub record IsShown (entry : Entry (List ℕ)) (to : SeryugoBytesEntry) : Type 0 where
-  pub owns : to.owner.kept ≡ Some (kept.Entry entry)
+  pub owner : Box (Entry (List ℕ)) Global
+  pub owns : to.owner.kept ≡ Some (kept.Bytes (resource.Entry owner))
+  pub shows : owner.value ≡ entry
   pub maker : to.maker ≡ maker_of entry.who
   pub call : to.call.kind ≡ call_kind entry.call
   pub object : to.call.object ≡ call_object entry.call
@@ -147,42 +149,35 @@ pub record IsShown (entry : Entry (List ℕ)) (to : SeryugoBytesEntry) : Type 0 
   pub name : to.reply.name ≡ reply_name entry.reply
   pub got : to.reply.message.length ≡ count_of (reply_message entry.reply)
 
--- the journal has an entry of this place, which is written; or none
-abbrev pub Finds : List (Entry ℕ) → ℕ → ℕ → SeryugoEntry → SeryugoEntry → Type 0
-Finds journal place code before after =
-    ((entry : Entry ℕ) × (slice_get journal place ≡ Some entry) × (code ≡ number Done) × (after ≡ flat entry))
-    ⊎ ((slice_get journal place ≡ None) × (code ≡ number NoSuch) × (after ≡ before))
+-- an entry that was found is written; or there is none
+abbrev pub Finds : Option (Entry ℕ) → ℕ → SeryugoEntry → SeryugoEntry → Type 0
+Finds (Some entry) code before after = (code ≡ number Done) × (after ≡ flat entry)
+Finds None code before after = (code ≡ number NoSuch) × (after ≡ before)
+
+-- the same of bytes: it is handed over, or there is none, or there is no memory for it
+abbrev pub FindsBytes : Option (Entry (List ℕ)) → ℕ → SeryugoBytesEntry → SeryugoBytesEntry → Type 0
+FindsBytes (Some entry) code from to = ((code ≡ number Done) × IsShown entry to) ⊎ ((code ≡ number NoMemory) × (to ≡ from))
+FindsBytes None code from to = (code ≡ number NoSuch) × (to ≡ from)
 
 -- the journal, oldest first, is what was accepted since the last cut
 abbrev pub IsJournal : {M : Type 0} → RoomShown M → List (Entry M) → Type 0
 IsJournal room journal = reverse journal ++ room.board.past ≡ room.board.history
 
--- the position was cut away; or it is that of a place in the journal, which is looked at
-abbrev pub FindsIn : ℕ → ℕ → SeryugoEntry → SeryugoEntry → RoomShown ℕ → RoomShown ℕ → Type 0
-FindsIn at code before after old new = (new ≡ old)
-    × (((at < entries_in old.board.past) × (code ≡ number NoSuch) × (after ≡ before))
-    ⊎ ((entries_in old.board.past ≤ at) × (journal : List (Entry ℕ)) × IsJournal old journal × Finds journal (at - entries_in old.board.past) code before after))
+-- this is the entry of a position: that was cut away; or it is a place in the journal, which may have so many entries or not
+abbrev pub IsAt : {M : Type 0} → ℕ → RoomShown M → Option (Entry M) → Type 0
+IsAt {M} at room found =
+    ((at < entries_in room.board.past) × (found ≡ None))
+    ⊎ ((entries_in room.board.past ≤ at) × (journal : List (Entry M)) × IsJournal room journal × (found ≡ slice_get journal (at - entries_in room.board.past)))
 
-abbrev pub FindsOn : ℕ → Kept → Kept → ℕ → SeryugoEntry → SeryugoEntry → Type 0
-FindsOn at old new code before after = OnNumbers (FindsIn at code before after) (after ≡ before) code old new
+-- it is looked for, and written or handed over if it is found, and the room is as it was
+pub record FindsIn (at code : ℕ) (before after : SeryugoEntry) (old new : RoomShown ℕ) : Type 0 where
+  pub room : new ≡ old
+  pub found : Option (Entry ℕ)
+  pub is : IsAt at old found
+  pub finds : Finds found code before after
 
--- the same of bytes: the entry of this place is handed over, or there is none, or there is no memory for its handle
-pub record HandsEntry (journal : List (Entry (List ℕ))) (place code : ℕ) (to : SeryugoBytesEntry) : Type 0 where
-  pub told : code ≡ number Done
-  pub entry : Entry (List ℕ)
-  pub found : slice_get journal place ≡ Some entry
-  pub shown : IsShown entry to
-
-abbrev pub FindsBytes : List (Entry (List ℕ)) → ℕ → ℕ → SeryugoBytesEntry → SeryugoBytesEntry → Type 0
-FindsBytes journal place code from to =
-    HandsEntry journal place code to
-    ⊎ ((slice_get journal place ≡ None) × (code ≡ number NoSuch) × (to ≡ from))
-    ⊎ ((code ≡ number NoMemory) × (to ≡ from))
-
-abbrev pub FindsBytesIn : ℕ → ℕ → SeryugoBytesEntry → SeryugoBytesEntry → RoomShown (List ℕ) → RoomShown (List ℕ) → Type 0
-FindsBytesIn at code from to old new = (new ≡ old)
-    × (((at < entries_in old.board.past) × (code ≡ number NoSuch) × (to ≡ from))
-    ⊎ ((entries_in old.board.past ≤ at) × (journal : List (Entry (List ℕ))) × IsJournal old journal × FindsBytes journal (at - entries_in old.board.past) code from to))
-
-abbrev pub FindsBytesOn : ℕ → Kept → Kept → ℕ → SeryugoBytesEntry → SeryugoBytesEntry → Type 0
-FindsBytesOn at old new code from to = OnBytes (FindsBytesIn at code from to) (to ≡ from) code old new
+pub record FindsBytesIn (at code : ℕ) (from to : SeryugoBytesEntry) (old new : RoomShown (List ℕ)) : Type 0 where
+  pub room : new ≡ old
+  pub found : Option (Entry (List ℕ))
+  pub is : IsAt at old found
+  pub finds : FindsBytes found code from to

@@ -2,6 +2,7 @@
 use Rattle.std.specs.Prelude.{ℕ, ◌≡◌, ◌≤◌, ◌⊎◌, Bool, true, false, List, Some, [], ◌∷◌, ◌++◌, length, Result, Ok, Err, ⊤}
 use Rattle.cml_board.specs.declared.call.Name.{Name}
 use Rattle.cml_board.specs.declared.outcome.Refusal.{Refusal}
+use Rattle.cml_lanes.specs.Floor.{FloorShown}
 use Rattle.cml_lanes.specs.Ends.{LaneShown, Ended}
 use Rattle.cml_lanes.specs.Lanes.{OpensALane, ClosesCounted, Drops}
 use Rattle.cml_room.specs.Room.{RoomShown, floor_of}
@@ -9,9 +10,10 @@ use Rattle.cml_c.specs.declared.code.Code.{Code}
 use Rattle.cml_c.specs.declared.code.Code.TheVariants.{Done, Gone, NoMemory, Full, StillOpen, OutOfBounds}
 use Rattle.cml_c.specs.declared.handle.Slot.{Slot}
 use Rattle.cml_c.specs.declared.kept.Kept.{Kept}
-use Rattle.cml_c.specs.declared.kept.Kept.TheVariants.{Room, BytesRoom, Lane, BytesLane, LaneEnd, BytesLaneEnd, Spent}
+use Rattle.cml_c.specs.declared.kept.Resource.{Resource}
+use Rattle.cml_c.specs.declared.kept.Resource.TheVariants.{Lane, LaneEnd, Spent}
 use Rattle.cml_c.specs.Codes.{number, of_refusal}
-use Rattle.cml_c.specs.Rooms.{IsWrong, OnRoom}
+use Rattle.cml_c.specs.Handles.{IsWrong, OnBytes, OnRoom, OnLane}
 use Rattle.cml_c.specs.Asking.{chunk}
 use Rattle.cml_c.specs.Messages.{CopiesNone}
 
@@ -34,9 +36,9 @@ LeavesOpened wrap from to (Ok opened) = to.kept ≡ Some (wrap opened.0)
 LeavesOpened wrap from to (Err refusal) = to ≡ from
 
 -- this became of the opening, in a room whose seats stay
-pub record Opens {M : Type 0} (X : Type 0) (wrap : X → Kept) (becomes : RoomShown M → RoomShown M → Result (X × ℕ) Refusal → Type 0) (from to : Slot) (code before after : ℕ) (old new : RoomShown M) : Type 0 where
+pub record Opens {M X : Type 0} (wrap : X → Kept) (becomes : FloorShown M → FloorShown M → Result (X × ℕ) Refusal → Type 0) (from to : Slot) (code before after : ℕ) (old new : RoomShown M) : Type 0 where
   pub outcome : Result (X × ℕ) Refusal
-  pub floor : becomes old new outcome
+  pub floor : becomes (floor_of old) (floor_of new) outcome
   pub seats : new.seats ≡ old.seats
   pub told : code ≡ number (told_opened outcome)
   pub written : after ≡ written_opened before outcome
@@ -49,18 +51,14 @@ pub record NotOpened {M : Type 0} (reason : Code) (from to : Slot) (code before 
   pub room : new ≡ old
   pub slot : to ≡ from
 
--- the capacity is in its bounds, and the lane is opened or refused, or there is no memory for its handle; or it is out of them
-abbrev pub OpensIn : {M : Type 0} → (LaneShown M → Kept) → Name → ℕ → Slot → Slot → ℕ → ℕ → ℕ → RoomShown M → RoomShown M → Type 0
-OpensIn {M} wrap target capacity from to code before after old new =
-    (IsCapacity capacity × (Opens (LaneShown M) wrap (λ one two outcome. OpensALane (floor_of one) (floor_of two) target capacity outcome) from to code before after old new ⊎ NotOpened NoMemory from to code before after old new))
+-- the capacity is in its bounds, and this became of the opening, or there is no memory for the handle; or it is out of them
+abbrev pub OpensIn : {M X : Type 0} → (X → Kept) → (FloorShown M → FloorShown M → Result (X × ℕ) Refusal → Type 0) → ℕ → Slot → Slot → ℕ → ℕ → ℕ → RoomShown M → RoomShown M → Type 0
+OpensIn wrap becomes capacity from to code before after old new =
+    (IsCapacity capacity × (Opens wrap becomes from to code before after old new ⊎ NotOpened NoMemory from to code before after old new))
     ⊎ (¬ (IsCapacity capacity) × NotOpened OutOfBounds from to code before after old new)
 
-abbrev pub OpensALaneIn : ℕ → ℕ → Kept → Kept → Slot → Slot → ℕ → ℕ → ℕ → Type 0
-OpensALaneIn target capacity (Room old) new from to code before after =
-    (room : RoomShown ℕ) × (new ≡ Room room) × OpensIn Lane (record { 0 = target }) capacity from to code before after old room
-OpensALaneIn target capacity (BytesRoom old) new from to code before after =
-    (room : RoomShown (List ℕ)) × (new ≡ BytesRoom room) × OpensIn BytesLane (record { 0 = target }) capacity from to code before after old room
-OpensALaneIn target capacity other new from to code before after = IsWrong ((after ≡ before) × (to ≡ from)) code other new
+abbrev pub OpensLane : {M : Type 0} → (Resource M → Kept) → Name → ℕ → Slot → Slot → ℕ → ℕ → ℕ → RoomShown M → RoomShown M → Type 0
+OpensLane wrap target capacity = OpensIn (λ lane. wrap (Lane lane)) (λ old new outcome. OpensALane old new target capacity outcome) capacity
 
 -- what is told of a message that is sent
 abbrev pub told_sent : {X : Type 0} → Result ⊤ X → Code
@@ -68,66 +66,54 @@ told_sent (Ok done) = Done
 told_sent (Err back) = Full
 
 -- the lane accepted the message, or has no free slot, which isn't so while it accepted fewer than it has room for
-pub record Accepts {M : Type 0} (wrap : LaneShown M → Kept) (message : M) (told : ℕ) (lane : LaneShown M) (new : Kept) : Type 0 where
+pub record Accepts {M : Type 0} (message : M) (told : ℕ) (old new : LaneShown M) : Type 0 where
   pub done : told ≡ number Done
-  pub accepted : new ≡ wrap (record lane { accepted = lane.accepted ++ message ∷ [] })
+  pub accepted : new ≡ record old { accepted = old.accepted ++ message ∷ [] }
 
-pub record IsFull {M : Type 0} (wrap : LaneShown M → Kept) (told : ℕ) (lane : LaneShown M) (new : Kept) : Type 0 where
+pub record IsFull {M : Type 0} (told : ℕ) (old new : LaneShown M) : Type 0 where
   pub full : told ≡ number Full
-  pub many : lane.capacity ≤ length lane.accepted
-  pub same : new ≡ wrap lane
+  pub many : old.capacity ≤ length old.accepted
+  pub same : new ≡ old
 
-abbrev pub SendsOn : ℕ → Kept → Kept → ℕ → Type 0
-SendsOn message (Lane lane) new told = Accepts Lane message told lane new ⊎ IsFull Lane told lane new
-SendsOn message other new told = IsWrong ⊤ told other new
-
-abbrev pub TakesBytes : List ℕ → Kept → Kept → ℕ → Type 0
-TakesBytes message (BytesLane lane) new told = Accepts BytesLane message told lane new ⊎ IsFull BytesLane told lane new
-TakesBytes message other new told = IsWrong ⊤ told other new
+abbrev pub Sends : {M : Type 0} → M → ℕ → Type 0 → ℕ → Resource M → Resource M → Type 0
+Sends message told = OnLane (λ old new. Accepts message told old new ⊎ IsFull told old new)
 
 -- the bytes are copied, and sent; or they are not copied
-abbrev pub SendsBytesOn : List ℕ → Kept → Kept → ℕ → Type 0
-SendsBytesOn message old new told = TakesBytes message old new told ⊎ CopiesNone message ⊤ told old new
+abbrev pub SendsBytes : List ℕ → Kept → Kept → ℕ → Type 0
+SendsBytes message old new told = OnBytes (Sends message told) ⊤ told old new ⊎ CopiesNone message ⊤ told old new
 
 -- the lane has finished: all that was sent on it is known; or its room has let go of it
-abbrev pub FinishesLane : {M : Type 0} → (Ended M → Kept) → LaneShown M → Kept → ℕ → Type 0
-FinishesLane wrap lane new told =
-    ((told ≡ number Done) × (new ≡ wrap (record { ring = lane.ring; number = lane.number; sent = lane.accepted })))
+abbrev pub FinishesLane : {M : Type 0} → LaneShown M → Resource M → ℕ → Type 0
+FinishesLane lane new told =
+    ((told ≡ number Done) × (new ≡ LaneEnd (record { ring = lane.ring; number = lane.number; sent = lane.accepted })))
     ⊎ ((told ≡ number Gone) × (new ≡ Spent))
 
-abbrev pub Finishes : Kept → Kept → ℕ → Type 0
-Finishes (Lane lane) new told = FinishesLane LaneEnd lane new told
-Finishes (BytesLane lane) new told = FinishesLane BytesLaneEnd lane new told
-Finishes other new told = IsWrong ⊤ told other new
+abbrev pub Finishes : {M : Type 0} → Type 0 → ℕ → Resource M → Resource M → Type 0
+Finishes same told (Lane lane) new = FinishesLane lane new told
+Finishes same told other new = IsWrong same told other new
 
--- what is told of a lane that is closed by count, and where its handle leads then
+-- what is told of a lane that is closed by count, and what its handle leads to then
 abbrev pub told_closed : {M : Type 0} → Result ⊤ (Ended M × Refusal) → Code
 told_closed (Ok done) = Done
 told_closed (Err back) = of_refusal back.1
 
-abbrev pub left_closed : {M : Type 0} → (Ended M → Kept) → Result ⊤ (Ended M × Refusal) → Kept
-left_closed wrap (Ok done) = Spent
-left_closed wrap (Err back) = wrap back.0
+abbrev pub left_closed : {M : Type 0} → Result ⊤ (Ended M × Refusal) → Resource M
+left_closed (Ok done) = Spent
+left_closed (Err back) = LaneEnd back.0
 
-pub record Closes {M : Type 0} (wrap : Ended M → Kept) (sure : Bool) (end : Ended M) (told : ℕ) (lane : Kept) (old new : RoomShown M) : Type 0 where
+pub record ClosesEnd {M : Type 0} (sure : Bool) (end : Ended M) (lane : Resource M) (told : ℕ) (old new : RoomShown M) : Type 0 where
   pub outcome : Result ⊤ (Ended M × Refusal)
   pub floor : ClosesCounted chunk sure (floor_of old) (floor_of new) end outcome
   pub seats : new.seats ≡ old.seats
   pub code : told ≡ number (told_closed outcome)
-  pub left : lane ≡ left_closed wrap outcome
+  pub left : lane ≡ left_closed outcome
 
-abbrev pub ClosesNumbers : RoomShown ℕ → RoomShown ℕ → Kept → Kept → ℕ → Type 0
-ClosesNumbers old new (LaneEnd end) lane told = Closes LaneEnd true end told lane old new
-ClosesNumbers old new other lane told = IsWrong (new ≡ old) told other lane
+abbrev pub ClosesLane : {M : Type 0} → Bool → Resource M → Resource M → ℕ → RoomShown M → RoomShown M → Type 0
+ClosesLane sure (LaneEnd end) lane told old new = ClosesEnd sure end lane told old new
+ClosesLane sure other lane told old new = IsWrong (new ≡ old) told other lane
 
-abbrev pub ClosesBytes : RoomShown (List ℕ) → RoomShown (List ℕ) → Kept → Kept → ℕ → Type 0
-ClosesBytes old new (BytesLaneEnd end) lane told = Closes BytesLaneEnd false end told lane old new
-ClosesBytes old new other lane told = IsWrong (new ≡ old) told other lane
-
-abbrev pub ClosesALane : Kept → Kept → Kept → Kept → ℕ → Type 0
-ClosesALane (Room old) new from to told = (room : RoomShown ℕ) × (new ≡ Room room) × ClosesNumbers old room from to told
-ClosesALane (BytesRoom old) new from to told = (room : RoomShown (List ℕ)) × (new ≡ BytesRoom room) × ClosesBytes old room from to told
-ClosesALane other new from to told = IsWrong (to ≡ from) told other new
+abbrev pub Closes : {M : Type 0} → Bool → ℕ → Resource M → Resource M → Resource M → Resource M → Type 0
+Closes sure told old new from to = OnRoom (ClosesLane sure from to told) (to ≡ from) told old new
 
 -- what is told of the drop of a lane, and what stands then where the count is written
 abbrev pub told_dropped : Result (ℕ × Bool) Refusal → Code
@@ -138,12 +124,9 @@ abbrev pub written_dropped : ℕ → Result (ℕ × Bool) Refusal → ℕ
 written_dropped before (Ok dropped) = dropped.0
 written_dropped before (Err refusal) = before
 
-pub record DropsIn {M : Type 0} (sure : Bool) (number_of code before after : ℕ) (old new : RoomShown M) : Type 0 where
+pub record DropsLane {M : Type 0} (sure : Bool) (number_of code before after : ℕ) (old new : RoomShown M) : Type 0 where
   pub outcome : Result (ℕ × Bool) Refusal
   pub floor : Drops chunk sure number_of (floor_of old) (floor_of new) outcome
   pub seats : new.seats ≡ old.seats
   pub told : code ≡ number (told_dropped outcome)
   pub written : after ≡ written_dropped before outcome
-
-abbrev pub DropsALane : ℕ → Kept → Kept → ℕ → ℕ → ℕ → Type 0
-DropsALane lane old new code before after = OnRoom (λ M sure from to. DropsIn sure lane code before after from to) (after ≡ before) code old new

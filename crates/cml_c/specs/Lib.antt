@@ -1,7 +1,7 @@
 pub mod Owning
 pub mod Lending
 pub mod Codes
-pub mod Rooms
+pub mod Handles
 pub mod Asking
 pub mod Messages
 pub mod Opening

@@ -9,15 +9,16 @@ use Rattle.cml_board.specs.declared.outcome.Outcome.{Outcome}
 use Rattle.cml_board.specs.declared.outcome.Outcome.TheVariants as outcome
 use Rattle.cml_c.specs.declared.code.Code.TheVariants.{Done, Nothing, NoSuch, NoMemory, OutOfBounds}
 use Rattle.cml_c.specs.declared.kept.Kept.{Kept}
-use Rattle.cml_c.specs.declared.kept.Kept.TheVariants.{Message}
+use Rattle.cml_c.specs.declared.kept.Kept.TheVariants.{Bytes}
+use Rattle.cml_c.specs.declared.kept.Resource.TheVariants.{Message}
 use Rattle.cml_c.specs.declared.messages.SeryugoBytes.{SeryugoBytes}
 use Rattle.cml_c.specs.Codes.{number}
-use Rattle.cml_c.specs.Rooms.{OnBytes}
-use Rattle.cml_c.specs.Asking.{Makes, named_outcome}
+use Rattle.cml_c.specs.Handles.{OnBytes, OnRoom}
+use Rattle.cml_c.specs.Asking.{Makes, Gives}
 
 -- a handle to this message is written, with how many bytes it has
 pub record IsHanded (message : List ℕ) (to : SeryugoBytes) : Type 0 where
-  pub owns : to.owner.kept ≡ Some (Message message)
+  pub owns : to.owner.kept ≡ Some (Bytes (Message message))
   pub counted : to.length ≡ length message
 
 -- the message of the reply is handed over, if it has one; else what stood there stays
@@ -46,18 +47,16 @@ pub record HasNoMemory (from to : SeryugoBytes) (code : ℕ) (old new : RoomShow
   pub written : to ≡ from
   pub room : new ≡ old
 
-abbrev pub MakesBytes : Bool → ℕ → Call (List ℕ) → ℕ → SeryugoBytes → SeryugoBytes → RoomShown (List ℕ) → RoomShown (List ℕ) → Type 0
-MakesBytes again seat call code from to old new =
-    Makes false again seat call code (HandsOutcome from to) old new ⊎ HasNoMemory from to code old new
+pub record MakesBytes (again : Bool) (seat : ℕ) (call : Call (List ℕ)) (code : ℕ) (from to : SeryugoBytes) (old new : RoomShown (List ℕ)) : Type 0 where
+  pub becomes : Makes false again seat call code (HandsOutcome from to) old new ⊎ HasNoMemory from to code old new
 
 -- a call in a room of bytes, with what stood and then stands where a message is handed over
 abbrev pub CallsBytes : Bool → ℕ → Call (List ℕ) → Kept → Kept → ℕ → SeryugoBytes → SeryugoBytes → Type 0
-CallsBytes again seat call old new code from to = OnBytes (MakesBytes again seat call code from to) (to ≡ from) code old new
+CallsBytes again seat call old new code from to = OnBytes (OnRoom (MakesBytes again seat call code from to)) (to ≡ from) code old new
 
 -- a call that gives no message, with what stood and then stands where a name is written
 abbrev pub NamesBytes : ℕ → Call (List ℕ) → Kept → Kept → ℕ → ℕ → ℕ → Type 0
-NamesBytes seat call old new code before after =
-    OnBytes (Makes false false seat call code (λ becomes. after ≡ named_outcome before becomes)) (after ≡ before) code old new
+NamesBytes seat call old new code before after = OnBytes (Gives false seat call before after) (after ≡ before) code old new
 
 -- the same where nothing is written
 abbrev pub NamesNoBytes : ℕ → Call (List ℕ) → Kept → Kept → ℕ → Type 0

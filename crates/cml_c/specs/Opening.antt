@@ -1,10 +1,13 @@
--- What a room is when it is opened.
-use Rattle.std.specs.Prelude.{ℕ, ◌≡◌, ◌≤◌, ◌^◌, ◌⊎◌, [], Some}
+-- What a room and a checker are when they are opened.
+use Rattle.std.specs.Prelude.{ℕ, ◌≡◌, ◌≤◌, ◌^◌, ◌⊎◌, [], Some, Ok, Box}
+use Rattle.std.specs.declared.alloc.Global.{Global}
 use Rattle.cml_board.specs.History.{no_entries}
 use Rattle.cml_room.specs.Room.{RoomShown}
 use Rattle.cml_c.specs.declared.code.Code.TheVariants.{Done, NoMemory, OutOfBounds}
 use Rattle.cml_c.specs.declared.handle.Slot.{Slot}
 use Rattle.cml_c.specs.declared.kept.Kept.{Kept}
+use Rattle.cml_c.specs.declared.kept.Resource.{Resource}
+use Rattle.cml_c.specs.declared.kept.Resource.TheVariants.{Room, Checker}
 use Rattle.cml_c.specs.Codes.{number}
 
 -- a journal may have such a limit
@@ -24,14 +27,20 @@ pub record IsNew {M : Type 0} (limit : ℕ) (room : RoomShown M) : Type 0 where
 abbrev pub Writes : Kept → ℕ → Slot → Slot → Type 0
 Writes kept told old new = ((told ≡ number Done) × (new.kept ≡ Some kept)) ⊎ ((told ≡ number NoMemory) × (new ≡ old))
 
--- a handle to a new room is written; or the limit is such a one and there is no memory, or it is not, and the slot is as it was
-pub record WritesRoom {M : Type 0} (wrap : RoomShown M → Kept) (limit told : ℕ) (new : Slot) : Type 0 where
+-- a handle to a new one of this kind is written
+pub record WritesNew {X : Type 0} (IsSuch : X → Type 0) (wrap : Box X Global → Kept) (told : ℕ) (new : Slot) : Type 0 where
   pub done : told ≡ number Done
-  pub within : IsLimit limit
-  pub opened : RoomShown M
-  pub opens : IsNew limit opened
+  pub opened : Box X Global
+  pub such : IsSuch opened.value
   pub written : new.kept ≡ Some (wrap opened)
 
-abbrev pub OpensARoom : {M : Type 0} → (RoomShown M → Kept) → ℕ → ℕ → Slot → Slot → Type 0
+-- the limit is such a one, and a handle to a new room is written, or there is no memory; or it is not, and the slot is as it was
+abbrev pub OpensARoom : {M : Type 0} → (Resource M → Kept) → ℕ → ℕ → Slot → Slot → Type 0
 OpensARoom wrap limit told old new =
-    WritesRoom wrap limit told new ⊎ ((told ≡ number NoMemory) × IsLimit limit × (new ≡ old)) ⊎ ((told ≡ number OutOfBounds) × ¬ (IsLimit limit) × (new ≡ old))
+    (IsLimit limit × WritesNew (IsNew limit) (λ room. wrap (Room room)) told new)
+    ⊎ ((told ≡ number NoMemory) × IsLimit limit × (new ≡ old)) ⊎ ((told ≡ number OutOfBounds) × ¬ (IsLimit limit) × (new ≡ old))
+
+-- a handle to a new checker is written; or there is no memory, and the slot is as it was
+abbrev pub OpensAChecker : {M : Type 0} → (Resource M → Kept) → ℕ → Slot → Slot → Type 0
+OpensAChecker wrap told old new =
+    WritesNew (λ seen. seen ≡ Ok no_entries) (λ checker. wrap (Checker checker)) told new ⊎ ((told ≡ number NoMemory) × (new ≡ old))

@@ -1,5 +1,5 @@
 -- What C is told of what a room has.
-use Rattle.std.specs.Prelude.{ℕ, ◌≡◌, ◌⊎◌, Bool, true, false, Option, Some, None, option_map, ⊤}
+use Rattle.std.specs.Prelude.{ℕ, ◌≡◌, ◌⊎◌, Bool, true, false, List, Option, Some, None, option_map}
 use Rattle.cml_board.specs.declared.call.Kind.{Kind}
 use Rattle.cml_board.specs.declared.call.Kind.TheVariants as kind
 use Rattle.cml_board.specs.declared.call.Name.{Name}
@@ -12,7 +12,9 @@ use Rattle.cml_c.specs.declared.code.Code.{Code}
 use Rattle.cml_c.specs.declared.code.Code.TheVariants.{Done, Nothing, Closed, NoSuch, JournalFull}
 use Rattle.cml_c.specs.declared.kept.Kept.{Kept}
 use Rattle.cml_c.specs.Codes.{number}
-use Rattle.cml_c.specs.Rooms.{OnRoom, OnNumbers, OnBytes}
+use Rattle.cml_c.specs.declared.readers.Reading.{Reading}
+use Rattle.cml_c.specs.declared.readers.Reading.TheVariants as reading
+use Rattle.cml_c.specs.Handles.{OnEither, OnRoom}
 use Rattle.cml_c.specs.declared.messages.SeryugoBytes.{SeryugoBytes}
 use Rattle.cml_c.specs.Messages.{HandsHeld}
 use Rattle.cml_c.specs.Asking.{chunk}
@@ -26,30 +28,6 @@ abbrev pub written_found : ℕ → Option ℕ → ℕ
 written_found before (Some found) = found
 written_found before None = before
 
--- this of the room is told, and the room is as it was
-pub record Reads {M : Type 0} (what : RoomShown M → Option ℕ) (code before after : ℕ) (old new : RoomShown M) : Type 0 where
-  pub room : new ≡ old
-  pub told : code ≡ number (told_found (what old))
-  pub written : after ≡ written_found before (what old)
-
-abbrev pub ReadsOn : ((M : Type 0) → RoomShown M → Option ℕ) → Kept → Kept → ℕ → ℕ → ℕ → Type 0
-ReadsOn what old new code before after = OnRoom (λ M sure from to. Reads (what M) code before after from to) (after ≡ before) code old new
-
-abbrev pub sent_in : ℕ → (M : Type 0) → RoomShown M → Option ℕ
-sent_in object M room = sent_count room.board.history object
-
-abbrev pub got_in : ℕ → (M : Type 0) → RoomShown M → Option ℕ
-got_in object M room = got_count room.board.history object
-
-abbrev pub owed_in : ℕ → (M : Type 0) → RoomShown M → Option ℕ
-owed_in object M room = owed_count room.board.history object
-
-abbrev pub kept_in : ℕ → (M : Type 0) → RoomShown M → Option ℕ
-kept_in object M room = kept_count chunk room.board.history object
-
-abbrev pub first_in : ℕ → (M : Type 0) → RoomShown M → Option ℕ
-first_in object M room = first_of chunk room.board.history object
-
 -- what tells an object's kind
 abbrev pub number_of_kind : Kind → ℕ
 number_of_kind kind.Mailbox = 0
@@ -58,27 +36,32 @@ number_of_kind kind.Port = 2
 number_of_kind kind.IVar = 3
 number_of_kind kind.MVar = 4
 
-abbrev pub kind_in : ℕ → (M : Type 0) → RoomShown M → Option ℕ
-kind_in object M room = option_map number_of_kind (kind_of room.board.history object)
-
 -- the number of a name
 abbrev pub bare : Name → ℕ
 bare name = name.0
 
-abbrev pub channel_in : ℕ → (M : Type 0) → RoomShown M → Option ℕ
-channel_in port M room = option_map bare (channel_of room.board.history port)
+-- what a room has of this
+abbrev pub found_in : {M : Type 0} → Reading → RoomShown M → Option ℕ
+found_in (reading.Sent object) room = sent_count room.board.history object.0
+found_in (reading.Got object) room = got_count room.board.history object.0
+found_in (reading.Owed object) room = owed_count room.board.history object.0
+found_in (reading.Kept object) room = kept_count chunk room.board.history object.0
+found_in (reading.First object) room = first_of chunk room.board.history object.0
+found_in (reading.Kind object) room = option_map number_of_kind (kind_of room.board.history object.0)
+found_in (reading.Channel port) room = option_map bare (channel_of room.board.history port.0)
+found_in (reading.Start port) room = start_of room.board.history port.0
+found_in reading.Entries room = Some (entries_in room.board.history)
+found_in reading.CutAt room = Some (entries_in room.board.past)
+found_in reading.Limit room = Some room.board.limit
 
-abbrev pub start_in : ℕ → (M : Type 0) → RoomShown M → Option ℕ
-start_in port M room = start_of room.board.history port
+-- this of the room is written, and the room is as it was
+pub record Reads {M : Type 0} (reading : Reading) (code before after : ℕ) (old new : RoomShown M) : Type 0 where
+  pub room : new ≡ old
+  pub told : code ≡ number (told_found (found_in reading old))
+  pub written : after ≡ written_found before (found_in reading old)
 
-abbrev pub entries_of : (M : Type 0) → RoomShown M → Option ℕ
-entries_of M room = Some (entries_in room.board.history)
-
-abbrev pub cut_at_of : (M : Type 0) → RoomShown M → Option ℕ
-cut_at_of M room = Some (entries_in room.board.past)
-
-abbrev pub limit_of : (M : Type 0) → RoomShown M → Option ℕ
-limit_of M room = Some room.board.limit
+abbrev pub ReadsOn : Reading → Kept → Kept → ℕ → ℕ → ℕ → Type 0
+ReadsOn reading old new code before after = OnEither (λ M sure. OnRoom (Reads reading code before after)) (after ≡ before) code old new
 
 -- what a variable holds
 abbrev pub told_held : Option (Option ℕ) → Code
@@ -96,12 +79,9 @@ pub record Holds (variable code before after : ℕ) (old new : RoomShown ℕ) : 
   pub told : code ≡ number (told_held (held_by old.board.history variable))
   pub written : after ≡ written_held before (held_by old.board.history variable)
 
-abbrev pub HeldOn : ℕ → Kept → Kept → ℕ → ℕ → ℕ → Type 0
-HeldOn variable old new code before after = OnNumbers (Holds variable code before after) (after ≡ before) code old new
-
-abbrev pub HeldBytesOn : ℕ → Kept → Kept → ℕ → SeryugoBytes → SeryugoBytes → Type 0
-HeldBytesOn variable old new code from to =
-    OnBytes (λ one two. (two ≡ one) × HandsHeld (held_by one.board.history variable) code from to) (to ≡ from) code old new
+-- the same of bytes, which are handed over
+abbrev pub HoldsBytes : ℕ → ℕ → SeryugoBytes → SeryugoBytes → RoomShown (List ℕ) → RoomShown (List ℕ) → Type 0
+HoldsBytes variable code from to old new = (new ≡ old) × HandsHeld (held_by old.board.history variable) code from to
 
 -- whether a port is open
 abbrev pub told_open : Option Bool → Code
@@ -109,10 +89,10 @@ told_open (Some true) = Done
 told_open (Some false) = Closed
 told_open None = NoSuch
 
-abbrev pub OpenOn : ℕ → Kept → Kept → ℕ → Type 0
-OpenOn port old new code = OnRoom (λ M sure from to. (to ≡ from) × (code ≡ number (told_open (port_is_open from.board.history port)))) ⊤ code old new
+abbrev pub TellsOpen : {M : Type 0} → ℕ → ℕ → RoomShown M → RoomShown M → Type 0
+TellsOpen port code old new = (new ≡ old) × (code ≡ number (told_open (port_is_open old.board.history port)))
 
 -- whether the journal takes more entries
-abbrev pub FullOn : Kept → Kept → ℕ → Type 0
-FullOn old new code = OnRoom (λ M sure from to. (to ≡ from)
-    × ((code ≡ number Done × HasRoom from.board) ⊎ (code ≡ number JournalFull × (entries_in from.board.history ≡ full_at from.board)))) ⊤ code old new
+abbrev pub TellsFull : {M : Type 0} → ℕ → RoomShown M → RoomShown M → Type 0
+TellsFull code old new = (new ≡ old)
+    × ((code ≡ number Done × HasRoom old.board) ⊎ (code ≡ number JournalFull × (entries_in old.board.history ≡ full_at old.board)))

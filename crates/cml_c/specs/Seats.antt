@@ -1,11 +1,9 @@
 -- What C is told of a new seat, and of one that leaves.
-use Rattle.std.specs.Prelude.{ℕ, ◌≡◌, ◌⊎◌, [], ◌∷◌, ◌++◌, length, ⊤}
+use Rattle.std.specs.Prelude.{ℕ, ◌≡◌, ◌⊎◌, [], ◌∷◌, ◌++◌, length}
 use Rattle.cml_room.specs.Room.{RoomShown, MayAsk, with_state, floor_of}
 use Rattle.cml_room.specs.declared.state.State.TheVariants.{Free, Left}
 use Rattle.cml_c.specs.declared.code.Code.TheVariants.{Done, Gone, NoMemory}
-use Rattle.cml_c.specs.declared.kept.Kept.{Kept}
 use Rattle.cml_c.specs.Codes.{number}
-use Rattle.cml_c.specs.Rooms.{OnRoom}
 
 -- a seat is made: it is free, and its number, which is written, is how many were made before; else there is no memory, and
 -- nothing is changed
@@ -23,9 +21,6 @@ pub record NoSeatIsMade {M : Type 0} (code before after : ℕ) (old new : RoomSh
 abbrev pub MakesSeat : {M : Type 0} → ℕ → ℕ → ℕ → RoomShown M → RoomShown M → Type 0
 MakesSeat code before after old new = SeatIsMade code before after old new ⊎ NoSeatIsMade code before after old new
 
-abbrev pub MakesASeat : Kept → Kept → ℕ → ℕ → ℕ → Type 0
-MakesASeat old new code before after = OnRoom (λ M sure from to. MakesSeat code before after from to) (after ≡ before) code old new
-
 -- a free seat leaves, and no other's state is changed; else it may make no call, and nothing is changed
 pub record SeatLeaves {M : Type 0} (seat code : ℕ) (old new : RoomShown M) : Type 0 where
   pub told : code ≡ number Done
@@ -38,5 +33,5 @@ pub record SeatMayNot {M : Type 0} (seat code : ℕ) (old new : RoomShown M) : T
   pub may_not : ¬ (MayAsk old seat)
   pub room : new ≡ old
 
-abbrev pub Leaves : ℕ → Kept → Kept → ℕ → Type 0
-Leaves seat old new code = OnRoom (λ M sure from to. SeatLeaves seat code from to ⊎ SeatMayNot seat code from to) ⊤ code old new
+abbrev pub Leaves : {M : Type 0} → ℕ → ℕ → RoomShown M → RoomShown M → Type 0
+Leaves seat code old new = SeatLeaves seat code old new ⊎ SeatMayNot seat code old new

@@ -3,7 +3,7 @@ ghost use Rattle.std.specs.Prelude.{false};
 ghost use Rattle.cml_board.specs.declared.call.Call.TheVariants.{Send, Cast, Recv, Poll, MVarInit, Put, Get, GetPoll, Take, TakePoll, Swap};
 ghost use Rattle.cml_c.specs.Messages.{CallsBytes, SendsBytes, FillsBytes, SwapsBytes};
 
-use crate::bytes_asking::{make_call, make_naming_call, make_plain_call};
+use crate::bytes_asking::{make_bytes_naming_call, make_call, make_plain_call};
 use crate::handle::Handle;
 use crate::messages::{SeryugoBytes, copied};
 use cml_board::{Call, Name};
@@ -91,7 +91,7 @@ pub extern "C" fn seryugo_bytes_mvar_init_from(
     ensures { FillsBytes seat message.now (MVarInit message.now) room.old.kept room.new.kept result variable.old variable.new }
 {
     match copied(alloc, message) {
-        Ok(bytes) => make_naming_call(room, seat, Call::MVarInit(bytes), variable),
+        Ok(bytes) => make_bytes_naming_call(room, seat, Call::MVarInit(bytes), variable),
         Err(code) => code.number(),
     }
 }

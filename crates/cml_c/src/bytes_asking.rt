@@ -4,10 +4,10 @@ ghost use Rattle.cml_c.specs.Codes.{number};
 ghost use Rattle.cml_c.specs.Asking.{told_outcome};
 ghost use Rattle.cml_c.specs.Messages.{CallsBytes, NamesBytes, NamesNoBytes, MakesBytes, HandsOutcome};
 
-use crate::asking::{code_of_outcome, code_of_reply, tell_name};
+use crate::asking::{code_of_outcome, code_of_reply, make_naming_call};
 use crate::code::Code;
 use crate::handle::Handle;
-use crate::kept::{Kept, RoomOf};
+use crate::kept::{Kept, Resource, RoomOf};
 use crate::messages::{SeryugoBytes, hand_over};
 use cml_board::{Bytes, Call, Outcome, Reply};
 use std::alloc::Global;
@@ -24,8 +24,11 @@ pub(crate) fn make_call(
     ensures { CallsBytes is_again seat call handle.old.kept handle.new.kept result given.old given.new }
 {
     match handle.as_mut() {
-        Kept::BytesRoom(room) => make_in_room(alloc, room, seat, is_again, call, given),
-        _ => Code::WrongHandle.number(),
+        Kept::Bytes(Resource::Room(room)) => make_in_room(alloc, room, seat, is_again, call, given),
+        _ => {
+            drop(call);
+            Code::WrongHandle.number()
+        }
     }
 }
 
@@ -40,7 +43,7 @@ fn make_in_room(
     ensures { MakesBytes is_again seat call result given.old given.new room.old room.new }
 {
     // The handle's memory is taken first, so that no message is received without one.
-    let Ok(owner) = Handle::new(alloc, Kept::Spent) else {
+    let Ok(owner) = Handle::new(alloc, Kept::Bytes(Resource::Spent)) else {
         return Code::NoMemory.number();
     };
     if is_again {
@@ -67,7 +70,7 @@ fn tell(owner: Handle, outcome: Outcome<Bytes>, given: &mut SeryugoBytes) -> u32
 }
 
 /// Makes a call that gives a name and no message, and writes the name.
-pub(crate) fn make_naming_call(
+pub(crate) fn make_bytes_naming_call(
     handle: &mut Handle,
     seat: u64,
     call: Call<Bytes>,
@@ -76,8 +79,11 @@ pub(crate) fn make_naming_call(
     ensures { NamesBytes seat call handle.old.kept handle.new.kept result name.old name.new }
 {
     match handle.as_mut() {
-        Kept::BytesRoom(room) => tell_name(room.ask(seat, call), name),
-        _ => Code::WrongHandle.number(),
+        Kept::Bytes(resource) => make_naming_call(resource, seat, call, name),
+        Kept::Numbers(_) => {
+            drop(call);
+            Code::WrongHandle.number()
+        }
     }
 }
 
@@ -86,5 +92,5 @@ pub(crate) fn make_plain_call(handle: &mut Handle, seat: u64, call: Call<Bytes>)
     ensures { NamesNoBytes seat call handle.old.kept handle.new.kept result }
 {
     let mut name = 0;
-    make_naming_call(handle, seat, call, &mut name)
+    make_bytes_naming_call(handle, seat, call, &mut name)
 }

@@ -1,11 +1,12 @@
 //! Entries of a journal whose messages are bytes.
 ghost use Rattle.std.specs.Prelude.{◌≡◌, IfOk, option_copied};
-ghost use Rattle.cml_c.specs.Entries.{call_kind, call_object, call_message, count_of, reply_kind, reply_name, reply_message, IsShown, FindsBytes, FindsBytesIn, FindsBytesOn};
+ghost use Rattle.cml_c.specs.Entries.{call_kind, call_object, call_message, count_of, reply_kind, reply_name, reply_message, IsShown, FindsBytes, FindsBytesIn};
+ghost use Rattle.cml_c.specs.Handles.{OnBytes, OnRoom};
 
 use crate::code::Code;
-use crate::entries::{SeryugoMaker, call_parts, maker_of, reply_parts};
+use crate::entries::{SeryugoMaker, call_parts, entry_at, maker_of, reply_parts};
 use crate::handle::{Handle, Slot};
-use crate::kept::{Kept, RoomOf};
+use crate::kept::{Kept, Resource, RoomOf};
 use crate::messages::place_of;
 use cml_board::{Bytes, Call, Entry, Message, Reply};
 use std::alloc::{AllocError, Global};
@@ -72,10 +73,10 @@ pub extern "C" fn seryugo_bytes_entry(
     at: u64,
     entry: &mut SeryugoBytesEntry,
 ) -> u32
-    ensures { FindsBytesOn at room.old.kept room.new.kept result entry.old entry.new }
+    ensures { OnBytes (OnRoom (FindsBytesIn at result entry.old entry.new)) (entry.new ≡ entry.old) result room.old.kept room.new.kept }
 {
     match room.as_mut() {
-        Kept::BytesRoom(room) => find_in(alloc, room, at, entry),
+        Kept::Bytes(Resource::Room(room)) => find_in(alloc, room, at, entry),
         _ => Code::WrongHandle.number(),
     }
 }
@@ -83,23 +84,18 @@ pub extern "C" fn seryugo_bytes_entry(
 fn find_in(alloc: Global, room: &mut RoomOf<Bytes>, at: u64, entry: &mut SeryugoBytesEntry) -> u32
     ensures { FindsBytesIn at result entry.old entry.new room.old room.new }
 {
-    let board = room.board();
-    let Some(place) = at.checked_sub(board.cut_at()) else {
-        return Code::NoSuch.number();
-    };
-    hand_over_at(alloc, board.journal(), place, entry)
+    hand_over_found(alloc, entry_at(room, at), entry)
 }
 
-/// Hands over the entry of this place, if there is one.
-pub(crate) fn hand_over_at(
+/// Hands over an entry that was found.
+pub(crate) fn hand_over_found(
     alloc: Global,
-    journal: &[Entry<Bytes>],
-    place: u64,
+    found: Option<&Entry<Bytes>>,
     entry: &mut SeryugoBytesEntry,
 ) -> u32
-    ensures { FindsBytes journal.now place result entry.old entry.new }
+    ensures { FindsBytes (option_copied found.entry) result entry.old entry.new }
 {
-    let Some(found) = journal.get(place as usize) else {
+    let Some(found) = found else {
         return Code::NoSuch.number();
     };
     match shown(alloc, found) {
@@ -120,9 +116,10 @@ fn shown(alloc: Global, entry: &Entry<Bytes>) -> Result<SeryugoBytesEntry, Alloc
         call: entry.call.share(alloc)?,
         reply: share_reply(alloc, &entry.reply)?,
     };
-    let mut owner = Handle::new(alloc, Kept::Entry(shared))?;
+    let shared = Kept::Bytes(Resource::Entry(Box::new(alloc, shared)?));
+    let mut owner = Handle::new(alloc, shared)?;
     let (call, reply) = match owner.as_mut() {
-        Kept::Entry(kept) => (shown_call(&kept.call), shown_reply(&kept.reply)),
+        Kept::Bytes(Resource::Entry(kept)) => (shown_call(&kept.call), shown_reply(&kept.reply)),
         _ => unreachable!(),
     };
     Ok(SeryugoBytesEntry {

@@ -1,26 +1,24 @@
 //! Entries from C are checked, wherever C has them from.
-ghost use Rattle.std.specs.Prelude.{◌≡◌, slice_get};
-ghost use Rattle.cml_c.specs.Checkers.{who_in, calls, replies, entry_in, entry_with, entry_of, FeedsNumbers, FeedsBytes, FeedsParts};
+ghost use Rattle.std.specs.Prelude.{◌≡◌, slice_get, ⊤};
+ghost use Rattle.cml_c.specs.Checkers.{who_in, calls, replies, entry_in, entry_with, entry_of, FeedsEntry, FeedsParts};
+ghost use Rattle.cml_c.specs.Handles.{OnNumbers, OnBytes, OnChecker};
 
 use crate::checkers::feed;
 use crate::code::Code;
 use crate::entries::{SeryugoEntry, SeryugoMaker};
 use crate::handle::Handle;
-use crate::kept::Kept;
+use crate::kept::{Kept, Resource};
 use crate::messages::copied;
-use cml_board::{Bytes, Call, Entry, Message, Name, Reply, Who};
+use cml_board::{Bytes, Call, Checker, Entry, Message, Name, Reply, Who};
 use std::alloc::Global;
 
 /// Checks an entry of numbers behind those before. What its kind doesn't have is not read.
 #[unsafe(no_mangle)]
 pub extern "C" fn seryugo_checker_feed(checker: &mut Handle, entry: &SeryugoEntry) -> u32
-    ensures { FeedsNumbers (entry_in entry.now) checker.old.kept checker.new.kept result }
+    ensures { OnNumbers (OnChecker (FeedsEntry (entry_in entry.now) result)) ⊤ result checker.old.kept checker.new.kept }
 {
     match checker.as_mut() {
-        Kept::Checker(checker) => match entry_in(entry) {
-            Some(entry) => feed(checker, &[entry]),
-            None => Code::OutOfBounds.number(),
-        },
+        Kept::Numbers(Resource::Checker(checker)) => feed_number(checker, entry_in(entry)),
         _ => Code::WrongHandle.number(),
     }
 }
@@ -68,15 +66,33 @@ fn entry_with(
     entry_of(who_of(maker), call, reply)
 }
 
+fn feed_number(checker: &mut Checker<u64>, entry: Option<Entry<u64>>) -> u32
+    ensures { FeedsEntry entry result checker.old checker.new }
+{
+    match entry {
+        Some(entry) => feed(checker, &[entry]),
+        None => Code::OutOfBounds.number(),
+    }
+}
+
 fn feed_bytes(checker: &mut Kept, entry: Option<Entry<Bytes>>) -> u32
-    ensures { FeedsBytes entry checker.old checker.new result }
+    ensures { OnBytes (OnChecker (FeedsEntry entry result)) ⊤ result checker.old checker.new }
 {
     match checker {
-        Kept::BytesChecker(checker) => match entry {
-            Some(entry) => feed(checker, &[entry]),
-            None => Code::OutOfBounds.number(),
-        },
-        _ => Code::WrongHandle.number(),
+        Kept::Bytes(Resource::Checker(checker)) => feed_bytes_to(checker, entry),
+        _ => {
+            drop(entry);
+            Code::WrongHandle.number()
+        }
+    }
+}
+
+fn feed_bytes_to(checker: &mut Checker<Bytes>, entry: Option<Entry<Bytes>>) -> u32
+    ensures { FeedsEntry entry result checker.old checker.new }
+{
+    match entry {
+        Some(entry) => feed(checker, &[entry]),
+        None => Code::OutOfBounds.number(),
     }
 }
 

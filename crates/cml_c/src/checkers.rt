@@ -1,25 +1,25 @@
 //! Journals are checked: a checker says how far one is a lawful history of one thread.
-ghost use Rattle.std.specs.Prelude.{◌≡◌, [], Ok};
+ghost use Rattle.std.specs.Prelude.{◌≡◌, IfOk, Ok, ⊤};
 ghost use Rattle.cml_board.specs.History.{no_entries};
 ghost use Rattle.cml_c.specs.declared.kept.Kept.TheVariants as kept;
-ghost use Rattle.cml_c.specs.Opening.{Writes};
-ghost use Rattle.cml_board.specs.Checking.{count_of};
-ghost use Rattle.cml_c.specs.Checkers.{FeedsIn, FeedsFrom, FeedsJournal, TellsVerdict};
+ghost use Rattle.cml_c.specs.Opening.{OpensAChecker};
+ghost use Rattle.cml_c.specs.Checkers.{FeedsIn, FeedsFrom, FeedsTaken, FeedsJournal, TellsVerdict};
+ghost use Rattle.cml_c.specs.Handles.{OnEither, OnBoth, OnChecker};
 
 use crate::code::Code;
 use crate::handle::{Handle, Slot};
-use crate::kept::Kept;
+use crate::kept::{Kept, Resource, for_both};
 use crate::rooms::write_handle;
 use cml_board::{Checker, Entry, Message};
-use std::alloc::Global;
+use std::alloc::{AllocError, Global};
 
 /// Opens a checker of journals whose messages are numbers, and writes a handle to it.
 #[unsafe(no_mangle)]
 pub extern "C" fn seryugo_checker_open(alloc: Global, checker: &mut Slot) -> u32
-    ensures { Writes (kept.Checker (Ok no_entries)) result checker.old checker.new }
+    ensures { OpensAChecker kept.Numbers result checker.old checker.new }
 {
-    match Checker::new(alloc) {
-        Ok(opened) => write_handle(alloc, Kept::Checker(opened), checker),
+    match new_checker(alloc) {
+        Ok(opened) => write_handle(alloc, Kept::Numbers(Resource::Checker(opened)), checker),
         Err(_) => Code::NoMemory.number(),
     }
 }
@@ -27,12 +27,18 @@ pub extern "C" fn seryugo_checker_open(alloc: Global, checker: &mut Slot) -> u32
 /// Opens a checker of journals whose messages are bytes, and writes a handle to it.
 #[unsafe(no_mangle)]
 pub extern "C" fn seryugo_bytes_checker_open(alloc: Global, checker: &mut Slot) -> u32
-    ensures { Writes (kept.BytesChecker (Ok no_entries)) result checker.old checker.new }
+    ensures { OpensAChecker kept.Bytes result checker.old checker.new }
 {
-    match Checker::new(alloc) {
-        Ok(opened) => write_handle(alloc, Kept::BytesChecker(opened), checker),
+    match new_checker(alloc) {
+        Ok(opened) => write_handle(alloc, Kept::Bytes(Resource::Checker(opened)), checker),
         Err(_) => Code::NoMemory.number(),
     }
+}
+
+fn new_checker<M: Message>(alloc: Global) -> Result<Box<Checker<M>>, AllocError>
+    ensures { IfOk result (λ checker. checker.value ≡ Ok no_entries) }
+{
+    Ok(Box::new(alloc, Checker::new(alloc)?)?)
 }
 
 /// Checks the entries of a journal that was taken, from this place on.
@@ -42,19 +48,47 @@ pub extern "C" fn seryugo_checker_feed_journal(
     journal: &mut Handle,
     place: u64,
 ) -> u32
-    ensures { FeedsJournal place checker.old.kept checker.new.kept journal.old.kept journal.new.kept result }
+    ensures { OnBoth (λ M sure. FeedsJournal place) result checker.old.kept checker.new.kept journal.old.kept journal.new.kept }
 {
     match checker.as_mut() {
-        Kept::Checker(checker) => match journal.as_mut() {
-            Kept::Journal(journal) => feed_from(checker, journal, place),
-            _ => Code::WrongHandle.number(),
+        Kept::Numbers(checker) => match journal.as_mut() {
+            Kept::Numbers(journal) => feed_journal(checker, journal, place),
+            Kept::Bytes(_) => Code::WrongHandle.number(),
         },
-        Kept::BytesChecker(checker) => match journal.as_mut() {
-            Kept::BytesJournal(journal) => feed_from(checker, journal, place),
-            _ => Code::WrongHandle.number(),
+        Kept::Bytes(checker) => match journal.as_mut() {
+            Kept::Bytes(journal) => feed_journal(checker, journal, place),
+            Kept::Numbers(_) => Code::WrongHandle.number(),
         },
+    }
+}
+
+fn feed_journal<M: Message>(checker: &mut Resource<M>, journal: &mut Resource<M>, place: u64) -> u32
+    ensures { FeedsJournal place result checker.old checker.new journal.old journal.new }
+{
+    match checker {
+        Resource::Checker(checker) => feed_taken(checker, journal, place),
         _ => Code::WrongHandle.number(),
     }
+}
+
+fn feed_taken<M: Message>(checker: &mut Checker<M>, journal: &mut Resource<M>, place: u64) -> u32
+    ensures { FeedsTaken place result journal.old journal.new checker.old checker.new }
+{
+    match journal {
+        Resource::Journal(journal) => feed_entries(checker, journal, place),
+        _ => Code::WrongHandle.number(),
+    }
+}
+
+fn feed_entries<M: Message>(
+    checker: &mut Checker<M>,
+    journal: &mut Vec<Entry<M>>,
+    place: u64,
+) -> u32
+    ensures journal { journal.new ≡ journal.old }
+    ensures feeds { FeedsFrom journal.old.items place result checker.old checker.new }
+{
+    feed_from(checker, journal, place)
 }
 
 fn feed_from<M: Message>(checker: &mut Checker<M>, journal: &[Entry<M>], place: u64) -> u32
@@ -83,18 +117,22 @@ pub(crate) fn feed<M: Message>(checker: &mut Checker<M>, entries: &[Entry<M>]) -
 /// Writes how many entries were found lawful. Returns `Unlawful` if the entry behind them is not.
 #[unsafe(no_mangle)]
 pub extern "C" fn seryugo_checker_verdict(checker: &mut Handle, count: &mut u64) -> u32
-    ensures { TellsVerdict checker.old.kept checker.new.kept result count.old count.new }
+    ensures { OnEither (λ M sure. OnChecker (TellsVerdict result count.new)) (count.new ≡ count.old) result checker.old.kept checker.new.kept }
 {
-    match checker.as_mut() {
-        Kept::Checker(checker) => tell_verdict(checker, count),
-        Kept::BytesChecker(checker) => tell_verdict(checker, count),
+    for_both!(checker.as_mut(), resource => tell_verdict(resource, count))
+}
+
+fn tell_verdict<M: Message>(resource: &mut Resource<M>, count: &mut u64) -> u32
+    ensures { OnChecker (TellsVerdict result count.new) (count.new ≡ count.old) result resource.old resource.new }
+{
+    match resource {
+        Resource::Checker(checker) => tell_verdict_of(checker, count),
         _ => Code::WrongHandle.number(),
     }
 }
 
-fn tell_verdict<M: Message>(checker: &mut Checker<M>, count: &mut u64) -> u32
-    ensures verdict { FeedsIn [] result checker.old checker.new }
-    ensures count { count.new ≡ count_of checker.old }
+fn tell_verdict_of<M: Message>(checker: &mut Checker<M>, count: &mut u64) -> u32
+    ensures { TellsVerdict result count.new checker.old checker.new }
 {
     *count = checker.entries();
     let none: [Entry<M>; 0] = [];

@@ -1,27 +1,28 @@
 //! Who is due, of those that wait.
-ghost use Rattle.cml_c.specs.Due.{GivesNext, GivesNextOn, TellsDue, DueOn};
+ghost use Rattle.std.specs.Prelude.{◌≡◌, ⊤};
+ghost use Rattle.cml_c.specs.Due.{GivesNext, TellsDue};
+ghost use Rattle.cml_c.specs.Handles.{OnEither, OnRoom};
 
 use crate::code::Code;
 use crate::handle::Handle;
-use crate::kept::{Kept, RoomOf};
+use crate::kept::{Resource, RoomOf, for_both};
 use cml_board::Message;
 
 /// Writes the next seat that is due and wasn't given before since it last asked: its thread is to be woken, and asks again.
 /// Gives `Nothing` where each seat that is due was given.
 #[unsafe(no_mangle)]
 pub extern "C" fn seryugo_next_due(room: &mut Handle, seat: &mut u64) -> u32
-    ensures { GivesNextOn room.old.kept room.new.kept result seat.old seat.new }
+    ensures { OnEither (λ M sure. OnRoom (GivesNext result seat.old seat.new)) (seat.new ≡ seat.old) result room.old.kept room.new.kept }
 {
-    match room.as_mut() {
-        Kept::Room(room) => give_next(room, seat),
-        Kept::BytesRoom(room) => give_next(room, seat),
-        _ => Code::WrongHandle.number(),
-    }
+    for_both!(room.as_mut(), resource => give_next(resource, seat))
 }
 
-fn give_next<M: Message>(room: &mut RoomOf<M>, seat: &mut u64) -> u32
-    ensures { GivesNext result seat.old seat.new room.old room.new }
+fn give_next<M: Message>(resource: &mut Resource<M>, seat: &mut u64) -> u32
+    ensures { OnRoom (GivesNext result seat.old seat.new) (seat.new ≡ seat.old) result resource.old resource.new }
 {
+    let Resource::Room(room) = resource else {
+        return Code::WrongHandle.number();
+    };
     match room.next_due() {
         Some(number) => {
             *seat = number;
@@ -34,17 +35,22 @@ fn give_next<M: Message>(room: &mut RoomOf<M>, seat: &mut u64) -> u32
 /// Whether a seat is due: `Done` where it is, and else `Nothing`.
 #[unsafe(no_mangle)]
 pub extern "C" fn seryugo_is_due(room: &mut Handle, seat: u64) -> u32
-    ensures { DueOn seat room.old.kept room.new.kept result }
+    ensures { OnEither (λ M sure. OnRoom (TellsDue seat result)) ⊤ result room.old.kept room.new.kept }
 {
-    match room.as_mut() {
-        Kept::Room(room) => tell_due(room, seat),
-        Kept::BytesRoom(room) => tell_due(room, seat),
+    for_both!(room.as_mut(), resource => is_due(resource, seat))
+}
+
+fn is_due<M: Message>(resource: &mut Resource<M>, seat: u64) -> u32
+    ensures { OnRoom (TellsDue seat result) ⊤ result resource.old resource.new }
+{
+    match resource {
+        Resource::Room(room) => tell_due(room, seat),
         _ => Code::WrongHandle.number(),
     }
 }
 
-fn tell_due<M: Message>(room: &RoomOf<M>, seat: u64) -> u32
-    ensures { TellsDue seat result room.now }
+fn tell_due<M: Message>(room: &mut RoomOf<M>, seat: u64) -> u32
+    ensures { TellsDue seat result room.old room.new }
 {
     if room.is_due(seat) {
         return Code::Done.number();

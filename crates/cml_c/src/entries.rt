@@ -1,12 +1,12 @@
 //! Entries of the journal.
-ghost use Rattle.std.specs.Prelude.{◌≡◌, option_copied};
-ghost use Rattle.cml_c.specs.Codes.{number};
-ghost use Rattle.cml_c.specs.Entries.{flat, maker_of, call_of, call_kind, call_object, call_message, reply_of, reply_kind, reply_name, reply_message, FindsIn, FindsOn, Finds};
+ghost use Rattle.std.specs.Prelude.{◌≡◌, slice_get, option_copied};
+ghost use Rattle.cml_c.specs.Entries.{flat, maker_of, call_of, call_kind, call_object, call_message, reply_of, reply_kind, reply_name, reply_message, Finds, IsAt, FindsIn};
+ghost use Rattle.cml_c.specs.Handles.{OnNumbers, OnRoom};
 
 use crate::code::Code;
 use crate::handle::Handle;
-use crate::kept::{Kept, RoomOf};
-use cml_board::{Call, Entry, Reply, Who};
+use crate::kept::{Kept, Resource, RoomOf};
+use cml_board::{Call, Entry, Message, Reply, Who};
 
 /// Who made a call: a seat (0), a lane (1) or a feed (2), by its number.
 #[repr(C)]
@@ -42,14 +42,14 @@ pub struct SeryugoEntry {
     pub reply: SeryugoReply,
 }
 
-/// Writes the journal's entry at this position, counted from 0 since the room was opened. It is told `NoSuch` where there
-/// is none yet, and where it was cut away.
+/// Writes the journal's entry at this position, counted from 0 since the room was opened. Fails with `NoSuch` if there is none
+/// yet, or if it was cut away.
 #[unsafe(no_mangle)]
 pub extern "C" fn seryugo_entry(room: &mut Handle, at: u64, entry: &mut SeryugoEntry) -> u32
-    ensures { FindsOn at room.old.kept room.new.kept result entry.old entry.new }
+    ensures { OnNumbers (OnRoom (FindsIn at result entry.old entry.new)) (entry.new ≡ entry.old) result room.old.kept room.new.kept }
 {
     match room.as_mut() {
-        Kept::Room(room) => find_in(room, at, entry),
+        Kept::Numbers(Resource::Room(room)) => find_in(room, at, entry),
         _ => Code::WrongHandle.number(),
     }
 }
@@ -57,22 +57,38 @@ pub extern "C" fn seryugo_entry(room: &mut Handle, at: u64, entry: &mut SeryugoE
 fn find_in(room: &mut RoomOf<u64>, at: u64, entry: &mut SeryugoEntry) -> u32
     ensures { FindsIn at result entry.old entry.new room.old room.new }
 {
-    let board = room.board();
-    let Some(place) = at.checked_sub(board.cut_at()) else {
-        return Code::NoSuch.number();
-    };
-    write_at(board.journal(), place, entry)
+    write_found(entry_at(room, at), entry)
 }
 
-/// Writes the entry of this place, if there is one.
-pub fn write_at(journal: &[Entry<u64>], place: u64, entry: &mut SeryugoEntry) -> u32
-    ensures { Finds journal.now place result entry.old entry.new }
+/// The journal's entry at this position, if there is one yet, and it was not cut away.
+pub(crate) fn entry_at<M: Message>(room: &RoomOf<M>, at: u64) -> Option<&Entry<M>>
+    ensures { IsAt at room.now (option_copied result) }
 {
-    let Some(found) = journal.get(place as usize) else {
-        return Code::NoSuch.number();
+    let board = room.board();
+    let Some(place) = at.checked_sub(board.cut_at()) else {
+        return None;
     };
-    *entry = flat(found);
-    Code::Done.number()
+    entry_of_place(board.journal(), place)
+}
+
+/// The entry of this place, if there is one.
+pub(crate) fn entry_of_place<M>(journal: &[Entry<M>], place: u64) -> Option<&Entry<M>>
+    ensures { option_copied result ≡ slice_get journal.now place }
+{
+    journal.get(place as usize)
+}
+
+/// Writes an entry that was found.
+pub(crate) fn write_found(found: Option<&Entry<u64>>, entry: &mut SeryugoEntry) -> u32
+    ensures { Finds (option_copied found.entry) result entry.old entry.new }
+{
+    match found {
+        Some(found) => {
+            *entry = flat(found);
+            Code::Done.number()
+        }
+        None => Code::NoSuch.number(),
+    }
 }
 
 fn flat(entry: &Entry<u64>) -> SeryugoEntry

@@ -1,16 +1,16 @@
 //! Feeds, on which a thread receives without the room's lock.
+ghost use Rattle.std.specs.Prelude.{◌≡◌, ⊤};
 ghost use Rattle.cml_lanes.specs.Feeds.{Pumps};
-ghost use Rattle.cml_c.specs.declared.kept.Kept.TheVariants.{BytesFeed};
 ghost use Rattle.cml_c.specs.Asking.{chunk};
-ghost use Rattle.cml_c.specs.Floors.{Counts, CountsOn};
-ghost use Rattle.cml_c.specs.Feeds.{OpensFeedIn, OpensAFeedIn, TakesFrom, TakesBytesFrom, TellsPort, EndsIn, EndsAFeed};
+ghost use Rattle.cml_c.specs.Floors.{Counts};
+ghost use Rattle.cml_c.specs.Handles.{OnEither, OnEitherKept, OnNumbers, OnBytes, OnRoom, OnFeed};
+ghost use Rattle.cml_c.specs.Feeds.{OpensFeed, TakesNumber, TakesBytes, TellsPort, EndsFeed};
 
 use crate::code::Code;
 use crate::handle::{Handle, Slot};
-use crate::kept::{Kept, RoomOf};
+use crate::kept::{Kept, Resource, Sort, for_both};
 use crate::lanes::tell_count;
 use crate::messages::{SeryugoBytes, hand_over};
-use crate::sort::Sort;
 use cml_board::{Bytes, Message, Name};
 use cml_lanes::{Feed, MAX_CAPACITY};
 use std::alloc::Global;
@@ -26,35 +26,34 @@ pub extern "C" fn seryugo_feed_open(
     feed: &mut Slot,
     feed_number: &mut u64,
 ) -> u32
-    ensures { OpensAFeedIn channel capacity room.old.kept room.new.kept feed.old feed.new result feed_number.old feed_number.new }
+    ensures { OnEitherKept (λ M sure wrap. OnRoom (OpensFeed wrap sure (record { 0 = channel }) capacity feed.old feed.new result feed_number.old feed_number.new)) ((feed_number.new ≡ feed_number.old) × (feed.new ≡ feed.old)) result room.old.kept room.new.kept }
 {
-    match room.as_mut() {
-        Kept::Room(room) => open_in(alloc, room, Name(channel), capacity, feed, feed_number),
-        Kept::BytesRoom(room) => open_in(alloc, room, Name(channel), capacity, feed, feed_number),
-        _ => Code::WrongHandle.number(),
-    }
+    for_both!(room.as_mut(), resource => open(alloc, resource, Name(channel), capacity, feed, feed_number))
 }
 
-fn open_in<M: Sort>(
+fn open<M: Sort>(
     alloc: Global,
-    room: &mut RoomOf<M>,
+    resource: &mut Resource<M>,
     channel: Name,
     capacity: usize,
     feed: &mut Slot,
     feed_number: &mut u64,
 ) -> u32
-    ensures { OpensFeedIn M.FEED M.SURE channel capacity feed.old feed.new result feed_number.old feed_number.new room.old room.new }
+    ensures { OnRoom (OpensFeed M.KEPT M.SURE channel capacity feed.old feed.new result feed_number.old feed_number.new) ((feed_number.new ≡ feed_number.old) × (feed.new ≡ feed.old)) result resource.old resource.new }
 {
+    let Resource::Room(room) = resource else {
+        return Code::WrongHandle.number();
+    };
     if capacity < 1 || capacity > MAX_CAPACITY {
         return Code::OutOfBounds.number();
     }
     // The handle's memory is taken first, so that no feed is open without one.
-    let Ok(mut handle) = Handle::new(alloc, Kept::Spent) else {
+    let Ok(mut handle) = Handle::new(alloc, Kept::Numbers(Resource::Spent)) else {
         return Code::NoMemory.number();
     };
     match room.open_feed(channel, capacity) {
         Ok((opened, number)) => {
-            *handle.as_mut() = M::feed(opened);
+            handle.set(M::keep_feed(opened));
             *feed = handle.into_slot();
             *feed_number = number;
             Code::Done.number()
@@ -66,28 +65,27 @@ fn open_in<M: Sort>(
 /// Receives what an open feed is owed into its ring, while that has a free slot, and writes how many messages.
 #[unsafe(no_mangle)]
 pub extern "C" fn seryugo_feed_pump(room: &mut Handle, feed_number: u64, count: &mut u64) -> u32
-    ensures { CountsOn (λ M sure. Pumps chunk sure feed_number) room.old.kept room.new.kept result count.old count.new }
+    ensures { OnEither (λ M sure. OnRoom (Counts (Pumps chunk sure feed_number) result count.old count.new)) (count.new ≡ count.old) result room.old.kept room.new.kept }
 {
-    match room.as_mut() {
-        Kept::Room(room) => pump_in(room, feed_number, count),
-        Kept::BytesRoom(room) => pump_in(room, feed_number, count),
+    for_both!(room.as_mut(), resource => pump(resource, feed_number, count))
+}
+
+fn pump<M: Message>(resource: &mut Resource<M>, feed: u64, count: &mut u64) -> u32
+    ensures { OnRoom (Counts (Pumps chunk M.SURE feed) result count.old count.new) (count.new ≡ count.old) result resource.old resource.new }
+{
+    match resource {
+        Resource::Room(room) => tell_count(room.pump(feed), count),
         _ => Code::WrongHandle.number(),
     }
 }
 
-fn pump_in<M: Message>(room: &mut RoomOf<M>, feed: u64, count: &mut u64) -> u32
-    ensures { Counts (Pumps chunk M.SURE feed) result count.old count.new room.old room.new }
-{
-    tell_count(room.pump(feed), count)
-}
-
-/// Takes the next number that was pumped, without a lock. It is told `Nothing` where none is seen.
+/// Takes the next number that was pumped, without a lock. Returns `Nothing` if none is seen.
 #[unsafe(no_mangle)]
 pub extern "C" fn seryugo_feed_recv(feed: &mut Handle, message: &mut u64) -> u32
-    ensures { TakesFrom feed.old.kept feed.new.kept result message.old message.new }
+    ensures { OnNumbers (OnFeed (TakesNumber result message.old message.new)) (message.new ≡ message.old) result feed.old.kept feed.new.kept }
 {
     match feed.as_mut() {
-        Kept::Feed(feed) => match feed.recv() {
+        Kept::Numbers(Resource::Feed(feed)) => match feed.recv() {
             Some(taken) => {
                 *message = taken;
                 Code::Done.number()
@@ -105,19 +103,19 @@ pub extern "C" fn seryugo_bytes_feed_recv(
     feed: &mut Handle,
     message: &mut SeryugoBytes,
 ) -> u32
-    ensures { TakesBytesFrom feed.old.kept feed.new.kept result message.old message.new }
+    ensures { OnBytes (OnFeed (TakesBytes result message.old message.new)) (message.new ≡ message.old) result feed.old.kept feed.new.kept }
 {
     match feed.as_mut() {
-        Kept::BytesFeed(feed) => take_bytes(alloc, feed, message),
+        Kept::Bytes(Resource::Feed(feed)) => take_bytes(alloc, feed, message),
         _ => Code::WrongHandle.number(),
     }
 }
 
 fn take_bytes(alloc: Global, feed: &mut Feed<Bytes>, message: &mut SeryugoBytes) -> u32
-    ensures { TakesBytesFrom (BytesFeed feed.old) (BytesFeed feed.new) result message.old message.new }
+    ensures { TakesBytes result message.old message.new feed.old feed.new }
 {
     // The handle's memory is taken first, so that no message is taken without one.
-    let Ok(owner) = Handle::new(alloc, Kept::Spent) else {
+    let Ok(owner) = Handle::new(alloc, Kept::Bytes(Resource::Spent)) else {
         return Code::NoMemory.number();
     };
     match feed.recv() {
@@ -132,14 +130,16 @@ fn take_bytes(alloc: Global, feed: &mut Feed<Bytes>, message: &mut SeryugoBytes)
 /// Writes the name of a feed's port.
 #[unsafe(no_mangle)]
 pub extern "C" fn seryugo_feed_port(feed: &mut Handle, port: &mut u64) -> u32
-    ensures { TellsPort feed.old.kept feed.new.kept result port.old port.new }
+    ensures { OnEither (λ M sure. OnFeed (TellsPort result port.new)) (port.new ≡ port.old) result feed.old.kept feed.new.kept }
 {
-    match feed.as_mut() {
-        Kept::Feed(feed) => {
-            *port = feed.port().0;
-            Code::Done.number()
-        }
-        Kept::BytesFeed(feed) => {
+    for_both!(feed.as_mut(), resource => tell_port(resource, port))
+}
+
+fn tell_port<M: Message>(resource: &mut Resource<M>, port: &mut u64) -> u32
+    ensures { OnFeed (TellsPort result port.new) (port.new ≡ port.old) result resource.old resource.new }
+{
+    match resource {
+        Resource::Feed(feed) => {
             *port = feed.port().0;
             Code::Done.number()
         }
@@ -150,18 +150,17 @@ pub extern "C" fn seryugo_feed_port(feed: &mut Handle, port: &mut u64) -> u32
 /// Ends an open feed for good: nothing more is pumped into it. What is left in it can still be taken.
 #[unsafe(no_mangle)]
 pub extern "C" fn seryugo_feed_end(room: &mut Handle, feed_number: u64) -> u32
-    ensures { EndsAFeed feed_number room.old.kept room.new.kept result }
+    ensures { OnEither (λ M sure. OnRoom (EndsFeed feed_number result)) ⊤ result room.old.kept room.new.kept }
 {
-    match room.as_mut() {
-        Kept::Room(room) => end_in(room, feed_number),
-        Kept::BytesRoom(room) => end_in(room, feed_number),
-        _ => Code::WrongHandle.number(),
-    }
+    for_both!(room.as_mut(), resource => end(resource, feed_number))
 }
 
-fn end_in<M: Message>(room: &mut RoomOf<M>, feed: u64) -> u32
-    ensures { EndsIn feed result room.old room.new }
+fn end<M: Message>(resource: &mut Resource<M>, feed: u64) -> u32
+    ensures { OnRoom (EndsFeed feed result) ⊤ result resource.old resource.new }
 {
+    let Resource::Room(room) = resource else {
+        return Code::WrongHandle.number();
+    };
     match room.end_feed(feed) {
         Ok(_) => Code::Done.number(),
         Err(refusal) => Code::of_refusal(refusal).number(),

@@ -7,6 +7,7 @@ use crate::kept::Kept;
 use crate::raw::Loose;
 use std::alloc::{AllocError, Global};
 use std::marker::{Model, Send};
+use std::mem;
 
 /// A room, a lane or a feed on the heap. In C it is the same struct as `Slot`.
 #[repr(C)]
@@ -70,6 +71,13 @@ impl Handle {
     {
         let Handle { at, alloc } = self;
         Slot { at, alloc }
+    }
+
+    /// Lets it lead to this. What it led to before is dropped.
+    pub(crate) fn set(&mut self, kept: Kept)
+        ensures { self.new.kept ≡ kept }
+    {
+        drop(mem::replace(self.as_mut(), kept));
     }
 
     /// Lends what it leads to.

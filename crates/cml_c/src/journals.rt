@@ -1,53 +1,52 @@
 //! The journal: memory that is taken for it in advance, and its cuts.
-ghost use Rattle.std.specs.Prelude.{◌≡◌};
-ghost use Rattle.cml_c.specs.Floors.{Does, DoesOn};
+ghost use Rattle.std.specs.Prelude.{◌≡◌, slice_get, ⊤};
+ghost use Rattle.cml_c.specs.Entries.{Finds, FindsBytes};
+ghost use Rattle.cml_c.specs.Floors.{Does};
+ghost use Rattle.cml_c.specs.Handles.{OnEither, OnEitherKept, OnNumbers, OnBytes, OnRoom, OnJournal};
 ghost use Rattle.cml_c.specs.Reserved.{ReservesSome, CutsReserved};
-ghost use Rattle.cml_c.specs.Journals.{TakesIn, TakesAJournal, FindsTaken, FindsBytesTaken};
+ghost use Rattle.cml_c.specs.Journals.{TakesJournal};
 
-use crate::bytes_entries::{SeryugoBytesEntry, hand_over_at};
+use crate::bytes_entries::{SeryugoBytesEntry, hand_over_found};
 use crate::code::Code;
-use crate::entries::{SeryugoEntry, write_at};
+use crate::entries::{SeryugoEntry, entry_of_place, write_found};
 use crate::handle::{Handle, Slot};
-use crate::kept::{Kept, RoomOf};
+use crate::kept::{Kept, Resource, RoomOf, Sort, for_both};
 use crate::rooms::code_of;
-use crate::sort::Sort;
 use cml_board::Message;
 use std::alloc::Global;
 
 /// Takes memory for `entries` more entries.
 #[unsafe(no_mangle)]
 pub extern "C" fn seryugo_reserve(room: &mut Handle, entries: usize) -> u32
-    ensures { DoesOn (λ M sure. ReservesSome entries) room.old.kept room.new.kept result }
+    ensures { OnEither (λ M sure. OnRoom (Does (ReservesSome entries) result)) ⊤ result room.old.kept room.new.kept }
 {
-    match room.as_mut() {
-        Kept::Room(room) => reserve_in(room, entries),
-        Kept::BytesRoom(room) => reserve_in(room, entries),
-        _ => Code::WrongHandle.number(),
-    }
+    for_both!(room.as_mut(), resource => reserve(resource, entries))
 }
 
-fn reserve_in<M: Message>(room: &mut RoomOf<M>, entries: usize) -> u32
-    ensures { Does (ReservesSome entries) result room.old room.new }
+fn reserve<M: Message>(resource: &mut Resource<M>, entries: usize) -> u32
+    ensures { OnRoom (Does (ReservesSome entries) result) ⊤ result resource.old resource.new }
 {
-    code_of(room.reserve(entries))
+    match resource {
+        Resource::Room(room) => code_of(room.reserve(entries)),
+        _ => Code::WrongHandle.number(),
+    }
 }
 
 /// Cuts the journal: what it has is dropped, and it has room for as many entries again. Nothing of what was reserved is lost.
 #[unsafe(no_mangle)]
 pub extern "C" fn seryugo_cut(room: &mut Handle) -> u32
-    ensures { DoesOn (λ M sure. CutsReserved) room.old.kept room.new.kept result }
+    ensures { OnEither (λ M sure. OnRoom (Does CutsReserved result)) ⊤ result room.old.kept room.new.kept }
 {
-    match room.as_mut() {
-        Kept::Room(room) => cut_in(room),
-        Kept::BytesRoom(room) => cut_in(room),
-        _ => Code::WrongHandle.number(),
-    }
+    for_both!(room.as_mut(), resource => cut(resource))
 }
 
-fn cut_in<M: Message>(room: &mut RoomOf<M>) -> u32
-    ensures { Does CutsReserved result room.old room.new }
+fn cut<M: Message>(resource: &mut Resource<M>) -> u32
+    ensures { OnRoom (Does CutsReserved result) ⊤ result resource.old resource.new }
 {
-    code_of(room.cut())
+    match resource {
+        Resource::Room(room) => code_of(room.cut()),
+        _ => Code::WrongHandle.number(),
+    }
 }
 
 /// Cuts the journal, and writes a handle to the entries that it had and how many they are. What was reserved goes with them.
@@ -58,26 +57,36 @@ pub extern "C" fn seryugo_take_journal(
     journal: &mut Slot,
     count: &mut u64,
 ) -> u32
-    ensures { TakesAJournal room.old.kept room.new.kept journal.old journal.new result count.old count.new }
+    ensures { OnEitherKept (λ M sure wrap. OnRoom (TakesJournal wrap journal.old journal.new result count.old count.new)) ((count.new ≡ count.old) × (journal.new ≡ journal.old)) result room.old.kept room.new.kept }
 {
-    match room.as_mut() {
-        Kept::Room(room) => take_in(alloc, room, journal, count),
-        Kept::BytesRoom(room) => take_in(alloc, room, journal, count),
+    for_both!(room.as_mut(), resource => take(alloc, resource, journal, count))
+}
+
+fn take<M: Sort>(
+    alloc: Global,
+    resource: &mut Resource<M>,
+    journal: &mut Slot,
+    count: &mut u64,
+) -> u32
+    ensures { OnRoom (TakesJournal M.KEPT journal.old journal.new result count.old count.new) ((count.new ≡ count.old) × (journal.new ≡ journal.old)) result resource.old resource.new }
+{
+    match resource {
+        Resource::Room(room) => take_in(alloc, room, journal, count),
         _ => Code::WrongHandle.number(),
     }
 }
 
 fn take_in<M: Sort>(alloc: Global, room: &mut RoomOf<M>, journal: &mut Slot, count: &mut u64) -> u32
-    ensures { TakesIn M.JOURNAL journal.old journal.new result count.old count.new room.old room.new }
+    ensures { TakesJournal M.KEPT journal.old journal.new result count.old count.new room.old room.new }
 {
     // The handle's memory is taken first, so that no entries are taken without one.
-    let Ok(mut handle) = Handle::new(alloc, Kept::Spent) else {
+    let Ok(mut handle) = Handle::new(alloc, Kept::Numbers(Resource::Spent)) else {
         return Code::NoMemory.number();
     };
     match room.take_journal() {
         Ok(entries) => {
             *count = entries.len() as u64;
-            *handle.as_mut() = M::journal(entries);
+            handle.set(M::keep_journal(entries));
             *journal = handle.into_slot();
             Code::Done.number()
         }
@@ -85,17 +94,19 @@ fn take_in<M: Sort>(alloc: Global, room: &mut RoomOf<M>, journal: &mut Slot, cou
     }
 }
 
-/// Writes the entry of this place, from 0, of a journal that was taken. It is told `NoSuch` behind the last one.
+/// Writes the entry of this place, from 0, of a journal that was taken. Fails with `NoSuch` behind the last one.
 #[unsafe(no_mangle)]
 pub extern "C" fn seryugo_taken_entry(
     journal: &mut Handle,
     place: u64,
     entry: &mut SeryugoEntry,
 ) -> u32
-    ensures { FindsTaken place journal.old.kept journal.new.kept result entry.old entry.new }
+    ensures { OnNumbers (OnJournal (λ entries. Finds (slice_get entries place) result entry.old entry.new)) (entry.new ≡ entry.old) result journal.old.kept journal.new.kept }
 {
     match journal.as_mut() {
-        Kept::Journal(journal) => write_at(journal, place, entry),
+        Kept::Numbers(Resource::Journal(journal)) => {
+            write_found(entry_of_place(journal, place), entry)
+        }
         _ => Code::WrongHandle.number(),
     }
 }
@@ -108,10 +119,12 @@ pub extern "C" fn seryugo_bytes_taken_entry(
     place: u64,
     entry: &mut SeryugoBytesEntry,
 ) -> u32
-    ensures { FindsBytesTaken place journal.old.kept journal.new.kept result entry.old entry.new }
+    ensures { OnBytes (OnJournal (λ entries. FindsBytes (slice_get entries place) result entry.old entry.new)) (entry.new ≡ entry.old) result journal.old.kept journal.new.kept }
 {
     match journal.as_mut() {
-        Kept::BytesJournal(journal) => hand_over_at(alloc, journal, place, entry),
+        Kept::Bytes(Resource::Journal(journal)) => {
+            hand_over_found(alloc, entry_of_place(journal, place), entry)
+        }
         _ => Code::WrongHandle.number(),
     }
 }

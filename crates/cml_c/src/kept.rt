@@ -1,31 +1,110 @@
-use cml_board::{BoardLog, Bytes, Checker, Entry};
+//! What a handle leads to.
+ghost use Rattle.std.specs.Prelude.{◌≡◌};
+ghost use Rattle.cml_c.specs.declared.kept.Kept.{Kept};
+ghost use Rattle.cml_c.specs.declared.kept.Kept.TheVariants as kept;
+ghost use Rattle.cml_c.specs.declared.kept.Resource.{Resource};
+ghost use Rattle.cml_c.specs.declared.kept.Resource.TheVariants as resource;
+
+use cml_board::{BoardLog, Bytes, Checker, Entry, Message};
 use cml_lanes::{Feed, Lane, LaneEnd};
 use cml_room::Room;
 
 /// A room whose messages are of this type.
 pub type RoomOf<M> = Room<M, BoardLog<M>>;
 
-/// What a handle leads to. Messages are numbers, or bytes where the name says so.
+/// What a handle leads to, by the messages that it has to do with.
 #[derive(Drop)]
 pub enum Kept {
-    Room(RoomOf<u64>),
-    BytesRoom(RoomOf<Bytes>),
-    Lane(Lane<u64>),
-    BytesLane(Lane<Bytes>),
+    Numbers(Resource<u64>),
+    Bytes(Resource<Bytes>),
+}
+
+/// What a handle leads to that has to do with messages of this type. What is large lies in a box, so that this is small.
+#[derive(Drop)]
+pub enum Resource<M: Message> {
+    Room(Box<RoomOf<M>>),
+    Lane(Lane<M>),
     /// A lane that has finished, and isn't closed yet.
-    LaneEnd(LaneEnd<u64>),
-    BytesLaneEnd(LaneEnd<Bytes>),
-    Feed(Feed<u64>),
-    BytesFeed(Feed<Bytes>),
+    LaneEnd(LaneEnd<M>),
+    Feed(Feed<M>),
     /// Entries that were taken out of a room's journal, oldest first.
-    Journal(Vec<Entry<u64>>),
-    BytesJournal(Vec<Entry<Bytes>>),
-    Checker(Checker<u64>),
-    BytesChecker(Checker<Bytes>),
+    Journal(Vec<Entry<M>>),
+    Checker(Box<Checker<M>>),
     /// A message that C has.
-    Message(Bytes),
+    Message(M),
     /// An entry that C has, with its messages.
-    Entry(Entry<Bytes>),
-    /// A lane that was closed.
+    Entry(Box<Entry<M>>),
+    /// Nothing: a lane that was closed.
     Spent,
+}
+
+/// Evaluates the expression for the resource that a handle leads to, whatever its messages are.
+macro_rules! for_both {
+    ($kept:expr, $resource:ident => $result:expr) => {
+        match $kept {
+            $crate::kept::Kept::Numbers($resource) => $result,
+            $crate::kept::Kept::Bytes($resource) => $result,
+        }
+    };
+}
+
+pub(crate) use for_both;
+
+/// A type of messages that a room for C may have.
+pub trait Sort: Message {
+    /// What a handle to such a resource leads to.
+    ghost KEPT: { Resource Self → Kept };
+
+    fn keep_lane(lane: Lane<Self>) -> Kept
+        ensures { result ≡ KEPT (resource.Lane lane) };
+
+    fn keep_feed(feed: Feed<Self>) -> Kept
+        ensures { result ≡ KEPT (resource.Feed feed) };
+
+    fn keep_journal(entries: Vec<Entry<Self>>) -> Kept
+        ensures { result ≡ KEPT (resource.Journal entries) };
+}
+
+impl Sort for u64 {
+    ghost KEPT = { kept.Numbers };
+
+    fn keep_lane(lane: Lane<u64>) -> Kept
+        ensures { result ≡ kept.Numbers (resource.Lane lane) }
+    {
+        Kept::Numbers(Resource::Lane(lane))
+    }
+
+    fn keep_feed(feed: Feed<u64>) -> Kept
+        ensures { result ≡ kept.Numbers (resource.Feed feed) }
+    {
+        Kept::Numbers(Resource::Feed(feed))
+    }
+
+    fn keep_journal(entries: Vec<Entry<u64>>) -> Kept
+        ensures { result ≡ kept.Numbers (resource.Journal entries) }
+    {
+        Kept::Numbers(Resource::Journal(entries))
+    }
+}
+
+impl Sort for Bytes {
+    ghost KEPT = { kept.Bytes };
+
+    fn keep_lane(lane: Lane<Bytes>) -> Kept
+        ensures { result ≡ kept.Bytes (resource.Lane lane) }
+    {
+        Kept::Bytes(Resource::Lane(lane))
+    }
+
+    fn keep_feed(feed: Feed<Bytes>) -> Kept
+        ensures { result ≡ kept.Bytes (resource.Feed feed) }
+    {
+        Kept::Bytes(Resource::Feed(feed))
+    }
+
+    fn keep_journal(entries: Vec<Entry<Bytes>>) -> Kept
+        ensures { result ≡ kept.Bytes (resource.Journal entries) }
+    {
+        Kept::Bytes(Resource::Journal(entries))
+    }
 }

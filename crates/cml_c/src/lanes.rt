@@ -1,19 +1,19 @@
 //! Lanes, on which a thread sends without the room's lock.
-ghost use Rattle.std.specs.Prelude.{◌≡◌};
+ghost use Rattle.std.specs.Prelude.{◌≡◌, ⊤};
 ghost use Rattle.cml_lanes.specs.Lanes.{Drains, Abandons};
 ghost use Rattle.cml_c.specs.Codes.{number, told_count, written_count};
 ghost use Rattle.cml_c.specs.Asking.{chunk};
-ghost use Rattle.cml_c.specs.Floors.{Does, DoesOn, Counts, CountsOn};
-ghost use Rattle.cml_c.specs.Lanes.{told_sent, SendsOn, SendsBytesOn, TakesBytes, Finishes, FinishesLane, ClosesNumbers, ClosesBytes, Closes, ClosesALane, DropsIn, DropsALane, OpensIn, OpensALaneIn};
+ghost use Rattle.cml_c.specs.Floors.{Does, Counts};
+ghost use Rattle.cml_c.specs.Handles.{OnEither, OnEitherKept, OnNumbers, OnBytes, OnBoth, OnRoom};
+ghost use Rattle.cml_c.specs.Lanes.{OpensLane, Sends, SendsBytes, Finishes, Closes, ClosesLane, ClosesEnd, DropsLane};
 
 use crate::code::Code;
 use crate::handle::{Handle, Slot};
-use crate::kept::{Kept, RoomOf};
+use crate::kept::{Kept, Resource, RoomOf, Sort, for_both};
 use crate::messages::copied;
 use crate::rooms::code_of;
-use crate::sort::Sort;
 use cml_board::{Bytes, Message, Name, Refusal};
-use cml_lanes::{Lane, LaneEnd, LaneFull, MAX_CAPACITY};
+use cml_lanes::{LaneEnd, MAX_CAPACITY};
 use std::alloc::Global;
 use std::mem;
 
@@ -27,35 +27,34 @@ pub extern "C" fn seryugo_lane_open(
     lane: &mut Slot,
     lane_number: &mut u64,
 ) -> u32
-    ensures { OpensALaneIn target capacity room.old.kept room.new.kept lane.old lane.new result lane_number.old lane_number.new }
+    ensures { OnEitherKept (λ M sure wrap. OnRoom (OpensLane wrap (record { 0 = target }) capacity lane.old lane.new result lane_number.old lane_number.new)) ((lane_number.new ≡ lane_number.old) × (lane.new ≡ lane.old)) result room.old.kept room.new.kept }
 {
-    match room.as_mut() {
-        Kept::Room(room) => open_in(alloc, room, Name(target), capacity, lane, lane_number),
-        Kept::BytesRoom(room) => open_in(alloc, room, Name(target), capacity, lane, lane_number),
-        _ => Code::WrongHandle.number(),
-    }
+    for_both!(room.as_mut(), resource => open(alloc, resource, Name(target), capacity, lane, lane_number))
 }
 
-fn open_in<M: Sort>(
+fn open<M: Sort>(
     alloc: Global,
-    room: &mut RoomOf<M>,
+    resource: &mut Resource<M>,
     target: Name,
     capacity: usize,
     lane: &mut Slot,
     lane_number: &mut u64,
 ) -> u32
-    ensures { OpensIn M.LANE target capacity lane.old lane.new result lane_number.old lane_number.new room.old room.new }
+    ensures { OnRoom (OpensLane M.KEPT target capacity lane.old lane.new result lane_number.old lane_number.new) ((lane_number.new ≡ lane_number.old) × (lane.new ≡ lane.old)) result resource.old resource.new }
 {
+    let Resource::Room(room) = resource else {
+        return Code::WrongHandle.number();
+    };
     if capacity < 1 || capacity > MAX_CAPACITY {
         return Code::OutOfBounds.number();
     }
     // The handle's memory is taken first, so that no lane is open without one.
-    let Ok(mut handle) = Handle::new(alloc, Kept::Spent) else {
+    let Ok(mut handle) = Handle::new(alloc, Kept::Numbers(Resource::Spent)) else {
         return Code::NoMemory.number();
     };
     match room.open_lane(target, capacity) {
         Ok((opened, number)) => {
-            *handle.as_mut() = M::lane(opened);
+            handle.set(M::keep_lane(opened));
             *lane = handle.into_slot();
             *lane_number = number;
             Code::Done.number()
@@ -64,14 +63,14 @@ fn open_in<M: Sort>(
     }
 }
 
-/// Sends a number on a lane, which takes no lock. It is told `Full` where no free slot is seen.
+/// Sends a number on a lane, which takes no lock. Fails with `Full` if no free slot is seen.
 #[unsafe(no_mangle)]
 pub extern "C" fn seryugo_lane_send(lane: &mut Handle, message: u64) -> u32
-    ensures { SendsOn message lane.old.kept lane.new.kept result }
+    ensures { OnNumbers (Sends message result) ⊤ result lane.old.kept lane.new.kept }
 {
     match lane.as_mut() {
-        Kept::Lane(lane) => code_of_send(lane.send(message)),
-        _ => Code::WrongHandle.number(),
+        Kept::Numbers(resource) => send(resource, message),
+        Kept::Bytes(_) => Code::WrongHandle.number(),
     }
 }
 
@@ -82,7 +81,7 @@ pub extern "C" fn seryugo_bytes_lane_send_from(
     lane: &mut Handle,
     message: &[u8],
 ) -> u32
-    ensures { SendsBytesOn message.now lane.old.kept lane.new.kept result }
+    ensures { SendsBytes message.now lane.old.kept lane.new.kept result }
 {
     match copied(alloc, message) {
         Ok(bytes) => send_bytes(lane.as_mut(), bytes),
@@ -91,83 +90,84 @@ pub extern "C" fn seryugo_bytes_lane_send_from(
 }
 
 fn send_bytes(lane: &mut Kept, message: Bytes) -> u32
-    ensures { TakesBytes message lane.old lane.new result }
+    ensures { OnBytes (Sends message result) ⊤ result lane.old lane.new }
 {
     match lane {
-        Kept::BytesLane(lane) => code_of_send(lane.send(message)),
-        _ => Code::WrongHandle.number(),
+        Kept::Bytes(resource) => send(resource, message),
+        Kept::Numbers(_) => {
+            drop(message);
+            Code::WrongHandle.number()
+        }
     }
 }
 
-/// The code of a message that was sent on a lane. One that found no free slot is dropped.
-fn code_of_send<M: Message>(sent: Result<(), LaneFull<M>>) -> u32
-    ensures { result ≡ number (told_sent sent) }
+fn send<M: Message>(resource: &mut Resource<M>, message: M) -> u32
+    ensures { Sends message result ⊤ result resource.old resource.new }
 {
-    match sent {
+    let Resource::Lane(lane) = resource else {
+        drop(message);
+        return Code::WrongHandle.number();
+    };
+    match lane.send(message) {
         Ok(()) => Code::Done.number(),
         Err(_) => Code::Full.number(),
     }
 }
 
-/// Ends a lane: nothing more is sent on it. It is told `Gone` where its room has let go of it before.
+/// Ends a lane: nothing more is sent on it. Fails with `Gone` if its room has let go of it before.
 #[unsafe(no_mangle)]
 pub extern "C" fn seryugo_lane_finish(lane: &mut Handle) -> u32
-    ensures { Finishes lane.old.kept lane.new.kept result }
+    ensures { OnEither (λ M sure. Finishes) ⊤ result lane.old.kept lane.new.kept }
 {
-    finish(lane.as_mut())
+    for_both!(lane.as_mut(), resource => finish(resource))
 }
 
-fn finish(kept: &mut Kept) -> u32
-    ensures { Finishes kept.old kept.new result }
+fn finish<M: Message>(resource: &mut Resource<M>) -> u32
+    ensures { Finishes ⊤ result resource.old resource.new }
 {
-    let (left, code) = match mem::replace(kept, Kept::Spent) {
-        Kept::Lane(lane) => finish_lane(lane),
-        Kept::BytesLane(lane) => finish_lane(lane),
+    let (left, code) = match mem::replace(resource, Resource::Spent) {
+        Resource::Lane(lane) => match lane.finish() {
+            Some(end) => (Resource::LaneEnd(end), Code::Done),
+            None => (Resource::Spent, Code::Gone),
+        },
         other => (other, Code::WrongHandle),
     };
-    *kept = left;
+    *resource = left;
     code.number()
-}
-
-/// What a lane's handle leads to once the lane has ended, and the code that tells it.
-fn finish_lane<M: Sort>(lane: Lane<M>) -> (Kept, Code)
-    ensures { FinishesLane M.END lane result.0 (number result.1) }
-{
-    match lane.finish() {
-        Some(end) => (M::lane_end(end), Code::Done),
-        None => (Kept::Spent, Code::Gone),
-    }
 }
 
 /// Moves what is seen of a lane that has finished, and closes it where then as many of its messages stand in the journal
 /// as were sent on it. Else its handle is as it was.
 #[unsafe(no_mangle)]
 pub extern "C" fn seryugo_lane_close(room: &mut Handle, lane: &mut Handle) -> u32
-    ensures { ClosesALane room.old.kept room.new.kept lane.old.kept lane.new.kept result }
+    ensures { OnBoth (λ M sure. Closes sure) result room.old.kept room.new.kept lane.old.kept lane.new.kept }
 {
     match room.as_mut() {
-        Kept::Room(room) => close_numbers(room, lane.as_mut()),
-        Kept::BytesRoom(room) => close_bytes(room, lane.as_mut()),
+        Kept::Numbers(room) => match lane.as_mut() {
+            Kept::Numbers(lane) => close(room, lane),
+            Kept::Bytes(_) => Code::WrongHandle.number(),
+        },
+        Kept::Bytes(room) => match lane.as_mut() {
+            Kept::Bytes(lane) => close(room, lane),
+            Kept::Numbers(_) => Code::WrongHandle.number(),
+        },
+    }
+}
+
+fn close<M: Message>(resource: &mut Resource<M>, lane: &mut Resource<M>) -> u32
+    ensures { Closes M.SURE result resource.old resource.new lane.old lane.new }
+{
+    match resource {
+        Resource::Room(room) => close_in(room, lane),
         _ => Code::WrongHandle.number(),
     }
 }
 
-fn close_numbers(room: &mut RoomOf<u64>, lane: &mut Kept) -> u32
-    ensures { ClosesNumbers room.old room.new lane.old lane.new result }
+fn close_in<M: Message>(room: &mut RoomOf<M>, lane: &mut Resource<M>) -> u32
+    ensures { ClosesLane M.SURE lane.old lane.new result room.old room.new }
 {
-    let (left, code) = match mem::replace(lane, Kept::Spent) {
-        Kept::LaneEnd(end) => close_in(room, end),
-        other => (other, Code::WrongHandle),
-    };
-    *lane = left;
-    code.number()
-}
-
-fn close_bytes(room: &mut RoomOf<Bytes>, lane: &mut Kept) -> u32
-    ensures { ClosesBytes room.old room.new lane.old lane.new result }
-{
-    let (left, code) = match mem::replace(lane, Kept::Spent) {
-        Kept::BytesLaneEnd(end) => close_in(room, end),
+    let (left, code) = match mem::replace(lane, Resource::Spent) {
+        Resource::LaneEnd(end) => close_end(room, end),
         other => (other, Code::WrongHandle),
     };
     *lane = left;
@@ -175,49 +175,47 @@ fn close_bytes(room: &mut RoomOf<Bytes>, lane: &mut Kept) -> u32
 }
 
 /// What a finished lane's handle leads to then, and the code that tells it.
-fn close_in<M: Sort>(room: &mut RoomOf<M>, end: LaneEnd<M>) -> (Kept, Code)
-    ensures { Closes M.END M.SURE end (number result.1) result.0 room.old room.new }
+fn close_end<M: Message>(room: &mut RoomOf<M>, end: LaneEnd<M>) -> (Resource<M>, Code)
+    ensures { ClosesEnd M.SURE end result.0 (number result.1) room.old room.new }
 {
     match room.close_counted(end) {
-        Ok(()) => (Kept::Spent, Code::Done),
-        Err((end, refusal)) => (M::lane_end(end), Code::of_refusal(refusal)),
+        Ok(()) => (Resource::Spent, Code::Done),
+        Err((end, refusal)) => (Resource::LaneEnd(end), Code::of_refusal(refusal)),
     }
 }
 
 /// Moves what is seen of an open lane into the journal, and writes how many messages.
 #[unsafe(no_mangle)]
 pub extern "C" fn seryugo_lane_drain(room: &mut Handle, lane_number: u64, count: &mut u64) -> u32
-    ensures { CountsOn (λ M sure. Drains chunk sure lane_number) room.old.kept room.new.kept result count.old count.new }
+    ensures { OnEither (λ M sure. OnRoom (Counts (Drains chunk sure lane_number) result count.old count.new)) (count.new ≡ count.old) result room.old.kept room.new.kept }
 {
-    match room.as_mut() {
-        Kept::Room(room) => drain_in(room, lane_number, count),
-        Kept::BytesRoom(room) => drain_in(room, lane_number, count),
+    for_both!(room.as_mut(), resource => drain(resource, lane_number, count))
+}
+
+fn drain<M: Message>(resource: &mut Resource<M>, lane: u64, count: &mut u64) -> u32
+    ensures { OnRoom (Counts (Drains chunk M.SURE lane) result count.old count.new) (count.new ≡ count.old) result resource.old resource.new }
+{
+    match resource {
+        Resource::Room(room) => tell_count(room.drain(lane), count),
         _ => Code::WrongHandle.number(),
     }
 }
 
-fn drain_in<M: Message>(room: &mut RoomOf<M>, lane: u64, count: &mut u64) -> u32
-    ensures { Counts (Drains chunk M.SURE lane) result count.old count.new room.old room.new }
-{
-    tell_count(room.drain(lane), count)
-}
-
-/// Moves what is seen of an open lane, writes how many messages, and closes it where none was refused. It is told
-/// `StillOpen` where one was, but not the first.
+/// Moves what is seen of an open lane, writes how many messages, and closes it if none was refused. Fails with `StillOpen` if one
+/// was, but not the first.
 #[unsafe(no_mangle)]
 pub extern "C" fn seryugo_lane_drop(room: &mut Handle, lane_number: u64, count: &mut u64) -> u32
-    ensures { DropsALane lane_number room.old.kept room.new.kept result count.old count.new }
+    ensures { OnEither (λ M sure. OnRoom (DropsLane sure lane_number result count.old count.new)) (count.new ≡ count.old) result room.old.kept room.new.kept }
 {
-    match room.as_mut() {
-        Kept::Room(room) => drop_in(room, lane_number, count),
-        Kept::BytesRoom(room) => drop_in(room, lane_number, count),
-        _ => Code::WrongHandle.number(),
-    }
+    for_both!(room.as_mut(), resource => drop_lane(resource, lane_number, count))
 }
 
-fn drop_in<M: Message>(room: &mut RoomOf<M>, lane: u64, count: &mut u64) -> u32
-    ensures { DropsIn M.SURE lane result count.old count.new room.old room.new }
+fn drop_lane<M: Message>(resource: &mut Resource<M>, lane: u64, count: &mut u64) -> u32
+    ensures { OnRoom (DropsLane M.SURE lane result count.old count.new) (count.new ≡ count.old) result resource.old resource.new }
 {
+    let Resource::Room(room) = resource else {
+        return Code::WrongHandle.number();
+    };
     match room.drop_lane(lane) {
         Ok((moved, true)) => {
             *count = moved as u64;
@@ -234,19 +232,18 @@ fn drop_in<M: Message>(room: &mut RoomOf<M>, lane: u64, count: &mut u64) -> u32
 /// Closes an open lane at once, and drops what is left on it.
 #[unsafe(no_mangle)]
 pub extern "C" fn seryugo_lane_abandon(room: &mut Handle, lane_number: u64) -> u32
-    ensures { DoesOn (λ M sure. Abandons lane_number) room.old.kept room.new.kept result }
+    ensures { OnEither (λ M sure. OnRoom (Does (Abandons lane_number) result)) ⊤ result room.old.kept room.new.kept }
 {
-    match room.as_mut() {
-        Kept::Room(room) => abandon_in(room, lane_number),
-        Kept::BytesRoom(room) => abandon_in(room, lane_number),
-        _ => Code::WrongHandle.number(),
-    }
+    for_both!(room.as_mut(), resource => abandon(resource, lane_number))
 }
 
-fn abandon_in<M: Message>(room: &mut RoomOf<M>, lane: u64) -> u32
-    ensures { Does (Abandons lane) result room.old room.new }
+fn abandon<M: Message>(resource: &mut Resource<M>, lane: u64) -> u32
+    ensures { OnRoom (Does (Abandons lane) result) ⊤ result resource.old resource.new }
 {
-    code_of(room.abandon_lane(lane))
+    match resource {
+        Resource::Room(room) => code_of(room.abandon_lane(lane)),
+        _ => Code::WrongHandle.number(),
+    }
 }
 
 /// The code of a call that gives a count, which is written.

@@ -23,6 +23,5 @@ mod messages;
 mod raw;
 mod readers;
 mod rooms;
-mod sort;
 mod telling;
 mod variables;

@@ -5,7 +5,7 @@ ghost use Rattle.cml_c.specs.Messages.{IsHanded, NotCopied, HandsHeld, HandsShar
 
 use crate::code::Code;
 use crate::handle::{Handle, Slot};
-use crate::kept::Kept;
+use crate::kept::{Kept, Resource};
 use cml_board::{Bytes, Message};
 use std::alloc::Global;
 use std::ptr;
@@ -77,7 +77,7 @@ fn hand_over_share(alloc: Global, held: &Bytes, message: &mut SeryugoBytes) -> u
     let Ok(share) = held.share(alloc) else {
         return Code::NoMemory.number();
     };
-    let Ok(owner) = Handle::new(alloc, Kept::Spent) else {
+    let Ok(owner) = Handle::new(alloc, Kept::Bytes(Resource::Spent)) else {
         return Code::NoMemory.number();
     };
     *message = hand_over(owner, share);
@@ -89,9 +89,9 @@ fn hand_over_share(alloc: Global, held: &Bytes, message: &mut SeryugoBytes) -> u
 pub(crate) fn hand_over(mut handle: Handle, message: Bytes) -> SeryugoBytes
     ensures { IsHanded message result }
 {
-    *handle.as_mut() = Kept::Message(message);
+    handle.set(Kept::Bytes(Resource::Message(message)));
     let (at, length) = match handle.as_mut() {
-        Kept::Message(bytes) => place_of(bytes.as_slice()),
+        Kept::Bytes(Resource::Message(bytes)) => place_of(bytes.as_slice()),
         _ => (ptr::null(), 0),
     };
     SeryugoBytes {

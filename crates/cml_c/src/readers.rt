@@ -1,85 +1,160 @@
 //! What a room has, told without changing it.
-ghost use Rattle.std.specs.Prelude.{◌≡◌, option_map};
-ghost use Rattle.cml_c.specs.Reading.{number_of_kind, bare, ReadsOn, HeldOn, HeldBytesOn, OpenOn, FullOn, sent_in, got_in, owed_in, kept_in, first_in, kind_in, channel_in, start_in, entries_of, cut_at_of, limit_of};
+ghost use Rattle.std.specs.Prelude.{◌≡◌, option_map, ⊤};
+ghost use Rattle.cml_c.specs.declared.readers.Reading.TheVariants as reading;
+ghost use Rattle.cml_c.specs.Handles.{OnEither, OnNumbers, OnBytes, OnRoom};
+ghost use Rattle.cml_c.specs.Reading.{number_of_kind, bare, found_in, Reads, ReadsOn, Holds, HoldsBytes, TellsOpen, TellsFull};
 
 use crate::code::Code;
 use crate::handle::Handle;
-use crate::kept::Kept;
+use crate::kept::{Kept, Resource, RoomOf, for_both};
 use crate::messages::{SeryugoBytes, hand_over_held};
 use crate::telling::{tell_found, tell_full, tell_held, tell_open};
-use cml_board::{Kind, Name};
+use cml_board::{Kind, Message, Name};
 use std::alloc::Global;
 
-/// How many messages were sent to a mailbox, or multicast on a channel. It is told `NoSuch` where no object of the name has such a count.
+/// A number that is read off a room: of one of its objects, or of its journal.
+#[derive(Clone, Copy)]
+pub enum Reading {
+    Sent(Name),
+    Got(Name),
+    Owed(Name),
+    Kept(Name),
+    First(Name),
+    Kind(Name),
+    Channel(Name),
+    Start(Name),
+    Entries,
+    CutAt,
+    Limit,
+}
+
+/// How many messages were sent to a mailbox, or multicast on a channel. Fails with `NoSuch` if no object of the name has such a count.
 #[unsafe(no_mangle)]
 pub extern "C" fn seryugo_sent(room: &mut Handle, object: u64, count: &mut u64) -> u32
-    ensures { ReadsOn (sent_in object) room.old.kept room.new.kept result count.old count.new }
+    ensures { ReadsOn (reading.Sent (record { 0 = object })) room.old.kept room.new.kept result count.old count.new }
 {
-    match room.as_mut() {
-        Kept::Room(room) => tell_found(room.board().sent_count(Name(object)), count),
-        Kept::BytesRoom(room) => tell_found(room.board().sent_count(Name(object)), count),
-        _ => Code::WrongHandle.number(),
-    }
+    read(room, Reading::Sent(Name(object)), count)
 }
 
-/// How many messages were received from a mailbox or a port. It is told `NoSuch` where no object of the name has such a count.
+/// How many messages were received from a mailbox or a port. Fails with `NoSuch` if no object of the name has such a count.
 #[unsafe(no_mangle)]
 pub extern "C" fn seryugo_got(room: &mut Handle, object: u64, count: &mut u64) -> u32
-    ensures { ReadsOn (got_in object) room.old.kept room.new.kept result count.old count.new }
+    ensures { ReadsOn (reading.Got (record { 0 = object })) room.old.kept room.new.kept result count.old count.new }
 {
-    match room.as_mut() {
-        Kept::Room(room) => tell_found(room.board().got_count(Name(object)), count),
-        Kept::BytesRoom(room) => tell_found(room.board().got_count(Name(object)), count),
-        _ => Code::WrongHandle.number(),
-    }
+    read(room, Reading::Got(Name(object)), count)
 }
 
-/// How many messages wait in a mailbox, or are owed to an open port. It is told `NoSuch` where no object of the name has such a count.
+/// How many messages wait in a mailbox, or are owed to an open port. Fails with `NoSuch` if no object of the name has such a count.
 #[unsafe(no_mangle)]
 pub extern "C" fn seryugo_owed(room: &mut Handle, object: u64, count: &mut u64) -> u32
-    ensures { ReadsOn (owed_in object) room.old.kept room.new.kept result count.old count.new }
+    ensures { ReadsOn (reading.Owed (record { 0 = object })) room.old.kept room.new.kept result count.old count.new }
 {
-    match room.as_mut() {
-        Kept::Room(room) => tell_found(room.board().owed_count(Name(object)), count),
-        Kept::BytesRoom(room) => tell_found(room.board().owed_count(Name(object)), count),
-        _ => Code::WrongHandle.number(),
-    }
+    read(room, Reading::Owed(Name(object)), count)
 }
 
-/// How many messages of a mailbox or a channel are kept. It is told `NoSuch` where no object of the name has such a count.
+/// How many messages of a mailbox or a channel are kept. Fails with `NoSuch` if no object of the name has such a count.
 #[unsafe(no_mangle)]
 pub extern "C" fn seryugo_kept(room: &mut Handle, object: u64, count: &mut u64) -> u32
-    ensures { ReadsOn (kept_in object) room.old.kept room.new.kept result count.old count.new }
+    ensures { ReadsOn (reading.Kept (record { 0 = object })) room.old.kept room.new.kept result count.old count.new }
 {
-    match room.as_mut() {
-        Kept::Room(room) => tell_found(room.board().kept_count(Name(object)), count),
-        Kept::BytesRoom(room) => tell_found(room.board().kept_count(Name(object)), count),
-        _ => Code::WrongHandle.number(),
-    }
+    read(room, Reading::Kept(Name(object)), count)
 }
 
-/// The place of the first message of a mailbox or a channel that is kept. It is told `NoSuch` where no object of the name has such a count.
+/// The place of the first message of a mailbox or a channel that is kept. Fails with `NoSuch` if no object of the name has such a count.
 #[unsafe(no_mangle)]
 pub extern "C" fn seryugo_first(room: &mut Handle, object: u64, count: &mut u64) -> u32
-    ensures { ReadsOn (first_in object) room.old.kept room.new.kept result count.old count.new }
+    ensures { ReadsOn (reading.First (record { 0 = object })) room.old.kept room.new.kept result count.old count.new }
 {
-    match room.as_mut() {
-        Kept::Room(room) => tell_found(room.board().first_of(Name(object)), count),
-        Kept::BytesRoom(room) => tell_found(room.board().first_of(Name(object)), count),
+    read(room, Reading::First(Name(object)), count)
+}
+
+/// An object's kind: a mailbox (0), a channel (1), a port (2), an i-variable (3) or an m-variable (4). Fails with `NoSuch` if
+/// no object has the name.
+#[unsafe(no_mangle)]
+pub extern "C" fn seryugo_kind(room: &mut Handle, object: u64, kind: &mut u64) -> u32
+    ensures { ReadsOn (reading.Kind (record { 0 = object })) room.old.kept room.new.kept result kind.old kind.new }
+{
+    read(room, Reading::Kind(Name(object)), kind)
+}
+
+/// A port's channel, by its name. Fails with `NoSuch` if no port has the name.
+#[unsafe(no_mangle)]
+pub extern "C" fn seryugo_channel_of(room: &mut Handle, port: u64, channel: &mut u64) -> u32
+    ensures { ReadsOn (reading.Channel (record { 0 = port })) room.old.kept room.new.kept result channel.old channel.new }
+{
+    read(room, Reading::Channel(Name(port)), channel)
+}
+
+/// How many messages had been multicast on a port's channel before the first that the port is to receive. Fails with `NoSuch`
+/// if no port has the name.
+#[unsafe(no_mangle)]
+pub extern "C" fn seryugo_start_of(room: &mut Handle, port: u64, start: &mut u64) -> u32
+    ensures { ReadsOn (reading.Start (record { 0 = port })) room.old.kept room.new.kept result start.old start.new }
+{
+    read(room, Reading::Start(Name(port)), start)
+}
+
+/// How many calls were accepted since the room was opened.
+#[unsafe(no_mangle)]
+pub extern "C" fn seryugo_entries(room: &mut Handle, count: &mut u64) -> u32
+    ensures { ReadsOn reading.Entries room.old.kept room.new.kept result count.old count.new }
+{
+    read(room, Reading::Entries, count)
+}
+
+/// How many of them were cut away: the position of the journal's first entry.
+#[unsafe(no_mangle)]
+pub extern "C" fn seryugo_cut_at(room: &mut Handle, count: &mut u64) -> u32
+    ensures { ReadsOn reading.CutAt room.old.kept room.new.kept result count.old count.new }
+{
+    read(room, Reading::CutAt, count)
+}
+
+/// How many entries the journal takes between two cuts.
+#[unsafe(no_mangle)]
+pub extern "C" fn seryugo_limit(room: &mut Handle, count: &mut u64) -> u32
+    ensures { ReadsOn reading.Limit room.old.kept room.new.kept result count.old count.new }
+{
+    read(room, Reading::Limit, count)
+}
+
+fn read(handle: &mut Handle, reading: Reading, number: &mut u64) -> u32
+    ensures { ReadsOn reading handle.old.kept handle.new.kept result number.old number.new }
+{
+    for_both!(handle.as_mut(), resource => read_resource(resource, reading, number))
+}
+
+fn read_resource<M: Message>(resource: &mut Resource<M>, reading: Reading, number: &mut u64) -> u32
+    ensures { OnRoom (Reads reading result number.old number.new) (number.new ≡ number.old) result resource.old resource.new }
+{
+    match resource {
+        Resource::Room(room) => read_room(room, reading, number),
         _ => Code::WrongHandle.number(),
     }
 }
 
-/// An object's kind: a mailbox (0), a channel (1), a port (2), an i-variable (3) or an m-variable (4). It is told `NoSuch`
-/// where no object has the name.
-#[unsafe(no_mangle)]
-pub extern "C" fn seryugo_kind(room: &mut Handle, object: u64, kind: &mut u64) -> u32
-    ensures { ReadsOn (kind_in object) room.old.kept room.new.kept result kind.old kind.new }
+fn read_room<M: Message>(room: &mut RoomOf<M>, reading: Reading, number: &mut u64) -> u32
+    ensures { Reads reading result number.old number.new room.old room.new }
 {
-    match room.as_mut() {
-        Kept::Room(room) => tell_found(number_of(room.board().kind(Name(object))), kind),
-        Kept::BytesRoom(room) => tell_found(number_of(room.board().kind(Name(object))), kind),
-        _ => Code::WrongHandle.number(),
+    tell_found(found_in(room, reading), number)
+}
+
+fn found_in<M: Message>(room: &RoomOf<M>, reading: Reading) -> Option<u64>
+    ensures { result ≡ found_in reading room.now }
+{
+    let board = room.board();
+    match reading {
+        Reading::Sent(object) => board.sent_count(object),
+        Reading::Got(object) => board.got_count(object),
+        Reading::Owed(object) => board.owed_count(object),
+        Reading::Kept(object) => board.kept_count(object),
+        Reading::First(object) => board.first_of(object),
+        Reading::Kind(object) => number_of(board.kind(object)),
+        Reading::Channel(port) => bare(board.channel_of(port)),
+        Reading::Start(port) => board.start_of(port),
+        Reading::Entries => Some(board.entries()),
+        Reading::CutAt => Some(board.cut_at()),
+        Reading::Limit => Some(board.limit()),
     }
 }
 
@@ -95,80 +170,21 @@ fn number_of(kind: Option<Kind>) -> Option<u64>
     })
 }
 
-/// A port's channel, by its name. It is told `NoSuch` where no port has the name.
-#[unsafe(no_mangle)]
-pub extern "C" fn seryugo_channel_of(room: &mut Handle, port: u64, channel: &mut u64) -> u32
-    ensures { ReadsOn (channel_in port) room.old.kept room.new.kept result channel.old channel.new }
-{
-    match room.as_mut() {
-        Kept::Room(room) => tell_found(bare(room.board().channel_of(Name(port))), channel),
-        Kept::BytesRoom(room) => tell_found(bare(room.board().channel_of(Name(port))), channel),
-        _ => Code::WrongHandle.number(),
-    }
-}
-
 fn bare(name: Option<Name>) -> Option<u64>
     ensures { result ≡ option_map bare name }
 {
     Some(name?.0)
 }
 
-/// How many messages had been multicast on a port's channel before the first that the port is to receive. It is told `NoSuch`
-/// where no port has the name.
-#[unsafe(no_mangle)]
-pub extern "C" fn seryugo_start_of(room: &mut Handle, port: u64, start: &mut u64) -> u32
-    ensures { ReadsOn (start_in port) room.old.kept room.new.kept result start.old start.new }
-{
-    match room.as_mut() {
-        Kept::Room(room) => tell_found(room.board().start_of(Name(port)), start),
-        Kept::BytesRoom(room) => tell_found(room.board().start_of(Name(port)), start),
-        _ => Code::WrongHandle.number(),
-    }
-}
-
-/// How many calls were accepted since the room was opened.
-#[unsafe(no_mangle)]
-pub extern "C" fn seryugo_entries(room: &mut Handle, count: &mut u64) -> u32
-    ensures { ReadsOn entries_of room.old.kept room.new.kept result count.old count.new }
-{
-    match room.as_mut() {
-        Kept::Room(room) => tell_found(Some(room.board().entries()), count),
-        Kept::BytesRoom(room) => tell_found(Some(room.board().entries()), count),
-        _ => Code::WrongHandle.number(),
-    }
-}
-
-/// How many of them were cut away: the position of the journal's first entry.
-#[unsafe(no_mangle)]
-pub extern "C" fn seryugo_cut_at(room: &mut Handle, count: &mut u64) -> u32
-    ensures { ReadsOn cut_at_of room.old.kept room.new.kept result count.old count.new }
-{
-    match room.as_mut() {
-        Kept::Room(room) => tell_found(Some(room.board().cut_at()), count),
-        Kept::BytesRoom(room) => tell_found(Some(room.board().cut_at()), count),
-        _ => Code::WrongHandle.number(),
-    }
-}
-
-/// How many entries the journal takes between two cuts.
-#[unsafe(no_mangle)]
-pub extern "C" fn seryugo_limit(room: &mut Handle, count: &mut u64) -> u32
-    ensures { ReadsOn limit_of room.old.kept room.new.kept result count.old count.new }
-{
-    match room.as_mut() {
-        Kept::Room(room) => tell_found(Some(room.board().limit()), count),
-        Kept::BytesRoom(room) => tell_found(Some(room.board().limit()), count),
-        _ => Code::WrongHandle.number(),
-    }
-}
-
-/// What a variable of a room of numbers holds. It is told `Nothing` where it is empty, and `NoSuch` where no variable has the name.
+/// What a variable of a room of numbers holds. Returns `Nothing` if it is empty. Fails with `NoSuch` if no variable has the name.
 #[unsafe(no_mangle)]
 pub extern "C" fn seryugo_held(room: &mut Handle, variable: u64, message: &mut u64) -> u32
-    ensures { HeldOn variable room.old.kept room.new.kept result message.old message.new }
+    ensures { OnNumbers (OnRoom (Holds variable result message.old message.new)) (message.new ≡ message.old) result room.old.kept room.new.kept }
 {
     match room.as_mut() {
-        Kept::Room(room) => tell_held(room.board().held(Name(variable)), message),
+        Kept::Numbers(Resource::Room(room)) => {
+            tell_held(room.board().held(Name(variable)), message)
+        }
         _ => Code::WrongHandle.number(),
     }
 }
@@ -181,34 +197,58 @@ pub extern "C" fn seryugo_bytes_held(
     variable: u64,
     message: &mut SeryugoBytes,
 ) -> u32
-    ensures { HeldBytesOn variable room.old.kept room.new.kept result message.old message.new }
+    ensures { OnBytes (OnRoom (HoldsBytes variable result message.old message.new)) (message.new ≡ message.old) result room.old.kept room.new.kept }
 {
     match room.as_mut() {
-        Kept::BytesRoom(room) => hand_over_held(alloc, room.board().held(Name(variable)), message),
+        Kept::Bytes(Resource::Room(room)) => {
+            hand_over_held(alloc, room.board().held(Name(variable)), message)
+        }
         _ => Code::WrongHandle.number(),
     }
 }
 
-/// Whether a port is open: `Done` where it is, `Closed` where it was closed, `NoSuch` where no port has the name.
+/// Whether a port is open: `Done` if it is, `Closed` if it was closed, `NoSuch` if no port has the name.
 #[unsafe(no_mangle)]
 pub extern "C" fn seryugo_is_open(room: &mut Handle, port: u64) -> u32
-    ensures { OpenOn port room.old.kept room.new.kept result }
+    ensures { OnEither (λ M sure. OnRoom (TellsOpen port result)) ⊤ result room.old.kept room.new.kept }
 {
-    match room.as_mut() {
-        Kept::Room(room) => tell_open(room.board().is_open(Name(port))),
-        Kept::BytesRoom(room) => tell_open(room.board().is_open(Name(port))),
+    for_both!(room.as_mut(), resource => is_open(resource, port))
+}
+
+fn is_open<M: Message>(resource: &mut Resource<M>, port: u64) -> u32
+    ensures { OnRoom (TellsOpen port result) ⊤ result resource.old resource.new }
+{
+    match resource {
+        Resource::Room(room) => tell_open_port(room, port),
         _ => Code::WrongHandle.number(),
     }
 }
 
-/// Whether the journal takes more entries: `Done` where it does, and else `JournalFull`.
+fn tell_open_port<M: Message>(room: &mut RoomOf<M>, port: u64) -> u32
+    ensures { TellsOpen port result room.old room.new }
+{
+    tell_open(room.board().is_open(Name(port)))
+}
+
+/// Whether the journal takes more entries: `Done` if it does, and else `JournalFull`.
 #[unsafe(no_mangle)]
 pub extern "C" fn seryugo_is_full(room: &mut Handle) -> u32
-    ensures { FullOn room.old.kept room.new.kept result }
+    ensures { OnEither (λ M sure. OnRoom (TellsFull result)) ⊤ result room.old.kept room.new.kept }
 {
-    match room.as_mut() {
-        Kept::Room(room) => tell_full(room.board().is_full()),
-        Kept::BytesRoom(room) => tell_full(room.board().is_full()),
+    for_both!(room.as_mut(), resource => is_full(resource))
+}
+
+fn is_full<M: Message>(resource: &mut Resource<M>) -> u32
+    ensures { OnRoom (TellsFull result) ⊤ result resource.old resource.new }
+{
+    match resource {
+        Resource::Room(room) => tell_full_room(room),
         _ => Code::WrongHandle.number(),
     }
+}
+
+fn tell_full_room<M: Message>(room: &mut RoomOf<M>) -> u32
+    ensures { TellsFull result room.old room.new }
+{
+    tell_full(room.board().is_full())
 }

@@ -1,14 +1,15 @@
 //! Rooms are opened and closed, and seats are made and leave.
-ghost use Rattle.std.specs.Prelude.{◌≡◌, ◌⊎◌, IfOk, IfErr};
+ghost use Rattle.std.specs.Prelude.{◌≡◌, ◌⊎◌, IfOk, IfErr, ⊤};
 ghost use Rattle.cml_c.specs.declared.code.Code.TheVariants.{NoMemory, OutOfBounds};
 ghost use Rattle.cml_c.specs.declared.kept.Kept.TheVariants as kept;
 ghost use Rattle.cml_c.specs.Codes.{number, told_outcome};
-ghost use Rattle.cml_c.specs.Seats.{MakesSeat, MakesASeat, Leaves};
+ghost use Rattle.cml_c.specs.Seats.{MakesSeat, Leaves};
+ghost use Rattle.cml_c.specs.Handles.{OnEither, OnRoom};
 ghost use Rattle.cml_c.specs.Opening.{IsLimit, IsNew, OpensARoom, Writes};
 
 use crate::code::Code;
 use crate::handle::{Handle, Slot};
-use crate::kept::{Kept, RoomOf};
+use crate::kept::{Kept, Resource, RoomOf, for_both};
 use cml_board::{Message, Refusal};
 use cml_room::Room;
 use std::alloc::Global;
@@ -19,10 +20,10 @@ const MOST: u64 = 4_294_967_296;
 /// Opens a room of numbers whose journal takes `limit` entries between two cuts, and writes a handle to it.
 #[unsafe(no_mangle)]
 pub extern "C" fn seryugo_room_open(alloc: Global, limit: u64, room: &mut Slot) -> u32
-    ensures { OpensARoom kept.Room limit result room.old room.new }
+    ensures { OpensARoom kept.Numbers limit result room.old room.new }
 {
     match new_room(alloc, limit) {
-        Ok(opened) => write_handle(alloc, Kept::Room(opened), room),
+        Ok(opened) => write_handle(alloc, Kept::Numbers(Resource::Room(opened)), room),
         Err(code) => code.number(),
     }
 }
@@ -30,22 +31,25 @@ pub extern "C" fn seryugo_room_open(alloc: Global, limit: u64, room: &mut Slot) 
 /// Opens a room of bytes whose journal takes `limit` entries between two cuts, and writes a handle to it.
 #[unsafe(no_mangle)]
 pub extern "C" fn seryugo_bytes_room_open(alloc: Global, limit: u64, room: &mut Slot) -> u32
-    ensures { OpensARoom kept.BytesRoom limit result room.old room.new }
+    ensures { OpensARoom kept.Bytes limit result room.old room.new }
 {
     match new_room(alloc, limit) {
-        Ok(opened) => write_handle(alloc, Kept::BytesRoom(opened), room),
+        Ok(opened) => write_handle(alloc, Kept::Bytes(Resource::Room(opened)), room),
         Err(code) => code.number(),
     }
 }
 
-fn new_room<M: Message>(alloc: Global, limit: u64) -> Result<RoomOf<M>, Code>
-    ensures opened { IfOk result (λ room. IsLimit limit × IsNew limit room) }
+fn new_room<M: Message>(alloc: Global, limit: u64) -> Result<Box<RoomOf<M>>, Code>
+    ensures opened { IfOk result (λ room. IsLimit limit × IsNew limit room.value) }
     ensures refused { IfErr result (λ code. (code ≡ NoMemory × IsLimit limit) ⊎ (code ≡ OutOfBounds × ¬ (IsLimit limit))) }
 {
     if limit < 1 || limit > MOST {
         return Err(Code::OutOfBounds);
     }
-    match Room::new(alloc, limit) {
+    let Ok(room) = Room::new(alloc, limit) else {
+        return Err(Code::NoMemory);
+    };
+    match Box::new(alloc, room) {
         Ok(room) => Ok(room),
         Err(_) => Err(Code::NoMemory),
     }
@@ -73,18 +77,17 @@ pub extern "C" fn seryugo_close(handle: Handle) {
 /// Makes a seat, and writes its number.
 #[unsafe(no_mangle)]
 pub extern "C" fn seryugo_new_seat(room: &mut Handle, seat: &mut u64) -> u32
-    ensures { MakesASeat room.old.kept room.new.kept result seat.old seat.new }
+    ensures { OnEither (λ M sure. OnRoom (MakesSeat result seat.old seat.new)) (seat.new ≡ seat.old) result room.old.kept room.new.kept }
 {
-    match room.as_mut() {
-        Kept::Room(room) => new_seat_in(room, seat),
-        Kept::BytesRoom(room) => new_seat_in(room, seat),
-        _ => Code::WrongHandle.number(),
-    }
+    for_both!(room.as_mut(), resource => new_seat(resource, seat))
 }
 
-fn new_seat_in<M: Message>(room: &mut RoomOf<M>, seat: &mut u64) -> u32
-    ensures { MakesSeat result seat.old seat.new room.old room.new }
+fn new_seat<M: Message>(resource: &mut Resource<M>, seat: &mut u64) -> u32
+    ensures { OnRoom (MakesSeat result seat.old seat.new) (seat.new ≡ seat.old) result resource.old resource.new }
 {
+    let Resource::Room(room) = resource else {
+        return Code::WrongHandle.number();
+    };
     match room.new_seat() {
         Ok(number) => {
             *seat = number;
@@ -97,11 +100,16 @@ fn new_seat_in<M: Message>(room: &mut RoomOf<M>, seat: &mut u64) -> u32
 /// A seat leaves: it makes no more calls.
 #[unsafe(no_mangle)]
 pub extern "C" fn seryugo_leave(room: &mut Handle, seat: u64) -> u32
-    ensures { Leaves seat room.old.kept room.new.kept result }
+    ensures { OnEither (λ M sure. OnRoom (Leaves seat result)) ⊤ result room.old.kept room.new.kept }
 {
-    match room.as_mut() {
-        Kept::Room(room) => code_of(room.leave(seat)),
-        Kept::BytesRoom(room) => code_of(room.leave(seat)),
+    for_both!(room.as_mut(), resource => leave(resource, seat))
+}
+
+fn leave<M: Message>(resource: &mut Resource<M>, seat: u64) -> u32
+    ensures { OnRoom (Leaves seat result) ⊤ result resource.old resource.new }
+{
+    match resource {
+        Resource::Room(room) => code_of(room.leave(seat)),
         _ => Code::WrongHandle.number(),
     }
 }
