@@ -1,7 +1,9 @@
 //! What the messages of a workload can be: numbers, texts, bytes that all shares own together, or bytes that each share copies.
-use crate::copied::Copied;
+ghost use Rattle.std.specs.Prelude.{false};
+
 use cml_board::{Bytes, Entry, Message, Text};
 use std::alloc::{AllocError, Global};
+use std::marker::Model;
 use std::mem;
 
 /// An entry of a text's board is at most 88 bytes, those that its texts own apart.
@@ -41,6 +43,33 @@ impl Supply {
     }
 }
 
+/// Bytes of which each share takes memory and copies all. Contracts see them as their list.
+#[derive(Drop)]
+pub struct Copied {
+    pub bytes: Vec<u8>,
+}
+
+impl Model for Copied {
+    ghost use Rattle.std.specs.Prelude.{ℕ, List};
+
+    ghost Value = { List ℕ };
+
+    ghost view = { λ copied. copied.bytes.items };
+}
+
+impl Message for Copied {
+    ghost SURE = { false };
+
+    fn share(&self, alloc: Global) -> Result<Copied, AllocError> {
+        let bytes = Vec::from_slice(alloc, &self.bytes)?;
+        Ok(Copied { bytes })
+    }
+
+    fn same(&self, other: &Copied) -> bool {
+        self.bytes.as_slice() == other.bytes.as_slice()
+    }
+}
+
 /// A message for each number.
 pub trait Numbered: Message {
     fn of_number(supply: &Supply, number: u64) -> Result<Self, AllocError>;
@@ -68,7 +97,7 @@ impl Numbered for Text {
     fn added_to(&self, sum: u64) -> u64 {
         let mut sum = sum;
         for byte in self.as_bytes() {
-            sum = sum.wrapping_mul(31).wrapping_add(*byte as u64);
+            sum = (*byte as u64).added_to(sum);
         }
         sum
     }
@@ -89,11 +118,12 @@ impl Numbered for Bytes {
 
 impl Numbered for Copied {
     fn of_number(supply: &Supply, number: u64) -> Result<Copied, AllocError> {
-        Copied::from_slice(supply.alloc, supply.bytes(number))
+        let bytes = Vec::from_slice(supply.alloc, supply.bytes(number))?;
+        Ok(Copied { bytes })
     }
 
     fn added_to(&self, sum: u64) -> u64 {
-        with_ends(sum, self.as_slice())
+        with_ends(sum, &self.bytes)
     }
 }
 

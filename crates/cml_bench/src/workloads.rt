@@ -1,0 +1,145 @@
+//! The table of workloads.
+use crate::roles::Crews;
+use crate::roles::Role::{
+    CastTo, Caster, Client, Collector, Cutter, Drainer, FeedReader, Getter, Holder, LaneSender,
+    Pacer, Pair, Passer, Pumper, Putter, Reader, Sender, Taker, Worker,
+};
+use Ground::{Board, Chunks, CutBoard, Deque, Hall, Journal, Lane};
+use Messages::{Bytes, LongTexts, Numbers, One, Texts, Vectors};
+
+/// What a workload runs on.
+#[derive(Clone, Copy)]
+pub enum Ground {
+    Board,
+    /// A board whose journal is cut again and again.
+    CutBoard,
+    /// The journal of a board, which is checked.
+    Journal,
+    /// A log in a deque, with eight cursors.
+    Deque,
+    /// The same in chunks.
+    Chunks,
+    /// A lane, beside a bare ring and a board.
+    Lane,
+    /// A switchboard.
+    Hall,
+}
+
+#[derive(Clone, Copy)]
+pub enum Messages {
+    Numbers,
+    /// The number 1 alone, whatever N is.
+    One,
+    /// The digits of numbers.
+    Texts,
+    /// The same with 20 digits each.
+    LongTexts,
+    /// So many bytes, which all shares own together.
+    Bytes(usize),
+    /// So many bytes, which each share copies.
+    Vectors(usize),
+}
+
+/// A workload's name, what it runs on, its messages, and its threads.
+#[derive(Clone, Copy)]
+pub struct Workload(pub &'static str, pub Ground, pub Messages, pub Crews);
+
+pub const WORKLOADS: &[Workload] = &[
+    Workload("pairs1", Board, Numbers, &[(1, Pair)]),
+    Workload("burst1", Board, Numbers, &[(1, Sender), (1, Getter)]),
+    Workload("cast8", Board, Numbers, &[(1, CastTo(8))]),
+    Workload("var1", Board, Numbers, &[(1, Holder)]),
+    Workload("pairs1_text", Board, Texts, &[(1, Pair)]),
+    Workload("pairs1_text20", Board, LongTexts, &[(1, Pair)]),
+    Workload("cast8_text", Board, Texts, &[(1, CastTo(8))]),
+    Workload("pairs1_bytes8", Board, Bytes(8), &[(1, Pair)]),
+    Workload("pairs1_bytes64", Board, Bytes(64), &[(1, Pair)]),
+    Workload("pairs1_bytes1000", Board, Bytes(1_000), &[(1, Pair)]),
+    Workload("cast8_bytes64", Board, Bytes(64), &[(1, CastTo(8))]),
+    Workload("pairs1_vec64", Board, Vectors(64), &[(1, Pair)]),
+    Workload("pairs1_vec1000", Board, Vectors(1_000), &[(1, Pair)]),
+    Workload("ports1000", Board, One, &[(1, CastTo(1_000))]),
+    Workload("ports10000", Board, One, &[(1, CastTo(10_000))]),
+    Workload("ports100000", Board, One, &[(1, CastTo(100_000))]),
+    Workload("log8", Deque, Numbers, &[(1, CastTo(8))]),
+    Workload("log8", Chunks, Numbers, &[(1, CastTo(8))]),
+    Workload("lane2", Lane, Numbers, &[(1, Sender)]),
+    Workload("check1", Journal, Numbers, &[(1, Pair)]),
+    Workload("soak1", CutBoard, Numbers, &[(1, Pair)]),
+    Workload("pairs1", Hall, Numbers, &[(1, Pair)]),
+    Workload("pipe2", Hall, Numbers, &[(1, Getter), (1, Sender)]),
+    Workload(
+        "pipe2_bytes64",
+        Hall,
+        Bytes(64),
+        &[(1, Getter), (1, Sender)],
+    ),
+    Workload("fanin4", Hall, Numbers, &[(1, Collector), (4, Sender)]),
+    Workload(
+        "fanin4_lanes",
+        Hall,
+        Numbers,
+        &[(1, Drainer), (4, LaneSender)],
+    ),
+    Workload("cast8", Hall, Numbers, &[(8, Reader), (1, Caster)]),
+    Workload("feed8", Hall, Numbers, &[(8, FeedReader), (1, Pumper)]),
+    Workload("var2", Hall, Numbers, &[(1, Putter), (1, Taker)]),
+    Workload("soak2", Hall, Numbers, &[(1, Cutter), (1, Pacer)]),
+    Workload("token8", Hall, Numbers, &[(8, Passer)]),
+    Workload("token63", Hall, Numbers, &[(63, Passer)]),
+    Workload("server32", Hall, Numbers, &[(8, Worker), (32, Client)]),
+    Workload("server128", Hall, Numbers, &[(8, Worker), (128, Client)]),
+];
+
+impl Messages {
+    /// The number of the first message, and how many there are of N.
+    pub fn range(self, count: u64) -> (u64, u64) {
+        match self {
+            One => (1, 1),
+            LongTexts => (10_000_000_000_000_000_000, count),
+            _ => (0, count),
+        }
+    }
+
+    /// How many bytes each has, if it is made of bytes.
+    pub fn length(self) -> usize {
+        match self {
+            Bytes(length) | Vectors(length) => length,
+            _ => 0,
+        }
+    }
+}
+
+impl Workload {
+    /// Only one workload of a name can be done alone.
+    pub fn can_be_alone(self) -> bool {
+        match self.1 {
+            Board => !matches!(self.2, Numbers | One),
+            Journal | Lane => false,
+            CutBoard | Deque | Chunks | Hall => true,
+        }
+    }
+
+    /// It takes longer, and a sum shows no more than that of a smaller one.
+    pub fn is_large(self) -> bool {
+        matches!(self.3.first(), Some((_, CastTo(ports))) if *ports > 1_000)
+    }
+
+    /// N turns, or the next fewer that its threads can share equally, one each at least.
+    pub fn turns(self, count: u64) -> u64 {
+        let mut most = 1u64;
+        for (threads, role) in self.3.iter() {
+            most = most.max(role.sharers(*threads));
+        }
+        let each = count.checked_div(most).unwrap_or(0).max(1);
+        each.saturating_mul(most)
+    }
+
+    /// How many calls were made. A turn with a token or a request counts for one, with all calls that it takes.
+    pub fn calls(self, turns: u64, entries: u64) -> u64 {
+        match self.3.first() {
+            Some((_, Passer | Worker)) => turns,
+            _ => entries,
+        }
+    }
+}
