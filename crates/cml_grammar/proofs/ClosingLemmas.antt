@@ -24,7 +24,7 @@ use Rattle.cml_grammar.specs.Meaning.{scope_of, names_of, makes_by, action_by}
 use Rattle.cml_grammar.specs.Reading.{view_of, texts_of, UsesWell, IsMadeWell, IsReadSoFar, threads_by}
 use Rattle.cml_grammar.specs.Suiting.{AllSuit}
 use Rattle.cml_grammar.proofs.NameLemmas.{inserted_texts}
-use Rattle.cml_grammar.proofs.TableLemmas.{Passes, words_pass, all_suit-passes, fresh_is_new}
+use Rattle.cml_grammar.proofs.TableLemmas.{Passes, words_pass, all_suit-passes, fresh_suits}
 use Rattle.cml_grammar.proofs.KeepingLemmas.{declared_scope, declared_so_far, asked_scope, asked_so_far}
 
 abbrev Names : Type 0
@@ -59,7 +59,7 @@ module _ (v : ℕ) (now : Lines) (m : Names) (ds ds' : List Declaration) (ls : L
   fresh : is_given (texts_of m.entries) name ≡ false
   fresh =
       ap (λ gs. is_given gs name) so_far.names
-      ∙ fresh_is_new (names_of (view_of v ds ls ss)) (declared_places what rest) rest name (declared_suits (view_of v ds ls ss) (words_of (string_bytes d.line.text)) what rest before.fits before.form) there
+      ∙ (fresh_suits (names_of (view_of v ds ls ss)) (declared_places what rest) rest name (declared_suits (view_of v ds ls ss) (words_of (string_bytes d.line.text)) what rest before.fits before.form) there).1
 
   made : makes_by (names_of (view_of v ds ls ss)) what rest ≡ Some d.makes
   made = ap (λ gs. makes_by gs what rest) (sym so_far.names) ∙ makes
@@ -120,7 +120,7 @@ module _ (v : ℕ) (now : Lines) (m : Names) (ds : List Declaration) (ls : List 
   pub giving_closes : (name : List ℕ) → fresh_word (step_places verb) rest ≡ Some name → (es' : List (String Global × Named)) (key : String Global)
       → string_bytes key ≡ name → es' ≡ insert_entry string_eq m.entries key (called.Port (users.One s.seat)) → IsReadSoFar (view_of v ds ls ss') es' ds ls cs ss' threads
   giving_closes name there es' key same inserted =
-      let free : is_given (texts_of m.entries) name ≡ false = ap (λ gs. is_given gs name) so_far.names ∙ fresh_is_new (names_of (view_of v ds ls ss)) (step_places verb) rest name (asked_suits (view_of v ds ls ss) (words_of (string_bytes s.line.text)) s.seat verb rest before_step.fits before_step.form) there in
+      let free : is_given (texts_of m.entries) name ≡ false = ap (λ gs. is_given gs name) so_far.names ∙ (fresh_suits (names_of (view_of v ds ls ss)) (step_places verb) rest name (asked_suits (view_of v ds ls ss) (words_of (string_bytes s.line.text)) s.seat verb rest before_step.fits before_step.form) there).1 in
       closes es' (
       ap texts_of inserted
       ∙ inserted_texts m key (called.Port (users.One s.seat)) name same free

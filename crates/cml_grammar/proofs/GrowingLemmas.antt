@@ -86,23 +86,13 @@ IsVariableAt-append names more at h = elim h [ inl a ↦ inl (IsIVarAt-append na
 
 pub GivesAt-append : (names more : List Given) (at : ℕ) (word : List ℕ) (made : Makes) → GivesAt names at word made → GivesAt (names ++ more) at word made
 GivesAt-append names more at word makes.Thread h = (h.0, slice_get-append names more at _ h.1)
-GivesAt-append names more at word makes.Mailbox h = slice_get-append names more at _ h
-GivesAt-append names more at word makes.Channel h = slice_get-append names more at _ h
-GivesAt-append names more at word (makes.Port channel) h = slice_get-append names more at _ h
-GivesAt-append names more at word makes.IVar h = slice_get-append names more at _ h
-GivesAt-append names more at word makes.MVar h = slice_get-append names more at _ h
-GivesAt-append names more at word (makes.MVarInit message) h = slice_get-append names more at _ h
-GivesAt-append names more at word (makes.Feed f) h = slice_get-append names more at _ h
+GivesAt-append names more at word _ h = slice_get-append names more at _ h
 
 pub IsMadeWell-append : (names more : List Given) (i : ℕ) (made : Makes) → IsMadeWell names i made → IsMadeWell (names ++ more) i made
-IsMadeWell-append names more i makes.Thread h = tt
-IsMadeWell-append names more i makes.Mailbox h = tt
-IsMadeWell-append names more i makes.Channel h = tt
 IsMadeWell-append names more i (makes.Port channel) h = (IsChannelAt-append names more channel h.0, h.1)
-IsMadeWell-append names more i makes.IVar h = tt
-IsMadeWell-append names more i makes.MVar h = tt
 IsMadeWell-append names more i (makes.MVarInit message) h = h
 IsMadeWell-append names more i (makes.Feed f) h = (IsChannelAt-append names more f.channel h.0, h.1, IsSeat-append names more f.seat h.2, h.3)
+IsMadeWell-append names more i _ h = tt
 
 -- what a pair of look-ups found
 pub both_found : {X Y Z : Type 0} (f : X → Y → Z) (first : Option X) (second : Option Y) (z : Z) → option_and_then (λ x. option_map (f x) second) first ≡ Some z → (x : X) × (y : Y) × (first ≡ Some x) × (second ≡ Some y) × (f x y ≡ z)
@@ -114,33 +104,24 @@ pub both_same : {X Y Z : Type 0} (f : X → Y → Z) (first : Option X) (second 
 both_same f first second x y e g = ap (option_and_then (λ x. option_map (f x) second)) e ∙ ap (option_map (f x)) g
 
 feed_by-append : (names more : List Given) (rest : List (List ℕ)) (f : FeedMaking) → feed_by names rest ≡ Some f → feed_by (names ++ more) rest ≡ Some f
-feed_by-append names more [] f h = absurd (none-some f h)
-feed_by-append names more (thread ∷ []) f h = absurd (none-some f h)
-feed_by-append names more (thread ∷ name ∷ []) f h = absurd (none-some f h)
-feed_by-append names more (thread ∷ name ∷ channel ∷ []) f h = absurd (none-some f h)
-feed_by-append names more (thread ∷ name ∷ channel ∷ capacity ∷ word ∷ rest) f h = absurd (none-some f h)
 feed_by-append names more (thread ∷ name ∷ channel ∷ capacity ∷ []) f h =
     let said : ℕ → ℕ → FeedMaking = (λ seat at. record { seat = seat; channel = at; capacity = digits_value 10 capacity }) in
     let found = both_found said (seat_of names thread) (position_of names channel) f h in
     both_same said (seat_of (names ++ more) thread) (position_of (names ++ more) channel) found.0 found.1 (seat_of-append names more thread found.0 found.2) (position_of-append names more channel found.1 found.3)
     ∙ ap Some found.4
+feed_by-append names more _ f h = absurd (none-some f h)
 
 pub makes_by-append : (names more : List Given) (what : Declares) (rest : List (List ℕ)) (made : Makes) → makes_by names what rest ≡ Some made → makes_by (names ++ more) what rest ≡ Some made
-makes_by-append names more declares.Mailbox rest made h = h
-makes_by-append names more declares.Channel rest made h = h
 makes_by-append names more declares.Port [] made h = absurd (none-some made h)
 makes_by-append names more declares.Port (channel ∷ rest) made h =
     let found = mapped_some makes.Port (position_of names channel) made h in
     ap (option_map makes.Port) (position_of-append names more channel found.0 found.1) ∙ ap Some found.2
-makes_by-append names more declares.IVar rest made h = h
-makes_by-append names more declares.MVar [] made h = h
-makes_by-append names more declares.MVar (name ∷ []) made h = h
 makes_by-append names more declares.MVar (name ∷ message ∷ []) made h = h
-makes_by-append names more declares.MVar (name ∷ message ∷ word ∷ rest) made h = h
-makes_by-append names more declares.Thread rest made h = h
+makes_by-append names more declares.MVar _ made h = h
 makes_by-append names more declares.Feed rest made h =
     let found = mapped_some makes.Feed (feed_by names rest) made h in
     ap (option_map makes.Feed) (feed_by-append names more rest found.0 found.1) ∙ ap Some found.2
+makes_by-append names more _ rest made h = h
 
 makes_of-append : (names more : List Given) (words : List (List ℕ)) (made : Makes) → makes_of names words ≡ Some made → makes_of (names ++ more) words ≡ Some made
 makes_of-append names more [] made h = absurd (none-some made h)
@@ -243,14 +224,11 @@ ends_by-append names more (thread ∷ target ∷ rest) ends h =
     ∙ ap Some found.4
 
 lane_by-append : (names more : List Given) (rest : List (List ℕ)) (l : Laid) → lane_by names rest ≡ Some l → lane_by (names ++ more) rest ≡ Some l
-lane_by-append names more [] l h = absurd (none-some l h)
-lane_by-append names more (thread ∷ []) l h = absurd (none-some l h)
-lane_by-append names more (thread ∷ target ∷ []) l h = absurd (none-some l h)
-lane_by-append names more (thread ∷ target ∷ capacity ∷ word ∷ rest) l h = absurd (none-some l h)
 lane_by-append names more (thread ∷ target ∷ capacity ∷ []) l h =
     let said : Ends → Laid = (λ ends. (ends, digits_value 10 capacity)) in
     let found = mapped_some said (ends_by names (thread ∷ target ∷ [])) l h in
     ap (option_map said) (ends_by-append names more (thread ∷ target ∷ []) found.0 found.1) ∙ ap Some found.2
+lane_by-append names more _ l h = absurd (none-some l h)
 
 lane_of-append : (names more : List Given) (words : List (List ℕ)) (l : Laid) → lane_of names words ≡ Some l → lane_of (names ++ more) words ≡ Some l
 lane_of-append names more [] l h = absurd (none-some l h)
@@ -264,17 +242,17 @@ ReadsLane-append names more l h = record {
   capacity = h.capacity;
 }
 
--- a lane line says its ends
-ends_from_lane : (names : List Given) (words : List (List ℕ)) (l : Laid) → lane_of names words ≡ Some l → ends_of names words ≡ Some l.0
-ends_from_lane names [] l h = absurd (none-some l h)
-ends_from_lane names (word ∷ []) l h = absurd (none-some l h)
-ends_from_lane names (word ∷ thread ∷ []) l h = absurd (none-some l h)
-ends_from_lane names (word ∷ thread ∷ target ∷ []) l h = absurd (none-some l h)
-ends_from_lane names (word ∷ thread ∷ target ∷ capacity ∷ more ∷ rest) l h = absurd (none-some l h)
-ends_from_lane names (word ∷ thread ∷ target ∷ capacity ∷ []) l h =
+-- the words after `lane` say its ends, and so does the whole line
+pub ends_said : (names : List Given) (rest : List (List ℕ)) (l : Laid) → lane_by names rest ≡ Some l → ends_by names rest ≡ Some l.0
+ends_said names (thread ∷ target ∷ capacity ∷ []) l h =
     let said : Ends → Laid = (λ ends. (ends, digits_value 10 capacity)) in
     let found = mapped_some said (ends_by names (thread ∷ target ∷ [])) l h in
     found.1 ∙ ap Some (ap (λ (x : Laid). x.0) found.2)
+ends_said names _ l h = absurd (none-some l h)
+
+ends_from_lane : (names : List Given) (words : List (List ℕ)) (l : Laid) → lane_of names words ≡ Some l → ends_of names words ≡ Some l.0
+ends_from_lane names [] l h = absurd (none-some l h)
+ends_from_lane names (word ∷ rest) l h = ends_said names rest l h
 
 abbrev lines_of_lanes : List Lane → List SourceLine
 lines_of_lanes ls = map (λ (l : Lane). source_of l.line) ls

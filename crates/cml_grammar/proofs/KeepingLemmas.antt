@@ -54,12 +54,8 @@ thread_count-push names word declares.Feed threads owner = sum_by_push _ names (
 
 seated_more : (m n : ℕ) → m ≤ n → (k : Named) → IsSeatedWithin m k → IsSeatedWithin n k
 seated_more m n le (called.Thread seat) h = (h.0, omega (arith, h.1))
-seated_more m n le called.Mailbox h = tt
-seated_more m n le called.Channel h = tt
-seated_more m n le (called.Port whose) h = tt
-seated_more m n le called.IVar h = tt
-seated_more m n le called.MVar h = tt
 seated_more m n le (called.Feed owner) h = (h.0, omega (arith, h.1))
+seated_more m n le _ h = tt
 
 -- the owner of a feed is one of the threads
 IsOwned : Declares → ℕ → ℕ → Type 0
@@ -68,13 +64,9 @@ IsOwned _ n owner = ⊤
 
 seated_new : (what : Declares) (threads owner : ℕ) → IsOwned what threads owner → IsSeatedWithin (threads + threads_by what) (named_by what threads owner)
 unfolding IsOwned
-seated_new declares.Mailbox threads owner h = tt
-seated_new declares.Channel threads owner h = tt
-seated_new declares.Port threads owner h = tt
-seated_new declares.IVar threads owner h = tt
-seated_new declares.MVar threads owner h = tt
 seated_new declares.Thread threads owner h = (omega arith, omega arith)
 seated_new declares.Feed threads owner h = (h.0, omega (arith, h.1))
+seated_new _ threads owner h = tt
 
 seats_push : (names : List Given) (word : List ℕ) (what : Declares) (owner : ℕ) → IsOwned what (thread_count names) owner → All (λ g. IsSeatedWithin (thread_count names) g.1) names
     → All (λ g. IsSeatedWithin (thread_count (names ++ (word, named_by what (thread_count names) owner) ∷ [])) g.1) (names ++ (word, named_by what (thread_count names) owner) ∷ [])
@@ -88,29 +80,20 @@ seats_push names word what owner owned seats =
 
 -- a feed's line names the seat that its making has
 owner_found : (names : List Given) (rest : List (List ℕ)) (f : FeedMaking) → feed_by names rest ≡ Some f → owner_of names rest ≡ f.seat
-owner_found names [] f h = absurd (none-some f h)
-owner_found names (thread ∷ []) f h = absurd (none-some f h)
-owner_found names (thread ∷ name ∷ []) f h = absurd (none-some f h)
-owner_found names (thread ∷ name ∷ channel ∷ []) f h = absurd (none-some f h)
-owner_found names (thread ∷ name ∷ channel ∷ capacity ∷ word ∷ words) f h = absurd (none-some f h)
 owner_found names (thread ∷ name ∷ channel ∷ capacity ∷ []) f h =
     let said : ℕ → ℕ → FeedMaking = (λ seat at. record { seat = seat; channel = at; capacity = digits_value 10 capacity }) in
     let found = both_found said (seat_of names thread) (position_of names channel) f h in
     ap (λ (o : Option ℕ). option_map_or (λ seat. seat) o 0) found.2 ∙ ap (λ (m : FeedMaking). m.seat) found.4
+owner_found names _ f h = absurd (none-some f h)
 
 -- so it is owned where it is made well
 owned_from : (names : List Given) (what : Declares) (rest : List (List ℕ)) (made : Makes) (i : ℕ) → makes_by names what rest ≡ Some made → IsMadeWell names i made → IsOwned what (thread_count names) (owner_of names rest)
 unfolding IsOwned
-owned_from names declares.Mailbox rest made i h well = tt
-owned_from names declares.Channel rest made i h well = tt
-owned_from names declares.Port rest made i h well = tt
-owned_from names declares.IVar rest made i h well = tt
-owned_from names declares.MVar rest made i h well = tt
-owned_from names declares.Thread rest made i h well = tt
 owned_from names declares.Feed rest made i h well =
     let found = mapped_some makes.Feed (feed_by names rest) made h in
     let there = subst (IsMadeWell names i) (sym found.2) well in
     subst (λ (seat : ℕ). IsSeat names seat) (sym (owner_found names rest found.0 found.1)) there.2
+owned_from names _ rest made i h well = tt
 
 mvar_new : (names : List Given) (word : List ℕ) (made given : Makes) → Some given ≡ Some made → GivesAt (names ++ (word, called.MVar) ∷ []) (length names) word given → GivesAt (names ++ (word, called.MVar) ∷ []) (length names) word made
 mvar_new names word made given h at = subst (GivesAt (names ++ (word, called.MVar) ∷ []) (length names) word) (same_Some _ _ h) at
@@ -196,13 +179,8 @@ module _ (v : ℕ) (es : List (String Global × Named)) (ds : List Declaration) 
   room = by what declared_passes.room
     where
       by : (w : Declares) → (declares_thread (declaration w rest) && nat_le 64 (thread_count (names_of (view_of v ds ls ss)))) ≡ false → threads + threads_by w ≤ 64
-      by declares.Mailbox h = omega (arith, so_far.limit)
-      by declares.Channel h = omega (arith, so_far.limit)
-      by declares.Port h = omega (arith, so_far.limit)
-      by declares.IVar h = omega (arith, so_far.limit)
-      by declares.MVar h = omega (arith, so_far.limit)
-      by declares.Feed h = omega (arith, so_far.limit)
       by declares.Thread h = omega (arith, so_far.count, leb-false 64 (thread_count (names_of (view_of v ds ls ss))) h)
+      by _ h = omega (arith, so_far.limit)
 
   line : IsDeclarationLine (words_of (string_bytes d.line.text)) what rest
   line = declaration_line (names_of (view_of v ds ls ss)) (words_of (string_bytes d.line.text)) what rest form
@@ -260,28 +238,12 @@ module _ (v : ℕ) (es : List (String Global × Named)) (ds : List Declaration) 
 -- a step is by the seat that may use what it uses
 may_use : (seat : ℕ) (n : Named) → is_others seat n ≡ false → MayUse seat n
 may_use seat (called.Port (users.One owner)) h = eqb-true owner seat (not-false _ h)
-may_use seat (called.Port users.Every) h = tt
-may_use seat (called.Thread other) h = tt
-may_use seat called.Mailbox h = tt
-may_use seat called.Channel h = tt
-may_use seat called.IVar h = tt
-may_use seat called.MVar h = tt
 may_use seat (called.Feed owner) h = eqb-true owner seat (not-false _ h)
+may_use seat _ h = tt
 
 not_others : (names : List Given) (seat : ℕ) (v : Verb) (object : List ℕ) (more : List (List ℕ)) → any_word (is_not_yours names seat) (step seat v (object ∷ more)) ≡ false → option_map_or (is_others seat) (named names object) false ≡ false
 not_others names seat verb.Send object more h = (or_parts _ _ h).0
-not_others names seat verb.Multicast object more h = (or_parts _ _ h).0
-not_others names seat verb.Recv object more h = (or_parts _ _ h).0
-not_others names seat verb.Poll object more h = (or_parts _ _ h).0
-not_others names seat verb.Port object more h = (or_parts _ _ h).0
-not_others names seat verb.Copy object more h = (or_parts _ _ h).0
-not_others names seat verb.Close object more h = (or_parts _ _ h).0
-not_others names seat verb.Put object more h = (or_parts _ _ h).0
-not_others names seat verb.Get object more h = (or_parts _ _ h).0
-not_others names seat verb.GetPoll object more h = (or_parts _ _ h).0
-not_others names seat verb.Take object more h = (or_parts _ _ h).0
-not_others names seat verb.TakePoll object more h = (or_parts _ _ h).0
-not_others names seat verb.Swap object more h = (or_parts _ _ h).0
+not_others names seat _ object more h = (or_parts _ _ h).0
 
 receiver_stands : (names : List Given) (at : ℕ) → IsReceiverAt names at → (g : Given) × (slice_get names at ≡ Some g)
 receiver_stands names at h = elim h [ inl a ↦ (_, a.1) | inr b ↦ (_, b.2) ]

@@ -4,13 +4,11 @@ use Rattle.std.specs.Global.{Global}
 use Rattle.std.specs.Map.{keys_of, lookup}
 use Rattle.std.specs.List.{list_any}
 use Rattle.std.specs.Option.{option_map_or}
-use Rattle.std.specs.Str.Parse.{digits_value}
 use Rattle.std.specs.declared.hash.FoldHasher.{FoldHasher}
 use Rattle.std.specs.declared.hash.BuildHasherDefault.{BuildHasherDefault}
 use Rattle.std.proofs.lemmas.Bool.{or_parts}
 use Rattle.std.proofs.lemmas.List.{length-map, map-append}
 use Rattle.std.proofs.lemmas.List.Elements.{All-push}
-use Rattle.std.proofs.lemmas.Option.{none-some}
 use Rattle.indexmap.specs.IndexMap.{IndexMap, insert_entry}
 use Rattle.indexmap.proofs.CallerLemmas.{insert_entry-new}
 use Rattle.cml_grammar.specs.declared.names.Named.{Named}
@@ -20,28 +18,17 @@ use Rattle.cml_grammar.specs.declared.script.Step.{Step}
 use Rattle.cml_grammar.specs.Words.{words_of}
 use Rattle.cml_grammar.specs.Names.{Given}
 use Rattle.cml_grammar.specs.Forms.{lane, lane_places, form_of}
-use Rattle.cml_grammar.specs.Faults.{Ends, fault_in_words, after_words, ends_by, are_same}
+use Rattle.cml_grammar.specs.Faults.{Ends, fault_in_words, after_words, are_same}
 use Rattle.cml_grammar.specs.Script.{Lines}
 use Rattle.cml_grammar.specs.Meaning.{scope_of, names_of}
-use Rattle.cml_grammar.specs.Rings.{Laid, lane_by, lane_of}
-use Rattle.cml_grammar.specs.Reading.{view_of, texts_of, IsSeat, IsTargetAt, IsCapacity, ReadsLane, capacities_of, IsReadSoFar}
+use Rattle.cml_grammar.specs.Rings.{lane_by, lane_of}
+use Rattle.cml_grammar.specs.Reading.{view_of, texts_of, ReadsLane, capacities_of, IsReadSoFar}
 use Rattle.cml_grammar.specs.Suiting.{AllSuit}
-use Rattle.cml_grammar.proofs.ListLemmas.{mapped_some}
 use Rattle.cml_grammar.proofs.TableLemmas.{Passes, words_pass, all_suit-passes}
 use Rattle.cml_grammar.proofs.FormLemmas.{IsLaneLine, lane_line}
-use Rattle.cml_grammar.proofs.GrowingLemmas.{ends_kept, ends_same}
+use Rattle.cml_grammar.proofs.GrowingLemmas.{ends_said, ends_kept, ends_same}
+use Rattle.cml_grammar.proofs.SuitingLemmas.{said_well}
 use Rattle.cml_grammar.proofs.ReadingLemmas.{scope_of-with_words, view-lane}
-
--- the words after `lane` say its ends
-ends_said : (names : List Given) (rest : List (List ℕ)) (l : Laid) → lane_by names rest ≡ Some l → ends_by names rest ≡ Some l.0
-ends_said names [] l h = absurd (none-some l h)
-ends_said names (thread ∷ []) l h = absurd (none-some l h)
-ends_said names (thread ∷ target ∷ []) l h = absurd (none-some l h)
-ends_said names (thread ∷ target ∷ capacity ∷ word ∷ rest) l h = absurd (none-some l h)
-ends_said names (thread ∷ target ∷ capacity ∷ []) l h =
-    let said : Ends → Laid = (λ ends. (ends, digits_value 10 capacity)) in
-    let found = mapped_some said (ends_by names (thread ∷ target ∷ [])) l h in
-    found.1 ∙ ap Some (ap (λ (x : Laid). x.0) found.2)
 
 -- ends that no lane has are not among those kept
 absent_ends : (ends : Ends) (es : List (Ends × ℕ)) → list_any (are_same ends) (keys_of es) ≡ false → lookup (are_same ends) es ≡ None
@@ -50,19 +37,15 @@ absent_ends ends (e ∷ es) h =
     let parts = or_parts (are_same ends e.0) (list_any (are_same ends) (keys_of es)) h in
     ap (λ b. cond b (Some e.1) (lookup (are_same ends) es)) parts.0 ∙ absent_ends ends es parts.1
 
--- what a lane was read from, and what its words say
-pub record Laying (names : List Given) (l : Lane) (rest : List (List ℕ)) : Type 0 where
-  pub says : lane_by names rest ≡ Some ((l.seat, l.target), l.capacity)
-  pub seated : IsSeat names l.seat
-  pub target : IsTargetAt names l.target
-  pub capacity : IsCapacity l.capacity
-
 module _ (v : ℕ) (es : List (String Global × Named)) (ds : List Declaration) (ls : List Lane) (cs : List (Ends × ℕ)) (ss : List Step) (threads : ℕ)
     (l : Lane) (rest : List (List ℕ))
     (so_far : IsReadSoFar (view_of v ds ls ss) es ds ls cs ss threads)
     (none : fault_in_words (scope_of (view_of v ds ls ss)) (words_of (string_bytes l.line.text)) ≡ None)
     (form : form_of (names_of (view_of v ds ls ss)) (words_of (string_bytes l.line.text)) ≡ lane rest)
-    (laying : Laying (names_of (view_of v ds ls ss)) l rest) where
+    (says : lane_by (names_of (view_of v ds ls ss)) rest ≡ Some ((l.seat, l.target), l.capacity)) where
+  passes : Passes (scope_of (view_of v ds ls ss)) (lane rest)
+  passes = subst (Passes (scope_of (view_of v ds ls ss))) form (words_pass (scope_of (view_of v ds ls ss)) (words_of (string_bytes l.line.text)) none).1
+
   pub laid_scope : scope_of (view_of v ds (ls ++ l ∷ []) ss) ≡ after_words (scope_of (view_of v ds ls ss)) (words_of (string_bytes l.line.text))
   laid_scope =
       ap scope_of (view-lane v ds ls ss l rest form)
@@ -74,12 +57,10 @@ module _ (v : ℕ) (es : List (String Global × Named)) (ds : List Declaration) 
   laid_line = lane_line (names_of (view_of v ds ls ss)) (words_of (string_bytes l.line.text)) rest form
 
   laid_lanes : All (ReadsLane (names_of (view_of v ds ls ss))) (ls ++ l ∷ [])
-  laid_lanes = All-push (ReadsLane (names_of (view_of v ds ls ss))) ls l so_far.lanes (record {
-    says = ap (lane_of (names_of (view_of v ds ls ss))) laid_line.is ∙ laying.says;
-    seated = laying.seated;
-    target = laying.target;
-    capacity = laying.capacity;
-  })
+  laid_lanes =
+      let names = names_of (view_of v ds ls ss) in
+      let well = said_well names rest ((l.seat, l.target), l.capacity) so_far.seats (all_suit-passes (scope_of (view_of v ds ls ss)) (lane rest) passes) says in
+      All-push (ReadsLane names) ls l so_far.lanes (record { says = ap (lane_of names) laid_line.is ∙ says; seated = well.0; target = well.1; capacity = well.2 })
 
   pub laid_so_far : (cs' : List (Ends × ℕ)) → cs' ≡ cs ++ ((l.seat, l.target), l.capacity) ∷ [] → IsReadSoFar (view_of v ds (ls ++ l ∷ []) ss) es ds (ls ++ l ∷ []) cs' ss threads
   laid_so_far cs' grown = record {
@@ -107,10 +88,9 @@ module _ (v : ℕ) (es : List (String Global × Named)) (ds : List Declaration) 
   -- no lane had these ends
   pub laid_is_new : lookup (are_same (l.seat, l.target)) cs ≡ None
   laid_is_new =
-      let passes = subst (Passes (scope_of (view_of v ds ls ss))) form (words_pass (scope_of (view_of v ds ls ss)) (words_of (string_bytes l.line.text)) none).1 in
       absent_ends (l.seat, l.target) cs (
       ap (list_any (are_same (l.seat, l.target))) (sym so_far.ends)
-      ∙ ap (λ o. option_map_or (λ ends. list_any (are_same ends) (scope_of (view_of v ds ls ss)).lanes) o false) (sym (ends_said (names_of (view_of v ds ls ss)) rest ((l.seat, l.target), l.capacity) laying.says))
+      ∙ ap (λ o. option_map_or (λ ends. list_any (are_same ends) (scope_of (view_of v ds ls ss)).lanes) o false) (sym (ends_said (names_of (view_of v ds ls ss)) rest ((l.seat, l.target), l.capacity) says))
       ∙ passes.unlaid)
 
 -- ---- the same, in the words of the code
@@ -134,22 +114,22 @@ module _ (v : ℕ) (now : Lines) (m : Names) (capacities : Capacities) (ds : Lis
     (seen : view_of v ds ls ss ≡ now)
     (so_far : IsReadSoFar (view_of v ds ls ss) m.entries ds ls capacities.entries ss threads)
     (read : IsLaid now l rest)
-    (laying : Laying (texts_of m.entries) l rest)
+    (says : lane_by (texts_of m.entries) rest ≡ Some ((l.seat, l.target), l.capacity))
     (pushed : ls' ≡ ls ++ l ∷ []) where
   before : IsLaid (view_of v ds ls ss) l rest
   before = subst (λ (s : Lines). IsLaid s l rest) (sym seen) read
 
-  laying_there : Laying (names_of (view_of v ds ls ss)) l rest
-  laying_there = subst (λ gs. Laying gs l rest) so_far.names laying
+  says_there : lane_by (names_of (view_of v ds ls ss)) rest ≡ Some ((l.seat, l.target), l.capacity)
+  says_there = ap (λ gs. lane_by gs rest) (sym so_far.names) ∙ says
 
   pub laid_closes : (cs' : List (Ends × ℕ)) → cs' ≡ insert_entry are_same capacities.entries (l.seat, l.target) l.capacity → IsReadSoFar (view_of v ds ls' ss) m.entries ds ls' cs' ss threads
   laid_closes cs' inserted =
       subst (λ (xs : List Lane). IsReadSoFar (view_of v ds xs ss) m.entries ds xs cs' ss threads) (sym pushed)
-      (laid_so_far v m.entries ds ls capacities.entries ss threads l rest so_far before.fits before.form laying_there cs'
-      (inserted ∙ insert_entry-new are_same capacities (l.seat, l.target) l.capacity (laid_is_new v m.entries ds ls capacities.entries ss threads l rest so_far before.fits before.form laying_there)))
+      (laid_so_far v m.entries ds ls capacities.entries ss threads l rest so_far before.fits before.form says_there cs'
+      (inserted ∙ insert_entry-new are_same capacities (l.seat, l.target) l.capacity (laid_is_new v m.entries ds ls capacities.entries ss threads l rest so_far before.fits before.form says_there)))
 
   pub laid_scopes : scope_of (view_of v ds ls' ss) ≡ after_words (scope_of now) (words_of (string_bytes l.line.text))
   laid_scopes =
       ap (λ (xs : List Lane). scope_of (view_of v ds xs ss)) pushed
-      ∙ laid_scope v m.entries ds ls capacities.entries ss threads l rest so_far before.fits before.form laying_there
+      ∙ laid_scope v m.entries ds ls capacities.entries ss threads l rest so_far before.fits before.form says_there
       ∙ ap (λ (s : Lines). after_words (scope_of s) (words_of (string_bytes l.line.text))) seen

@@ -21,12 +21,12 @@ use Rattle.cml_grammar.specs.Faults.{Scope, start, version_of, says, fault_in, f
 use Rattle.cml_grammar.specs.Script.{SourceLine, Lines, source, with_line, Says, IsScript}
 use Rattle.cml_grammar.specs.Meaning.{scope_of}
 use Rattle.cml_grammar.specs.Reading.{source_of, view_of, texts_of, threads_by, capacities_of, IsReadSoFar, IsReading}
-use Rattle.cml_grammar.proofs.TableLemmas.{Passes, not_first, words_pass, all_suit-passes}
+use Rattle.cml_grammar.proofs.TableLemmas.{Passes, not_first, words_pass, all_suit-passes, fresh_suits}
 use Rattle.cml_grammar.proofs.PartsLemmas.{with_line-append}
 use Rattle.cml_grammar.proofs.WordLemmas.{text_from_bytes}
 use Rattle.cml_grammar.proofs.TextLemmas.{string_from, name_text, name_short}
-use Rattle.cml_grammar.proofs.SuitingLemmas.{makes_this, lays_this, asks_this, fresh_is_name}
-use Rattle.cml_grammar.proofs.LaneLemmas.{Laying, laid_scope, laid_so_far}
+use Rattle.cml_grammar.proofs.SuitingLemmas.{makes_this, lays_this, asks_this}
+use Rattle.cml_grammar.proofs.LaneLemmas.{laid_scope, laid_so_far}
 use Rattle.cml_grammar.proofs.KeepingLemmas.{declared_scope, declared_so_far, asked_scope, asked_so_far}
 
 -- these lines were read, and leave this scope
@@ -106,7 +106,7 @@ module _ (v k : ℕ) (line : List ℕ) (small : length line < 2 ^ 63) (text : li
       let suits = all_suit-passes now (declaration what rest) passes in
       let this = makes_this now.names what rest so_far.seats suits in
       let d : Declaration = record { line = kept; makes = this.made } in
-      let entry : String Global × Named = (name_string this.name (fresh_is_name now.names _ rest this.name suits this.gives), named_by what threads (owner_of now.names rest)) in
+      let entry : String Global × Named = (name_string this.name (fresh_suits now.names _ rest this.name suits this.gives).0, named_by what threads (owner_of now.names rest)) in
       record {
         entries = es ++ entry ∷ [];
         declarations = ds ++ d ∷ [];
@@ -122,15 +122,14 @@ module _ (v k : ℕ) (line : List ℕ) (small : length line < 2 ^ 63) (text : li
   words_read (lane rest) is passes =
       let this = lays_this now.names rest so_far.seats (all_suit-passes now (lane rest) passes) in
       let l : Lane = record { line = kept; seat = this.seat; target = this.target; capacity = this.capacity } in
-      let laying : Laying now.names l rest = record { says = this.says; seated = this.seated; target = this.leads; capacity = this.fits } in
       record {
         entries = es;
         declarations = ds;
         lanes = ls ++ l ∷ [];
         steps = ss;
         threads = threads;
-        so_far = laid_so_far v es ds ls (capacities_of ls) ss threads l rest so_far none is laying (capacities_of (ls ++ l ∷ [])) (map-append (λ (x : Lane). ((x.seat, x.target), x.capacity)) ls (l ∷ []));
-        leaves = laid_scope v es ds ls (capacities_of ls) ss threads l rest so_far none is laying;
+        so_far = laid_so_far v es ds ls (capacities_of ls) ss threads l rest so_far none is this.says (capacities_of (ls ++ l ∷ [])) (map-append (λ (x : Lane). ((x.seat, x.target), x.capacity)) ls (l ∷ []));
+        leaves = laid_scope v es ds ls (capacities_of ls) ss threads l rest so_far none is this.says;
         declared_lines = sym (append-nil (map (λ (d : Declaration). source_of d.line) ds));
         laid_lines = map-append (λ (x : Lane). source_of x.line) ls (l ∷ []);
         asked_lines = sym (append-nil (map (λ (s : Step). source_of s.line) ss));
@@ -139,7 +138,7 @@ module _ (v k : ℕ) (line : List ℕ) (small : length line < 2 ^ 63) (text : li
       let suits = all_suit-passes now (step seat verb rest) passes in
       let this = asks_this now.names verb rest suits in
       let s : Step = record { line = kept; seat = seat; action = this.action } in
-      let later = given_entries seat (fresh_word (step_places verb) rest) (λ w found. fresh_is_name now.names (step_places verb) rest w suits found) in
+      let later = given_entries seat (fresh_word (step_places verb) rest) (λ w found. (fresh_suits now.names (step_places verb) rest w suits found).0) in
       record {
         entries = later.0;
         declarations = ds;

@@ -37,11 +37,8 @@ abbrev pub KeepsEnds : List Given → List SourceLine → Type 0
 KeepsEnds names laid = (more : List Given) → all_ends (names ++ more) laid ≡ all_ends names laid
 
 lays_none : (names : List Given) (form : Form) → is_lane form ≡ false → lays names form ≡ []
-lays_none names unknown h = refl
-lays_none names (declaration d rest) h = refl
 lays_none names (lane rest) h = absurd (true≢false h)
-lays_none names (no_step seat) h = refl
-lays_none names (step seat v rest) h = refl
+lays_none names _ h = refl
 
 -- a line that is no lane line adds nothing to the lanes
 scope_with-words : (version : ℕ) (named : Scope) (laid : List SourceLine) (words : List (List ℕ)) → KeepsEnds named.names laid → is_lane (form_of named.names words) ≡ false → scope_with version (after_words named words) laid ≡ after_words (scope_with version named laid) words
@@ -104,11 +101,8 @@ empty_list (x ∷ xs) h = absurd (omega arith)
 
 -- before a declaration that gives a name no step was seen
 pub no_steps : (script : Lines) (form : Form) → (scope_of script).started ≡ not (length script.steps == 0) → Passes (scope_of script) form → is_declaration form ≡ true → script.steps ≡ []
-no_steps script unknown started p is = absurd (true≢false (sym is))
-no_steps script (lane rest) started p is = absurd (true≢false (sym is))
-no_steps script (no_step seat) started p is = absurd (true≢false (sym is))
-no_steps script (step seat verb rest) started p is = absurd (true≢false (sym is))
 no_steps script (declaration d rest) started p is = empty_list script.steps (eqb-true _ _ (not-false _ (sym started ∙ p.in_time)))
+no_steps script _ started p is = absurd (true≢false (sym is))
 
 -- a line of words without fault behind a script: its scope is the one behind the line
 pub scope_of-with_words : (script : Lines) (k : ℕ) (line : List ℕ) → (scope_of script).started ≡ not (length script.steps == 0) → KeepsEnds (names_of script) script.lanes → fault_in_words (scope_of script) (words_of line) ≡ None → scope_of (with_words script k line) ≡ after_words (scope_of script) (words_of line)

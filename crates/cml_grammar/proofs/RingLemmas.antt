@@ -1,5 +1,5 @@
 -- The words of a lane line and of a feed's, and what is looked up of lanes and feeds.
-use Rattle.std.proofs.Common.{◌≡◌, ℕ, Bool, true, false, ◌||◌, cond, List, [], ◌∷◌, length, map, slice_index_or, Option, Some, None, is_some, string_bytes, All, Bor, refl, sym, ap}
+use Rattle.std.proofs.Common.{◌≡◌, ℕ, ◌+◌, Bool, true, false, ◌||◌, cond, List, [], ◌∷◌, length, map, slice_index_or, Option, Some, None, is_some, string_bytes, All, Bor, refl, sym, ap}
 use Rattle.std.specs.Map.{keys_of, lookup}
 use Rattle.std.specs.List.{list_any, find}
 use Rattle.std.specs.Option.{option_map, option_map_or, option_and_then, IfSome}
@@ -9,8 +9,6 @@ use Rattle.cml_grammar.specs.declared.forms.Declares.{Declares}
 use Rattle.cml_grammar.specs.declared.forms.Declares.TheVariants as declares
 use Rattle.cml_grammar.specs.declared.forms.Makes.{Makes}
 use Rattle.cml_grammar.specs.declared.forms.Makes.TheVariants as makes
-use Rattle.cml_grammar.specs.declared.forms.Place.{Place}
-use Rattle.cml_grammar.specs.declared.forms.Place.TheVariants.{Thread, Channel, Target}
 use Rattle.cml_grammar.specs.declared.script.Declaration.{Declaration}
 use Rattle.cml_grammar.specs.declared.script.Lane.{Lane}
 use Rattle.cml_grammar.specs.Words.{words_of}
@@ -20,55 +18,40 @@ use Rattle.cml_grammar.specs.Faults.{Ends, are_same}
 use Rattle.cml_grammar.specs.Script.{SourceLine}
 use Rattle.cml_grammar.specs.Meaning.{feed_by, makes_by, makes_of}
 use Rattle.cml_grammar.specs.Rings.{is_feed, declares_feed, makes_feed}
-use Rattle.cml_grammar.specs.Reading.{source_of, IsChannelAt, IsTargetAt, IsCapacity, ReadsDeclaration, ReadsLane, capacities_of}
-use Rattle.cml_grammar.specs.Suiting.{IsUsed, AllSuit}
+use Rattle.cml_grammar.specs.Reading.{source_of, IsCapacity, ReadsDeclaration, ReadsLane, capacities_of}
+use Rattle.cml_grammar.specs.Suiting.{AllSuit}
 use Rattle.cml_grammar.proofs.ListLemmas.{mapped_some}
-use Rattle.cml_grammar.proofs.MeaningLemmas.{Words, bytes, found_used}
+use Rattle.cml_grammar.proofs.MeaningLemmas.{Words, bytes}
 use Rattle.cml_grammar.proofs.SeatLemmas.{used_seat}
-use Rattle.cml_grammar.proofs.SuitingLemmas.{is_channel_at, is_target_at}
 
 abbrev pub at : Words → ℕ → List ℕ
 at words i = (slice_index_or words i (record { ref_ptr = (0, 0); now = [] })).now
 
 -- ---- words that suit their places
-pub record FeedWords (names : List Given) (words : Words) : Type 0 where
-  pub long : length words ≡ 4
-  pub thread : IsUsed names Thread (at words 0)
-  pub channel : IsUsed names Channel (at words 2)
-  pub capacity : is_capacity (at words 3) ≡ true
+-- the first is a thread's, and from the i-th on they are an object's and a capacity
+pub record RingWords (names : List Given) (words : Words) (i : ℕ) : Type 0 where
+  pub long : length words ≡ i + 2
+  pub thread : is_some (seat_of names (at words 0)) ≡ true
+  pub object : is_given names (at words i) ≡ true
+  pub capacity : is_capacity (at words (i + 1)) ≡ true
 
-pub feed_words : (names : List Given) (words : Words) → AllSuit names (declared_places declares.Feed (bytes words)) (bytes words) → FeedWords names words
-feed_words names [] h = absurd h
-feed_words names (a ∷ []) h = absurd h.1
-feed_words names (a ∷ b ∷ []) h = absurd h.1.1
-feed_words names (a ∷ b ∷ x ∷ []) h = absurd h.1.1.1
-feed_words names (a ∷ b ∷ x ∷ d ∷ []) h = record { long = refl; thread = h.0; channel = h.1.1.0; capacity = h.1.1.1.0 }
-feed_words names (a ∷ b ∷ x ∷ d ∷ e ∷ words) h = absurd h.1.1.1.1
+pub feed_said : (names : List Given) (words : Words) → AllSuit names (declared_places declares.Feed (bytes words)) (bytes words) → RingWords names words 2 × (bytes words ≡ at words 0 ∷ at words 1 ∷ at words 2 ∷ at words 3 ∷ [])
+feed_said names [] h = absurd h
+feed_said names (a ∷ []) h = absurd h.1
+feed_said names (a ∷ b ∷ []) h = absurd h.1.1
+feed_said names (a ∷ b ∷ x ∷ []) h = absurd h.1.1.1
+feed_said names (a ∷ b ∷ x ∷ d ∷ []) h = (record { long = refl; thread = ap is_some (used_seat names a.now h.0).1; object = ap is_some h.1.1.0.1; capacity = h.1.1.1.0 }, refl)
+feed_said names (a ∷ b ∷ x ∷ d ∷ e ∷ words) h = absurd h.1.1.1.1
 
-pub record LaneWords (names : List Given) (words : Words) : Type 0 where
-  pub long : length words ≡ 3
-  pub thread : IsUsed names Thread (at words 0)
-  pub target : IsUsed names Target (at words 1)
-  pub capacity : is_capacity (at words 2) ≡ true
+pub feed_words : (names : List Given) (words : Words) → AllSuit names (declared_places declares.Feed (bytes words)) (bytes words) → RingWords names words 2
+feed_words names words h = (feed_said names words h).0
 
-pub lane_words : (names : List Given) (words : Words) → AllSuit names lane_places (bytes words) → LaneWords names words
+pub lane_words : (names : List Given) (words : Words) → AllSuit names lane_places (bytes words) → RingWords names words 1
 lane_words names [] h = absurd h
 lane_words names (a ∷ []) h = absurd h.1
 lane_words names (a ∷ b ∷ []) h = absurd h.1.1
-lane_words names (a ∷ b ∷ x ∷ []) h = record { long = refl; thread = h.0; target = h.1.0; capacity = h.1.1.0 }
+lane_words names (a ∷ b ∷ x ∷ []) h = record { long = refl; thread = ap is_some (used_seat names a.now h.0).1; object = ap is_some h.1.0.1; capacity = h.1.1.0 }
 lane_words names (a ∷ b ∷ x ∷ d ∷ words) h = absurd h.1.1.1
-
-pub used_is_given : (names : List Given) (place : Place) (word : List ℕ) → IsUsed names place word → is_given names word ≡ true
-used_is_given names place word h = ap is_some h.1
-
-pub used_has_seat : (names : List Given) (word : List ℕ) → IsUsed names Thread word → is_some (seat_of names word) ≡ true
-used_has_seat names word h = ap is_some (used_seat names word h).1
-
-pub channel_found : (names : List Given) (word : List ℕ) (i : ℕ) → IsUsed names Channel word → position_of names word ≡ Some i → IsChannelAt names i
-channel_found names word i h found = is_channel_at names i (found_used names Channel word i h found)
-
-pub target_found : (names : List Given) (word : List ℕ) (i : ℕ) → IsUsed names Target word → position_of names word ≡ Some i → IsTargetAt names i
-target_found names word i h found = is_target_at names i (found_used names Target word i h found)
 
 -- ---- lanes by their ends
 pub has_ends : (ends : Ends) (es : List (Ends × ℕ)) → is_some (lookup (are_same ends) es) ≡ list_any (are_same ends) (keys_of es)

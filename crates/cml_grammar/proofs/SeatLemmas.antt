@@ -21,12 +21,7 @@ used_seat names word h = by h.2.1 h.2.2 h.2.3
       ap (λ r. option_and_then seat_in (option_and_then (λ i. option_map (λ (g : Given). g.1) (slice_get names i)) r)) h.1
           ∙ ap (λ (r : Option Given). option_and_then seat_in (option_map (λ (g : Given). g.1) r)) e,
     )
-    by called.Mailbox e t = absurd (true≢false (sym t))
-    by called.Channel e t = absurd (true≢false (sym t))
-    by (called.Port whose) e t = absurd (true≢false (sym t))
-    by called.IVar e t = absurd (true≢false (sym t))
-    by called.MVar e t = absurd (true≢false (sym t))
-    by (called.Feed owner) e t = absurd (true≢false (sym t))
+    by _ e t = absurd (true≢false (sym t))
 
 -- and it is one of the seats of the threads
 pub seated_from : (names : List Given) (n : ℕ) (thread : List ℕ) (seat : ℕ) → All (λ g. IsSeatedWithin n g.1) names → seat_of names thread ≡ Some seat → (1 ≤ seat) × (seat ≤ n)
@@ -37,12 +32,7 @@ seated_from names n thread seat seats h =
   where
     seat_within : (k : Named) → seat_in k ≡ Some seat → IsSeatedWithin n k → (1 ≤ seat) × (seat ≤ n)
     seat_within (called.Thread s) e w = subst (λ (m : ℕ). (1 ≤ m) × (m ≤ n)) (same_Some _ _ e) w
-    seat_within called.Mailbox e w = absurd (none-some seat e)
-    seat_within called.Channel e w = absurd (none-some seat e)
-    seat_within (called.Port whose) e w = absurd (none-some seat e)
-    seat_within called.IVar e w = absurd (none-some seat e)
-    seat_within called.MVar e w = absurd (none-some seat e)
-    seat_within (called.Feed owner) e w = absurd (none-some seat e)
+    seat_within _ e w = absurd (none-some seat e)
 
     within : (r : Option Given) (i : ℕ) (k : Named) → slice_get names i ≡ r → option_map (λ g. g.1) r ≡ Some k → seat_in k ≡ Some seat → (1 ≤ seat) × (seat ≤ n)
     within None i k at meant is = absurd (none-some k meant)

@@ -1,11 +1,9 @@
 -- Words that suit their places mean something, and what they mean uses names well.
-use Rattle.std.proofs.Common.{◌≡◌, ℕ, true, if◌then◌else◌, List, [], ◌∷◌, length, slice_get, Some, refl, sym, ap, ◌∙◌, subst, true≢false, arith, inl, inr, All}
+use Rattle.std.proofs.Common.{◌≡◌, ℕ, true, if◌then◌else◌, List, [], ◌∷◌, length, Some, refl, sym, ap, ◌∙◌, subst, arith, All}
 use Rattle.std.specs.Option.{option_map}
 use Rattle.std.specs.Str.Parse.{digits_value}
 use Rattle.std.proofs.lemmas.Bool.{ne_eqb, and_parts, leb-true}
-use Rattle.std.proofs.lemmas.Option.{none-some, same_Some, slice_get_within}
-use Rattle.cml_grammar.specs.declared.names.Named.{Named}
-use Rattle.cml_grammar.specs.declared.names.Named.TheVariants as called
+use Rattle.std.proofs.lemmas.Option.{same_Some, slice_get_within}
 use Rattle.cml_grammar.specs.declared.forms.Declares.{Declares}
 use Rattle.cml_grammar.specs.declared.forms.Declares.TheVariants as declares
 use Rattle.cml_grammar.specs.declared.forms.Makes.{Makes}
@@ -14,78 +12,25 @@ use Rattle.cml_grammar.specs.declared.forms.FeedMaking.{FeedMaking}
 use Rattle.cml_grammar.specs.declared.forms.Verb.{Verb}
 use Rattle.cml_grammar.specs.declared.forms.Verb.TheVariants as verb
 use Rattle.cml_grammar.specs.declared.forms.Place.{Place}
-use Rattle.cml_grammar.specs.declared.forms.Place.TheVariants.{Fresh, Thread, Mailbox, Channel, Target, Port, Receiver, Polled, Variable, MVar, Message, Capacity}
+use Rattle.cml_grammar.specs.declared.forms.Place.TheVariants.{Fresh, Mailbox, Channel, Target, Port, Receiver, Polled, Variable, MVar, Message}
 use Rattle.cml_grammar.specs.declared.forms.Action.{Action}
 use Rattle.cml_grammar.specs.declared.forms.Action.TheVariants as action
-use Rattle.cml_grammar.specs.Names.{Given, is_name, is_capacity, position_of, seat_of, thread_count}
+use Rattle.cml_grammar.specs.Names.{Given, is_capacity, position_of, seat_of, thread_count}
 use Rattle.cml_grammar.specs.Faults.{Ends}
-use Rattle.cml_grammar.specs.Forms.{declared_places, lane_places, step_places, suits, fresh_word}
+use Rattle.cml_grammar.specs.Forms.{declared_places, lane_places, step_places, fresh_word}
 use Rattle.cml_grammar.specs.Meaning.{makes_by, action_by}
-use Rattle.cml_grammar.specs.Rings.{lane_by}
-use Rattle.cml_grammar.specs.Reading.{IsMailboxAt, IsChannelAt, IsTargetAt, UsesWell, IsSeat, IsCapacity, IsMadeWell, IsSeatedWithin}
-use Rattle.cml_grammar.specs.Suiting.{IsSuitedAt, Suits, AllSuit}
-use Rattle.cml_grammar.proofs.MeaningLemmas.{is_port_at, is_receiver_at, is_polled_at, is_variable_at, is_mvar_at}
+use Rattle.cml_grammar.specs.Rings.{Laid, lane_by}
+use Rattle.cml_grammar.specs.Reading.{IsTargetAt, UsesWell, IsSeat, IsCapacity, IsMadeWell, IsSeatedWithin}
+use Rattle.cml_grammar.specs.Suiting.{IsUsed, Suits, AllSuit}
+use Rattle.cml_grammar.proofs.MeaningLemmas.{IsAt, is_at}
 use Rattle.cml_grammar.proofs.GrowingLemmas.{both_same}
 use Rattle.cml_grammar.proofs.SeatLemmas.{used_seat, seated_from}
-
-is_mailbox_at : (names : List Given) (at : ℕ) → IsSuitedAt names Mailbox at → IsMailboxAt names at
-is_mailbox_at names at h = by h.1 h.2 h.3
-  where
-    by : (n : Named) → slice_get names at ≡ Some (h.0, n) → suits Mailbox n ≡ true → IsMailboxAt names at
-    by called.Mailbox e t = (h.0, e)
-    by (called.Thread seat) e t = absurd (true≢false (sym t))
-    by called.Channel e t = absurd (true≢false (sym t))
-    by (called.Port whose) e t = absurd (true≢false (sym t))
-    by called.IVar e t = absurd (true≢false (sym t))
-    by called.MVar e t = absurd (true≢false (sym t))
-    by (called.Feed owner) e t = absurd (true≢false (sym t))
-
-pub is_channel_at : (names : List Given) (at : ℕ) → IsSuitedAt names Channel at → IsChannelAt names at
-is_channel_at names at h = by h.1 h.2 h.3
-  where
-    by : (n : Named) → slice_get names at ≡ Some (h.0, n) → suits Channel n ≡ true → IsChannelAt names at
-    by called.Channel e t = (h.0, e)
-    by (called.Thread seat) e t = absurd (true≢false (sym t))
-    by called.Mailbox e t = absurd (true≢false (sym t))
-    by (called.Port whose) e t = absurd (true≢false (sym t))
-    by called.IVar e t = absurd (true≢false (sym t))
-    by called.MVar e t = absurd (true≢false (sym t))
-    by (called.Feed owner) e t = absurd (true≢false (sym t))
-
-pub is_target_at : (names : List Given) (at : ℕ) → IsSuitedAt names Target at → IsTargetAt names at
-is_target_at names at h = by h.1 h.2 h.3
-  where
-    by : (n : Named) → slice_get names at ≡ Some (h.0, n) → suits Target n ≡ true → IsTargetAt names at
-    by called.Mailbox e t = inl (h.0, e)
-    by called.Channel e t = inr (h.0, e)
-    by (called.Thread seat) e t = absurd (true≢false (sym t))
-    by (called.Port whose) e t = absurd (true≢false (sym t))
-    by called.IVar e t = absurd (true≢false (sym t))
-    by called.MVar e t = absurd (true≢false (sym t))
-    by (called.Feed owner) e t = absurd (true≢false (sym t))
 
 -- a capacity is from 1 to 1,024
 capacity_fits : (word : List ℕ) → is_capacity word ≡ true → IsCapacity (digits_value 10 word)
 capacity_fits word h =
     let whole = and_parts _ _ h in
     (leb-true 1 (digits_value 10 word) (and_parts _ _ whole.0).1, leb-true (digits_value 10 word) 1024 whole.1)
-
--- the word that is given is a name
-pub fresh_is_name : (names : List Given) (places : List Place) (words : List (List ℕ)) (word : List ℕ) → AllSuit names places words → fresh_word places words ≡ Some word → is_name word ≡ true
-fresh_is_name names [] words word h e = absurd (none-some word e)
-fresh_is_name names (place ∷ places) [] word h e = absurd h
-fresh_is_name names (Fresh ∷ places) (w ∷ words) word h e = ap is_name (sym (same_Some w word e)) ∙ h.0.0
-fresh_is_name names (Thread ∷ places) (w ∷ words) word h e = fresh_is_name names places words word h.1 e
-fresh_is_name names (Mailbox ∷ places) (w ∷ words) word h e = fresh_is_name names places words word h.1 e
-fresh_is_name names (Channel ∷ places) (w ∷ words) word h e = fresh_is_name names places words word h.1 e
-fresh_is_name names (Target ∷ places) (w ∷ words) word h e = fresh_is_name names places words word h.1 e
-fresh_is_name names (Port ∷ places) (w ∷ words) word h e = fresh_is_name names places words word h.1 e
-fresh_is_name names (Receiver ∷ places) (w ∷ words) word h e = fresh_is_name names places words word h.1 e
-fresh_is_name names (Polled ∷ places) (w ∷ words) word h e = fresh_is_name names places words word h.1 e
-fresh_is_name names (Variable ∷ places) (w ∷ words) word h e = fresh_is_name names places words word h.1 e
-fresh_is_name names (MVar ∷ places) (w ∷ words) word h e = fresh_is_name names places words word h.1 e
-fresh_is_name names (Message ∷ places) (w ∷ words) word h e = fresh_is_name names places words word h.1 e
-fresh_is_name names (Capacity ∷ places) (w ∷ words) word h e = fresh_is_name names places words word h.1 e
 
 -- the words of one place, and of two
 one_word : (names : List Given) (place : Place) (rest : List (List ℕ)) → AllSuit names (place ∷ []) rest → (w : List ℕ) × (rest ≡ w ∷ []) × Suits names place w
@@ -127,7 +72,7 @@ makes_this names declares.Thread rest seats h = makes_alone names declares.Threa
 makes_this names declares.Port rest seats h =
     let w = two_words names Channel Fresh rest h in
     let at : ℕ = w.3.0 in
-    let is = is_channel_at names at w.3.2 in
+    let is = is_at names Channel at w.3.2 in
     subst (MakesThis names declares.Port) (sym w.2) (record {
       made = makes.Port at;
       name = w.1;
@@ -156,7 +101,7 @@ makes_this names declares.Feed (thread ∷ name ∷ channel ∷ capacity ∷ wor
 makes_this names declares.Feed (thread ∷ name ∷ channel ∷ capacity ∷ []) seats h =
     let seat = used_seat names thread h.0 in
     let leads = h.1.1.0 in
-    let is = is_channel_at names leads.0 leads.2 in
+    let is = is_at names Channel leads.0 leads.2 in
     let said : ℕ → ℕ → FeedMaking = (λ s at. record { seat = s; channel = at; capacity = digits_value 10 capacity }) in
     record {
       made = makes.Feed (said seat.0 leads.0);
@@ -165,6 +110,10 @@ makes_this names declares.Feed (thread ∷ name ∷ channel ∷ capacity ∷ [])
       well = (is, slice_get_within names leads.0 _ is.1, seated_from names (thread_count names) thread seat.0 seats seat.1, capacity_fits capacity h.1.1.1.0);
       gives = refl;
     }
+
+-- what a declaration makes is made well
+pub made_well : (names : List Given) (what : Declares) (rest : List (List ℕ)) (made : Makes) → All (λ g. IsSeatedWithin (thread_count names) g.1) names → AllSuit names (declared_places what rest) rest → makes_by names what rest ≡ Some made → IsMadeWell names (length names) made
+made_well names what rest made seats h e = let this = makes_this names what rest seats h in subst (IsMadeWell names (length names)) (same_Some _ _ (sym this.makes ∙ e)) this.well
 
 -- what a lane line says
 pub record LaysThis (names : List Given) (rest : List (List ℕ)) : Type 0 where
@@ -190,9 +139,15 @@ lays_this names (thread ∷ target ∷ capacity ∷ []) seats h =
       capacity = digits_value 10 capacity;
       says = ap (option_map (λ (ends : Ends). (ends, digits_value 10 capacity))) (both_same (λ (s at : ℕ). (s, at)) (seat_of names thread) (position_of names target) seat.0 leads.0 seat.1 leads.1);
       seated = seated_from names (thread_count names) thread seat.0 seats seat.1;
-      leads = is_target_at names leads.0 leads.2;
+      leads = is_at names Target leads.0 leads.2;
       fits = capacity_fits capacity h.1.1.0;
     }
+
+-- a lane line says the seat of a thread, an object that a lane can lead to, and a capacity
+pub said_well : (names : List Given) (rest : List (List ℕ)) (l : Laid) → All (λ g. IsSeatedWithin (thread_count names) g.1) names → AllSuit names lane_places rest → lane_by names rest ≡ Some l → IsSeat names l.0.0 × IsTargetAt names l.0.1 × IsCapacity l.1
+said_well names rest l seats h e =
+    let this = lays_this names rest seats h in
+    subst (λ (x : Laid). IsSeat names x.0.0 × IsTargetAt names x.0.1 × IsCapacity x.1) (same_Some _ _ (sym this.says ∙ e)) (this.seated, this.leads, this.fits)
 
 -- what a step asks for
 pub record AsksThis (names : List Given) (v : Verb) (rest : List (List ℕ)) : Type 0 where
@@ -200,59 +155,41 @@ pub record AsksThis (names : List Given) (v : Verb) (rest : List (List ℕ)) : T
   pub asks : action_by names v rest ≡ Some action
   pub uses : UsesWell names action
 
+-- .. where the object is the step's only word, or has another behind it
+module _ (names : List Given) (v : Verb) (place : Place) (is_used : (w : List ℕ) → Suits names place w → IsUsed names place w) where
+  asks_alone : (make : ℕ → Action) → ((w : List ℕ) → action_by names v (w ∷ []) ≡ option_map make (position_of names w)) → ((at : ℕ) → IsAt names place at → UsesWell names (make at))
+      → (rest : List (List ℕ)) → AllSuit names (place ∷ []) rest → AsksThis names v rest
+  asks_alone make asks uses rest h =
+      let w = one_word names place rest h in
+      let used = is_used w.0 w.2 in
+      subst (AsksThis names v) (sym w.1) (record { action = make used.0; asks = asks w.0 ∙ ap (option_map make) used.1; uses = uses used.0 (is_at names place used.0 used.2) })
+
+  asks_with : (second : Place) (make : ℕ → List ℕ → Action) → ((w m : List ℕ) → action_by names v (w ∷ m ∷ []) ≡ option_map (λ at. make at m) (position_of names w))
+      → ((at : ℕ) (m : List ℕ) → IsAt names place at → Suits names second m → UsesWell names (make at m)) → (rest : List (List ℕ)) → AllSuit names (place ∷ second ∷ []) rest → AsksThis names v rest
+  asks_with second make asks uses rest h =
+      let w = two_words names place second rest h in
+      let used = is_used w.0 w.3 in
+      subst (AsksThis names v) (sym w.2) (record {
+        action = make used.0 w.1;
+        asks = asks w.0 w.1 ∙ ap (option_map (λ at. make at w.1)) used.1;
+        uses = uses used.0 w.1 (is_at names place used.0 used.2) w.4;
+      })
+
 pub asks_this : (names : List Given) (v : Verb) (rest : List (List ℕ)) → AllSuit names (step_places v) rest → AsksThis names v rest
-asks_this names verb.Send rest h =
-    let w = two_words names Mailbox Message rest h in
-    subst (AsksThis names verb.Send) (sym w.2) (record {
-      action = action.Send w.3.0 w.1;
-      asks = ap (option_map (λ at. action.Send at w.1)) w.3.1;
-      uses = (is_mailbox_at names w.3.0 w.3.2, w.4);
-    })
-asks_this names verb.Multicast rest h =
-    let w = two_words names Channel Message rest h in
-    subst (AsksThis names verb.Multicast) (sym w.2) (record {
-      action = action.Multicast w.3.0 w.1;
-      asks = ap (option_map (λ at. action.Multicast at w.1)) w.3.1;
-      uses = (is_channel_at names w.3.0 w.3.2, w.4);
-    })
-asks_this names verb.Put rest h =
-    let w = two_words names Variable Message rest h in
-    subst (AsksThis names verb.Put) (sym w.2) (record {
-      action = action.Put w.3.0 w.1;
-      asks = ap (option_map (λ at. action.Put at w.1)) w.3.1;
-      uses = (is_variable_at names w.3.0 w.3.2, w.4);
-    })
-asks_this names verb.Swap rest h =
-    let w = two_words names MVar Message rest h in
-    subst (AsksThis names verb.Swap) (sym w.2) (record {
-      action = action.Swap w.3.0 w.1;
-      asks = ap (option_map (λ at. action.Swap at w.1)) w.3.1;
-      uses = (is_mvar_at names w.3.0 w.3.2, w.4);
-    })
-asks_this names verb.Port rest h =
-    let w = two_words names Channel Fresh rest h in
-    subst (AsksThis names verb.Port) (sym w.2) (record { action = action.Port w.3.0; asks = ap (option_map action.Port) w.3.1; uses = is_channel_at names w.3.0 w.3.2 })
-asks_this names verb.Copy rest h =
-    let w = two_words names Port Fresh rest h in
-    subst (AsksThis names verb.Copy) (sym w.2) (record { action = action.Copy w.3.0; asks = ap (option_map action.Copy) w.3.1; uses = is_port_at names w.3.0 w.3.2 })
-asks_this names verb.Recv rest h =
-    let w = one_word names Receiver rest h in
-    subst (AsksThis names verb.Recv) (sym w.1) (record { action = action.Recv w.2.0; asks = ap (option_map action.Recv) w.2.1; uses = is_receiver_at names w.2.0 w.2.2 })
-asks_this names verb.Poll rest h =
-    let w = one_word names Polled rest h in
-    subst (AsksThis names verb.Poll) (sym w.1) (record { action = action.Poll w.2.0; asks = ap (option_map action.Poll) w.2.1; uses = is_polled_at names w.2.0 w.2.2 })
-asks_this names verb.Close rest h =
-    let w = one_word names Port rest h in
-    subst (AsksThis names verb.Close) (sym w.1) (record { action = action.Close w.2.0; asks = ap (option_map action.Close) w.2.1; uses = is_port_at names w.2.0 w.2.2 })
-asks_this names verb.Get rest h =
-    let w = one_word names Variable rest h in
-    subst (AsksThis names verb.Get) (sym w.1) (record { action = action.Get w.2.0; asks = ap (option_map action.Get) w.2.1; uses = is_variable_at names w.2.0 w.2.2 })
-asks_this names verb.GetPoll rest h =
-    let w = one_word names Variable rest h in
-    subst (AsksThis names verb.GetPoll) (sym w.1) (record { action = action.GetPoll w.2.0; asks = ap (option_map action.GetPoll) w.2.1; uses = is_variable_at names w.2.0 w.2.2 })
-asks_this names verb.Take rest h =
-    let w = one_word names MVar rest h in
-    subst (AsksThis names verb.Take) (sym w.1) (record { action = action.Take w.2.0; asks = ap (option_map action.Take) w.2.1; uses = is_mvar_at names w.2.0 w.2.2 })
-asks_this names verb.TakePoll rest h =
-    let w = one_word names MVar rest h in
-    subst (AsksThis names verb.TakePoll) (sym w.1) (record { action = action.TakePoll w.2.0; asks = ap (option_map action.TakePoll) w.2.1; uses = is_mvar_at names w.2.0 w.2.2 })
+asks_this names verb.Send = asks_with names verb.Send Mailbox (λ w u. u) Message action.Send (λ w m. refl) (λ at m u t. (u, t))
+asks_this names verb.Multicast = asks_with names verb.Multicast Channel (λ w u. u) Message action.Multicast (λ w m. refl) (λ at m u t. (u, t))
+asks_this names verb.Put = asks_with names verb.Put Variable (λ w u. u) Message action.Put (λ w m. refl) (λ at m u t. (u, t))
+asks_this names verb.Swap = asks_with names verb.Swap MVar (λ w u. u) Message action.Swap (λ w m. refl) (λ at m u t. (u, t))
+asks_this names verb.Port = asks_with names verb.Port Channel (λ w u. u) Fresh (λ at m. action.Port at) (λ w m. refl) (λ at m u t. u)
+asks_this names verb.Copy = asks_with names verb.Copy Port (λ w u. u) Fresh (λ at m. action.Copy at) (λ w m. refl) (λ at m u t. u)
+asks_this names verb.Recv = asks_alone names verb.Recv Receiver (λ w u. u) action.Recv (λ w. refl) (λ at u. u)
+asks_this names verb.Poll = asks_alone names verb.Poll Polled (λ w u. u) action.Poll (λ w. refl) (λ at u. u)
+asks_this names verb.Close = asks_alone names verb.Close Port (λ w u. u) action.Close (λ w. refl) (λ at u. u)
+asks_this names verb.Get = asks_alone names verb.Get Variable (λ w u. u) action.Get (λ w. refl) (λ at u. u)
+asks_this names verb.GetPoll = asks_alone names verb.GetPoll Variable (λ w u. u) action.GetPoll (λ w. refl) (λ at u. u)
+asks_this names verb.Take = asks_alone names verb.Take MVar (λ w u. u) action.Take (λ w. refl) (λ at u. u)
+asks_this names verb.TakePoll = asks_alone names verb.TakePoll MVar (λ w u. u) action.TakePoll (λ w. refl) (λ at u. u)
+
+-- what a step asks for uses names well
+pub asked_well : (names : List Given) (v : Verb) (rest : List (List ℕ)) (asked : Action) → AllSuit names (step_places v) rest → action_by names v rest ≡ Some asked → UsesWell names asked
+asked_well names v rest asked h e = let this = asks_this names v rest h in subst (UsesWell names) (same_Some _ _ (sym this.asks ∙ e)) this.uses

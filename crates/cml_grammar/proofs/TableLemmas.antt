@@ -1,13 +1,13 @@
 -- What it means that a line fails each test of the table.
-use Rattle.std.proofs.Common.{◌≡◌, ℕ, ◌==◌, Bool, true, false, ◌&&◌, List, [], ◌∷◌, length, slice_get, Option, Some, None, if◌then◌else◌, nat_le, refl, sym, ap, ◌∙◌, arith}
+use Rattle.std.proofs.Common.{◌≡◌, ℕ, ◌==◌, Bool, true, false, ◌&&◌, List, [], ◌∷◌, length, slice_get, Option, Some, None, if◌then◌else◌, nat_le, refl, sym, subst, arith}
 use Rattle.std.specs.List.{list_any, zip}
 use Rattle.std.specs.Option.{option_map, option_map_or, option_and_then}
 use Rattle.std.proofs.lemmas.Bool.{or_parts, not-false, true≢false, eqb-true}
 use Rattle.std.proofs.lemmas.Option.{none-some, same_Some}
 use Rattle.cml_grammar.specs.declared.fault.What.{What}
 use Rattle.cml_grammar.specs.declared.forms.Place.{Place}
-use Rattle.cml_grammar.specs.declared.forms.Place.TheVariants.{Fresh, Thread, Mailbox, Channel, Target, Port, Receiver, Polled, Variable, MVar, Message, Capacity}
-use Rattle.cml_grammar.specs.Names.{Given, thread_count, named, position_of, is_given}
+use Rattle.cml_grammar.specs.declared.forms.Place.TheVariants.{Fresh, Message, Capacity}
+use Rattle.cml_grammar.specs.Names.{Given, thread_count, named, position_of}
 use Rattle.cml_grammar.specs.Words.{has_empty_word}
 use Rattle.cml_grammar.specs.Forms.{Form, form_of, places_of, rest_of, suits, fresh_word, seat_of_form}
 use Rattle.cml_grammar.specs.Faults.{Scope, first_of, tests_of_form, fault_in_words, any_word, is_unknown, is_late, is_no_step, is_bad_name, is_taken, is_unknown_name, is_wrong_kind, is_not_yours, is_bad_number, is_bad_text, is_lane_taken, declares_thread}
@@ -102,35 +102,17 @@ all_suit version names (place ∷ places) (word ∷ words) count named fresh sui
   where
     one : (p : Place) → is_bad_name p word ≡ false → is_taken names p word ≡ false → is_wrong_kind names p word ≡ false → is_bad_number version p word ≡ false → is_bad_text version p word ≡ false → Suits names p word
     one Fresh n f s k t = (not-false _ n, f)
-    one Thread n f s k t = used_suits names Thread word (not-false _ s)
-    one Mailbox n f s k t = used_suits names Mailbox word (not-false _ s)
-    one Channel n f s k t = used_suits names Channel word (not-false _ s)
-    one Target n f s k t = used_suits names Target word (not-false _ s)
-    one Port n f s k t = used_suits names Port word (not-false _ s)
-    one Receiver n f s k t = used_suits names Receiver word (not-false _ s)
-    one Polled n f s k t = used_suits names Polled word (not-false _ s)
-    one Variable n f s k t = used_suits names Variable word (not-false _ s)
-    one MVar n f s k t = used_suits names MVar word (not-false _ s)
     one Message n f s k t = message_word_is_text (version == 2) word k t
     one Capacity n f s k t = not-false _ k
+    one p n f s k t = used_suits names p word (not-false _ s)
 
 -- and each word suits its place
 pub all_suit-passes : (scope : Scope) (form : Form) → Passes scope form → AllSuit scope.names (places_of form) (rest_of form)
 all_suit-passes scope form p = all_suit scope.version scope.names (places_of form) (rest_of form) p.count p.names p.fresh p.suited p.numbers p.texts
 
--- a name that is given does not stand yet
-pub fresh_is_new : (names : List Given) (places : List Place) (words : List (List ℕ)) (word : List ℕ) → AllSuit names places words → fresh_word places words ≡ Some word → is_given names word ≡ false
-fresh_is_new names [] words word h e = absurd (none-some word e)
-fresh_is_new names (place ∷ places) [] word h e = absurd h
-fresh_is_new names (Fresh ∷ places) (w ∷ words) word h e = ap (is_given names) (sym (same_Some w word e)) ∙ h.0.1
-fresh_is_new names (Thread ∷ places) (w ∷ words) word h e = fresh_is_new names places words word h.1 e
-fresh_is_new names (Mailbox ∷ places) (w ∷ words) word h e = fresh_is_new names places words word h.1 e
-fresh_is_new names (Channel ∷ places) (w ∷ words) word h e = fresh_is_new names places words word h.1 e
-fresh_is_new names (Target ∷ places) (w ∷ words) word h e = fresh_is_new names places words word h.1 e
-fresh_is_new names (Port ∷ places) (w ∷ words) word h e = fresh_is_new names places words word h.1 e
-fresh_is_new names (Receiver ∷ places) (w ∷ words) word h e = fresh_is_new names places words word h.1 e
-fresh_is_new names (Polled ∷ places) (w ∷ words) word h e = fresh_is_new names places words word h.1 e
-fresh_is_new names (Variable ∷ places) (w ∷ words) word h e = fresh_is_new names places words word h.1 e
-fresh_is_new names (MVar ∷ places) (w ∷ words) word h e = fresh_is_new names places words word h.1 e
-fresh_is_new names (Message ∷ places) (w ∷ words) word h e = fresh_is_new names places words word h.1 e
-fresh_is_new names (Capacity ∷ places) (w ∷ words) word h e = fresh_is_new names places words word h.1 e
+-- a name that is given is a name, and does not stand yet
+pub fresh_suits : (names : List Given) (places : List Place) (words : List (List ℕ)) (word : List ℕ) → AllSuit names places words → fresh_word places words ≡ Some word → Suits names Fresh word
+fresh_suits names [] words word h e = absurd (none-some word e)
+fresh_suits names (place ∷ places) [] word h e = absurd h
+fresh_suits names (Fresh ∷ places) (w ∷ words) word h e = subst (Suits names Fresh) (same_Some w word e) h.0
+fresh_suits names (place ∷ places) (w ∷ words) word h e = fresh_suits names places words word h.1 e

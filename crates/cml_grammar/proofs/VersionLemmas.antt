@@ -5,7 +5,7 @@ use Rattle.std.specs.List.{list_any, zip}
 use Rattle.std.proofs.lemmas.Bool.{or_parts, eq-eqb, not-false}
 use Rattle.cml_grammar.specs.declared.fault.What.{What}
 use Rattle.cml_grammar.specs.declared.forms.Place.{Place}
-use Rattle.cml_grammar.specs.declared.forms.Place.TheVariants.{Fresh, Thread, Mailbox, Channel, Target, Port, Receiver, Polled, Variable, MVar, Message, Capacity}
+use Rattle.cml_grammar.specs.declared.forms.Place.TheVariants.{Message, Capacity}
 use Rattle.cml_grammar.specs.declared.fault.What.TheVariants.{BadBytes, BadHeader}
 use Rattle.cml_grammar.specs.Words.{parts_of, words_of, is_bad_byte}
 use Rattle.cml_grammar.specs.Forms.{Form, form_of, places_of, rest_of}
@@ -29,32 +29,12 @@ any_less p q less (place ∷ places) (word ∷ words) h =
     rw (less place word parts.0) (any_less p q less places words parts.1)
 
 number_less : (place : Place) (word : List ℕ) → is_bad_number 1 place word ≡ false → is_bad_number 2 place word ≡ false
-number_less Message word h = refl
 number_less Capacity word h = h
-number_less Fresh word h = refl
-number_less Thread word h = refl
-number_less Mailbox word h = refl
-number_less Channel word h = refl
-number_less Target word h = refl
-number_less Port word h = refl
-number_less Receiver word h = refl
-number_less Polled word h = refl
-number_less Variable word h = refl
-number_less MVar word h = refl
+number_less _ word h = refl
 
 text_less : (place : Place) (word : List ℕ) → is_bad_number 1 place word ≡ false → is_bad_text 2 place word ≡ false
 text_less Message word h = ap not (number_word_is_text word (not-false _ h))
-text_less Capacity word h = refl
-text_less Fresh word h = refl
-text_less Thread word h = refl
-text_less Mailbox word h = refl
-text_less Channel word h = refl
-text_less Target word h = refl
-text_less Port word h = refl
-text_less Receiver word h = refl
-text_less Polled word h = refl
-text_less Variable word h = refl
-text_less MVar word h = refl
+text_less _ word h = refl
 
 first_fails : (test : Bool) (what : What) (later : Option What) → test ≡ false → later ≡ None → (if test then Some what else later) ≡ None
 first_fails test what later h none = ap (λ t. if t then Some what else later) h ∙ none

@@ -53,32 +53,22 @@ is_bad_header k line = (k == 1) && not (bytes_eq line (codes "cml 1") || bytes_e
 
 abbrev pub is_unknown : Form → Bool
 is_unknown unknown = true
-is_unknown (declaration d rest) = false
-is_unknown (lane rest) = false
-is_unknown (no_step seat) = false
-is_unknown (step seat v rest) = false
+is_unknown _ = false
 
 abbrev pub is_late : Bool → Form → Bool
-is_late started unknown = false
 is_late started (declaration d rest) = started
 is_late started (lane rest) = started
-is_late started (no_step seat) = false
-is_late started (step seat v rest) = false
+is_late started _ = false
 
 -- a declaration, whether it gives a name or not
 abbrev pub is_declaring : Form → Bool
-is_declaring unknown = false
 is_declaring (declaration d rest) = true
 is_declaring (lane rest) = true
-is_declaring (no_step seat) = false
-is_declaring (step seat v rest) = false
+is_declaring _ = false
 
 abbrev pub is_no_step : Form → Bool
-is_no_step unknown = false
-is_no_step (declaration d rest) = false
-is_no_step (lane rest) = false
 is_no_step (no_step seat) = true
-is_no_step (step seat v rest) = false
+is_no_step _ = false
 
 abbrev pub is_bad_name : Place → List ℕ → Bool
 is_bad_name place word = is_name_place place && not (is_name word)
@@ -120,12 +110,8 @@ is_lane_taken names lanes (lane rest) = option_map_or (λ ends. list_any (are_sa
 is_lane_taken names lanes _ = false
 
 abbrev pub declares_thread : Form → Bool
-declares_thread unknown = false
 declares_thread (declaration declares.Thread rest) = true
-declares_thread (declaration _ rest) = false
-declares_thread (lane rest) = false
-declares_thread (no_step seat) = false
-declares_thread (step seat v rest) = false
+declares_thread _ = false
 
 -- some word in its place passes the test
 abbrev pub any_word : (Place → List ℕ → Bool) → Form → Bool
@@ -183,26 +169,17 @@ lays names (lane rest) = option_to_list (ends_by names rest)
 lays names _ = []
 
 abbrev pub is_step : Form → Bool
-is_step unknown = false
-is_step (declaration d rest) = false
-is_step (lane rest) = false
-is_step (no_step seat) = false
 is_step (step seat v rest) = true
+is_step _ = false
 
 -- a declaration that gives a name
 abbrev pub is_declaration : Form → Bool
-is_declaration unknown = false
 is_declaration (declaration d rest) = true
-is_declaration (lane rest) = false
-is_declaration (no_step seat) = false
-is_declaration (step seat v rest) = false
+is_declaration _ = false
 
 abbrev pub is_lane : Form → Bool
-is_lane unknown = false
-is_lane (declaration d rest) = false
 is_lane (lane rest) = true
-is_lane (no_step seat) = false
-is_lane (step seat v rest) = false
+is_lane _ = false
 
 -- the scope behind a line of words
 abbrev pub after_words : Scope → List (List ℕ) → Scope

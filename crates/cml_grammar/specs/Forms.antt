@@ -114,11 +114,9 @@ rest_of (step seat v rest) = rest
 
 -- the seat of the thread whose step it is, and 0 for the other lines
 abbrev pub seat_of_form : Form → ℕ
-seat_of_form unknown = 0
-seat_of_form (declaration d rest) = 0
-seat_of_form (lane rest) = 0
 seat_of_form (no_step seat) = seat
 seat_of_form (step seat v rest) = seat
+seat_of_form _ = 0
 
 -- whether a place is a name's, is for a name that the line gives, or for one that it uses
 abbrev pub is_name_place : Place → Bool

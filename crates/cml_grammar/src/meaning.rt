@@ -8,7 +8,7 @@ ghost use Rattle.cml_grammar.specs.Forms.{declared_places, lane_places, step_pla
 ghost use Rattle.cml_grammar.specs.Faults.{ends_by};
 ghost use Rattle.cml_grammar.specs.Meaning.{feed_by, makes_by, action_by};
 ghost use Rattle.cml_grammar.specs.Rings.{lane_by};
-ghost use Rattle.cml_grammar.specs.Reading.{texts_of, UsesWell, IsSeat, IsCapacity, IsTargetAt, IsMadeWell, IsSeatedWithin, threads_by};
+ghost use Rattle.cml_grammar.specs.Reading.{texts_of, UsesWell, IsMadeWell, IsSeatedWithin, threads_by};
 ghost use Rattle.cml_grammar.specs.Suiting.{AllSuit};
 
 use crate::forms::{Action, Declares, FeedMaking, Makes, Verb, fresh_word};
@@ -52,18 +52,16 @@ fn given_seat(names: &IndexMap<String, Named>, word: &str) -> u64
 /// The capacity that a word is.
 fn given_capacity(word: &str) -> usize
     requires { is_capacity word.now ≡ true }
-    ensures value { digits_value 10 word.now ≡ result }
-    ensures fits { IsCapacity result }
+    ensures { digits_value 10 word.now ≡ result }
 {
     capacity_in(word).unwrap()
 }
 
 /// What a feed's line says whose words suit their places.
+#[tactic(auto, using(crate::proofs::RingLemmas::feed_words))]
 fn feed_by(names: &IndexMap<String, Named>, rest: &[&str]) -> FeedMaking
-    requires suits { AllSuit (texts_of names.now.entries) (declared_places Declares.Feed (map (λ w. w.now) rest.now)) (map (λ w. w.now) rest.now) }
-    requires seats { All (λ g. IsSeatedWithin (thread_count (texts_of names.now.entries)) g.1) (texts_of names.now.entries) }
-    ensures feed { feed_by (texts_of names.now.entries) (map (λ w. w.now) rest.now) ≡ Some result }
-    ensures uses { IsMadeWell (texts_of names.now.entries) (length (texts_of names.now.entries)) (Makes.Feed result) }
+    requires { AllSuit (texts_of names.now.entries) (declared_places Declares.Feed (map (λ w. w.now) rest.now)) (map (λ w. w.now) rest.now) }
+    ensures { feed_by (texts_of names.now.entries) (map (λ w. w.now) rest.now) ≡ Some result }
 {
     FeedMaking {
         seat: given_seat(names, rest[0]),
@@ -73,14 +71,11 @@ fn feed_by(names: &IndexMap<String, Named>, rest: &[&str]) -> FeedMaking
 }
 
 /// The lane of a lane line whose words suit their places.
+#[tactic(auto, using(crate::proofs::RingLemmas::lane_words))]
 pub(crate) fn lane_by(names: &IndexMap<String, Named>, line: Line, rest: &[&str]) -> Lane
-    requires suits { AllSuit (texts_of names.now.entries) lane_places (map (λ w. w.now) rest.now) }
-    requires seats { All (λ g. IsSeatedWithin (thread_count (texts_of names.now.entries)) g.1) (texts_of names.now.entries) }
+    requires { AllSuit (texts_of names.now.entries) lane_places (map (λ w. w.now) rest.now) }
     ensures line { result.line ≡ line }
     ensures says { lane_by (texts_of names.now.entries) (map (λ w. w.now) rest.now) ≡ Some ((result.seat, result.target), result.capacity) }
-    ensures seated { IsSeat (texts_of names.now.entries) result.seat }
-    ensures target { IsTargetAt (texts_of names.now.entries) result.target }
-    ensures capacity { IsCapacity result.capacity }
 {
     Lane {
         line,
@@ -209,31 +204,20 @@ pub(crate) fn action_by(
         unreachable!();
     };
     let at = given_position(names, object);
-    match verb {
-        Verb::Send => {
-            let message = message_in(alloc, more)?;
-            Ok(Action::Send(at, message))
-        }
-        Verb::Multicast => {
-            let message = message_in(alloc, more)?;
-            Ok(Action::Multicast(at, message))
-        }
-        Verb::Recv => Ok(Action::Recv(at)),
-        Verb::Poll => Ok(Action::Poll(at)),
-        Verb::Port => Ok(Action::Port(at)),
-        Verb::Copy => Ok(Action::Copy(at)),
-        Verb::Close => Ok(Action::Close(at)),
-        Verb::Put => {
-            let message = message_in(alloc, more)?;
-            Ok(Action::Put(at, message))
-        }
-        Verb::Get => Ok(Action::Get(at)),
-        Verb::GetPoll => Ok(Action::GetPoll(at)),
-        Verb::Take => Ok(Action::Take(at)),
-        Verb::TakePoll => Ok(Action::TakePoll(at)),
-        Verb::Swap => {
-            let message = message_in(alloc, more)?;
-            Ok(Action::Swap(at, message))
-        }
-    }
+    let action = match verb {
+        Verb::Send => Action::Send(at, message_in(alloc, more)?),
+        Verb::Multicast => Action::Multicast(at, message_in(alloc, more)?),
+        Verb::Recv => Action::Recv(at),
+        Verb::Poll => Action::Poll(at),
+        Verb::Port => Action::Port(at),
+        Verb::Copy => Action::Copy(at),
+        Verb::Close => Action::Close(at),
+        Verb::Put => Action::Put(at, message_in(alloc, more)?),
+        Verb::Get => Action::Get(at),
+        Verb::GetPoll => Action::GetPoll(at),
+        Verb::Take => Action::Take(at),
+        Verb::TakePoll => Action::TakePoll(at),
+        Verb::Swap => Action::Swap(at, message_in(alloc, more)?),
+    };
+    Ok(action)
 }

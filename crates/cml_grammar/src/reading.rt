@@ -10,7 +10,7 @@ use crate::meaning::{
     action_by, lane_by, makes_by, name_by, name_given, named_by, owner_of, threads_with,
 };
 use crate::names::{Named, Users};
-use crate::script::{Declaration, Lane, Line, Script, Step};
+use crate::script::{Declaration, Kept, Lane, Line, Script, Step};
 use crate::words::{has_bad_byte, has_empty_word, is_skipped, split_words};
 use indexmap::IndexMap;
 use std::alloc::Global;
@@ -23,13 +23,8 @@ const HEADER_WITH_TEXTS: &[u8; 5] = b"cml 2";
 /// The lines so far. Contracts see them as a script.
 #[derive(Drop)]
 pub(crate) struct Reading {
-    version: u64,
-    names: IndexMap<String, Named>,
+    kept: Kept,
     threads: u64,
-    declarations: Vec<Declaration>,
-    lanes: Vec<Lane>,
-    capacities: IndexMap<(u64, usize), usize>,
-    steps: Vec<Step>,
 }
 
 impl Model for Reading {
@@ -39,9 +34,9 @@ impl Model for Reading {
 
     ghost use Rattle.cml_grammar.specs.Reading.{view_of, IsReadSoFar};
 
-    ghost view = { λ r. view_of r.version r.declarations.items r.lanes.items r.steps.items };
+    ghost view = { λ r. view_of r.kept.version r.kept.declarations.items r.kept.lanes.items r.kept.steps.items };
 
-    ghost invariant = { λ r. IsReadSoFar (view_of r.version r.declarations.items r.lanes.items r.steps.items) r.names.entries r.declarations.items r.lanes.items r.capacities.entries r.steps.items r.threads };
+    ghost invariant = { λ r. IsReadSoFar (view_of r.kept.version r.kept.declarations.items r.kept.lanes.items r.kept.steps.items) r.kept.names.entries r.kept.declarations.items r.kept.lanes.items r.kept.capacities.entries r.kept.steps.items r.threads };
 }
 
 fn is_bad_header(number: u64, line: &[u8]) -> bool
@@ -78,15 +73,15 @@ impl Reading {
     pub(crate) fn new(alloc: Global, version: u64) -> Reading
         ensures { result ≡ record { version = version; declarations = []; lanes = []; steps = [] } }
     {
-        Reading {
+        let kept = Kept {
             version,
             names: IndexMap::new(alloc),
-            threads: 0,
             declarations: Vec::new(alloc),
             lanes: Vec::new(alloc),
             capacities: IndexMap::new(alloc),
             steps: Vec::new(alloc),
-        }
+        };
+        Reading { kept, threads: 0 }
     }
 
     pub(crate) fn read_line(&mut self, alloc: Global, number: u64, line: &[u8]) -> Result<(), What>
@@ -120,14 +115,14 @@ impl Reading {
         if has_empty_word(&words) {
             return Err(What::BadWords);
         }
-        let form = Form::of_words(&self.names, &words);
-        let started = !self.steps.is_empty();
+        let form = Form::of_words(&self.kept.names, &words);
+        let started = !self.kept.steps.is_empty();
         if let Some(what) = fault_in_form(
-            self.version,
-            &self.names,
+            self.kept.version,
+            &self.kept.names,
             self.threads,
             started,
-            &self.capacities,
+            &self.kept.capacities,
             &form,
         ) {
             return Err(what);
@@ -156,14 +151,16 @@ impl Reading {
         ensures scope { OnOk result (scope_of self.new ≡ after_words (scope_of self.old) (words_of (string_bytes line.text))) }
         ensures memory { IfErr result (λ what. what ≡ What.Memory) }
     {
-        let owner = owner_of(&self.names, rest);
+        let owner = owner_of(&self.kept.names, rest);
         let named = named_by(declares, self.threads, owner);
         let threads = threads_with(declares, self.threads);
-        let makes = makes_by(alloc, &self.names, declares, rest)?;
-        let name = String::from_str(alloc, name_by(&self.names, declares, rest))?;
-        self.declarations.reserve(1)?;
-        self.names.insert(name, named)?;
-        self.declarations.push_reserved(Declaration { line, makes });
+        let makes = makes_by(alloc, &self.kept.names, declares, rest)?;
+        let name = String::from_str(alloc, name_by(&self.kept.names, declares, rest))?;
+        self.kept.declarations.reserve(1)?;
+        self.kept.names.insert(name, named)?;
+        self.kept
+            .declarations
+            .push_reserved(Declaration { line, makes });
         self.threads = threads;
         Ok(())
     }
@@ -176,11 +173,12 @@ impl Reading {
         ensures scope { OnOk result (scope_of self.new ≡ after_words (scope_of self.old) (words_of (string_bytes line.text))) }
         ensures memory { IfErr result (λ what. what ≡ What.Memory) }
     {
-        let lane = lane_by(&self.names, line, rest);
-        self.lanes.reserve(1)?;
-        self.capacities
+        let lane = lane_by(&self.kept.names, line, rest);
+        self.kept.lanes.reserve(1)?;
+        self.kept
+            .capacities
             .insert((lane.seat, lane.target), lane.capacity)?;
-        self.lanes.push_reserved(lane);
+        self.kept.lanes.push_reserved(lane);
         Ok(())
     }
 
@@ -199,18 +197,18 @@ impl Reading {
         ensures scope { OnOk result (scope_of self.new ≡ after_words (scope_of self.old) (words_of (string_bytes line.text))) }
         ensures memory { IfErr result (λ what. what ≡ What.Memory) }
     {
-        let action = action_by(alloc, &self.names, verb, rest)?;
+        let action = action_by(alloc, &self.kept.names, verb, rest)?;
         let step = Step { line, seat, action };
         match name_given(verb, rest) {
             None => {
-                self.steps.push(step)?;
+                self.kept.steps.push(step)?;
                 return Ok(());
             }
             Some(name) => {
                 let name = String::from_str(alloc, name)?;
-                self.steps.reserve(1)?;
-                self.names.insert(name, Named::Port(Users::One(seat)))?;
-                self.steps.push_reserved(step);
+                self.kept.steps.reserve(1)?;
+                self.kept.names.insert(name, Named::Port(Users::One(seat)))?;
+                self.kept.steps.push_reserved(step);
                 return Ok(());
             }
         }
@@ -223,15 +221,7 @@ impl Reading {
         requires short { length self.steps ≤ 1048576 }
         ensures { result ≡ self }
     {
-        let Reading {
-            version,
-            names,
-            threads: _,
-            declarations,
-            lanes,
-            capacities,
-            steps,
-        } = self;
-        Script::new(version, names, declarations, lanes, capacities, steps)
+        let Reading { kept, threads: _ } = self;
+        Script::new(kept)
     }
 }

@@ -39,16 +39,22 @@ pub struct Step {
     pub action: Action,
 }
 
+/// What is kept of lines that were read.
+#[derive(Drop)]
+pub(crate) struct Kept {
+    pub(crate) version: u64,
+    pub(crate) names: IndexMap<String, Named>,
+    pub(crate) declarations: Vec<Declaration>,
+    pub(crate) lanes: Vec<Lane>,
+    /// The capacity of each lane, by its seat and its object's position.
+    pub(crate) capacities: IndexMap<(u64, usize), usize>,
+    pub(crate) steps: Vec<Step>,
+}
+
 /// A script without fault. Contracts see it as its version and its declaration, lane and step lines.
 #[derive(Drop)]
 pub struct Script {
-    version: u64,
-    names: IndexMap<String, Named>,
-    declarations: Vec<Declaration>,
-    lanes: Vec<Lane>,
-    /// The capacity of each lane, by its seat and its object's position.
-    capacities: IndexMap<(u64, usize), usize>,
-    steps: Vec<Step>,
+    kept: Kept,
 }
 
 impl Model for Script {
@@ -58,9 +64,9 @@ impl Model for Script {
 
     ghost use Rattle.cml_grammar.specs.Reading.{view_of, IsReading};
 
-    ghost view = { λ s. view_of s.version s.declarations.items s.lanes.items s.steps.items };
+    ghost view = { λ s. view_of s.kept.version s.kept.declarations.items s.kept.lanes.items s.kept.steps.items };
 
-    ghost invariant = { λ s. IsReading (view_of s.version s.declarations.items s.lanes.items s.steps.items) s.names.entries s.declarations.items s.lanes.items s.capacities.entries s.steps.items };
+    ghost invariant = { λ s. IsReading (view_of s.kept.version s.kept.declarations.items s.kept.lanes.items s.kept.steps.items) s.kept.names.entries s.kept.declarations.items s.kept.lanes.items s.kept.capacities.entries s.kept.steps.items };
 }
 
 impl Declaration {
@@ -80,32 +86,18 @@ impl Script {
     ghost use Rattle.cml_grammar.specs.Rings.{capacity_of, first_lane, first_feed, first_ring};
     ghost use Rattle.cml_grammar.specs.Reading.{source_of, view_of, texts_of, GivesNames, ReadsDeclaration, ReadsLane, ReadsStep, IsCapacity, UsesEarlier, IsReading};
 
-    pub(crate) fn new(
-        version: u64,
-        names: IndexMap<String, Named>,
-        declarations: Vec<Declaration>,
-        lanes: Vec<Lane>,
-        capacities: IndexMap<(u64, usize), usize>,
-        steps: Vec<Step>,
-    ) -> Script
-        requires { IsReading (view_of version declarations.items lanes.items steps.items) names.entries declarations.items lanes.items capacities.entries steps.items }
-        ensures { result ≡ view_of version declarations.items lanes.items steps.items }
+    pub(crate) fn new(kept: Kept) -> Script
+        requires { IsReading (view_of kept.version kept.declarations.items kept.lanes.items kept.steps.items) kept.names.entries kept.declarations.items kept.lanes.items kept.capacities.entries kept.steps.items }
+        ensures { result ≡ view_of kept.version kept.declarations.items kept.lanes.items kept.steps.items }
     {
-        Script {
-            version,
-            names,
-            declarations,
-            lanes,
-            capacities,
-            steps,
-        }
+        Script { kept }
     }
 
     /// The version that its first line asks for, 1 or 2.
     pub fn version(&self) -> u64
         ensures { result ≡ self.now.version }
     {
-        self.version
+        self.kept.version
     }
 
     /// The names in text order, with what each names: the i-th declaration gives the i-th, and behind those stand the
@@ -115,7 +107,7 @@ impl Script {
         ensures given { NamesAreGiven (names_of self.now) self.now.declarations self.now.steps }
         ensures threads { thread_count (names_of self.now) ≤ 64 }
     {
-        &self.names
+        &self.kept.names
     }
 
     /// The declarations that give names, in text order. The i-th gives the i-th name.
@@ -125,7 +117,7 @@ impl Script {
         ensures names { GivesNames (names_of self.now) result.now }
         ensures few { length result.now ≤ 1048576 }
     {
-        &self.declarations
+        &self.kept.declarations
     }
 
     /// The lanes in text order.
@@ -135,7 +127,7 @@ impl Script {
         ensures threads { thread_count (names_of self.now) ≤ 64 }
         ensures few { length result.now ≤ 1048576 }
     {
-        &self.lanes
+        &self.kept.lanes
     }
 
     /// The capacity of the lane by which this seat sends to the object at this position, if a line says one.
@@ -143,7 +135,7 @@ impl Script {
         ensures capacity { result ≡ capacity_of (names_of self.now) self.now.lanes (seat, target) }
         ensures fits { IfSome result IsCapacity }
     {
-        self.capacities.get(&(seat, target)).copied()
+        self.kept.capacities.get(&(seat, target)).copied()
     }
 
     /// The number of the first line that says a lane or a feed, if one does.
@@ -160,7 +152,7 @@ impl Script {
     fn first_lane(&self) -> Option<u64>
         ensures { result ≡ first_lane self.now }
     {
-        let lane = self.lanes.first()?;
+        let lane = self.kept.lanes.first()?;
         Some(lane.line.number)
     }
 
@@ -168,6 +160,7 @@ impl Script {
         ensures { result ≡ first_feed self.now }
     {
         let feed = self
+            .kept
             .declarations
             .iter()
             .find(|declaration| declaration.is_feed())?;
@@ -182,6 +175,6 @@ impl Script {
         ensures threads { thread_count (names_of self.now) ≤ 64 }
         ensures few { length result.now ≤ 1048576 }
     {
-        &self.steps
+        &self.kept.steps
     }
 }

@@ -19,7 +19,7 @@ pub returns-clause-scope : goal.returns-clause-scope
 returns-clause-scope c =
     let i = c.self.inside in
     let d : Declaration = record { line = c.args.line; makes = c.in_ok-makes.makes } in
-    declared_scopes i.version c.args.self.now i.names i.declarations.items _ i.lanes.items i.capacities.entries i.steps.items i.threads d c.args.declares (map (λ (w : Bor (List ℕ)). w.now) c.args.rest.now) c.name_by.result.now c.self.view_is c.self.invariant
+    declared_scopes i.kept.version c.args.self.now i.kept.names i.kept.declarations.items _ i.kept.lanes.items i.kept.capacities.entries i.kept.steps.items i.threads d c.args.declares (map (λ (w : Bor (List ℕ)). w.now) c.args.rest.now) c.name_by.result.now c.self.view_is c.self.invariant
     (record { fits = c.requires.fits; form = c.requires.form }) c.name_by.ensures c.in_ok-makes.ensures.makes c.in_ok-makes.ensures.uses
     (c.push_reserved.ensures.items ∙ ap (λ (xs : List Declaration). xs ++ d ∷ []) c.reserve.ensures.items)
 
@@ -27,7 +27,7 @@ pub invariant_of-self-2 : goal.invariant_of-self-2
 invariant_of-self-2 c =
     let i = c.self.inside in
     let d : Declaration = record { line = c.args.line; makes = c.in_ok-makes.makes } in
-    declared_closes i.version c.args.self.now i.names i.declarations.items _ i.lanes.items i.capacities.entries i.steps.items i.threads d c.args.declares (map (λ (w : Bor (List ℕ)). w.now) c.args.rest.now) c.name_by.result.now c.self.view_is c.self.invariant
+    declared_closes i.kept.version c.args.self.now i.kept.names i.kept.declarations.items _ i.kept.lanes.items i.kept.capacities.entries i.kept.steps.items i.threads d c.args.declares (map (λ (w : Bor (List ℕ)). w.now) c.args.rest.now) c.name_by.result.now c.self.view_is c.self.invariant
     (record { fits = c.requires.fits; form = c.requires.form }) c.name_by.ensures c.in_ok-makes.ensures.makes c.in_ok-makes.ensures.uses
     (c.push_reserved.ensures.items ∙ ap (λ (xs : List Declaration). xs ++ d ∷ []) c.reserve.ensures.items)
     _ _ c.in_ok-name.name c.named_by-named.result c.in_ok-name.ensures.ok (c.named_by-named.ensures ∙ ap (named_by c.args.declares i.threads) c.owner_of-owner.ensures) c.in_ok-insert.ensures.entries c.threads_with-threads.ensures

@@ -22,7 +22,7 @@ returns-in-None-clause-scope c =
     let i = c.self.inside in
     let rest : List (List ℕ) = map (λ (w : Bor (List ℕ)). w.now) c.args.rest.now in
     let s : Step = record { line = c.args.line; seat = c.args.seat; action = c.in_ok-action.action } in
-    asked_scopes i.version c.args.self.now i.names i.declarations.items i.lanes.items i.capacities.entries i.steps.items _ i.threads s c.args.verb rest c.self.view_is c.self.invariant
+    asked_scopes i.kept.version c.args.self.now i.kept.names i.kept.declarations.items i.kept.lanes.items i.kept.capacities.entries i.kept.steps.items _ i.threads s c.args.verb rest c.self.view_is c.self.invariant
     (record { fits = c.requires.fits; form = c.requires.form }) c.in_ok-action.ensures.action c.in_ok-action.ensures.uses c.in_ok-push-in-None.ensures.items
 
 pub invariant_of-self-in-None : goal.invariant_of-self-in-None
@@ -30,7 +30,7 @@ invariant_of-self-in-None c =
     let i = c.self.inside in
     let rest : List (List ℕ) = map (λ (w : Bor (List ℕ)). w.now) c.args.rest.now in
     let s : Step = record { line = c.args.line; seat = c.args.seat; action = c.in_ok-action.action } in
-    asked_closes i.version c.args.self.now i.names i.declarations.items i.lanes.items i.capacities.entries i.steps.items _ i.threads s c.args.verb rest c.self.view_is c.self.invariant
+    asked_closes i.kept.version c.args.self.now i.kept.names i.kept.declarations.items i.kept.lanes.items i.kept.capacities.entries i.kept.steps.items _ i.threads s c.args.verb rest c.self.view_is c.self.invariant
     (record { fits = c.requires.fits; form = c.requires.form }) c.in_ok-action.ensures.action c.in_ok-action.ensures.uses c.in_ok-push-in-None.ensures.items
     (sym c.name_given.ensures ∙ ap (option_map (λ (w : Bor (List ℕ)). w.now)) c.in-None.is)
 
@@ -39,7 +39,7 @@ returns-in-Some-clause-scope c =
     let i = c.self.inside in
     let rest : List (List ℕ) = map (λ (w : Bor (List ℕ)). w.now) c.args.rest.now in
     let s : Step = record { line = c.args.line; seat = c.args.seat; action = c.in_ok-action.action } in
-    asked_scopes i.version c.args.self.now i.names i.declarations.items i.lanes.items i.capacities.entries i.steps.items _ i.threads s c.args.verb rest c.self.view_is c.self.invariant
+    asked_scopes i.kept.version c.args.self.now i.kept.names i.kept.declarations.items i.kept.lanes.items i.kept.capacities.entries i.kept.steps.items _ i.threads s c.args.verb rest c.self.view_is c.self.invariant
     (record { fits = c.requires.fits; form = c.requires.form }) c.in_ok-action.ensures.action c.in_ok-action.ensures.uses (c.push_reserved.ensures.items ∙ ap (λ (xs : List Step). xs ++ s ∷ []) c.reserve.ensures.items)
 
 pub invariant_of-self-in-Some : goal.invariant_of-self-in-Some
@@ -47,6 +47,6 @@ invariant_of-self-in-Some c =
     let i = c.self.inside in
     let rest : List (List ℕ) = map (λ (w : Bor (List ℕ)). w.now) c.args.rest.now in
     let s : Step = record { line = c.args.line; seat = c.args.seat; action = c.in_ok-action.action } in
-    giving_closes i.version c.args.self.now i.names i.declarations.items i.lanes.items i.capacities.entries i.steps.items _ i.threads s c.args.verb rest c.self.view_is c.self.invariant
+    giving_closes i.kept.version c.args.self.now i.kept.names i.kept.declarations.items i.kept.lanes.items i.kept.capacities.entries i.kept.steps.items _ i.threads s c.args.verb rest c.self.view_is c.self.invariant
     (record { fits = c.requires.fits; form = c.requires.form }) c.in_ok-action.ensures.action c.in_ok-action.ensures.uses (c.push_reserved.ensures.items ∙ ap (λ (xs : List Step). xs ++ s ∷ []) c.reserve.ensures.items)
     c.in-Some.name.now (sym c.name_given.ensures ∙ ap (option_map (λ (w : Bor (List ℕ)). w.now)) c.in-Some.is) _ c.in_ok-name-in-Some.name c.in_ok-name-in-Some.ensures.ok c.in_ok-insert-in-Some.ensures.entries

@@ -14,20 +14,20 @@ use Rattle.cml_grammar.proofs.script.Script.first_feed.Goals as goal
 pub returns-in_err-feed : goal.returns-in_err-feed
 returns-in_err-feed c =
     let i = c.self.inside in
-    let script : Lines = view_of i.version i.declarations.items i.lanes.items i.steps.items in
+    let script : Lines = view_of i.kept.version i.kept.declarations.items i.kept.lanes.items i.kept.steps.items in
     c.from_residual.ensures
     ∙ ap (option_map (λ (d : Bor Declaration). d.now.line.number)) (sym c.in_err-feed.was)
     ∙ behind c.find.result
-    ∙ ap (option_map (λ (d : Declaration). d.line.number)) (find_from_yields_List (λ (d : Declaration). makes_feed d.makes) c.find.new.self _ c.find.result c.find.ensures.ran (YieldsList-from_slice i.declarations.items cc) (λ x b q k. search (rules, tests)))
-    ∙ feed_number (names_of script) i.declarations.items c.self.invariant.declarations
+    ∙ ap (option_map (λ (d : Declaration). d.line.number)) (find_from_yields_List (λ (d : Declaration). makes_feed d.makes) c.find.new.self _ c.find.result c.find.ensures.ran (YieldsList-from_slice i.kept.declarations.items cc) (λ x b q k. search (rules, tests)))
+    ∙ feed_number (names_of script) i.kept.declarations.items c.self.invariant.declarations
     ∙ ap first_feed c.self.view_is
 
 pub returns : goal.returns
 returns c =
     let i = c.self.inside in
-    let script : Lines = view_of i.version i.declarations.items i.lanes.items i.steps.items in
+    let script : Lines = view_of i.kept.version i.kept.declarations.items i.kept.lanes.items i.kept.steps.items in
     ap (option_map (λ (d : Bor Declaration). d.now.line.number)) (sym c.in_ok-feed.was)
     ∙ behind c.find.result
-    ∙ ap (option_map (λ (d : Declaration). d.line.number)) (find_from_yields_List (λ (d : Declaration). makes_feed d.makes) c.find.new.self _ c.find.result c.find.ensures.ran (YieldsList-from_slice i.declarations.items cc) (λ x b q k. search (rules, tests)))
-    ∙ feed_number (names_of script) i.declarations.items c.self.invariant.declarations
+    ∙ ap (option_map (λ (d : Declaration). d.line.number)) (find_from_yields_List (λ (d : Declaration). makes_feed d.makes) c.find.new.self _ c.find.result c.find.ensures.ran (YieldsList-from_slice i.kept.declarations.items cc) (λ x b q k. search (rules, tests)))
+    ∙ feed_number (names_of script) i.kept.declarations.items c.self.invariant.declarations
     ∙ ap first_feed c.self.view_is

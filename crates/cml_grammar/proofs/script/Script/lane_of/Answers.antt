@@ -14,17 +14,17 @@ pub returns-clause-capacity : goal.returns-clause-capacity
 returns-clause-capacity c =
     let i = c.self.inside in
     let ends : Ends = (c.args.seat, c.args.target) in
-    let script : Lines = view_of i.version i.declarations.items i.lanes.items i.steps.items in
+    let script : Lines = view_of i.kept.version i.kept.declarations.items i.kept.lanes.items i.kept.steps.items in
     c.copied.ensures
     ∙ c.get.ensures.value
     ∙ ap (lookup (are_same ends)) c.self.invariant.capacities_are
-    ∙ capacity_kept (names_of script) i.lanes.items ends c.self.invariant.lanes
+    ∙ capacity_kept (names_of script) i.kept.lanes.items ends c.self.invariant.lanes
     ∙ ap (λ (s : Lines). capacity_of (names_of s) s.lanes ends) c.self.view_is
 
 pub returns-clause-fits : goal.returns-clause-fits
 returns-clause-fits c =
     let i = c.self.inside in
     let ends : Ends = (c.args.seat, c.args.target) in
-    let script : Lines = view_of i.version i.declarations.items i.lanes.items i.steps.items in
+    let script : Lines = view_of i.kept.version i.kept.declarations.items i.kept.lanes.items i.kept.steps.items in
     subst (λ (o : Option ℕ). IfSome o IsCapacity) (sym (c.copied.ensures ∙ c.get.ensures.value ∙ ap (lookup (are_same ends)) c.self.invariant.capacities_are))
-    (kept_fits (names_of script) i.lanes.items ends c.self.invariant.lanes)
+    (kept_fits (names_of script) i.kept.lanes.items ends c.self.invariant.lanes)

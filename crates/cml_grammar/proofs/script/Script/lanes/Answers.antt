@@ -9,4 +9,4 @@ pub returns-clause-said : goal.returns-clause-said
 returns-clause-said c =
     let i = c.self.inside in
     subst (λ (s : Lines). All (ReadsLane (names_of s)) c.deref.result.now) c.self.view_is
-    (subst (λ (xs : List Lane). All (ReadsLane (names_of (view_of i.version i.declarations.items i.lanes.items i.steps.items))) xs) (sym c.deref.ensures.value) c.self.invariant.lanes)
+    (subst (λ (xs : List Lane). All (ReadsLane (names_of (view_of i.kept.version i.kept.declarations.items i.kept.lanes.items i.kept.steps.items))) xs) (sym c.deref.ensures.value) c.self.invariant.lanes)

@@ -9,7 +9,7 @@ pub returns-clause-asked : goal.returns-clause-asked
 returns-clause-asked c =
     let i = c.self.inside in
     subst (λ (s : Lines). All (ReadsStep (names_of s)) c.deref.result.now) c.self.view_is
-    (subst (λ (xs : List Step). All (ReadsStep (names_of (view_of i.version i.declarations.items i.lanes.items i.steps.items))) xs) (sym c.deref.ensures.value) c.self.invariant.steps)
+    (subst (λ (xs : List Step). All (ReadsStep (names_of (view_of i.kept.version i.kept.declarations.items i.kept.lanes.items i.kept.steps.items))) xs) (sym c.deref.ensures.value) c.self.invariant.steps)
 
 pub returns-clause-lines : goal.returns-clause-lines
 returns-clause-lines c = search rules
