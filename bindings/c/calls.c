@@ -305,7 +305,7 @@ static void try_a_taken_journal(uint64_t seat)
     TOLD(NO_SUCH, seryugo_entry(&room, count, &entry));
 }
 
-/* The journal of a room of its own, which is checked from its first entry on. */
+/* The journal of another room, which is checked from its first entry on. */
 static void try_a_checker(void)
 {
     struct seryugo_entry entry;
