@@ -81,19 +81,26 @@ does() {
 calls_from_c() {
     has_c || return
     build_with_c cml_c '
-        let (Ok(mut one), Ok(mut other), Ok(last), Ok(spare)) = (
-            handle::Handle::new(alloc, kept::Kept::Spent),
-            handle::Handle::new(alloc, kept::Kept::Spent),
-            handle::Handle::new(alloc, kept::Kept::Spent),
-            handle::Handle::new(alloc, kept::Kept::Spent),
-        ) else {
+        let spent = || handle::Handle::new(alloc, kept::Kept::Numbers(kept::Resource::Spent));
+        let (Ok(mut one), Ok(mut other), Ok(last)) = (spent(), spent(), spent()) else {
+            return;
+        };
+        let (Ok(spare), Ok(owner), Ok(keeper)) = (spent(), spent(), spent()) else {
             return;
         };
         let mut slot = spare.into_slot();
+        let nowhere = || bytes_entries::SeryugoPlace { at: std::ptr::null(), length: 0 };
+        let mut bytes = messages::SeryugoBytes { at: std::ptr::null(), length: 0, owner: owner.into_slot() };
         let mut found = entries::SeryugoEntry {
             maker: entries::SeryugoMaker { kind: 0, number: 0 },
             call: entries::SeryugoCall { kind: 0, object: 0, message: 0 },
             reply: entries::SeryugoReply { kind: 0, given: 0 },
+        };
+        let mut shown = bytes_entries::SeryugoBytesEntry {
+            maker: entries::SeryugoMaker { kind: 0, number: 0 },
+            call: bytes_entries::SeryugoBytesCall { kind: 0, object: 0, message: nowhere() },
+            reply: bytes_entries::SeryugoBytesReply { kind: 0, name: 0, message: nowhere() },
+            owner: keeper.into_slot(),
         };' calls threads || return
     does calls env TRIED=calls timeout 60 "$program"
     does threads env TRIED=threads timeout 60 "$program"
