@@ -176,7 +176,12 @@ fn tell_seat(told: &mut Told, seat: Result<u64, Refusal>) {
 }
 
 /// Tells what a seat's call came to.
-fn tell_outcome<M: Numbered>(told: &mut Told, board: &Numbers<M>, came: Outcome<M>, asked: &Call<M>) {
+fn tell_outcome<M: Numbered>(
+    told: &mut Told,
+    board: &Numbers<M>,
+    came: Outcome<M>,
+    asked: &Call<M>,
+) {
     match came {
         Outcome::Answered(answer) => tell_answer(told, board, &answer, asked),
         Outcome::WouldWait(back) => tell_back(told, "waits", &back, asked),
