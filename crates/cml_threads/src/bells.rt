@@ -9,8 +9,8 @@ use std::sync::atomic::{AtomicU64, Ordering};
 
 /// How often a thread looks before it sleeps, and in how many waits not at all, at the most, once that was in vain.
 const FEW_LOOKS: (u32, u64) = (8, 16);
-/// The same if its last call has woken a thread that slept, or the thread that woke it. That one may answer as soon as it runs,
-/// which may take longer than the few looks. So two threads that answer each other don't sleep at each turn.
+/// The same if its last call has woken a thread that slept. That thread may answer as soon as it runs, and to wake it takes
+/// longer than the few looks. So two threads that answer each other don't sleep at each turn.
 const MANY_LOOKS: (u32, u64) = (50, 512);
 
 // What the word of a bell is.
@@ -20,18 +20,13 @@ const ASLEEP: u64 = 1;
 
 const RUNG: u64 = 2;
 
-/// No seat's number.
-const NOBODY: u64 = u64::MAX;
-
 /// The bell of a seat. One thread waits at it, and any other rings it. A ring is kept until the thread has heard it, so it may
 /// come before the thread waits.
 #[derive(Drop)]
 struct Bell {
     word: AtomicU64,
-    // The seat whose thread was the last to ring:
-    rung_by: AtomicU64,
-    // The other three are for the seat's thread alone. Whether the one that its last call rang may answer soon:
-    is_answered: AtomicU64,
+    // The other three are for the seat's thread alone. Whether its last call woke another:
+    has_woken: AtomicU64,
     few: Looks,
     many: Looks,
 }
@@ -40,20 +35,19 @@ impl Bell {
     fn new() -> Bell {
         Bell {
             word: AtomicU64::new(QUIET),
-            rung_by: AtomicU64::new(NOBODY),
-            is_answered: AtomicU64::new(0),
+            has_woken: AtomicU64::new(0),
             few: Looks::new(FEW_LOOKS.0, FEW_LOOKS.1),
             many: Looks::new(MANY_LOOKS.0, MANY_LOOKS.1),
         }
     }
 
-    /// Wakes the thread if it sleeps. Whether it slept.
+    /// Whether the thread slept, and was woken.
     fn ring(&self) -> bool {
-        let slept = self.word.swap(RUNG, Ordering::AcqRel) == ASLEEP;
-        if slept {
-            self.word.wake_one();
+        if self.word.swap(RUNG, Ordering::AcqRel) != ASLEEP {
+            return false;
         }
-        slept
+        self.word.wake_one();
+        true
     }
 
     /// Looks for a while whether it is rung, then sleeps until it is.
@@ -71,11 +65,11 @@ impl Bell {
     }
 
     fn is_soon_rung(&self) -> bool {
-        let is_answered = self.is_answered.load(Ordering::Relaxed) != 0;
-        if is_answered {
-            self.is_answered.store(0, Ordering::Relaxed);
+        let has_woken = self.has_woken.load(Ordering::Relaxed) != 0;
+        if has_woken {
+            self.has_woken.store(0, Ordering::Relaxed);
         }
-        if is_answered && self.many.are_due() {
+        if has_woken && self.many.are_due() {
             return self.many.see(&self.word, RUNG);
         }
         self.few.are_due() && self.few.see(&self.word, RUNG)
@@ -119,24 +113,18 @@ impl Bells {
         }
     }
 
-    /// Wakes the seat's thread. If it doesn't sleep yet, it won't.
-    pub fn ring(&self, seat: u64) {
-        if let Some(bell) = self.bells.get(seat as usize) {
-            bell.ring();
+    /// Wakes the seat's thread. If it doesn't sleep yet, it won't. Whether it slept.
+    pub fn ring(&self, seat: u64) -> bool {
+        match self.bells.get(seat as usize) {
+            Some(bell) => bell.ring(),
+            None => false,
         }
     }
 
-    /// The same by the thread of another seat. In its next wait that thread looks longer, if the woken one may answer soon.
-    pub fn ring_by(&self, seat: u64, by: u64) {
-        let Some(bell) = self.bells.get(seat as usize) else {
-            return;
-        };
-        let Some(own) = self.bells.get(by as usize) else {
-            return;
-        };
-        bell.rung_by.store(by, Ordering::Relaxed);
-        if bell.ring() || own.rung_by.load(Ordering::Relaxed) == seat {
-            own.is_answered.store(1, Ordering::Relaxed);
+    /// The seat's thread has just woken another: so in its next wait it may look for longer.
+    pub fn note_woken(&self, seat: u64) {
+        if let Some(bell) = self.bells.get(seat as usize) {
+            bell.has_woken.store(1, Ordering::Relaxed);
         }
     }
 

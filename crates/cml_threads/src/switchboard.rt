@@ -191,17 +191,21 @@ impl<M: Message, L: MessageLog<M>, Led: Ledger> Switchboard<M, L, Led> {
     }
 
     /// Unlocks the hall, and then wakes one seat that is due, if there is one that wasn't woken. It is taken under the lock. Its
-    /// thread locks the hall next, makes its call, and comes by here too.
-    fn let_go(&self, hall: MutexGuard<'_, CachePadded<Hall<M, L, Led>>>) {
-        if let Some(due) = unlock(hall) {
-            self.bells.ring(due);
+    /// thread locks the hall next, makes its call, and comes by here too. Whether that thread slept.
+    fn let_go(&self, hall: MutexGuard<'_, CachePadded<Hall<M, L, Led>>>) -> bool {
+        let mut hall = hall;
+        let due = hall.next_due();
+        drop(hall);
+        match due {
+            Some(seat) => self.bells.ring(seat),
+            None => false,
         }
     }
 
-    /// The same after a seat's call, whose thread may wait next for what the woken one does.
+    /// The same after a seat's call, whose thread waits next, maybe for what the woken one does.
     fn let_go_by(&self, hall: MutexGuard<'_, CachePadded<Hall<M, L, Led>>>, seat: u64) {
-        if let Some(due) = unlock(hall) {
-            self.bells.ring_by(due, seat);
+        if self.let_go(hall) {
+            self.bells.note_woken(seat);
         }
     }
 
@@ -219,13 +223,6 @@ impl<M: Message, L: MessageLog<M>, Led: Ledger> Switchboard<M, L, Led> {
             Err(back) => Err(back),
         }
     }
-}
-
-/// Unlocks the hall, and returns a seat to wake.
-fn unlock<M: Message, L: MessageLog<M>, Led: Ledger>(
-    mut hall: MutexGuard<'_, CachePadded<Hall<M, L, Led>>>,
-) -> Option<u64> {
-    hall.next_due()
 }
 
 /// `Hall::ask`, of which the caller of a switchboard can be told this much.

@@ -1,15 +1,14 @@
 //! How the thread of a parked seat waits.
 
 use crate::looks::Looks;
-use std::ptr;
-use std::sync::atomic::{AtomicBool, AtomicU8, AtomicUsize, Ordering};
+use std::sync::atomic::{AtomicBool, AtomicU8, Ordering};
 use std::sync::{Mutex, PoisonError};
 use std::thread::{self, Thread};
 
 /// How often a thread looks before it sleeps, and in how many waits not at all, at the most, once that was in vain.
 const FEW_LOOKS: (u32, u32) = (8, 16);
-/// The same if its last call has woken a thread that slept, or the thread that woke it. That one may answer as soon as it runs,
-/// which may take longer than the few looks. So two threads that answer each other don't sleep at each turn.
+/// The same if its last call has woken a thread that slept. That thread may answer as soon as it runs, and to wake it takes
+/// longer than the few looks. So two threads that answer each other don't sleep at each turn.
 const MANY_LOOKS: (u32, u32) = (50, 512);
 
 /// What the thread does, or that it was woken.
@@ -25,10 +24,8 @@ pub(crate) struct Sleeper {
     state: AtomicU8,
     /// The thread that sleeps, or was the last to sleep.
     thread: Mutex<Option<Thread>>,
-    /// Where the sleeper of the last thread is that woke this one.
-    woken_by: AtomicUsize,
-    // These are for the seat's thread alone. Whether the thread that its last call woke may answer soon:
-    is_answered: AtomicBool,
+    // These are for the seat's thread alone.
+    has_woken: AtomicBool,
     few: Looks,
     many: Looks,
 }
@@ -38,8 +35,7 @@ impl Sleeper {
         Sleeper {
             state: AtomicU8::new(AWAKE),
             thread: Mutex::new(None),
-            woken_by: AtomicUsize::new(0),
-            is_answered: AtomicBool::new(false),
+            has_woken: AtomicBool::new(false),
             few: Looks::new(FEW_LOOKS.0, FEW_LOOKS.1),
             many: Looks::new(MANY_LOOKS.0, MANY_LOOKS.1),
         }
@@ -56,11 +52,11 @@ impl Sleeper {
 
     /// Looks for a while, unless it looked in vain lately.
     fn is_soon_woken(&self) -> bool {
-        let is_answered = self.is_answered.load(Ordering::Relaxed);
-        if is_answered {
-            self.is_answered.store(false, Ordering::Relaxed);
+        let has_woken = self.has_woken.load(Ordering::Relaxed);
+        if has_woken {
+            self.has_woken.store(false, Ordering::Relaxed);
         }
-        if is_answered && self.many.are_due() {
+        if has_woken && self.many.are_due() {
             return self.many.see(&self.state, WOKEN);
         }
         self.few.are_due() && self.few.see(&self.state, WOKEN)
@@ -88,15 +84,8 @@ impl Sleeper {
         true
     }
 
-    /// The same by the thread of another seat. In its next wait that thread looks longer, if the woken one may answer soon.
-    pub fn wake_by(&self, by: &Sleeper) {
-        self.woken_by.store(by.place(), Ordering::Relaxed);
-        if self.wake() || by.woken_by.load(Ordering::Relaxed) == self.place() {
-            by.is_answered.store(true, Ordering::Relaxed);
-        }
-    }
-
-    fn place(&self) -> usize {
-        ptr::from_ref(self) as usize
+    /// The seat's call has just woken a thread that slept: so in its next wait it may look for longer.
+    pub fn note_woken(&self) {
+        self.has_woken.store(true, Ordering::Relaxed);
     }
 }

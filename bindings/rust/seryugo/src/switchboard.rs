@@ -193,29 +193,27 @@ impl Switchboard {
     /// call too, which wakes the one after.
     #[inline]
     pub(crate) fn change<T>(&self, call: impl FnOnce(&mut Handle) -> T) -> T {
-        let (answer, due) = self.call(call);
-        if let Some(due) = due {
-            due.wake();
-        }
-        answer
+        self.change_and_wake(call).0
     }
 
-    /// The same for a seat's thread, which may wait next for what the woken one does.
+    /// The same for a seat's thread, which waits next, maybe for what the woken one does.
     #[inline]
     pub(crate) fn change_by<T>(&self, sleeper: &Sleeper, call: impl FnOnce(&mut Handle) -> T) -> T {
-        let (answer, due) = self.call(call);
-        if let Some(due) = due {
-            due.wake_by(sleeper);
+        let (answer, has_woken) = self.change_and_wake(call);
+        if has_woken {
+            sleeper.note_woken();
         }
         answer
     }
 
-    /// Makes a call under the lock. The thread to wake comes with the answer.
+    /// Whether the thread that is woken slept comes with the answer.
     #[inline]
-    fn call<T>(&self, call: impl FnOnce(&mut Handle) -> T) -> (T, Option<Arc<Sleeper>>) {
+    fn change_and_wake<T>(&self, call: impl FnOnce(&mut Handle) -> T) -> (T, bool) {
         let mut room = self.lock();
         let answer = call(&mut room.handle);
-        (answer, room.next_due())
+        let due = room.next_due();
+        drop(room);
+        (answer, due.is_some_and(|sleeper| sleeper.wake()))
     }
 
     /// Makes a call that may block. If its seat is parked, this waits until the seat is woken, and makes the call again.
