@@ -17,7 +17,7 @@ pub enum Role {
     Caster,
     /// Multicasts, and then receives by each of so many ports.
     CastTo(u64),
-    /// Receives by a port of its own.
+    /// Receives by a port that no other thread uses.
     Reader,
     Holder,
     Putter,
