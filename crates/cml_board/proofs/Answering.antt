@@ -3,7 +3,7 @@ use Rattle.std.proofs.Common.{◌≡◌, ◌≢◌, true, false, Bool, List, [],
 use Rattle.std.specs.Option.{option_map_or}
 use Rattle.std.proofs.lemmas.Bool.{false≢true}
 use Rattle.cml_board.specs.declared.call.Name.{Name}
-use Rattle.cml_board.specs.declared.call.Kind.{Kind}
+use Rattle.cml_calls.specs.declared.kind.Kind.{Kind}
 use Rattle.cml_board.specs.declared.call.Call.{Call}
 use Rattle.cml_board.specs.declared.call.Call.TheVariants.{CopyPort, ClosePort, Recv, Poll}
 use Rattle.cml_board.specs.declared.entry.Reply.TheVariants.{Done, Got, Nothing, Closed}
@@ -15,7 +15,8 @@ use Rattle.cml_board.specs.declared.board.note.Putting.TheVariants as putting
 use Rattle.cml_board.specs.declared.board.note.Asking.{Asking}
 use Rattle.cml_board.specs.declared.board.note.Asking.TheVariants as asking
 use Rattle.cml_board.specs.Calls.{taking_call, putting_call, asking_call}
-use Rattle.cml_board.specs.Objects.{object_in, takes, is_receiver}
+use Rattle.cml_calls.specs.Kinds.{is_receiver}
+use Rattle.cml_board.specs.Objects.{object_in, takes}
 use Rattle.cml_board.specs.History.{Fits, kind_of, is_open, owed, answer, new_name}
 use Rattle.cml_board.specs.Counts.{is_a}
 

@@ -8,7 +8,7 @@ use Rattle.cml_board.specs.declared.object.Object.TheVariants.{Mailbox, Port}
 use Rattle.cml_board.specs.declared.object.Port.{Port as port_data}
 use Rattle.cml_board.specs.declared.object.Reading.TheVariants.{Open}
 use Rattle.cml_board.specs.Origins.{start_by}
-use Rattle.cml_board.specs.Objects.{is_receiver}
+use Rattle.cml_calls.specs.Kinds.{is_receiver}
 use Rattle.cml_board.specs.History.{got, place, origin_of}
 use Rattle.cml_board.specs.Counts.{is_a, got_count}
 use Rattle.cml_board.specs.Holdings.{map_log, log_in, log_at, key_in, cursor_in}

@@ -4,8 +4,8 @@ use Rattle.std.specs.Option.{option_map, option_map_or, option_and_then}
 use Rattle.std.proofs.lemmas.Bool.{false≢true}
 use Rattle.cml_log.specs.Log.{Log}
 use Rattle.cml_board.specs.declared.call.Name.{Name}
-use Rattle.cml_board.specs.declared.call.Kind.{Kind}
-use Rattle.cml_board.specs.declared.call.Kind.TheVariants as kind
+use Rattle.cml_calls.specs.declared.kind.Kind.{Kind}
+use Rattle.cml_calls.specs.declared.kind.Kind.TheVariants as kind
 use Rattle.cml_board.specs.declared.call.Call.TheVariants as call
 use Rattle.cml_board.specs.declared.board.note.Looking.{Looking}
 use Rattle.cml_board.specs.declared.board.note.Looking.TheVariants as looking
@@ -16,7 +16,7 @@ use Rattle.cml_board.specs.declared.object.Form.TheVariants.{Once, Mutable}
 use Rattle.cml_board.specs.declared.object.Object.{Object}
 use Rattle.cml_board.specs.declared.object.Object.TheVariants.{Mailbox, Channel, Port, Variable}
 use Rattle.cml_board.specs.Origins.{kind_by}
-use Rattle.cml_board.specs.Objects.{is_variable, is_mvar}
+use Rattle.cml_calls.specs.Kinds.{is_variable, is_mvar}
 use Rattle.cml_board.specs.Calls.{variable_call, looking_call, waits}
 use Rattle.cml_board.specs.Held.{held}
 use Rattle.cml_board.specs.History.{Fits, kind_of, answer, new_name}

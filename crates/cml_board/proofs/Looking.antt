@@ -10,7 +10,7 @@ use Rattle.cml_board.specs.declared.object.Object.TheVariants.{Mailbox, Channel,
 use Rattle.cml_board.specs.declared.object.Reading.{Reading}
 use Rattle.cml_board.specs.declared.object.Reading.TheVariants.{Open, Closed}
 use Rattle.cml_board.specs.Origins.{kind_by, source_by, start_by}
-use Rattle.cml_board.specs.Objects.{is_receiver}
+use Rattle.cml_calls.specs.Kinds.{is_receiver}
 use Rattle.cml_board.specs.History.{entries_in, made, origin_of, sent, got, owed}
 use Rattle.cml_board.specs.Facts.{Facts, facts_of}
 use Rattle.cml_board.specs.Holdings.{key_in, log_in, cursor_in, log_at, cursor_at, HasLog, HasRoomAt, HasOwed}

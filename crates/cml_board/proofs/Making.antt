@@ -8,7 +8,7 @@ use Rattle.cml_board.specs.declared.board.note.Making.TheVariants as making
 use Rattle.cml_board.specs.declared.entry.Who.{Who}
 use Rattle.cml_board.specs.declared.entry.Reply.TheVariants.{Made}
 use Rattle.cml_board.specs.declared.object.Object.{Object}
-use Rattle.cml_board.specs.Objects.{is_channel, is_port}
+use Rattle.cml_calls.specs.Kinds.{is_channel, is_port}
 use Rattle.cml_board.specs.Calls.{making_call}
 use Rattle.cml_board.specs.History.{Fits, answer, new_name}
 use Rattle.cml_board.specs.Shown.{Shown}

@@ -6,7 +6,7 @@ use Rattle.std.proofs.lemmas.List.{append_assoc, drop_at, drop-drop, drop-append
 use Rattle.std.proofs.lemmas.Option.{slice_get_past}
 use Rattle.cml_board.specs.declared.entry.Entry.{Entry}
 use Rattle.cml_board.specs.Origins.{Origin, mailbox, port, kind_by, source_by, start_by}
-use Rattle.cml_board.specs.Objects.{is_receiver}
+use Rattle.cml_calls.specs.Kinds.{is_receiver}
 use Rattle.cml_board.specs.History.{Lawful, made, origin_of, is_open, sent, got, owed}
 use Rattle.cml_board.specs.Kept.{reads_by, kept_from}
 use Rattle.cml_board.specs.Counts.{is_a}

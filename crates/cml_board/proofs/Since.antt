@@ -7,7 +7,7 @@ use Rattle.std.proofs.lemmas.Option.{slice_get_past}
 use Rattle.cml_log.specs.Log.{owed_items}
 use Rattle.cml_board.specs.declared.entry.Entry.{Entry}
 use Rattle.cml_board.specs.Origins.{Origin, mailbox, port, kind_by, source_by, start_by}
-use Rattle.cml_board.specs.Objects.{is_source, is_receiver}
+use Rattle.cml_calls.specs.Kinds.{is_source, is_receiver}
 use Rattle.cml_board.specs.History.{Lawful, made, kind_of, origin_of, is_open, sent, got, due, owed, place}
 use Rattle.cml_board.specs.Kept.{reads, reads_by, kept_from}
 use Rattle.cml_board.specs.Counts.{is_a}

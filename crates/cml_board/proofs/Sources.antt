@@ -4,12 +4,13 @@ use Rattle.std.specs.Option.{option_map, option_map_or}
 use Rattle.std.proofs.lemmas.Option.{slice_get_within, some_pair_parts}
 use Rattle.std.proofs.lemmas.Bool.{false≢true}
 use Rattle.cml_board.specs.declared.call.Name.{Name}
-use Rattle.cml_board.specs.declared.call.Kind.{Kind}
-use Rattle.cml_board.specs.declared.call.Kind.TheVariants as kind
+use Rattle.cml_calls.specs.declared.kind.Kind.{Kind}
+use Rattle.cml_calls.specs.declared.kind.Kind.TheVariants as kind
 use Rattle.cml_board.specs.declared.board.note.Putting.{Putting}
 use Rattle.cml_board.specs.declared.board.note.Putting.TheVariants as putting
 use Rattle.cml_board.specs.Origins.{Origin, mailbox, channel, port, kind_by}
-use Rattle.cml_board.specs.Objects.{takes, is_channel, is_port, is_source}
+use Rattle.cml_calls.specs.Kinds.{is_channel, is_port, is_source}
+use Rattle.cml_board.specs.Objects.{takes}
 use Rattle.cml_board.specs.History.{Fits, made, origin_of, is_open}
 use Rattle.cml_board.specs.Counts.{is_a}
 use Rattle.cml_board.specs.Calls.{putting_call}

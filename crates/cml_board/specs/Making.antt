@@ -5,7 +5,7 @@ use Rattle.cml_board.specs.declared.board.note.Making.{Making}
 use Rattle.cml_board.specs.declared.board.note.Making.TheVariants as making
 use Rattle.cml_board.specs.declared.object.Object.{Object}
 use Rattle.cml_board.specs.declared.object.Object.TheVariants.{Channel, Variable}
-use Rattle.cml_board.specs.Objects.{is_channel, is_port}
+use Rattle.cml_calls.specs.Kinds.{is_channel, is_port}
 use Rattle.cml_board.specs.Counts.{is_a}
 use Rattle.cml_board.specs.Holdings.{HasLog, HasCursor, AddsMailbox, AddsPort}
 use Rattle.cml_board.specs.Shown.{Shown}

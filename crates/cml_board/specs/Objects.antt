@@ -1,8 +1,15 @@
 -- Which object a call is made on, and which calls an object takes.
-use Rattle.std.specs.Prelude.{Bool, true, false, Option, Some, None}
+use Rattle.std.specs.Prelude.{Bool, Option, Some, None}
+use Rattle.cml_calls.specs.declared.kind.Kind.{Kind}
+use Rattle.cml_calls.specs.declared.table.Make.{Make}
+use Rattle.cml_calls.specs.declared.table.Make.TheVariants as make
+use Rattle.cml_calls.specs.declared.table.Give.{Give}
+use Rattle.cml_calls.specs.declared.table.Give.TheVariants as give
+use Rattle.cml_calls.specs.declared.table.Ask.{Ask}
+use Rattle.cml_calls.specs.declared.table.Ask.TheVariants as ask
+use Rattle.cml_calls.specs.Kinds.{admits}
+use Rattle.cml_calls.specs.Table.{Row, made, filled, given, asked}
 use Rattle.cml_board.specs.declared.call.Name.{Name}
-use Rattle.cml_board.specs.declared.call.Kind.{Kind}
-use Rattle.cml_board.specs.declared.call.Kind.TheVariants.{Mailbox, Channel, Port, IVar, MVar}
 use Rattle.cml_board.specs.declared.call.Call.{Call}
 use Rattle.cml_board.specs.declared.call.Call.TheVariants.{NewMailbox, NewChannel, NewPort, CopyPort, ClosePort, NewIVar, NewMVar, MVarInit, Send, Cast, Recv, Poll, Put, Get, GetPoll, Take, TakePoll, Swap}
 
@@ -27,57 +34,60 @@ object_in (Take name) = Some name
 object_in (TakePoll name) = Some name
 object_in (Swap name message) = Some name
 
-abbrev pub is_mailbox : Kind → Bool
-is_mailbox Mailbox = true
-is_mailbox kind = false
+-- the message that it gives
+abbrev pub message_of : {M : Type 0} → Call M → Option M
+message_of (MVarInit message) = Some message
+message_of (Send name message) = Some message
+message_of (Cast name message) = Some message
+message_of (Put name message) = Some message
+message_of (Swap name message) = Some message
+message_of call = None
 
-abbrev pub is_channel : Kind → Bool
-is_channel Channel = true
-is_channel kind = false
+-- the calls by the table: those that make an object, those that give an object a message, and those that ask an object
+abbrev pub made_call : {M : Type 0} → Make → Call M
+made_call make.Mailbox = NewMailbox
+made_call make.Channel = NewChannel
+made_call make.IVar = NewIVar
+made_call make.MVar = NewMVar
 
-abbrev pub is_port : Kind → Bool
-is_port Port = true
-is_port kind = false
+abbrev pub given_call : {M : Type 0} → Give → Name → M → Call M
+given_call give.Send name message = Send name message
+given_call give.Cast name message = Cast name message
+given_call give.Put name message = Put name message
+given_call give.Swap name message = Swap name message
 
-abbrev pub is_mvar : Kind → Bool
-is_mvar MVar = true
-is_mvar kind = false
+abbrev pub asked_call : {M : Type 0} → Ask → Name → Call M
+asked_call ask.NewPort name = NewPort name
+asked_call ask.CopyPort name = CopyPort name
+asked_call ask.ClosePort name = ClosePort name
+asked_call ask.Recv name = Recv name
+asked_call ask.Poll name = Poll name
+asked_call ask.Get name = Get name
+asked_call ask.GetPoll name = GetPoll name
+asked_call ask.Take name = Take name
+asked_call ask.TakePoll name = TakePoll name
 
--- messages are received from a mailbox or a port
-abbrev pub is_receiver : Kind → Bool
-is_receiver Mailbox = true
-is_receiver Port = true
-is_receiver kind = false
-
--- messages are put into a mailbox or on a channel
-abbrev pub is_source : Kind → Bool
-is_source Mailbox = true
-is_source Channel = true
-is_source kind = false
-
--- a message is held by an i-variable or an m-variable
-abbrev pub is_variable : Kind → Bool
-is_variable IVar = true
-is_variable MVar = true
-is_variable kind = false
+-- a call's row in the table
+abbrev pub row_of : {M : Type 0} → Call M → Row
+row_of NewMailbox = made make.Mailbox
+row_of NewChannel = made make.Channel
+row_of NewIVar = made make.IVar
+row_of NewMVar = made make.MVar
+row_of (MVarInit message) = filled
+row_of (NewPort name) = asked ask.NewPort
+row_of (CopyPort name) = asked ask.CopyPort
+row_of (ClosePort name) = asked ask.ClosePort
+row_of (Send name message) = given give.Send
+row_of (Cast name message) = given give.Cast
+row_of (Recv name) = asked ask.Recv
+row_of (Poll name) = asked ask.Poll
+row_of (Put name message) = given give.Put
+row_of (Get name) = asked ask.Get
+row_of (GetPoll name) = asked ask.GetPoll
+row_of (Take name) = asked ask.Take
+row_of (TakePoll name) = asked ask.TakePoll
+row_of (Swap name message) = given give.Swap
 
 -- an object of this kind takes this call
 abbrev pub takes : {M : Type 0} → Kind → Call M → Bool
-takes kind NewMailbox = false
-takes kind NewChannel = false
-takes kind (NewPort name) = is_channel kind
-takes kind (CopyPort name) = is_port kind
-takes kind (ClosePort name) = is_port kind
-takes kind NewIVar = false
-takes kind NewMVar = false
-takes kind (MVarInit message) = false
-takes kind (Send name message) = is_mailbox kind
-takes kind (Cast name message) = is_channel kind
-takes kind (Recv name) = is_receiver kind
-takes kind (Poll name) = is_receiver kind
-takes kind (Put name message) = is_variable kind
-takes kind (Get name) = is_variable kind
-takes kind (GetPoll name) = is_variable kind
-takes kind (Take name) = is_mvar kind
-takes kind (TakePoll name) = is_mvar kind
-takes kind (Swap name message) = is_mvar kind
+takes kind call = admits (row_of call).takers kind

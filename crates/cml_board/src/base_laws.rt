@@ -5,7 +5,7 @@ ghost use Rattle.std.specs.Prelude.{◌≡◌, ℕ, List, [], ◌++◌, length, 
 ghost use Rattle.cml_board.specs.declared.entry.Entry.{Entry};
 ghost use Rattle.cml_board.specs.declared.call.Call.{Call};
 ghost use Rattle.cml_board.specs.Origins.{source_by};
-ghost use Rattle.cml_board.specs.Objects.{is_receiver};
+ghost use Rattle.cml_calls.specs.Kinds.{is_receiver};
 ghost use Rattle.cml_board.specs.Held.{held};
 ghost use Rattle.cml_board.specs.History.{Lawful, Fits, made, origin_of, sent, got, owed, place, is_open, answer};
 ghost use Rattle.cml_board.specs.Kept.{kept_from};

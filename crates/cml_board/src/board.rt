@@ -1,6 +1,6 @@
 ghost use Rattle.std.specs.Prelude.{◌≡◌, List, ◌^◌, ◌<◌, ◌≤◌, ◌↔◌, ◌&&◌, false, [], ◌++◌, length, reverse, Some, None, option_map, option_copied, IfOk, OnOk, OnErr, IsTrue, MatchOption, MatchBool};
 ghost use Rattle.cml_board.specs.declared.entry.Entry.{Entry};
-ghost use Rattle.cml_board.specs.Objects.{is_receiver};
+ghost use Rattle.cml_calls.specs.Kinds.{is_receiver};
 ghost use Rattle.cml_board.specs.History.{no_entries, entries_in, Lawful, origin_of, kind_of, is_open};
 ghost use Rattle.cml_board.specs.Counts.{is_a, sent_count, got_count, owed_count, channel_of, start_of, first_of, kept_count, port_is_open, held_by};
 ghost use Rattle.cml_board.specs.Holdings.{map_log, log_at, HasLog};
@@ -20,11 +20,12 @@ mod variables;
 mod waiting;
 
 use crate::answer::Answer;
-use crate::call::{Kind, Name};
+use crate::call::Name;
 use crate::entry::Entry;
 use crate::message::Message;
 use crate::object::{self, Object, Reading};
 use crate::past::Past;
+use cml_calls::Kind;
 use cml_log::{ChunkLog, Key, MessageLog};
 use objects::log_at;
 use std::alloc::{AllocError, Global};

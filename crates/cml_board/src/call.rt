@@ -1,22 +1,15 @@
 ghost use Rattle.std.specs.Prelude.{◌≡◌, ◌↔◌, false, IsTrue, IfOk, OnErr};
-ghost use Rattle.cml_board.specs.Objects.{object_in, takes, is_receiver, is_variable};
+ghost use Rattle.std.specs.Option.{option_map};
+ghost use Rattle.cml_calls.specs.Shown.{shown};
+ghost use Rattle.cml_board.specs.Objects.{object_in, message_of, row_of, made_call, given_call, asked_call};
 
 use crate::message::Message;
+use cml_calls::{Ask, Give, Make, Shape, shape_of_filled};
 use std::alloc::{AllocError, Global};
 
 /// An object's name: how many objects were made before it.
 #[derive(Clone, Copy, Debug, PartialEq, Eq, Hash)]
 pub struct Name(pub u64);
-
-/// What kind of object a name names.
-#[derive(Clone, Copy, Debug, PartialEq, Eq, Hash)]
-pub enum Kind {
-    Mailbox,
-    Channel,
-    Port,
-    IVar,
-    MVar,
-}
 
 /// A call on a board. The CML manual's call stands behind each.
 #[derive(Debug, Drop)]
@@ -60,6 +53,86 @@ pub enum Call<M> {
 }
 
 impl<M> Call<M> {
+    /// The call that makes this.
+    pub fn make(make: Make) -> Call<M>
+        ensures { result ≡ made_call make }
+    {
+        match make {
+            Make::Mailbox => Call::NewMailbox,
+            Make::Channel => Call::NewChannel,
+            Make::IVar => Call::NewIVar,
+            Make::MVar => Call::NewMVar,
+        }
+    }
+
+    /// The call that gives the object this message.
+    pub fn give(give: Give, name: Name, message: M) -> Call<M>
+        ensures { result ≡ given_call give name message }
+    {
+        match give {
+            Give::Send => Call::Send(name, message),
+            Give::Cast => Call::Cast(name, message),
+            Give::Put => Call::Put(name, message),
+            Give::Swap => Call::Swap(name, message),
+        }
+    }
+
+    /// The call that asks the object this.
+    pub fn ask(ask: Ask, name: Name) -> Call<M>
+        ensures { result ≡ asked_call ask name }
+    {
+        match ask {
+            Ask::NewPort => Call::NewPort(name),
+            Ask::CopyPort => Call::CopyPort(name),
+            Ask::ClosePort => Call::ClosePort(name),
+            Ask::Recv => Call::Recv(name),
+            Ask::Poll => Call::Poll(name),
+            Ask::Get => Call::Get(name),
+            Ask::GetPoll => Call::GetPoll(name),
+            Ask::Take => Call::Take(name),
+            Ask::TakePoll => Call::TakePoll(name),
+        }
+    }
+
+    /// The call's row in the table of calls.
+    #[inline(always)]
+    pub fn shape(&self) -> Shape
+        ensures { shown result ≡ row_of self.now }
+    {
+        match self {
+            Call::NewMailbox => Make::Mailbox.shape(),
+            Call::NewChannel => Make::Channel.shape(),
+            Call::NewIVar => Make::IVar.shape(),
+            Call::NewMVar => Make::MVar.shape(),
+            Call::MVarInit(_) => shape_of_filled(),
+            Call::NewPort(_) => Ask::NewPort.shape(),
+            Call::CopyPort(_) => Ask::CopyPort.shape(),
+            Call::ClosePort(_) => Ask::ClosePort.shape(),
+            Call::Send(_, _) => Give::Send.shape(),
+            Call::Cast(_, _) => Give::Cast.shape(),
+            Call::Recv(_) => Ask::Recv.shape(),
+            Call::Poll(_) => Ask::Poll.shape(),
+            Call::Put(_, _) => Give::Put.shape(),
+            Call::Get(_) => Ask::Get.shape(),
+            Call::GetPoll(_) => Ask::GetPoll.shape(),
+            Call::Take(_) => Ask::Take.shape(),
+            Call::TakePoll(_) => Ask::TakePoll.shape(),
+            Call::Swap(_, _) => Give::Swap.shape(),
+        }
+    }
+
+    /// The message that the call gives, if it gives one.
+    pub fn message(&self) -> Option<&M>
+        ensures { option_map (λ message. message.now) result ≡ message_of self.now }
+    {
+        match self {
+            Call::MVarInit(message) => Some(message),
+            Call::Send(_, message) | Call::Cast(_, message) => Some(message),
+            Call::Put(_, message) | Call::Swap(_, message) => Some(message),
+            _ => None,
+        }
+    }
+
     /// The object that the call is made on, unless it makes a mailbox, a channel or a variable.
     pub fn object(&self) -> Option<Name>
         ensures { result ≡ object_in self.now }
@@ -129,44 +202,6 @@ impl<M: Message> Call<M> {
             Call::Take(name) => Ok(Call::Take(*name)),
             Call::TakePoll(name) => Ok(Call::TakePoll(*name)),
             Call::Swap(name, message) => Ok(Call::Swap(*name, message.share(alloc)?)),
-        }
-    }
-}
-
-impl Kind {
-    /// Whether an object of this kind can take the call.
-    pub fn takes<M>(self, call: &Call<M>) -> bool
-        ensures { result ≡ takes self call.now }
-    {
-        match call {
-            Call::NewMailbox | Call::NewChannel => false,
-            Call::NewIVar | Call::NewMVar | Call::MVarInit(_) => false,
-            Call::NewPort(_) | Call::Cast(_, _) => self == Kind::Channel,
-            Call::CopyPort(_) | Call::ClosePort(_) => self == Kind::Port,
-            Call::Send(_, _) => self == Kind::Mailbox,
-            Call::Recv(_) | Call::Poll(_) => self.is_receiver(),
-            Call::Put(_, _) | Call::Get(_) | Call::GetPoll(_) => self.is_variable(),
-            Call::Take(_) | Call::TakePoll(_) | Call::Swap(_, _) => self == Kind::MVar,
-        }
-    }
-
-    /// Whether messages are received from an object of this kind.
-    fn is_receiver(self) -> bool
-        ensures { result ≡ is_receiver self }
-    {
-        match self {
-            Kind::Mailbox | Kind::Port => true,
-            Kind::Channel | Kind::IVar | Kind::MVar => false,
-        }
-    }
-
-    /// Whether an object of this kind holds a message or is empty.
-    fn is_variable(self) -> bool
-        ensures { result ≡ is_variable self }
-    {
-        match self {
-            Kind::IVar | Kind::MVar => true,
-            Kind::Mailbox | Kind::Channel | Kind::Port => false,
         }
     }
 }

@@ -7,7 +7,8 @@ ghost use Rattle.cml_board.specs.Origins.{kind_by};
 ghost use Rattle.cml_board.specs.Calls.{variable_call};
 ghost use Rattle.cml_board.specs.Keeps.{begun_as};
 
-use crate::call::{Call, Kind, Name};
+use crate::call::{Call, Name};
+use cml_calls::Kind;
 use cml_log::{Back, Key, MessageLog};
 use std::alloc::AllocError;
 use std::mem;

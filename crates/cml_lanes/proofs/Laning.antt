@@ -3,7 +3,7 @@ use Rattle.std.proofs.Common.{◌≡◌, ◌≢◌, ℕ, ◌≤◌, Bool, true, 
 use Rattle.std.proofs.lemmas.Bool.{eq-eqb, ne_eqb}
 use Rattle.std.proofs.lemmas.List.{append-nil}
 use Rattle.cml_board.specs.declared.call.Name.{Name}
-use Rattle.cml_board.specs.declared.call.Kind.{Kind}
+use Rattle.cml_calls.specs.declared.kind.Kind.{Kind}
 use Rattle.cml_board.specs.declared.call.Call.{Call}
 use Rattle.cml_board.specs.declared.call.Call.TheVariants as call
 use Rattle.cml_board.specs.declared.entry.Reply.TheVariants.{Done}

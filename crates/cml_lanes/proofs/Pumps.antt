@@ -1,7 +1,7 @@
 -- Messages that are pumped, one after another.
 use Rattle.std.proofs.Common.{◌≡◌, ℕ, ◌+◌, [], ◌++◌, Bool, Option, Some, None, refl, sym, ap, ◌∙◌, arith, length-append, append_assoc}
 use Rattle.std.proofs.lemmas.List.{append-nil}
-use Rattle.cml_board.specs.declared.call.Kind.TheVariants.{Port}
+use Rattle.cml_calls.specs.declared.kind.Kind.TheVariants.{Port}
 use Rattle.cml_board.specs.declared.outcome.Refusal.{Refusal}
 use Rattle.cml_board.specs.History.{kind_of, is_open, got}
 use Rattle.cml_board.specs.Shown.{Shown}

@@ -1,7 +1,7 @@
 -- What the calls on lanes do to a floor.
 use Rattle.std.specs.Prelude.{ℕ, ◌≡◌, ◌≢◌, ◌<◌, ◌⊎◌, Bool, true, false, [], ◌∷◌, ◌++◌, length, slice_set, Option, Some, None, Result, Ok, Err, ⊤}
 use Rattle.cml_board.specs.declared.call.Name.{Name}
-use Rattle.cml_board.specs.declared.call.Kind.{Kind}
+use Rattle.cml_calls.specs.declared.kind.Kind.{Kind}
 use Rattle.cml_board.specs.declared.outcome.Refusal.{Refusal}
 use Rattle.cml_board.specs.declared.outcome.Refusal.TheVariants.{NoSuch, WrongKind, NoMemory, Unseen}
 use Rattle.cml_board.specs.History.{kind_of}

@@ -1,6 +1,6 @@
 -- How messages go from a port into a feed's ring.
 use Rattle.std.specs.Prelude.{ℕ, ◌≡◌, ◌+◌, ◌<◌, ◌≤◌, ◌⊎◌, Bool, true, List, ◌++◌, length, Some, None}
-use Rattle.cml_board.specs.declared.call.Kind.TheVariants.{Port}
+use Rattle.cml_calls.specs.declared.kind.Kind.TheVariants.{Port}
 use Rattle.cml_board.specs.declared.call.Call.TheVariants.{Recv}
 use Rattle.cml_board.specs.declared.entry.Reply.TheVariants.{Got}
 use Rattle.cml_board.specs.declared.entry.Entry.{Entry}

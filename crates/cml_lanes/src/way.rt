@@ -1,5 +1,5 @@
 ghost use Rattle.std.specs.Prelude.{◌≡◌, MatchOption};
-ghost use Rattle.cml_board.specs.declared.call.Kind.{Kind};
+ghost use Rattle.cml_calls.specs.declared.kind.Kind.{Kind};
 ghost use Rattle.cml_lanes.specs.Sides.{way_call, way_kind, NoLane};
 
 use cml_board::{Call, Kind, Name};

@@ -2,8 +2,8 @@
 use Rattle.std.proofs.Common.{◌≡◌, ℕ, ◌⊎◌, inl, inr, Bool, true, false, cond, List, ◌∷◌, slice_get, Option, Some, None, IsTrue, IsSome, IfSome, refl, sym, ap, subst, ◌∙◌}
 use Rattle.std.proofs.lemmas.Bool.{false≢true}
 use Rattle.std.proofs.lemmas.Option.{none-some, same_Some}
-use Rattle.cml_board.specs.declared.call.Kind.{Kind}
-use Rattle.cml_board.specs.declared.call.Kind.TheVariants.{Mailbox, Channel, Port}
+use Rattle.cml_calls.specs.declared.kind.Kind.{Kind}
+use Rattle.cml_calls.specs.declared.kind.Kind.TheVariants.{Mailbox, Channel, Port}
 use Rattle.cml_board.specs.declared.call.Call.{Call}
 use Rattle.cml_board.specs.declared.call.Call.TheVariants.{ClosePort, CopyPort, Send, Cast, Recv, Poll, Put, Get, Take, Swap}
 use Rattle.cml_board.specs.declared.answer.Answer.{Answer}
@@ -15,7 +15,7 @@ use Rattle.cml_board.specs.declared.outcome.Outcome.TheVariants as board
 use Rattle.cml_board.specs.declared.outcome.Refusal.{Refusal}
 use Rattle.cml_board.specs.declared.outcome.Refusal.TheVariants.{WrongKind}
 use Rattle.cml_board.specs.declared.want.Want.{Want}
-use Rattle.cml_board.specs.Objects.{is_mailbox, is_channel, is_port}
+use Rattle.cml_calls.specs.Kinds.{is_mailbox, is_channel, is_port}
 use Rattle.cml_board.specs.History.{Fits, answer, is_open}
 use Rattle.cml_board.specs.Waiting.{want_in, Waits}
 use Rattle.cml_board.specs.Shown.{Shown}

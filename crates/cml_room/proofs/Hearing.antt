@@ -5,8 +5,8 @@ use Rattle.std.specs.Option.{option_map}
 use Rattle.std.proofs.lemmas.Option.{none-some, same_Some}
 use Rattle.std.proofs.lemmas.Bool.{true≢false, false≢true, eqb-true, eq-eqb, cases_lt}
 use Rattle.cml_board.specs.declared.call.Name.{Name}
-use Rattle.cml_board.specs.declared.call.Kind.{Kind}
-use Rattle.cml_board.specs.declared.call.Kind.TheVariants as kind
+use Rattle.cml_calls.specs.declared.kind.Kind.{Kind}
+use Rattle.cml_calls.specs.declared.kind.Kind.TheVariants as kind
 use Rattle.cml_board.specs.declared.call.Call.{Call}
 use Rattle.cml_board.specs.declared.call.Call.TheVariants as call
 use Rattle.cml_board.specs.declared.entry.Reply.{Reply}
@@ -15,7 +15,8 @@ use Rattle.cml_board.specs.declared.entry.Entry.{Entry}
 use Rattle.cml_board.specs.declared.want.Want.{Want}
 use Rattle.cml_board.specs.declared.want.Want.TheVariants.{Recv, Get, Take, Swap}
 use Rattle.cml_board.specs.Origins.{Origin, mailbox, channel, port, ivar, mvar, kind_by, source_by, copy_of}
-use Rattle.cml_board.specs.Objects.{takes, is_channel, is_variable}
+use Rattle.cml_calls.specs.Kinds.{is_channel, is_variable}
+use Rattle.cml_board.specs.Objects.{takes}
 use Rattle.cml_board.specs.History.{Lawful, Fits, made, if_made, begun_by, origin_of, kind_of, sent, got}
 use Rattle.cml_board.proofs.Closing.{kind_kept}
 use Rattle.cml_board.proofs.Received.{slice_get-append_within}

@@ -5,12 +5,12 @@ use Rattle.std.specs.Option.{option_map}
 use Rattle.std.proofs.lemmas.Option.{none-some, same_Some}
 use Rattle.std.proofs.lemmas.Bool.{false≢true, eqb-true, eq-eqb}
 use Rattle.cml_board.specs.declared.call.Name.{Name}
-use Rattle.cml_board.specs.declared.call.Kind.{Kind}
-use Rattle.cml_board.specs.declared.call.Kind.TheVariants as kind
+use Rattle.cml_calls.specs.declared.kind.Kind.{Kind}
+use Rattle.cml_calls.specs.declared.kind.Kind.TheVariants as kind
 use Rattle.cml_board.specs.declared.entry.Entry.{Entry}
 use Rattle.cml_board.specs.declared.want.Want.{Want}
 use Rattle.cml_board.specs.declared.want.Want.TheVariants.{Recv, Get, Take, Swap}
-use Rattle.cml_board.specs.Objects.{is_receiver, is_variable, is_mvar}
+use Rattle.cml_calls.specs.Kinds.{is_receiver, is_variable, is_mvar}
 use Rattle.cml_board.specs.Origins.{Origin, mailbox, channel, port, ivar, mvar, kind_by, source_by}
 use Rattle.cml_board.specs.History.{Fits, origin_of, kind_of}
 use Rattle.cml_board.specs.Waiting.{wanting}

@@ -1,6 +1,6 @@
 -- Who becomes due.
 use Rattle.std.specs.Prelude.{ℕ, ◌≡◌, ◌⊎◌, true, false, List, slice_get, Option, Some, None, ⊤}
-use Rattle.cml_board.specs.declared.call.Kind.TheVariants.{MVar}
+use Rattle.cml_calls.specs.declared.kind.Kind.TheVariants.{MVar}
 use Rattle.cml_board.specs.declared.entry.Entry.{Entry}
 use Rattle.cml_board.specs.declared.want.Want.{Want}
 use Rattle.cml_board.specs.History.{kind_of}

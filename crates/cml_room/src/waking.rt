@@ -1,6 +1,6 @@
 //! Who may go on by what has come, of those that wait.
 ghost use Rattle.std.specs.Prelude.{◌≡◌, ◌≢◌, ◌⊎◌, ℕ, true, false, Some, IfSome, MatchBool, slice_get, ⊤};
-ghost use Rattle.cml_board.specs.declared.call.Kind.TheVariants.{MVar};
+ghost use Rattle.cml_calls.specs.declared.kind.Kind.TheVariants.{MVar};
 ghost use Rattle.cml_board.specs.History.{kind_of, Lawful};
 ghost use Rattle.cml_room.specs.declared.place.Place.TheVariants as place;
 ghost use Rattle.cml_room.specs.declared.place.Waiter.{Waiter};

@@ -68,7 +68,7 @@ impl<M: Message, L: MessageLog<M>> Board<M, L> {
             let Some(kind) = self.kind(name) else {
                 return Some(Refusal::NoSuch);
             };
-            if !kind.takes(call) {
+            if !call.shape().takers.has(kind) {
                 return Some(Refusal::WrongKind);
             }
         }

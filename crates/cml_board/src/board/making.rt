@@ -1,6 +1,6 @@
 //! Calls that make or close an object.
 ghost use Rattle.std.specs.Prelude.{◌≡◌, true, false, Some, MatchOption, slice_get};
-ghost use Rattle.cml_board.specs.Objects.{is_port};
+ghost use Rattle.cml_calls.specs.Kinds.{is_port};
 ghost use Rattle.cml_board.specs.Calls.{making_call, makes_empty};
 ghost use Rattle.cml_board.specs.Making.{CanMake};
 ghost use Rattle.cml_board.specs.Counts.{is_a};

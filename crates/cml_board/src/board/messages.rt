@@ -1,7 +1,7 @@
 //! Calls that put a message into a log or take one out of it.
 ghost use Rattle.std.specs.Prelude.{◌≡◌, ◌≢◌, ◌<◌, true, false, [], length, Some, IfOk, OnErr, slice_get};
 ghost use Rattle.cml_log.specs.Log.{IsOpen, owed_items};
-ghost use Rattle.cml_board.specs.Objects.{is_receiver};
+ghost use Rattle.cml_calls.specs.Kinds.{is_receiver};
 ghost use Rattle.cml_board.specs.Counts.{is_a};
 ghost use Rattle.cml_board.specs.History.{owed, is_open, Fits};
 ghost use Rattle.cml_board.specs.Calls.{taking_call, putting_call, asking_call};

@@ -1,6 +1,6 @@
 //! Calls that make a variable, fill it or read it.
 ghost use Rattle.std.specs.Prelude.{◌≡◌, ◌≢◌, true, false, Some, None, option_copied, IfOk, OnErr};
-ghost use Rattle.cml_board.specs.Objects.{is_variable};
+ghost use Rattle.cml_calls.specs.Kinds.{is_variable};
 ghost use Rattle.cml_board.specs.Counts.{is_a};
 ghost use Rattle.cml_board.specs.Held.{held};
 ghost use Rattle.cml_board.specs.History.{Fits};

@@ -5,9 +5,10 @@ ghost use Rattle.cml_board.specs.Waiting.{Waits};
 ghost use Rattle.cml_board.specs.Counts.{held_by};
 
 use super::Board;
-use crate::call::{Call, Kind, Name};
+use crate::call::{Call, Name};
 use crate::message::Message;
 use crate::want::Want;
+use cml_calls::Kind;
 use cml_log::MessageLog;
 
 impl<M: Message, L: MessageLog<M>> Board<M, L> {

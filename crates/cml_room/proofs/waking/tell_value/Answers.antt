@@ -1,6 +1,6 @@
 use Rattle.std.proofs.Common.{rules, ◌≡◌, inl, inr, true, Some, refl, sym, ap, ◌∙◌}
 use Rattle.std.proofs.lemmas.Option.{same_Some}
-use Rattle.cml_board.specs.declared.call.Kind.TheVariants as kind
+use Rattle.cml_calls.specs.declared.kind.Kind.TheVariants as kind
 use Rattle.cml_board.specs.declared.want.Want.{Want}
 use Rattle.cml_board.specs.declared.want.Want.TheVariants.{Get, Take, Swap}
 use Rattle.cml_board.specs.History.{kind_of}

@@ -1,7 +1,7 @@
 use Rattle.std.proofs.Common.{refl, ◌≡◌, arith, reverse, Some, slice_get, ◌++◌}
 use Rattle.cml_board.specs.declared.call.Call.TheVariants.{ClosePort}
 use Rattle.cml_board.specs.declared.entry.Reply.TheVariants.{Done}
-use Rattle.cml_board.specs.Objects.{is_port}
+use Rattle.cml_calls.specs.Kinds.{is_port}
 use Rattle.cml_board.specs.Holdings.{seen_all, open_port}
 use Rattle.cml_board.specs.Shown.{Shown}
 use Rattle.cml_board.proofs.Noting.{keeps_at, keeps_call, inside, adds_entry}

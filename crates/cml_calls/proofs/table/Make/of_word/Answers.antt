@@ -1,0 +1,13 @@
+use Rattle.std.proofs.Common.{rules, ◌∙◌}
+use Rattle.std.specs.Str.{bytes_eq}
+use Rattle.std.proofs.lemmas.Iterator.{YieldsList-from_slice}
+use Rattle.std.proofs.lemmas.Iterator.Search.{find_from_yields_List}
+use borrow.Author.Tests.{tests}
+use Rattle.cml_calls.specs.declared.table.Make.{Make}
+use Rattle.cml_calls.specs.Table.{made, makes}
+use Rattle.cml_calls.proofs.table.Make.of_word.Goals as goal
+
+pub returns : goal.returns
+returns c =
+    c.copied.ensures
+    ∙ find_from_yields_List (λ (call : Make). bytes_eq c.args.word.now (made call).word) c.find.new.self _ c.find.result c.find.ensures.ran (YieldsList-from_slice makes cc) (λ x b q k. search (rules, tests))
