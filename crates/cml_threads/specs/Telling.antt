@@ -1,9 +1,12 @@
 -- What the caller of a switchboard is told.
 use Rattle.std.specs.Prelude.{◌≡◌, Bool, true, false, Option, Some, Result, Ok, Err, ⊤}
+use Rattle.std.specs.List.{list_any}
+use Rattle.cml_calls.specs.declared.shape.ReplyKind.{ReplyKind}
+use Rattle.cml_calls.specs.declared.shape.ReplyKind.TheVariants.{Done, Made, Got, Nothing, Put, Closed}
 use Rattle.cml_board.specs.declared.want.Want.{Want}
 use Rattle.cml_board.specs.Waiting.{want_in}
 use Rattle.cml_board.specs.declared.call.Call.{Call}
-use Rattle.cml_board.specs.declared.call.Call.TheVariants.{NewMailbox, NewChannel, NewPort, CopyPort, ClosePort, NewIVar, NewMVar, MVarInit, Send, Cast, Recv, Poll, Put, Get, GetPoll, Take, TakePoll, Swap}
+use Rattle.cml_board.specs.Objects.{row_of}
 use Rattle.cml_board.specs.declared.entry.Reply.{Reply}
 use Rattle.cml_board.specs.declared.entry.Reply.TheVariants as reply
 use Rattle.cml_board.specs.declared.outcome.Refusal.{Refusal}
@@ -44,35 +47,19 @@ MayRefuseClose Unseen = ⊤
 MayRefuseClose refusal = MayRefuseDrain refusal
 
 module _ {M : Type 0} where
-  -- the forms of reply that a call has
+  -- a reply is of this kind
+  abbrev pub is_of : Reply M → ReplyKind → Bool
+  is_of reply.Done Done = true
+  is_of (reply.Made name) Made = true
+  is_of (reply.Got message) Got = true
+  is_of reply.Nothing Nothing = true
+  is_of reply.Put Put = true
+  is_of reply.Closed Closed = true
+  is_of reply kind = false
+
+  -- the forms of reply that a call has, by its row in the table
   abbrev pub suits : Call M → Reply M → Bool
-  suits NewMailbox (reply.Made name) = true
-  suits NewChannel (reply.Made name) = true
-  suits (NewPort channel) (reply.Made name) = true
-  suits (CopyPort port) (reply.Made name) = true
-  suits (CopyPort port) reply.Closed = true
-  suits (ClosePort port) reply.Done = true
-  suits (ClosePort port) reply.Closed = true
-  suits NewIVar (reply.Made name) = true
-  suits NewMVar (reply.Made name) = true
-  suits (MVarInit message) (reply.Made name) = true
-  suits (Send mailbox message) reply.Done = true
-  suits (Cast channel message) reply.Done = true
-  suits (Recv object) (reply.Got message) = true
-  suits (Recv object) reply.Closed = true
-  suits (Poll object) (reply.Got message) = true
-  suits (Poll object) reply.Nothing = true
-  suits (Poll object) reply.Closed = true
-  suits (Put variable message) reply.Done = true
-  suits (Put variable message) reply.Put = true
-  suits (Get variable) (reply.Got message) = true
-  suits (GetPoll variable) (reply.Got message) = true
-  suits (GetPoll variable) reply.Nothing = true
-  suits (Take variable) (reply.Got message) = true
-  suits (TakePoll variable) (reply.Got message) = true
-  suits (TakePoll variable) reply.Nothing = true
-  suits (Swap variable message) (reply.Got message') = true
-  suits call reply = false
+  suits call reply = list_any (is_of reply) (row_of call).replies
 
   -- the call is answered, in a form that it has, and counted for its seat, or else handed back, and not counted
   abbrev pub Tells : Sitting → Sitting → Call M → Outcome M → Type 0
