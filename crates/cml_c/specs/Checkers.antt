@@ -1,5 +1,8 @@
 -- What C is told of a journal that is checked.
-use Rattle.std.specs.Prelude.{ℕ, ◌≡◌, ◌+◌, ◌<◌, ◌≤◌, ◌^◌, ◌⊎◌, List, [], ◌∷◌, length, drop, slice_get, Option, Some, None, Result, Ok, Err, ⊤}
+use Rattle.std.specs.Prelude.{ℕ, ◌==◌, if◌then◌else◌, ◌≡◌, ◌+◌, ◌<◌, ◌≤◌, ◌^◌, ◌⊎◌, List, [], ◌∷◌, length, drop, slice_get, Option, Some, None, Result, Ok, Err, ⊤}
+use Rattle.std.specs.Option.{option_map, option_or}
+use Rattle.cml_calls.specs.Table.{filled, make_at, give_at, ask_at}
+use Rattle.cml_board.specs.Objects.{made_call, given_call, asked_call}
 use Rattle.cml_board.specs.declared.call.Call.{Call}
 use Rattle.cml_board.specs.declared.call.Call.TheVariants as call
 use Rattle.cml_board.specs.declared.call.Name.{Name}
@@ -50,15 +53,17 @@ FeedsTaken place code other left old new = IsWrong (new ≡ old) code other left
 abbrev pub FeedsJournal : {M : Type 0} → ℕ → ℕ → Resource M → Resource M → Resource M → Resource M → Type 0
 FeedsJournal place code old new journal left = OnChecker (FeedsTaken place code journal left) (left ≡ journal) code old new
 
--- who made a call, which call it is, and its reply, in the order of their kinds
+-- who made a call, and its reply, in the order of their kinds
 abbrev pub makers : ℕ → List Who
 makers number_of = who.Seat number_of ∷ who.Lane number_of ∷ who.Feed number_of ∷ []
 
-abbrev pub calls : {M : Type 0} → Name → M → List (Call M)
-calls object message =
-    call.NewMailbox ∷ call.NewChannel ∷ call.NewPort object ∷ call.CopyPort object ∷ call.ClosePort object ∷ call.NewIVar ∷ call.NewMVar
-    ∷ call.MVarInit message ∷ call.Send object message ∷ call.Cast object message ∷ call.Recv object ∷ call.Poll object
-    ∷ call.Put object message ∷ call.Get object ∷ call.GetPoll object ∷ call.Take object ∷ call.TakePoll object ∷ call.Swap object message ∷ []
+-- the call that has this number in the table
+abbrev pub call_at : {M : Type 0} → ℕ → Name → M → Option (Call M)
+call_at kind object message =
+    option_or (option_map made_call (make_at kind))
+    (option_or (option_map (λ give. given_call give object message) (give_at kind))
+    (option_or (option_map (λ ask. asked_call ask object) (ask_at kind))
+    (if filled.number == kind then Some (call.MVarInit message) else None)))
 
 abbrev pub replies : {M : Type 0} → Name → M → List (Reply M)
 replies name message = reply.Done ∷ reply.Made name ∷ reply.Got message ∷ reply.Nothing ∷ reply.Put ∷ reply.Closed ∷ []
@@ -74,7 +79,7 @@ who_in maker = slice_get (makers maker.number) maker.kind
 -- the entry that C has, whose messages are numbers
 abbrev pub entry_in : SeryugoEntry → Option (Entry ℕ)
 entry_in given = entry_of (who_in given.maker)
-    (slice_get (calls (record { 0 = given.call.object }) given.call.message) given.call.kind)
+    (call_at given.call.kind (record { 0 = given.call.object }) given.call.message)
     (slice_get (replies (record { 0 = given.reply.given }) given.reply.given) given.reply.kind)
 
 -- the same of bytes, and the parts of such an entry
@@ -89,7 +94,7 @@ pub record Parts : Type 0 where
 
 abbrev pub entry_with : Parts → Option (Entry (List ℕ))
 entry_with given = entry_of (who_in given.maker)
-    (slice_get (calls (record { 0 = given.object }) given.sent) given.call)
+    (call_at given.call (record { 0 = given.object }) given.sent)
     (slice_get (replies (record { 0 = given.name }) given.got) given.reply)
 
 -- it is fed to the checker, if it is one; else nothing is changed

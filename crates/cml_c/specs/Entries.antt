@@ -1,13 +1,14 @@
 -- An entry of the journal, as C is shown it.
 use Rattle.std.specs.Prelude.{ℕ, ◌≡◌, ◌-◌, ◌<◌, ◌≤◌, ◌⊎◌, List, length, ◌++◌, reverse, slice_get, Option, Some, None, Box}
+use Rattle.std.specs.Option.{option_map_or}
 use Rattle.std.specs.declared.alloc.Global.{Global}
 use Rattle.cml_board.specs.declared.call.Call.{Call}
-use Rattle.cml_board.specs.declared.call.Call.TheVariants as call
 use Rattle.cml_board.specs.declared.entry.Entry.{Entry}
 use Rattle.cml_board.specs.declared.entry.Reply.{Reply}
 use Rattle.cml_board.specs.declared.entry.Reply.TheVariants as reply
 use Rattle.cml_board.specs.declared.entry.Who.{Who}
 use Rattle.cml_board.specs.declared.entry.Who.TheVariants.{Seat, Lane, Feed}
+use Rattle.cml_board.specs.Objects.{object_in, message_of, row_of}
 use Rattle.cml_board.specs.History.{entries_in}
 use Rattle.cml_room.specs.Room.{RoomShown}
 use Rattle.cml_c.specs.declared.code.Code.TheVariants.{Done, NoSuch, NoMemory}
@@ -25,66 +26,12 @@ maker_of (Seat n) = record { kind = 0; number = n }
 maker_of (Lane n) = record { kind = 1; number = n }
 maker_of (Feed n) = record { kind = 2; number = n }
 
--- which call it is, its object's number or 0, and its message if it has one
+-- which call it is, by its number in the table, and its object's number or 0
 abbrev pub call_kind : {M : Type 0} → Call M → ℕ
-call_kind call.NewMailbox = 0
-call_kind call.NewChannel = 1
-call_kind (call.NewPort name) = 2
-call_kind (call.CopyPort name) = 3
-call_kind (call.ClosePort name) = 4
-call_kind call.NewIVar = 5
-call_kind call.NewMVar = 6
-call_kind (call.MVarInit message) = 7
-call_kind (call.Send name message) = 8
-call_kind (call.Cast name message) = 9
-call_kind (call.Recv name) = 10
-call_kind (call.Poll name) = 11
-call_kind (call.Put name message) = 12
-call_kind (call.Get name) = 13
-call_kind (call.GetPoll name) = 14
-call_kind (call.Take name) = 15
-call_kind (call.TakePoll name) = 16
-call_kind (call.Swap name message) = 17
+call_kind call = (row_of call).number
 
 abbrev pub call_object : {M : Type 0} → Call M → ℕ
-call_object call.NewMailbox = 0
-call_object call.NewChannel = 0
-call_object (call.NewPort name) = name.0
-call_object (call.CopyPort name) = name.0
-call_object (call.ClosePort name) = name.0
-call_object call.NewIVar = 0
-call_object call.NewMVar = 0
-call_object (call.MVarInit message) = 0
-call_object (call.Send name message) = name.0
-call_object (call.Cast name message) = name.0
-call_object (call.Recv name) = name.0
-call_object (call.Poll name) = name.0
-call_object (call.Put name message) = name.0
-call_object (call.Get name) = name.0
-call_object (call.GetPoll name) = name.0
-call_object (call.Take name) = name.0
-call_object (call.TakePoll name) = name.0
-call_object (call.Swap name message) = name.0
-
-abbrev pub call_message : {M : Type 0} → Call M → Option M
-call_message call.NewMailbox = None
-call_message call.NewChannel = None
-call_message (call.NewPort name) = None
-call_message (call.CopyPort name) = None
-call_message (call.ClosePort name) = None
-call_message call.NewIVar = None
-call_message call.NewMVar = None
-call_message (call.MVarInit message) = Some message
-call_message (call.Send name message) = Some message
-call_message (call.Cast name message) = Some message
-call_message (call.Recv name) = None
-call_message (call.Poll name) = None
-call_message (call.Put name message) = Some message
-call_message (call.Get name) = None
-call_message (call.GetPoll name) = None
-call_message (call.Take name) = None
-call_message (call.TakePoll name) = None
-call_message (call.Swap name message) = Some message
+call_object call = option_map_or (λ name. name.0) (object_in call) 0
 
 -- the same of a reply, with the name that it gives
 abbrev pub reply_kind : {M : Type 0} → Reply M → ℕ
@@ -117,7 +64,7 @@ or_zero (Some number) = number
 or_zero None = 0
 
 abbrev pub call_of : Call ℕ → SeryugoCall
-call_of call = record { kind = call_kind call; object = call_object call; message = or_zero (call_message call) }
+call_of call = record { kind = call_kind call; object = call_object call; message = or_zero (message_of call) }
 
 -- what a reply gives: a name, or a message
 abbrev pub given_by : Reply ℕ → ℕ
@@ -144,7 +91,7 @@ pub record IsShown (entry : Entry (List ℕ)) (to : SeryugoBytesEntry) : Type 0 
   pub maker : to.maker ≡ maker_of entry.who
   pub call : to.call.kind ≡ call_kind entry.call
   pub object : to.call.object ≡ call_object entry.call
-  pub sent : to.call.message.length ≡ count_of (call_message entry.call)
+  pub sent : to.call.message.length ≡ count_of (message_of entry.call)
   pub reply : to.reply.kind ≡ reply_kind entry.reply
   pub name : to.reply.name ≡ reply_name entry.reply
   pub got : to.reply.message.length ≡ count_of (reply_message entry.reply)

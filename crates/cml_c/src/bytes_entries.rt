@@ -1,10 +1,11 @@
 //! Entries of a journal whose messages are bytes.
 ghost use Rattle.std.specs.Prelude.{◌≡◌, IfOk, option_copied};
-ghost use Rattle.cml_c.specs.Entries.{call_kind, call_object, call_message, count_of, reply_kind, reply_name, reply_message, IsShown, FindsBytes, FindsBytesIn};
+ghost use Rattle.cml_board.specs.Objects.{message_of};
+ghost use Rattle.cml_c.specs.Entries.{call_kind, call_object, count_of, reply_kind, reply_name, reply_message, IsShown, FindsBytes, FindsBytesIn};
 ghost use Rattle.cml_c.specs.Handles.{OnBytes, OnRoom};
 
 use crate::code::Code;
-use crate::entries::{SeryugoMaker, call_parts, entry_at, maker_of, reply_parts};
+use crate::entries::{SeryugoMaker, entry_at, kind_and_object, maker_of, reply_parts};
 use crate::handle::{Handle, Slot};
 use crate::kept::{Kept, Resource, RoomOf};
 use crate::messages::place_of;
@@ -146,13 +147,13 @@ fn share_reply<M: Message>(alloc: Global, reply: &Reply<M>) -> Result<Reply<M>, 
 fn shown_call(call: &Call<Bytes>) -> SeryugoBytesCall
     ensures kind { result.kind ≡ call_kind call.now }
     ensures object { result.object ≡ call_object call.now }
-    ensures message { result.message.length ≡ count_of (call_message call.now) }
+    ensures message { result.message.length ≡ count_of (message_of call.now) }
 {
-    let (kind, object, message) = call_parts(call);
+    let (kind, object) = kind_and_object(call);
     SeryugoBytesCall {
         kind,
         object,
-        message: place_of_message(message),
+        message: place_of_message(call.message()),
     }
 }
 

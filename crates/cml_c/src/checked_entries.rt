@@ -1,6 +1,6 @@
 //! Entries from C are checked, wherever C has them from.
 ghost use Rattle.std.specs.Prelude.{◌≡◌, slice_get, ⊤};
-ghost use Rattle.cml_c.specs.Checkers.{who_in, calls, replies, entry_in, entry_with, entry_of, FeedsEntry, FeedsParts};
+ghost use Rattle.cml_c.specs.Checkers.{who_in, call_at, replies, entry_in, entry_with, entry_of, FeedsEntry, FeedsParts};
 ghost use Rattle.cml_c.specs.Handles.{OnNumbers, OnBytes, OnChecker};
 
 use crate::checkers::feed;
@@ -9,7 +9,8 @@ use crate::entries::{SeryugoEntry, SeryugoMaker};
 use crate::handle::Handle;
 use crate::kept::{Kept, Resource};
 use crate::messages::copied;
-use cml_board::{Bytes, Call, Checker, Entry, Message, Name, Reply, Who};
+use cml_board::{Ask, Bytes, Call, Checker, Entry, Give, Make, Message, Name, Reply, Who};
+use cml_calls::shape_of_filled;
 use std::alloc::Global;
 
 /// Checks an entry of numbers behind those before. What its kind doesn't have is not read.
@@ -129,30 +130,22 @@ fn who_of(maker: &SeryugoMaker) -> Option<Who>
     }
 }
 
-fn call_of<M: Message>(kind: u32, object: Name, message: M) -> Option<Call<M>>
-    ensures { result ≡ slice_get (calls object message) kind }
+fn call_of<M: Message>(number: u32, object: Name, message: M) -> Option<Call<M>>
+    ensures { result ≡ call_at number object message }
 {
-    Some(match kind {
-        0 => Call::NewMailbox,
-        1 => Call::NewChannel,
-        2 => Call::NewPort(object),
-        3 => Call::CopyPort(object),
-        4 => Call::ClosePort(object),
-        5 => Call::NewIVar,
-        6 => Call::NewMVar,
-        7 => Call::MVarInit(message),
-        8 => Call::Send(object, message),
-        9 => Call::Cast(object, message),
-        10 => Call::Recv(object),
-        11 => Call::Poll(object),
-        12 => Call::Put(object, message),
-        13 => Call::Get(object),
-        14 => Call::GetPoll(object),
-        15 => Call::Take(object),
-        16 => Call::TakePoll(object),
-        17 => Call::Swap(object, message),
-        _ => return None,
-    })
+    if let Some(make) = Make::of_number(number) {
+        return Some(Call::make(make));
+    }
+    if let Some(give) = Give::of_number(number) {
+        return Some(Call::give(give, object, message));
+    }
+    if let Some(ask) = Ask::of_number(number) {
+        return Some(Call::ask(ask, object));
+    }
+    if number == shape_of_filled().number {
+        return Some(Call::MVarInit(message));
+    }
+    None
 }
 
 fn reply_of<M: Message>(kind: u32, name: Name, message: M) -> Option<Reply<M>>

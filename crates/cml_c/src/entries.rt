@@ -1,6 +1,6 @@
 //! Entries of the journal.
 ghost use Rattle.std.specs.Prelude.{◌≡◌, slice_get, option_copied};
-ghost use Rattle.cml_c.specs.Entries.{flat, maker_of, call_of, call_kind, call_object, call_message, reply_of, reply_kind, reply_name, reply_message, Finds, IsAt, FindsIn};
+ghost use Rattle.cml_c.specs.Entries.{flat, maker_of, call_of, call_kind, call_object, reply_of, reply_kind, reply_name, reply_message, Finds, IsAt, FindsIn};
 ghost use Rattle.cml_c.specs.Handles.{OnNumbers, OnRoom};
 
 use crate::code::Code;
@@ -116,40 +116,24 @@ pub(crate) fn maker_of(who: Who) -> SeryugoMaker
 fn call_of(call: &Call<u64>) -> SeryugoCall
     ensures { result ≡ call_of call.now }
 {
-    let (kind, object, message) = call_parts(call);
+    let (kind, object) = kind_and_object(call);
     SeryugoCall {
         kind,
         object,
-        message: *message.unwrap_or(&0),
+        message: *call.message().unwrap_or(&0),
     }
 }
 
-/// Which call it is, its object's number or 0, and its message if it has one.
-pub(crate) fn call_parts<M>(call: &Call<M>) -> (u32, u64, Option<&M>)
+/// Which call it is, and its object's number or 0.
+pub(crate) fn kind_and_object<M>(call: &Call<M>) -> (u32, u64)
     ensures kind { result.0 ≡ call_kind call.now }
     ensures object { result.1 ≡ call_object call.now }
-    ensures message { option_copied result.2 ≡ call_message call.now }
 {
-    match call {
-        Call::NewMailbox => (0, 0, None),
-        Call::NewChannel => (1, 0, None),
-        Call::NewPort(name) => (2, name.0, None),
-        Call::CopyPort(name) => (3, name.0, None),
-        Call::ClosePort(name) => (4, name.0, None),
-        Call::NewIVar => (5, 0, None),
-        Call::NewMVar => (6, 0, None),
-        Call::MVarInit(message) => (7, 0, Some(message)),
-        Call::Send(name, message) => (8, name.0, Some(message)),
-        Call::Cast(name, message) => (9, name.0, Some(message)),
-        Call::Recv(name) => (10, name.0, None),
-        Call::Poll(name) => (11, name.0, None),
-        Call::Put(name, message) => (12, name.0, Some(message)),
-        Call::Get(name) => (13, name.0, None),
-        Call::GetPoll(name) => (14, name.0, None),
-        Call::Take(name) => (15, name.0, None),
-        Call::TakePoll(name) => (16, name.0, None),
-        Call::Swap(name, message) => (17, name.0, Some(message)),
-    }
+    let object = match call.object() {
+        Some(name) => name.0,
+        None => 0,
+    };
+    (call.shape().number, object)
 }
 
 fn reply_of(reply: &Reply<u64>) -> SeryugoReply
