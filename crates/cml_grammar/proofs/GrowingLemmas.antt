@@ -1,11 +1,14 @@
 -- What is said of names stays true where more names are given.
-use Rattle.std.proofs.Common.{◌≡◌, ℕ, ◌+◌, ◌≤◌, cond, List, [], ◌∷◌, ◌++◌, map, All, slice_get, Option, Some, None, is_some, string_bytes, refl, sym, ap, ◌∙◌, subst, inl, inr, arith}
+use Rattle.std.proofs.Common.{◌≡◌, ℕ, ◌+◌, ◌≤◌, Bool, true, false, cond, List, [], ◌∷◌, ◌++◌, map, All, slice_get, Option, Some, None, is_some, string_bytes, refl, sym, ap, ◌∙◌, subst, inl, inr, arith}
 use Rattle.std.specs.Map.{keys_of, lookup}
 use Rattle.std.specs.Option.{option_map, option_map_or, option_and_then, option_to_list}
 use Rattle.std.specs.Str.Parse.{digits_value}
 use Rattle.std.proofs.lemmas.List.Elements.{All-head, All-tail, All-weaker}
 use Rattle.std.proofs.lemmas.List.Sums.{sum_by-append}
 use Rattle.std.proofs.lemmas.Option.{none-some, same_Some, option_and_then_some}
+use Rattle.cml_calls.specs.declared.shape.Takers.{Takers}
+use Rattle.cml_calls.specs.declared.table.Ask.{Ask}
+use Rattle.cml_calls.specs.Table.{given, asked, names_one}
 use Rattle.cml_grammar.specs.declared.names.Named.{Named}
 use Rattle.cml_grammar.specs.declared.forms.Declares.{Declares}
 use Rattle.cml_grammar.specs.declared.forms.Declares.TheVariants as declares
@@ -15,18 +18,21 @@ use Rattle.cml_grammar.specs.declared.forms.Verb.{Verb}
 use Rattle.cml_grammar.specs.declared.forms.Verb.TheVariants as verb
 use Rattle.cml_grammar.specs.declared.forms.Action.{Action}
 use Rattle.cml_grammar.specs.declared.forms.Action.TheVariants as action
+use Rattle.cml_grammar.specs.declared.forms.Place.{Place}
+use Rattle.cml_grammar.specs.declared.forms.Place.TheVariants.{Fresh, Object, Polled}
 use Rattle.cml_grammar.specs.declared.script.Declaration.{Declaration}
 use Rattle.cml_grammar.specs.declared.forms.FeedMaking.{FeedMaking}
 use Rattle.cml_grammar.specs.declared.script.Lane.{Lane}
 use Rattle.cml_grammar.specs.declared.script.Step.{Step}
 use Rattle.cml_grammar.specs.Words.{words_of}
 use Rattle.cml_grammar.specs.Names.{Given, is_called, position_of, named, seat_in, seat_of, thread_count}
-use Rattle.cml_grammar.specs.Forms.{declares_of, verb_of, step_places, fresh_word}
+use Rattle.cml_grammar.specs.Forms.{declares_of, verb_of, is_poll, asked_place, step_places, fresh_word}
+use Rattle.cml_grammar.specs.Suiting.{IsSuitedAt}
 use Rattle.cml_grammar.specs.Faults.{Ends, ends_by, are_same}
 use Rattle.cml_grammar.specs.Script.{SourceLine}
-use Rattle.cml_grammar.specs.Meaning.{ends_of, all_ends, feed_by, makes_by, makes_of, action_by, action_of, seat_of_step}
+use Rattle.cml_grammar.specs.Meaning.{ends_of, all_ends, feed_by, makes_by, makes_of, asked_by, action_by, action_of, seat_of_step}
 use Rattle.cml_grammar.specs.Rings.{Laid, lane_by, lane_of, capacity_of}
-use Rattle.cml_grammar.specs.Reading.{source_of, IsMailboxAt, IsChannelAt, IsPortAt, IsFeedAt, IsTargetAt, IsReceiverAt, IsPolledAt, IsIVarAt, IsMVarAt, IsVariableAt, IsSeat, GivesAt, GivesNames, IsMadeWell, ReadsDeclaration, ReadsLane, ReadsStep, UsesWell, capacities_of, used_by, gives_name}
+use Rattle.cml_grammar.specs.Reading.{source_of, IsMailboxAt, IsChannelAt, IsTargetAt, IsSeat, GivesAt, GivesNames, IsMadeWell, ReadsDeclaration, ReadsLane, ReadsStep, UsesWell, capacities_of, used_by, gives_name}
 use Rattle.cml_grammar.proofs.ListLemmas.{position-append, mapped_some, slice_get-append}
 
 -- a name keeps its position
@@ -57,32 +63,11 @@ IsSeat-append names more seat h =
 pub IsMailboxAt-append : (names more : List Given) (at : ℕ) → IsMailboxAt names at → IsMailboxAt (names ++ more) at
 IsMailboxAt-append names more at h = (h.0, slice_get-append names more at _ h.1)
 
-pub IsPortAt-append : (names more : List Given) (at : ℕ) → IsPortAt names at → IsPortAt (names ++ more) at
-IsPortAt-append names more at h = (h.0, h.1, slice_get-append names more at _ h.2)
-
-pub IsReceiverAt-append : (names more : List Given) (at : ℕ) → IsReceiverAt names at → IsReceiverAt (names ++ more) at
-IsReceiverAt-append names more at h = elim h [ inl a ↦ inl (IsMailboxAt-append names more at a) | inr b ↦ inr (IsPortAt-append names more at b) ]
-
 pub IsChannelAt-append : (names more : List Given) (at : ℕ) → IsChannelAt names at → IsChannelAt (names ++ more) at
 IsChannelAt-append names more at h = (h.0, slice_get-append names more at _ h.1)
 
-IsFeedAt-append : (names more : List Given) (at : ℕ) → IsFeedAt names at → IsFeedAt (names ++ more) at
-IsFeedAt-append names more at h = (h.0, h.1, slice_get-append names more at _ h.2)
-
 IsTargetAt-append : (names more : List Given) (at : ℕ) → IsTargetAt names at → IsTargetAt (names ++ more) at
 IsTargetAt-append names more at h = elim h [ inl a ↦ inl (IsMailboxAt-append names more at a) | inr b ↦ inr (IsChannelAt-append names more at b) ]
-
-IsPolledAt-append : (names more : List Given) (at : ℕ) → IsPolledAt names at → IsPolledAt (names ++ more) at
-IsPolledAt-append names more at h = elim h [ inl a ↦ inl (IsReceiverAt-append names more at a) | inr b ↦ inr (IsFeedAt-append names more at b) ]
-
-pub IsIVarAt-append : (names more : List Given) (at : ℕ) → IsIVarAt names at → IsIVarAt (names ++ more) at
-IsIVarAt-append names more at h = (h.0, slice_get-append names more at _ h.1)
-
-pub IsMVarAt-append : (names more : List Given) (at : ℕ) → IsMVarAt names at → IsMVarAt (names ++ more) at
-IsMVarAt-append names more at h = (h.0, slice_get-append names more at _ h.1)
-
-pub IsVariableAt-append : (names more : List Given) (at : ℕ) → IsVariableAt names at → IsVariableAt (names ++ more) at
-IsVariableAt-append names more at h = elim h [ inl a ↦ inl (IsIVarAt-append names more at a) | inr b ↦ inr (IsMVarAt-append names more at b) ]
 
 pub GivesAt-append : (names more : List Given) (at : ℕ) (word : List ℕ) (made : Makes) → GivesAt names at word made → GivesAt (names ++ more) at word made
 GivesAt-append names more at word makes.Thread h = (h.0, slice_get-append names more at _ h.1)
@@ -165,20 +150,31 @@ asks_from names verb object more a make uses gives asks h =
       gives = ap gives_name (sym found.2) ∙ gives found.0;
     }
 
+-- a place for an object gives no name
+gives_behind : (poll names : Bool) (takers : Takers) (object : List ℕ) (more : List (List ℕ)) (call : Ask) (at : Option ℕ) (a : Action) → asked_by names at call more ≡ Some a
+    → names ≡ is_some (fresh_word (cond poll Polled (Object takers) ∷ cond names (Fresh ∷ []) []) (object ∷ more))
+gives_behind true true takers object (name ∷ []) call at a h = refl
+gives_behind false true takers object (name ∷ []) call at a h = refl
+gives_behind true false takers object [] call at a h = refl
+gives_behind false false takers object [] call at a h = refl
+gives_behind poll true takers object [] call at a h = absurd (none-some a h)
+gives_behind poll true takers object (name ∷ word ∷ words) call at a h = absurd (none-some a h)
+gives_behind poll false takers object (name ∷ words) call at a h = absurd (none-some a h)
+
+-- the words behind the object decide alone whether a call asks for something
+asked_as : (names : Bool) (at : Option ℕ) (call : Ask) (more : List (List ℕ)) (a : Action) → asked_by names at call more ≡ Some a → (other : Option ℕ) → asked_by names other call more ≡ option_map (action.Ask call) other
+asked_as true at call (name ∷ []) a h other = refl
+asked_as false at call [] a h other = refl
+asked_as true at call [] a h other = absurd (none-some a h)
+asked_as true at call (name ∷ word ∷ words) a h other = absurd (none-some a h)
+asked_as false at call (name ∷ words) a h other = absurd (none-some a h)
+
 pub step_asks : (names : List Given) (verb : Verb) (rest : List (List ℕ)) (a : Action) → action_by names verb rest ≡ Some a → Asks names verb rest a
-step_asks names verb.Send (object ∷ message ∷ []) a h = asks_from names verb.Send object (message ∷ []) a (λ at. action.Send at message) (λ i. refl) (λ i. refl) (λ others. refl) h
-step_asks names verb.Multicast (object ∷ message ∷ []) a h = asks_from names verb.Multicast object (message ∷ []) a (λ at. action.Multicast at message) (λ i. refl) (λ i. refl) (λ others. refl) h
-step_asks names verb.Recv (object ∷ []) a h = asks_from names verb.Recv object [] a action.Recv (λ i. refl) (λ i. refl) (λ others. refl) h
-step_asks names verb.Poll (object ∷ []) a h = asks_from names verb.Poll object [] a action.Poll (λ i. refl) (λ i. refl) (λ others. refl) h
-step_asks names verb.Port (object ∷ name ∷ []) a h = asks_from names verb.Port object (name ∷ []) a action.Port (λ i. refl) (λ i. refl) (λ others. refl) h
-step_asks names verb.Copy (object ∷ name ∷ []) a h = asks_from names verb.Copy object (name ∷ []) a action.Copy (λ i. refl) (λ i. refl) (λ others. refl) h
-step_asks names verb.Close (object ∷ []) a h = asks_from names verb.Close object [] a action.Close (λ i. refl) (λ i. refl) (λ others. refl) h
-step_asks names verb.Put (object ∷ message ∷ []) a h = asks_from names verb.Put object (message ∷ []) a (λ at. action.Put at message) (λ i. refl) (λ i. refl) (λ others. refl) h
-step_asks names verb.Get (object ∷ []) a h = asks_from names verb.Get object [] a action.Get (λ i. refl) (λ i. refl) (λ others. refl) h
-step_asks names verb.GetPoll (object ∷ []) a h = asks_from names verb.GetPoll object [] a action.GetPoll (λ i. refl) (λ i. refl) (λ others. refl) h
-step_asks names verb.Take (object ∷ []) a h = asks_from names verb.Take object [] a action.Take (λ i. refl) (λ i. refl) (λ others. refl) h
-step_asks names verb.TakePoll (object ∷ []) a h = asks_from names verb.TakePoll object [] a action.TakePoll (λ i. refl) (λ i. refl) (λ others. refl) h
-step_asks names verb.Swap (object ∷ message ∷ []) a h = asks_from names verb.Swap object (message ∷ []) a (λ at. action.Swap at message) (λ i. refl) (λ i. refl) (λ others. refl) h
+step_asks names (verb.Give call) (object ∷ message ∷ []) a h = asks_from names (verb.Give call) object (message ∷ []) a (λ at. action.Give call at message) (λ i. refl) (λ i. refl) (λ others. refl) h
+step_asks names (verb.Ask call) (object ∷ more) a h =
+    let same = asked_as (names_one (asked call)) (position_of names object) call more a h in
+    asks_from names (verb.Ask call) object more a (action.Ask call) (λ i. refl) (λ i. gives_behind (is_poll call) (names_one (asked call)) (asked call).takers object more call (position_of names object) a h)
+    (λ others. same (position_of others object)) (sym (same (position_of names object)) ∙ h)
 step_asks names _ _ a h = absurd (none-some a h)
 
 action_of-append : (names more : List Given) (words : List (List ℕ)) (a : Action) → action_of names words ≡ Some a → action_of (names ++ more) words ≡ Some a
@@ -189,20 +185,12 @@ action_of-append names more (thread ∷ word ∷ rest) a h =
     let asks = step_asks names v rest a is in
     ap (option_and_then (λ w. action_by (names ++ more) w rest)) found ∙ asks.means (names ++ more) (position_of-append names more asks.object (used_by a) asks.stands))
 
+IsSuitedAt-append : (names more : List Given) (place : Place) (at : ℕ) → IsSuitedAt names place at → IsSuitedAt (names ++ more) place at
+IsSuitedAt-append names more place at h = (h.0, h.1, slice_get-append names more at (h.0, h.1) h.2, h.3)
+
 UsesWell-append : (names more : List Given) (a : Action) → UsesWell names a → UsesWell (names ++ more) a
-UsesWell-append names more (action.Send at message) h = (IsMailboxAt-append names more at h.0, h.1)
-UsesWell-append names more (action.Multicast at message) h = (IsChannelAt-append names more at h.0, h.1)
-UsesWell-append names more (action.Recv at) h = IsReceiverAt-append names more at h
-UsesWell-append names more (action.Poll at) h = IsPolledAt-append names more at h
-UsesWell-append names more (action.Port at) h = IsChannelAt-append names more at h
-UsesWell-append names more (action.Copy at) h = IsPortAt-append names more at h
-UsesWell-append names more (action.Close at) h = IsPortAt-append names more at h
-UsesWell-append names more (action.Put at message) h = (IsVariableAt-append names more at h.0, h.1)
-UsesWell-append names more (action.Get at) h = IsVariableAt-append names more at h
-UsesWell-append names more (action.GetPoll at) h = IsVariableAt-append names more at h
-UsesWell-append names more (action.Take at) h = IsMVarAt-append names more at h
-UsesWell-append names more (action.TakePoll at) h = IsMVarAt-append names more at h
-UsesWell-append names more (action.Swap at message) h = (IsMVarAt-append names more at h.0, h.1)
+UsesWell-append names more (action.Give call at message) h = (IsSuitedAt-append names more (Object (given call).takers) at h.0, h.1)
+UsesWell-append names more (action.Ask call at) h = IsSuitedAt-append names more (asked_place call) at h
 
 pub ReadsStep-append : (names more : List Given) (s : Step) → thread_count names ≡ thread_count (names ++ more) → ReadsStep names s → ReadsStep (names ++ more) s
 ReadsStep-append names more s same h = record {

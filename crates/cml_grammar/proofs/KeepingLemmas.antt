@@ -1,5 +1,5 @@
 -- What holds of the lines so far holds with one more declaration, and with one more step.
-use Rattle.std.proofs.Common.{◌≡◌, ℕ, ◌+◌, ◌≤◌, ◌==◌, Bool, true, false, not, ◌&&◌, ◌||◌, List, [], ◌∷◌, ◌++◌, length, map, slice_get, nat_le, Option, Some, None, String, string_bytes, All, refl, sym, ap, ◌∙◌, subst, arith, inl, inr, ◌<◌, count_by, cond, is_some}
+use Rattle.std.proofs.Common.{◌≡◌, ℕ, ◌+◌, ◌≤◌, ◌==◌, Bool, true, false, not, ◌&&◌, ◌||◌, List, [], ◌∷◌, ◌++◌, length, map, slice_get, nat_le, Option, Some, None, String, string_bytes, All, refl, sym, ap, ◌∙◌, subst, arith, ◌<◌, count_by, cond, is_some}
 use Rattle.std.specs.Prelude.{⊤}
 use Rattle.std.specs.Global.{Global}
 use Rattle.std.specs.Map.{keys_of}
@@ -10,6 +10,8 @@ use Rattle.std.proofs.lemmas.List.{append-nil, length-append, length-map, map-ap
 use Rattle.std.proofs.lemmas.List.Sums.{sum_by_push}
 use Rattle.std.proofs.lemmas.List.Elements.{All-nil, All-push, All-weaker}
 use Rattle.std.proofs.lemmas.Option.{none-some, same_Some, slice_get_within}
+use Rattle.cml_calls.specs.declared.shape.Takers.{Takers}
+use Rattle.cml_calls.specs.Table.{asked}
 use Rattle.cml_grammar.specs.declared.names.Named.{Named}
 use Rattle.cml_grammar.specs.declared.names.Named.TheVariants as called
 use Rattle.cml_grammar.specs.declared.names.Users.{Users}
@@ -20,6 +22,7 @@ use Rattle.cml_grammar.specs.declared.forms.Verb.{Verb}
 use Rattle.cml_grammar.specs.declared.forms.Verb.TheVariants as verb
 use Rattle.cml_grammar.specs.declared.forms.Action.{Action}
 use Rattle.cml_grammar.specs.declared.forms.Action.TheVariants as action
+use Rattle.cml_grammar.specs.declared.forms.Place.TheVariants.{Object, Polled}
 use Rattle.cml_grammar.specs.declared.forms.Makes.{Makes}
 use Rattle.cml_grammar.specs.declared.forms.Makes.TheVariants as makes
 use Rattle.cml_grammar.specs.declared.script.Declaration.{Declaration}
@@ -28,11 +31,11 @@ use Rattle.cml_grammar.specs.declared.script.Lane.{Lane}
 use Rattle.cml_grammar.specs.declared.script.Step.{Step}
 use Rattle.cml_grammar.specs.Words.{words_of}
 use Rattle.cml_grammar.specs.Names.{Given, thread_count, seat_in, seat_of, named, position_of}
-use Rattle.cml_grammar.specs.Forms.{declaration, step, form_of, declared_places, fresh_word, owner_of, named_by, step_places, is_others}
+use Rattle.cml_grammar.specs.Forms.{declaration, step, form_of, declared_places, fresh_word, owner_of, named_by, is_poll, step_places, is_used, is_others}
 use Rattle.cml_grammar.specs.Faults.{Scope, Ends, fault_in_words, after_words, gives, given_as, is_step, declares_thread, any_word, is_not_yours}
 use Rattle.cml_grammar.specs.Script.{SourceLine}
 use Rattle.cml_grammar.specs.Meaning.{scope_of, names_of, feed_by, makes_by, makes_of, action_by, action_of, seat_of_step}
-use Rattle.cml_grammar.specs.Reading.{source_of, view_of, texts_of, IsSeatedWithin, IsReceiverAt, IsPolledAt, IsVariableAt, IsSeat, GivesAt, Gives, GivesNames, IsMadeWell, ReadsDeclaration, ReadsLane, ReadsStep, UsesWell, UsesEarlier, MayUse, IsYours, used_by, IsReadSoFar, threads_by}
+use Rattle.cml_grammar.specs.Reading.{source_of, view_of, texts_of, IsSeatedWithin, IsSeat, GivesAt, Gives, GivesNames, IsMadeWell, ReadsDeclaration, ReadsLane, ReadsStep, UsesWell, UsesEarlier, MayUse, IsYours, used_by, IsReadSoFar, threads_by}
 use Rattle.cml_grammar.specs.Giving.{declared_word, asked_word, is_giving, names_before, NamesAreGiven}
 use Rattle.cml_grammar.proofs.ListLemmas.{mapped_some, slice_get-push, each-push}
 use Rattle.cml_grammar.proofs.GrowingLemmas.{both_found, GivesAt-append, IsMadeWell-append, ReadsDeclaration-append, GivesNames-append, ReadsStep-append, Asks, step_asks, ReadsLane-append, ends_kept, ends_same}
@@ -241,33 +244,18 @@ may_use seat (called.Port (users.One owner)) h = eqb-true owner seat (not-false 
 may_use seat (called.Feed owner) h = eqb-true owner seat (not-false _ h)
 may_use seat _ h = tt
 
+-- a place for an object is of a name that is used
+used_place : (poll : Bool) (takers : Takers) (t : Bool) → (is_used (cond poll Polled (Object takers)) && t) ≡ false → t ≡ false
+used_place true takers t h = h
+used_place false takers t h = h
+
 not_others : (names : List Given) (seat : ℕ) (v : Verb) (object : List ℕ) (more : List (List ℕ)) → any_word (is_not_yours names seat) (step seat v (object ∷ more)) ≡ false → option_map_or (is_others seat) (named names object) false ≡ false
-not_others names seat verb.Send object more h = (or_parts _ _ h).0
-not_others names seat _ object more h = (or_parts _ _ h).0
-
-receiver_stands : (names : List Given) (at : ℕ) → IsReceiverAt names at → (g : Given) × (slice_get names at ≡ Some g)
-receiver_stands names at h = elim h [ inl a ↦ (_, a.1) | inr b ↦ (_, b.2) ]
-
-polled_stands : (names : List Given) (at : ℕ) → IsPolledAt names at → (g : Given) × (slice_get names at ≡ Some g)
-polled_stands names at h = elim h [ inl a ↦ receiver_stands names at a | inr b ↦ (_, b.2) ]
-
-variable_stands : (names : List Given) (at : ℕ) → IsVariableAt names at → (g : Given) × (slice_get names at ≡ Some g)
-variable_stands names at h = elim h [ inl a ↦ (_, a.1) | inr b ↦ (_, b.1) ]
+not_others names seat (verb.Give call) object more h = (or_parts _ _ h).0
+not_others names seat (verb.Ask call) object more h = used_place (is_poll call) (asked call).takers _ (or_parts _ _ h).0
 
 used_stands : (names : List Given) (a : Action) → UsesWell names a → (g : Given) × (slice_get names (used_by a) ≡ Some g)
-used_stands names (action.Send at message) h = (_, h.0.1)
-used_stands names (action.Multicast at message) h = (_, h.0.1)
-used_stands names (action.Recv at) h = receiver_stands names at h
-used_stands names (action.Poll at) h = polled_stands names at h
-used_stands names (action.Port at) h = (_, h.1)
-used_stands names (action.Copy at) h = (_, h.2)
-used_stands names (action.Close at) h = (_, h.2)
-used_stands names (action.Put at message) h = variable_stands names at h.0
-used_stands names (action.Get at) h = variable_stands names at h
-used_stands names (action.GetPoll at) h = variable_stands names at h
-used_stands names (action.Take at) h = (_, h.1)
-used_stands names (action.TakePoll at) h = (_, h.1)
-used_stands names (action.Swap at message) h = (_, h.0.1)
+used_stands names (action.Give call at message) h = (_, h.0.2)
+used_stands names (action.Ask call at) h = (_, h.2)
 
 is_yours : (names : List Given) (seat : ℕ) (v : Verb) (rest : List (List ℕ)) (a : Action) → any_word (is_not_yours names seat) (step seat v rest) ≡ false → Asks names v rest a → UsesWell names a → IsYours names seat (used_by a)
 is_yours names seat v rest a passes asks uses =

@@ -4,17 +4,18 @@ use Rattle.cml_text.specs.Text.{is_text}
 use Rattle.std.specs.Option.{option_map}
 use Rattle.std.specs.List.{find, zip}
 use Rattle.std.proofs.lemmas.Bool.{ne_eqb}
+use Rattle.cml_calls.specs.declared.shape.Takers.TheVariants.{Channels}
 use Rattle.cml_grammar.specs.declared.names.Named.{Named}
 use Rattle.cml_grammar.specs.declared.names.Named.TheVariants as called
 use Rattle.cml_grammar.specs.declared.forms.Declares.TheVariants as declares
 use Rattle.cml_grammar.specs.declared.forms.Makes.TheVariants as makes
 use Rattle.cml_grammar.specs.declared.forms.Verb.{Verb}
 use Rattle.cml_grammar.specs.declared.forms.Place.{Place}
-use Rattle.cml_grammar.specs.declared.forms.Place.TheVariants.{Fresh, Thread, Mailbox, Channel, Target, Port, Receiver, Polled, Variable, MVar, Message}
+use Rattle.cml_grammar.specs.declared.forms.Place.TheVariants.{Fresh, Object, Target, Message}
 use Rattle.cml_grammar.specs.Names.{Given}
 use Rattle.cml_grammar.specs.Forms.{declared_places, step_places, suits, is_fresh, fresh_word}
 use Rattle.cml_grammar.specs.Meaning.{makes_by}
-use Rattle.cml_grammar.specs.Reading.{IsMailboxAt, IsChannelAt, IsTargetAt, IsPortAt, IsReceiverAt, IsPolledAt, IsMVarAt, IsVariableAt}
+use Rattle.cml_grammar.specs.Reading.{IsChannelAt, IsTargetAt}
 use Rattle.cml_grammar.specs.Suiting.{IsSuitedAt, AllSuit}
 
 abbrev pub Words : Type 0
@@ -23,37 +24,22 @@ Words = List (Bor (List ℕ))
 abbrev pub bytes : Words → List (List ℕ)
 bytes words = map (λ w. w.now) words
 
--- what the name at this position is if it suits the place
-abbrev pub IsAt : List Given → Place → ℕ → Type 0
-IsAt names Mailbox at = IsMailboxAt names at
-IsAt names Channel at = IsChannelAt names at
-IsAt names Target at = IsTargetAt names at
-IsAt names Port at = IsPortAt names at
-IsAt names Receiver at = IsReceiverAt names at
-IsAt names Polled at = IsPolledAt names at
-IsAt names Variable at = IsVariableAt names at
-IsAt names MVar at = IsMVarAt names at
-IsAt names _ at = Unit {0}
-
-pub is_at : (names : List Given) (place : Place) (at : ℕ) → IsSuitedAt names place at → IsAt names place at
-is_at names place at h = by place h.1 h.2 h.3
+-- what may stand for a channel is one
+pub channel_at : (names : List Given) (at : ℕ) → IsSuitedAt names (Object Channels) at → IsChannelAt names at
+channel_at names at h = by h.1 h.2 h.3
   where
-    by : (p : Place) (n : Named) → slice_get names at ≡ Some (h.0, n) → suits p n ≡ true → IsAt names p at
-    by Mailbox called.Mailbox e t = (h.0, e)
-    by Channel called.Channel e t = (h.0, e)
-    by Target called.Mailbox e t = inl (h.0, e)
-    by Target called.Channel e t = inr (h.0, e)
-    by Port (called.Port whose) e t = (h.0, whose, e)
-    by Receiver called.Mailbox e t = inl (h.0, e)
-    by Receiver (called.Port whose) e t = inr (h.0, whose, e)
-    by Polled called.Mailbox e t = inl (inl (h.0, e))
-    by Polled (called.Port whose) e t = inl (inr (h.0, whose, e))
-    by Polled (called.Feed owner) e t = inr (h.0, owner, e)
-    by Variable called.IVar e t = inl (h.0, e)
-    by Variable called.MVar e t = inr (h.0, e)
-    by MVar called.MVar e t = (h.0, e)
-    by Thread n e t = tt
-    by _ n e t = absurd (true≢false (sym t))
+    by : (n : Named) → slice_get names at ≡ Some (h.0, n) → suits (Object Channels) n ≡ true → IsChannelAt names at
+    by called.Channel e t = (h.0, e)
+    by _ e t = absurd (true≢false (sym t))
+
+-- and what a lane may lead to is a mailbox or a channel
+pub target_at : (names : List Given) (at : ℕ) → IsSuitedAt names Target at → IsTargetAt names at
+target_at names at h = by h.1 h.2 h.3
+  where
+    by : (n : Named) → slice_get names at ≡ Some (h.0, n) → suits Target n ≡ true → IsTargetAt names at
+    by called.Mailbox e t = inl (h.0, e)
+    by called.Channel e t = inr (h.0, e)
+    by _ e t = absurd (true≢false (sym t))
 
 -- ---- a step's message
 message_alone : (names : List Given) (words : Words) → AllSuit names (Message ∷ []) (bytes words) → map (λ w. is_text w.now) words ≡ true ∷ []

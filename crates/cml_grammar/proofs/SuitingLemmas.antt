@@ -1,9 +1,13 @@
 -- Words that suit their places mean something, and what they mean uses names well.
-use Rattle.std.proofs.Common.{◌≡◌, ℕ, true, if◌then◌else◌, List, [], ◌∷◌, length, Some, refl, sym, ap, ◌∙◌, subst, arith, All}
+use Rattle.std.proofs.Common.{◌≡◌, ℕ, Bool, true, false, cond, if◌then◌else◌, Option, List, [], ◌∷◌, length, Some, refl, sym, ap, ◌∙◌, subst, arith, All}
 use Rattle.std.specs.Option.{option_map}
 use Rattle.std.specs.Str.Parse.{digits_value}
 use Rattle.std.proofs.lemmas.Bool.{ne_eqb, and_parts, leb-true}
 use Rattle.std.proofs.lemmas.Option.{same_Some, slice_get_within}
+use Rattle.cml_calls.specs.declared.shape.Takers.{Takers}
+use Rattle.cml_calls.specs.declared.shape.Takers.TheVariants.{Channels}
+use Rattle.cml_calls.specs.declared.table.Ask.{Ask}
+use Rattle.cml_calls.specs.Table.{given, asked, names_one}
 use Rattle.cml_grammar.specs.declared.forms.Declares.{Declares}
 use Rattle.cml_grammar.specs.declared.forms.Declares.TheVariants as declares
 use Rattle.cml_grammar.specs.declared.forms.Makes.{Makes}
@@ -12,17 +16,17 @@ use Rattle.cml_grammar.specs.declared.forms.FeedMaking.{FeedMaking}
 use Rattle.cml_grammar.specs.declared.forms.Verb.{Verb}
 use Rattle.cml_grammar.specs.declared.forms.Verb.TheVariants as verb
 use Rattle.cml_grammar.specs.declared.forms.Place.{Place}
-use Rattle.cml_grammar.specs.declared.forms.Place.TheVariants.{Fresh, Mailbox, Channel, Target, Port, Receiver, Polled, Variable, MVar, Message}
+use Rattle.cml_grammar.specs.declared.forms.Place.TheVariants.{Fresh, Object, Polled, Message}
 use Rattle.cml_grammar.specs.declared.forms.Action.{Action}
 use Rattle.cml_grammar.specs.declared.forms.Action.TheVariants as action
 use Rattle.cml_grammar.specs.Names.{Given, is_capacity, position_of, seat_of, thread_count}
 use Rattle.cml_grammar.specs.Faults.{Ends}
-use Rattle.cml_grammar.specs.Forms.{declared_places, lane_places, step_places, fresh_word}
-use Rattle.cml_grammar.specs.Meaning.{makes_by, action_by}
+use Rattle.cml_grammar.specs.Forms.{declared_places, lane_places, is_poll, step_places, fresh_word}
+use Rattle.cml_grammar.specs.Meaning.{makes_by, asked_by, action_by}
 use Rattle.cml_grammar.specs.Rings.{Laid, lane_by}
 use Rattle.cml_grammar.specs.Reading.{IsTargetAt, UsesWell, IsSeat, IsCapacity, IsMadeWell, IsSeatedWithin}
 use Rattle.cml_grammar.specs.Suiting.{IsUsed, Suits, AllSuit}
-use Rattle.cml_grammar.proofs.MeaningLemmas.{IsAt, is_at}
+use Rattle.cml_grammar.proofs.MeaningLemmas.{channel_at, target_at}
 use Rattle.cml_grammar.proofs.GrowingLemmas.{both_same}
 use Rattle.cml_grammar.proofs.SeatLemmas.{used_seat, seated_from}
 
@@ -70,9 +74,9 @@ makes_this names declares.Channel rest seats h = makes_alone names declares.Chan
 makes_this names declares.IVar rest seats h = makes_alone names declares.IVar makes.IVar tt (λ w. refl) (λ w. refl) rest h
 makes_this names declares.Thread rest seats h = makes_alone names declares.Thread makes.Thread tt (λ w. refl) (λ w. refl) rest h
 makes_this names declares.Port rest seats h =
-    let w = two_words names Channel Fresh rest h in
+    let w = two_words names (Object Channels) Fresh rest h in
     let at : ℕ = w.3.0 in
-    let is = is_at names Channel at w.3.2 in
+    let is = channel_at names at w.3.2 in
     subst (MakesThis names declares.Port) (sym w.2) (record {
       made = makes.Port at;
       name = w.1;
@@ -101,7 +105,7 @@ makes_this names declares.Feed (thread ∷ name ∷ channel ∷ capacity ∷ wor
 makes_this names declares.Feed (thread ∷ name ∷ channel ∷ capacity ∷ []) seats h =
     let seat = used_seat names thread h.0 in
     let leads = h.1.1.0 in
-    let is = is_at names Channel leads.0 leads.2 in
+    let is = channel_at names leads.0 leads.2 in
     let said : ℕ → ℕ → FeedMaking = (λ s at. record { seat = s; channel = at; capacity = digits_value 10 capacity }) in
     record {
       made = makes.Feed (said seat.0 leads.0);
@@ -139,7 +143,7 @@ lays_this names (thread ∷ target ∷ capacity ∷ []) seats h =
       capacity = digits_value 10 capacity;
       says = ap (option_map (λ (ends : Ends). (ends, digits_value 10 capacity))) (both_same (λ (s at : ℕ). (s, at)) (seat_of names thread) (position_of names target) seat.0 leads.0 seat.1 leads.1);
       seated = seated_from names (thread_count names) thread seat.0 seats seat.1;
-      leads = is_at names Target leads.0 leads.2;
+      leads = target_at names leads.0 leads.2;
       fits = capacity_fits capacity h.1.1.0;
     }
 
@@ -155,40 +159,35 @@ pub record AsksThis (names : List Given) (v : Verb) (rest : List (List ℕ)) : T
   pub asks : action_by names v rest ≡ Some action
   pub uses : UsesWell names action
 
--- .. where the object is the step's only word, or has another behind it
-module _ (names : List Given) (v : Verb) (place : Place) (is_used : (w : List ℕ) → Suits names place w → IsUsed names place w) where
-  asks_alone : (make : ℕ → Action) → ((w : List ℕ) → action_by names v (w ∷ []) ≡ option_map make (position_of names w)) → ((at : ℕ) → IsAt names place at → UsesWell names (make at))
-      → (rest : List (List ℕ)) → AllSuit names (place ∷ []) rest → AsksThis names v rest
-  asks_alone make asks uses rest h =
-      let w = one_word names place rest h in
-      let used = is_used w.0 w.2 in
-      subst (AsksThis names v) (sym w.1) (record { action = make used.0; asks = asks w.0 ∙ ap (option_map make) used.1; uses = uses used.0 (is_at names place used.0 used.2) })
+-- a place for an object is of a name that is used
+used_as : (names : List Given) (poll : Bool) (takers : Takers) (word : List ℕ) → Suits names (cond poll Polled (Object takers)) word → IsUsed names (cond poll Polled (Object takers)) word
+used_as names true takers word h = h
+used_as names false takers word h = h
 
-  asks_with : (second : Place) (make : ℕ → List ℕ → Action) → ((w m : List ℕ) → action_by names v (w ∷ m ∷ []) ≡ option_map (λ at. make at m) (position_of names w))
-      → ((at : ℕ) (m : List ℕ) → IsAt names place at → Suits names second m → UsesWell names (make at m)) → (rest : List (List ℕ)) → AllSuit names (place ∷ second ∷ []) rest → AsksThis names v rest
-  asks_with second make asks uses rest h =
-      let w = two_words names place second rest h in
-      let used = is_used w.0 w.3 in
-      subst (AsksThis names v) (sym w.2) (record {
-        action = make used.0 w.1;
-        asks = asks w.0 w.1 ∙ ap (option_map (λ at. make at w.1)) used.1;
-        uses = uses used.0 w.1 (is_at names place used.0 used.2) w.4;
-      })
+-- behind it stand as many words as the call needs
+behind : (names : List Given) (gives : Bool) (at : ℕ) (call : Ask) (rest : List (List ℕ)) → AllSuit names (cond gives (Fresh ∷ []) []) rest → asked_by gives (Some at) call rest ≡ Some (action.Ask call at)
+behind names true at call (name ∷ []) h = refl
+behind names true at call [] h = absurd h
+behind names true at call (name ∷ word ∷ words) h = absurd h.1
+behind names false at call [] h = refl
+behind names false at call (name ∷ words) h = absurd h
 
 pub asks_this : (names : List Given) (v : Verb) (rest : List (List ℕ)) → AllSuit names (step_places v) rest → AsksThis names v rest
-asks_this names verb.Send = asks_with names verb.Send Mailbox (λ w u. u) Message action.Send (λ w m. refl) (λ at m u t. (u, t))
-asks_this names verb.Multicast = asks_with names verb.Multicast Channel (λ w u. u) Message action.Multicast (λ w m. refl) (λ at m u t. (u, t))
-asks_this names verb.Put = asks_with names verb.Put Variable (λ w u. u) Message action.Put (λ w m. refl) (λ at m u t. (u, t))
-asks_this names verb.Swap = asks_with names verb.Swap MVar (λ w u. u) Message action.Swap (λ w m. refl) (λ at m u t. (u, t))
-asks_this names verb.Port = asks_with names verb.Port Channel (λ w u. u) Fresh (λ at m. action.Port at) (λ w m. refl) (λ at m u t. u)
-asks_this names verb.Copy = asks_with names verb.Copy Port (λ w u. u) Fresh (λ at m. action.Copy at) (λ w m. refl) (λ at m u t. u)
-asks_this names verb.Recv = asks_alone names verb.Recv Receiver (λ w u. u) action.Recv (λ w. refl) (λ at u. u)
-asks_this names verb.Poll = asks_alone names verb.Poll Polled (λ w u. u) action.Poll (λ w. refl) (λ at u. u)
-asks_this names verb.Close = asks_alone names verb.Close Port (λ w u. u) action.Close (λ w. refl) (λ at u. u)
-asks_this names verb.Get = asks_alone names verb.Get Variable (λ w u. u) action.Get (λ w. refl) (λ at u. u)
-asks_this names verb.GetPoll = asks_alone names verb.GetPoll Variable (λ w u. u) action.GetPoll (λ w. refl) (λ at u. u)
-asks_this names verb.Take = asks_alone names verb.Take MVar (λ w u. u) action.Take (λ w. refl) (λ at u. u)
-asks_this names verb.TakePoll = asks_alone names verb.TakePoll MVar (λ w u. u) action.TakePoll (λ w. refl) (λ at u. u)
+asks_this names (verb.Give call) rest h =
+    let w = two_words names (Object (given call).takers) Message rest h in
+    subst (AsksThis names (verb.Give call)) (sym w.2) (record {
+      action = action.Give call w.3.0 w.1;
+      asks = ap (option_map (λ at. action.Give call at w.1)) w.3.1;
+      uses = (w.3.2, w.4);
+    })
+asks_this names (verb.Ask call) [] h = absurd h
+asks_this names (verb.Ask call) (object ∷ rest) h =
+    let used = used_as names (is_poll call) (asked call).takers object h.0 in
+    record {
+      action = action.Ask call used.0;
+      asks = ap (λ (at : Option ℕ). asked_by (names_one (asked call)) at call rest) used.1 ∙ behind names (names_one (asked call)) used.0 call rest h.1;
+      uses = used.2;
+    }
 
 -- what a step asks for uses names well
 pub asked_well : (names : List Given) (v : Verb) (rest : List (List ℕ)) (asked : Action) → AllSuit names (step_places v) rest → action_by names v rest ≡ Some asked → UsesWell names asked

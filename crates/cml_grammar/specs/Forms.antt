@@ -1,8 +1,13 @@
 -- The lines of a script: which words a declaration and a step have, and what may stand in each word's place.
 use Rattle.std.specs.Prelude.{ℕ, ◌+◌, ◌==◌, Bool, true, false, not, ◌&&◌, List, [], ◌∷◌, length, Option, Some, None, if◌then◌else◌, codes}
-use Rattle.std.specs.Option.{option_map, option_map_or}
+use Rattle.std.specs.Option.{option_map, option_map_or, option_or}
 use Rattle.std.specs.List.{find, zip}
 use Rattle.std.specs.Str.{bytes_eq}
+use Rattle.cml_calls.specs.declared.shape.Takers.TheVariants.{Channels}
+use Rattle.cml_calls.specs.declared.table.Ask.{Ask}
+use Rattle.cml_calls.specs.declared.table.Ask.TheVariants.{Poll}
+use Rattle.cml_calls.specs.Kinds.{is_source, is_receiver, admits}
+use Rattle.cml_calls.specs.Table.{given, asked, names_one, give_of, ask_of}
 use Rattle.cml_grammar.specs.declared.names.Named.{Named}
 use Rattle.cml_grammar.specs.declared.names.Named.TheVariants as called
 use Rattle.cml_grammar.specs.declared.names.Users.TheVariants as users
@@ -11,8 +16,8 @@ use Rattle.cml_grammar.specs.declared.forms.Declares.TheVariants as declares
 use Rattle.cml_grammar.specs.declared.forms.Verb.{Verb}
 use Rattle.cml_grammar.specs.declared.forms.Verb.TheVariants as verb
 use Rattle.cml_grammar.specs.declared.forms.Place.{Place}
-use Rattle.cml_grammar.specs.declared.forms.Place.TheVariants.{Fresh, Thread, Mailbox, Channel, Target, Port, Receiver, Polled, Variable, MVar, Message, Capacity}
-use Rattle.cml_grammar.specs.Names.{Given, seat_of}
+use Rattle.cml_grammar.specs.declared.forms.Place.TheVariants.{Fresh, Thread, Object, Target, Polled, Message, Capacity}
+use Rattle.cml_grammar.specs.Names.{Given, kind_of_named, kind_named, seat_of}
 
 -- the first word of a declaration that gives a name
 abbrev pub declares_of : List ℕ → Option Declares
@@ -30,11 +35,11 @@ declares_of word =
 abbrev pub declared_places : Declares → List (List ℕ) → List Place
 declared_places declares.Mailbox rest = Fresh ∷ []
 declared_places declares.Channel rest = Fresh ∷ []
-declared_places declares.Port rest = Channel ∷ Fresh ∷ []
+declared_places declares.Port rest = Object Channels ∷ Fresh ∷ []
 declared_places declares.IVar rest = Fresh ∷ []
 declared_places declares.MVar rest = if length rest == 2 then Fresh ∷ Message ∷ [] else Fresh ∷ []
 declared_places declares.Thread rest = Fresh ∷ []
-declared_places declares.Feed rest = Thread ∷ Fresh ∷ Channel ∷ Capacity ∷ []
+declared_places declares.Feed rest = Thread ∷ Fresh ∷ Object Channels ∷ Capacity ∷ []
 
 -- the first word of a lane line, which gives no name
 abbrev pub is_lane_word : List ℕ → Bool
@@ -44,39 +49,22 @@ is_lane_word word = bytes_eq word (codes "lane")
 abbrev pub lane_places : List Place
 lane_places = Thread ∷ Target ∷ Capacity ∷ []
 
--- a step's second word
+-- a step's second word: a call of the table that is made on an object
 abbrev pub verb_of : List ℕ → Option Verb
-verb_of word =
-    if bytes_eq word (codes "send") then Some verb.Send
-    else if bytes_eq word (codes "multicast") then Some verb.Multicast
-    else if bytes_eq word (codes "recv") then Some verb.Recv
-    else if bytes_eq word (codes "poll") then Some verb.Poll
-    else if bytes_eq word (codes "port") then Some verb.Port
-    else if bytes_eq word (codes "copy") then Some verb.Copy
-    else if bytes_eq word (codes "close") then Some verb.Close
-    else if bytes_eq word (codes "put") then Some verb.Put
-    else if bytes_eq word (codes "get") then Some verb.Get
-    else if bytes_eq word (codes "getpoll") then Some verb.GetPoll
-    else if bytes_eq word (codes "take") then Some verb.Take
-    else if bytes_eq word (codes "takepoll") then Some verb.TakePoll
-    else if bytes_eq word (codes "swap") then Some verb.Swap
-    else None
+verb_of word = option_or (option_map verb.Give (give_of word)) (option_map verb.Ask (ask_of word))
 
--- what stands after it
+abbrev pub is_poll : Ask → Bool
+is_poll Poll = true
+is_poll call = false
+
+-- what may stand for the object of a call without a message: a feed can be polled as well
+abbrev pub asked_place : Ask → Place
+asked_place call = if is_poll call then Polled else Object (asked call).takers
+
+-- what stands after it: the object, and then the message, or the name that a new port is given
 abbrev pub step_places : Verb → List Place
-step_places verb.Send = Mailbox ∷ Message ∷ []
-step_places verb.Multicast = Channel ∷ Message ∷ []
-step_places verb.Recv = Receiver ∷ []
-step_places verb.Poll = Polled ∷ []
-step_places verb.Port = Channel ∷ Fresh ∷ []
-step_places verb.Copy = Port ∷ Fresh ∷ []
-step_places verb.Close = Port ∷ []
-step_places verb.Put = Variable ∷ Message ∷ []
-step_places verb.Get = Variable ∷ []
-step_places verb.GetPoll = Variable ∷ []
-step_places verb.Take = MVar ∷ []
-step_places verb.TakePoll = MVar ∷ []
-step_places verb.Swap = MVar ∷ Message ∷ []
+step_places (verb.Give call) = Object (given call).takers ∷ Message ∷ []
+step_places (verb.Ask call) = asked_place call ∷ (if names_one (asked call) then Fresh ∷ [] else [])
 
 -- what kind of line it is, with the words that are left
 pub data Form : Type 0 where
@@ -134,19 +122,9 @@ is_used place = is_name_place place && not (is_fresh place)
 -- whether what is named may stand in a place
 abbrev pub suits : Place → Named → Bool
 suits Thread (called.Thread seat) = true
-suits Mailbox called.Mailbox = true
-suits Channel called.Channel = true
-suits Target called.Mailbox = true
-suits Target called.Channel = true
-suits Port (called.Port whose) = true
-suits Receiver called.Mailbox = true
-suits Receiver (called.Port whose) = true
-suits Polled called.Mailbox = true
-suits Polled (called.Port whose) = true
-suits Polled (called.Feed owner) = true
-suits Variable called.IVar = true
-suits Variable called.MVar = true
-suits MVar called.MVar = true
+suits (Object takers) named = option_map_or (admits takers) (kind_of_named named) false
+suits Target named = option_map_or is_source (kind_of_named named) false
+suits Polled named = option_map_or is_receiver (kind_named named) false
 suits _ _ = false
 
 -- whether what is named is a port or a feed of another seat

@@ -1,7 +1,9 @@
 -- What the lines of a script mean: which names it has, what a declaration makes and what a step asks for.
-use Rattle.std.specs.Prelude.{ℕ, List, [], ◌∷◌, ◌++◌, Option, Some, None}
+use Rattle.std.specs.Prelude.{ℕ, Bool, true, false, List, [], ◌∷◌, ◌++◌, Option, Some, None}
 use Rattle.std.specs.Option.{option_map, option_and_then, option_to_list}
 use Rattle.std.specs.Str.Parse.{digits_value}
+use Rattle.cml_calls.specs.declared.table.Ask.{Ask}
+use Rattle.cml_calls.specs.Table.{asked, names_one}
 use Rattle.cml_grammar.specs.declared.forms.Declares.{Declares}
 use Rattle.cml_grammar.specs.declared.forms.Declares.TheVariants as declares
 use Rattle.cml_grammar.specs.declared.forms.Verb.{Verb}
@@ -62,25 +64,17 @@ abbrev pub makes_of : List Given → List (List ℕ) → Option Makes
 makes_of names [] = None
 makes_of names (word ∷ rest) = option_and_then (λ d. makes_by names d rest) (declares_of word)
 
+-- what a call without a message asks of the object at this position: behind the object's name stands the name that a new port is
+-- given, or nothing
+abbrev pub asked_by : Bool → Option ℕ → Ask → List (List ℕ) → Option Action
+asked_by true at call (name ∷ []) = option_map (action.Ask call) at
+asked_by false at call [] = option_map (action.Ask call) at
+asked_by _ at call _ = None
+
 -- what a step of these words asks for, its names by their positions among the script's
 abbrev pub action_by : List Given → Verb → List (List ℕ) → Option Action
-action_by names verb.Send (mailbox ∷ message ∷ []) =
-    option_map (λ at. action.Send at message) (position_of names mailbox)
-action_by names verb.Multicast (channel ∷ message ∷ []) =
-    option_map (λ at. action.Multicast at message) (position_of names channel)
-action_by names verb.Recv (object ∷ []) = option_map action.Recv (position_of names object)
-action_by names verb.Poll (object ∷ []) = option_map action.Poll (position_of names object)
-action_by names verb.Port (channel ∷ name ∷ []) = option_map action.Port (position_of names channel)
-action_by names verb.Copy (port ∷ name ∷ []) = option_map action.Copy (position_of names port)
-action_by names verb.Close (port ∷ []) = option_map action.Close (position_of names port)
-action_by names verb.Put (variable ∷ message ∷ []) =
-    option_map (λ at. action.Put at message) (position_of names variable)
-action_by names verb.Get (variable ∷ []) = option_map action.Get (position_of names variable)
-action_by names verb.GetPoll (variable ∷ []) = option_map action.GetPoll (position_of names variable)
-action_by names verb.Take (variable ∷ []) = option_map action.Take (position_of names variable)
-action_by names verb.TakePoll (variable ∷ []) = option_map action.TakePoll (position_of names variable)
-action_by names verb.Swap (variable ∷ message ∷ []) =
-    option_map (λ at. action.Swap at message) (position_of names variable)
+action_by names (verb.Give call) (object ∷ message ∷ []) = option_map (λ at. action.Give call at message) (position_of names object)
+action_by names (verb.Ask call) (object ∷ rest) = asked_by (names_one (asked call)) (position_of names object) call rest
 action_by names _ _ = None
 
 abbrev pub action_of : List Given → List (List ℕ) → Option Action

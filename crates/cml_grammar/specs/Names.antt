@@ -4,8 +4,10 @@ use Rattle.std.specs.Option.{option_map, option_and_then}
 use Rattle.std.specs.List.{list_any, list_all}
 use Rattle.std.specs.Str.{bytes_eq, all_ascii_digits}
 use Rattle.std.specs.Str.Parse.{digits_value}
+use Rattle.cml_calls.specs.declared.kind.Kind.{Kind}
+use Rattle.cml_calls.specs.declared.kind.Kind.TheVariants as kind
 use Rattle.cml_grammar.specs.declared.names.Named.{Named}
-use Rattle.cml_grammar.specs.declared.names.Named.TheVariants.{Thread}
+use Rattle.cml_grammar.specs.declared.names.Named.TheVariants.{Thread, Mailbox, Channel, Port, IVar, MVar, Feed}
 
 abbrev pub is_letter : ℕ → Bool
 is_letter b = (nat_le 65 b && nat_le b 90) || (nat_le 97 b && nat_le b 122)
@@ -54,6 +56,21 @@ is_given names word = is_some (position_of names word)
 -- what a name names
 abbrev pub named : List Given → List ℕ → Option Named
 named names word = option_and_then (λ i. option_map (λ g. g.1) (slice_get names i)) (position_of names word)
+
+-- the kind of object that is named: none for a thread, and for a feed
+abbrev pub kind_of_named : Named → Option Kind
+kind_of_named (Thread seat) = None
+kind_of_named Mailbox = Some kind.Mailbox
+kind_of_named Channel = Some kind.Channel
+kind_of_named (Port whose) = Some kind.Port
+kind_of_named IVar = Some kind.IVar
+kind_of_named MVar = Some kind.MVar
+kind_of_named (Feed owner) = None
+
+-- .. and with a feed for its port
+abbrev pub kind_named : Named → Option Kind
+kind_named (Feed owner) = Some kind.Port
+kind_named named = kind_of_named named
 
 abbrev pub seat_in : Named → Option ℕ
 seat_in (Thread seat) = Some seat

@@ -10,16 +10,19 @@ use Rattle.cml_grammar.specs.declared.names.Users.TheVariants as users
 use Rattle.cml_grammar.specs.declared.forms.Declares.{Declares}
 use Rattle.cml_grammar.specs.declared.forms.Declares.TheVariants as declares
 use Rattle.cml_grammar.specs.declared.forms.Action.{Action}
-use Rattle.cml_grammar.specs.declared.forms.Action.TheVariants.{Send, Multicast, Recv, Poll, Port, Copy, Close, Put, Get, GetPoll, Take, TakePoll, Swap}
+use Rattle.cml_grammar.specs.declared.forms.Action.TheVariants.{Give, Ask}
+use Rattle.cml_grammar.specs.declared.forms.Place.TheVariants.{Object}
 use Rattle.cml_grammar.specs.declared.forms.Makes.{Makes}
 use Rattle.cml_grammar.specs.declared.forms.Makes.TheVariants as makes
 use Rattle.cml_grammar.specs.declared.script.Line.{Line}
 use Rattle.cml_grammar.specs.declared.script.Declaration.{Declaration}
 use Rattle.cml_grammar.specs.declared.script.Lane.{Lane}
 use Rattle.cml_grammar.specs.declared.script.Step.{Step}
+use Rattle.cml_calls.specs.Table.{given, asked, names_one}
 use Rattle.cml_grammar.specs.Words.{words_of}
 use Rattle.cml_grammar.specs.Names.{Given, thread_count}
-use Rattle.cml_grammar.specs.Forms.{form_of}
+use Rattle.cml_grammar.specs.Forms.{form_of, asked_place}
+use Rattle.cml_grammar.specs.Suiting.{IsSuitedAt}
 use Rattle.cml_grammar.specs.Faults.{Ends, is_declaration, is_lane, is_step, says}
 use Rattle.cml_grammar.specs.Script.{SourceLine, Lines, source, with_line}
 use Rattle.cml_grammar.specs.Meaning.{scope_of, names_of, makes_of, action_of, seat_of_step}
@@ -61,14 +64,6 @@ IsFeedAt names at = (word : List ℕ) × (owner : ℕ) × (slice_get names at �
 abbrev pub IsTargetAt : List Given → ℕ → Type 0
 IsTargetAt names at = IsMailboxAt names at ⊎ IsChannelAt names at
 
--- .. one's that can be received from
-abbrev pub IsReceiverAt : List Given → ℕ → Type 0
-IsReceiverAt names at = IsMailboxAt names at ⊎ IsPortAt names at
-
--- .. and one's that can be polled
-abbrev pub IsPolledAt : List Given → ℕ → Type 0
-IsPolledAt names at = IsReceiverAt names at ⊎ IsFeedAt names at
-
 -- .. an i-variable's
 abbrev pub IsIVarAt : List Given → ℕ → Type 0
 IsIVarAt names at = (word : List ℕ) × (slice_get names at ≡ Some (word, called.IVar))
@@ -81,37 +76,15 @@ IsMVarAt names at = (word : List ℕ) × (slice_get names at ≡ Some (word, cal
 abbrev pub IsVariableAt : List Given → ℕ → Type 0
 IsVariableAt names at = IsIVarAt names at ⊎ IsMVarAt names at
 
--- each name that a step uses stands, for something that can take the step
+-- the name that a step uses stands, for something that takes the step's call
 abbrev pub UsesWell : List Given → Action → Type 0
-UsesWell names (Send at message) = IsMailboxAt names at × (is_text message ≡ true)
-UsesWell names (Multicast at message) = IsChannelAt names at × (is_text message ≡ true)
-UsesWell names (Recv at) = IsReceiverAt names at
-UsesWell names (Poll at) = IsPolledAt names at
-UsesWell names (Port at) = IsChannelAt names at
-UsesWell names (Copy at) = IsPortAt names at
-UsesWell names (Close at) = IsPortAt names at
-UsesWell names (Put at message) = IsVariableAt names at × (is_text message ≡ true)
-UsesWell names (Get at) = IsVariableAt names at
-UsesWell names (GetPoll at) = IsVariableAt names at
-UsesWell names (Take at) = IsMVarAt names at
-UsesWell names (TakePoll at) = IsMVarAt names at
-UsesWell names (Swap at message) = IsMVarAt names at × (is_text message ≡ true)
+UsesWell names (Give call at message) = IsSuitedAt names (Object (given call).takers) at × (is_text message ≡ true)
+UsesWell names (Ask call at) = IsSuitedAt names (asked_place call) at
 
 -- the position of the name that a step uses
 abbrev pub used_by : Action → ℕ
-used_by (Send at message) = at
-used_by (Multicast at message) = at
-used_by (Recv at) = at
-used_by (Poll at) = at
-used_by (Port at) = at
-used_by (Copy at) = at
-used_by (Close at) = at
-used_by (Put at message) = at
-used_by (Get at) = at
-used_by (GetPoll at) = at
-used_by (Take at) = at
-used_by (TakePoll at) = at
-used_by (Swap at message) = at
+used_by (Give call at message) = at
+used_by (Ask call at) = at
 
 -- a port of one seat is that seat's alone, and so is a feed
 abbrev pub MayUse : ℕ → Named → Type 0
@@ -125,9 +98,8 @@ IsYours names seat at = (g : Given) × (slice_get names at ≡ Some g) × MayUse
 
 -- whether a step gives a name
 abbrev pub gives_name : Action → Bool
-gives_name (Port at) = true
-gives_name (Copy at) = true
-gives_name _ = false
+gives_name (Give call at message) = false
+gives_name (Ask call at) = names_one (asked call)
 
 -- a seat is a declared thread's
 abbrev pub IsSeat : List Given → ℕ → Type 0

@@ -8,6 +8,7 @@ ghost use Rattle.cml_grammar.specs.Reading.{texts_of};
 ghost use Rattle.cml_grammar.specs.Shown.{shown};
 
 use crate::names::{Named, seat_of};
+use cml_calls::{Ask, Give, Kind, Takers};
 use cml_text::Text;
 use indexmap::IndexMap;
 
@@ -29,19 +30,8 @@ pub enum Declares {
 /// What a step line does, by its second word.
 #[derive(Clone, Copy, Debug, PartialEq, Eq)]
 pub enum Verb {
-    Send,
-    Multicast,
-    Recv,
-    Poll,
-    Port,
-    Copy,
-    Close,
-    Put,
-    Get,
-    GetPoll,
-    Take,
-    TakePoll,
-    Swap,
+    Give(Give),
+    Ask(Ask),
 }
 
 /// What may stand in a word's place.
@@ -51,22 +41,12 @@ pub enum Place {
     Fresh,
     /// A thread's name.
     Thread,
-    /// A mailbox's name.
-    Mailbox,
-    /// A channel's name.
-    Channel,
+    /// The name of an object that takes the call.
+    Object(Takers),
     /// The name of a mailbox or a channel.
     Target,
-    /// A port's name.
-    Port,
-    /// The name of a mailbox or a port.
-    Receiver,
     /// The name of a mailbox, a port or a feed.
     Polled,
-    /// The name of an i-variable or an m-variable.
-    Variable,
-    /// An m-variable's name.
-    MVar,
     /// A message: a number in version 1, a text in version 2.
     Message,
     /// A number from 1 to 1,024.
@@ -99,19 +79,8 @@ pub enum Makes {
 /// stands, in either version.
 #[derive(Debug, Drop)]
 pub enum Action {
-    Send(usize, Text),
-    Multicast(usize, Text),
-    Recv(usize),
-    Poll(usize),
-    Port(usize),
-    Copy(usize),
-    Close(usize),
-    Put(usize, Text),
-    Get(usize),
-    GetPoll(usize),
-    Take(usize),
-    TakePoll(usize),
-    Swap(usize, Text),
+    Give(Give, usize, Text),
+    Ask(Ask, usize),
 }
 
 /// What kind of line it is, with the words that are left.
@@ -148,7 +117,7 @@ impl Declares {
             Declares::Mailbox | Declares::Channel | Declares::IVar | Declares::Thread => {
                 &[Place::Fresh]
             }
-            Declares::Port => &[Place::Channel, Place::Fresh],
+            Declares::Port => &[Place::Object(Takers::Channels), Place::Fresh],
             Declares::MVar => {
                 if rest.len() == 2 {
                     &[Place::Fresh, Place::Message]
@@ -156,7 +125,12 @@ impl Declares {
                     &[Place::Fresh]
                 }
             }
-            Declares::Feed => &[Place::Thread, Place::Fresh, Place::Channel, Place::Capacity],
+            Declares::Feed => &[
+                Place::Thread,
+                Place::Fresh,
+                Place::Object(Takers::Channels),
+                Place::Capacity,
+            ],
         }
     }
 }
@@ -166,21 +140,9 @@ impl Verb {
     pub fn of_word(word: &str) -> Option<Verb>
         ensures { result ≡ verb_of word.now }
     {
-        match word {
-            "send" => Some(Verb::Send),
-            "multicast" => Some(Verb::Multicast),
-            "recv" => Some(Verb::Recv),
-            "poll" => Some(Verb::Poll),
-            "port" => Some(Verb::Port),
-            "copy" => Some(Verb::Copy),
-            "close" => Some(Verb::Close),
-            "put" => Some(Verb::Put),
-            "get" => Some(Verb::Get),
-            "getpoll" => Some(Verb::GetPoll),
-            "take" => Some(Verb::Take),
-            "takepoll" => Some(Verb::TakePoll),
-            "swap" => Some(Verb::Swap),
-            _ => None,
+        match Give::of_word(word) {
+            Some(give) => Some(Verb::Give(give)),
+            None => Ask::of_word(word).map(Verb::Ask),
         }
     }
 
@@ -188,17 +150,17 @@ impl Verb {
         ensures { result.now ≡ step_places self }
     {
         match self {
-            Verb::Send => &[Place::Mailbox, Place::Message],
-            Verb::Multicast => &[Place::Channel, Place::Message],
-            Verb::Recv => &[Place::Receiver],
-            Verb::Poll => &[Place::Polled],
-            Verb::Port => &[Place::Channel, Place::Fresh],
-            Verb::Copy => &[Place::Port, Place::Fresh],
-            Verb::Close => &[Place::Port],
-            Verb::Put => &[Place::Variable, Place::Message],
-            Verb::Get | Verb::GetPoll => &[Place::Variable],
-            Verb::Take | Verb::TakePoll => &[Place::MVar],
-            Verb::Swap => &[Place::MVar, Place::Message],
+            Verb::Give(Give::Send) => &[Place::Object(Takers::Mailboxes), Place::Message],
+            Verb::Give(Give::Cast) => &[Place::Object(Takers::Channels), Place::Message],
+            Verb::Give(Give::Put) => &[Place::Object(Takers::Variables), Place::Message],
+            Verb::Give(Give::Swap) => &[Place::Object(Takers::MVars), Place::Message],
+            Verb::Ask(Ask::NewPort) => &[Place::Object(Takers::Channels), Place::Fresh],
+            Verb::Ask(Ask::CopyPort) => &[Place::Object(Takers::Ports), Place::Fresh],
+            Verb::Ask(Ask::ClosePort) => &[Place::Object(Takers::Ports)],
+            Verb::Ask(Ask::Recv) => &[Place::Object(Takers::Receivers)],
+            Verb::Ask(Ask::Poll) => &[Place::Polled],
+            Verb::Ask(Ask::Get | Ask::GetPoll) => &[Place::Object(Takers::Variables)],
+            Verb::Ask(Ask::Take | Ask::TakePoll) => &[Place::Object(Takers::MVars)],
         }
     }
 }
@@ -227,14 +189,10 @@ impl Place {
         ensures { result ≡ suits self named }
     {
         match (self, named) {
-            (Place::Thread, Named::Thread(_)) => true,
-            (Place::Mailbox | Place::Target | Place::Receiver | Place::Polled, Named::Mailbox) =>
-                true,
-            (Place::Channel | Place::Target, Named::Channel) => true,
-            (Place::Port | Place::Receiver | Place::Polled, Named::Port(_)) => true,
-            (Place::Polled, Named::Feed(_)) => true,
-            (Place::Variable, Named::IVar) => true,
-            (Place::Variable | Place::MVar, Named::MVar) => true,
+            (Place::Thread, Named::Thread(_)) | (Place::Polled, Named::Feed(_)) => true,
+            (Place::Object(takers), _) => named.kind().is_some_and(|kind| takers.has(kind)),
+            (Place::Target, _) => named.kind().is_some_and(Kind::is_source),
+            (Place::Polled, _) => named.kind().is_some_and(Kind::is_receiver),
             _ => false,
         }
     }

@@ -204,20 +204,8 @@ pub(crate) fn action_by(
         unreachable!();
     };
     let at = given_position(names, object);
-    let action = match verb {
-        Verb::Send => Action::Send(at, message_in(alloc, more)?),
-        Verb::Multicast => Action::Multicast(at, message_in(alloc, more)?),
-        Verb::Recv => Action::Recv(at),
-        Verb::Poll => Action::Poll(at),
-        Verb::Port => Action::Port(at),
-        Verb::Copy => Action::Copy(at),
-        Verb::Close => Action::Close(at),
-        Verb::Put => Action::Put(at, message_in(alloc, more)?),
-        Verb::Get => Action::Get(at),
-        Verb::GetPoll => Action::GetPoll(at),
-        Verb::Take => Action::Take(at),
-        Verb::TakePoll => Action::TakePoll(at),
-        Verb::Swap => Action::Swap(at, message_in(alloc, more)?),
-    };
-    Ok(action)
+    match verb {
+        Verb::Give(give) => Ok(Action::Give(give, at, message_in(alloc, more)?)),
+        Verb::Ask(ask) => Ok(Action::Ask(ask, at)),
+    }
 }

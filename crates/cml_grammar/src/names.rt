@@ -1,10 +1,11 @@
 //! Names and numbers, and look-ups among the names that stand.
 ghost use Rattle.std.specs.Prelude.{◌≡◌, ◌^◌, ◌<◌, Some, None, if◌then◌else◌};
 ghost use Rattle.std.specs.Str.Parse.{digits_value};
-ghost use Rattle.cml_grammar.specs.Names.{is_letter, is_name_byte, is_reserved, is_name, is_number, is_capacity, named, seat_of, position_of, is_given};
+ghost use Rattle.cml_grammar.specs.Names.{kind_of_named, is_letter, is_name_byte, is_reserved, is_name, is_number, is_capacity, named, seat_of, position_of, is_given};
 ghost use Rattle.cml_grammar.specs.Forms.{is_others};
 ghost use Rattle.cml_grammar.specs.Reading.{texts_of};
 
+use cml_calls::Kind;
 use indexmap::IndexMap;
 
 /// The most messages that a lane or a feed may be given room for.
@@ -34,6 +35,20 @@ pub enum Named {
 }
 
 impl Named {
+    /// The kind of object that it names: none for a thread, and for a feed.
+    pub fn kind(self) -> Option<Kind>
+        ensures { result ≡ kind_of_named self }
+    {
+        match self {
+            Named::Thread(_) | Named::Feed(_) => None,
+            Named::Mailbox => Some(Kind::Mailbox),
+            Named::Channel => Some(Kind::Channel),
+            Named::Port(_) => Some(Kind::Port),
+            Named::IVar => Some(Kind::IVar),
+            Named::MVar => Some(Kind::MVar),
+        }
+    }
+
     /// Whether it is a port or a feed of another seat than this one.
     pub(crate) fn is_others(self, seat: u64) -> bool
         ensures { result ≡ is_others seat self }

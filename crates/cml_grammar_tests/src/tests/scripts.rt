@@ -24,9 +24,9 @@ B at Some(3): Thread(2)
 5 thread A: Thread
 6 mailbox m_2: Mailbox
 7 thread B: Thread
-8 A send inbox 7: seat 1, Send(0, \"7\")
-10 B recv inbox: seat 2, Recv(0)
-12 B poll m_2: seat 2, Poll(2)
+8 A send inbox 7: seat 1, Give(Send, 0, \"7\")
+10 B recv inbox: seat 2, Ask(Recv, 0)
+12 B poll m_2: seat 2, Ask(Poll, 2)
 ";
 
 pub const PORTS_OF_STEPS: &str = "cml 1
@@ -60,14 +60,14 @@ t at Some(8): Port(One(2))
 4 port c p: Port(0)
 5 thread A: Thread
 6 thread B: Thread
-7 A port c q: seat 1, Port(0)
-8 A copy q r: seat 1, Copy(5)
-9 B copy p s: seat 2, Copy(2)
-10 B recv s: seat 2, Recv(7)
-11 A poll r: seat 1, Poll(6)
-12 B close p: seat 2, Close(2)
-13 A close q: seat 1, Close(5)
-14 B port c t: seat 2, Port(0)
+7 A port c q: seat 1, Ask(NewPort, 0)
+8 A copy q r: seat 1, Ask(CopyPort, 5)
+9 B copy p s: seat 2, Ask(CopyPort, 2)
+10 B recv s: seat 2, Ask(Recv, 7)
+11 A poll r: seat 1, Ask(Poll, 6)
+12 B close p: seat 2, Ask(ClosePort, 2)
+13 A close q: seat 1, Ask(ClosePort, 5)
+14 B port c t: seat 2, Ask(NewPort, 0)
 ";
 
 pub const CHANNELS_AND_PORTS: &str = "cml 1
@@ -101,12 +101,12 @@ B at Some(6): Thread(2)
 6 thread A: Thread
 7 port c q: Port(1)
 8 thread B: Thread
-9 A multicast d 5: seat 1, Multicast(2, \"5\")
-10 B recv p: seat 2, Recv(3)
-11 A poll q: seat 1, Poll(5)
-12 B recv m: seat 2, Recv(0)
-13 A close p: seat 1, Close(3)
-14 A send m 6: seat 1, Send(0, \"6\")
+9 A multicast d 5: seat 1, Give(Cast, 2, \"5\")
+10 B recv p: seat 2, Ask(Recv, 3)
+11 A poll q: seat 1, Ask(Poll, 5)
+12 B recv m: seat 2, Ask(Recv, 0)
+13 A close p: seat 1, Ask(ClosePort, 3)
+14 A send m 6: seat 1, Give(Send, 0, \"6\")
 ";
 
 pub const VARIABLES: &str = "cml 1
@@ -132,13 +132,13 @@ w at Some(3): MVar
 3 mvar v 7: MVarInit(\"7\")
 4 thread A: Thread
 5 mvar w: MVar
-6 A put v 8: seat 1, Put(1, \"8\")
-7 A getpoll i: seat 1, GetPoll(0)
-8 A takepoll v: seat 1, TakePoll(1)
-9 A get v: seat 1, Get(1)
-10 A put i 6: seat 1, Put(0, \"6\")
-11 A take w: seat 1, Take(3)
-12 A swap v 9: seat 1, Swap(1, \"9\")
+6 A put v 8: seat 1, Give(Put, 1, \"8\")
+7 A getpoll i: seat 1, Ask(GetPoll, 0)
+8 A takepoll v: seat 1, Ask(TakePoll, 1)
+9 A get v: seat 1, Ask(Get, 1)
+10 A put i 6: seat 1, Give(Put, 0, \"6\")
+11 A take w: seat 1, Ask(Take, 3)
+12 A swap v 9: seat 1, Give(Swap, 1, \"9\")
 ";
 
 pub const RINGS: &str = "cml 1
@@ -173,9 +173,9 @@ g at Some(5): Feed(1)
 5 lane A m 2: from seat 1 to 0, 2; told Some(2), of the next seat Some(7)
 7 lane A c 1024: from seat 1 to 1, 1024; told Some(1024), of the next seat None
 10 lane B m 7: from seat 2 to 0, 7; told Some(7), of the next seat None
-12 A send m 5: seat 1, Send(0, \"5\")
-13 B poll f: seat 2, Poll(4)
-14 A poll g: seat 1, Poll(5)
+12 A send m 5: seat 1, Give(Send, 0, \"5\")
+13 B poll f: seat 2, Ask(Poll, 4)
+14 A poll g: seat 1, Ask(Poll, 5)
 rings from line 5
 ";
 
@@ -227,11 +227,11 @@ f at Some(5): Feed(1)
 6 thread A: Thread
 8 feed A f c 16: Feed(FeedMaking { seat: 1, channel: 1, capacity: 16 })
 7 lane A c 7: from seat 1 to 1, 7; told Some(7), of the next seat None
-9 A send m sixty-four_bytes,_which_is_as_long_as_a_text_may_be:############: seat 1, Send(0, \"sixty-four_bytes,_which_is_as_long_as_a_text_may_be:############\")
-10 A multicast c #x: seat 1, Multicast(1, \"#x\")
-11 A put v =: seat 1, Put(2, \"=\")
-12 A swap w A: seat 1, Swap(3, \"A\")
-13 A send m 5: seat 1, Send(0, \"5\")
+9 A send m sixty-four_bytes,_which_is_as_long_as_a_text_may_be:############: seat 1, Give(Send, 0, \"sixty-four_bytes,_which_is_as_long_as_a_text_may_be:############\")
+10 A multicast c #x: seat 1, Give(Cast, 1, \"#x\")
+11 A put v =: seat 1, Give(Put, 2, \"=\")
+12 A swap w A: seat 1, Give(Swap, 3, \"A\")
+13 A send m 5: seat 1, Give(Send, 0, \"5\")
 rings from line 7
 ";
 
