@@ -38,16 +38,8 @@ module _ (c : Call (List ℕ)) (r : Reply (List ℕ)) where
   put_or_done put done false e = just reply.Done done e
 
 pub answer_suits : (history : History) (c : Call (List ℕ)) (r : Reply (List ℕ)) → answer history c ≡ Some r → suits c r ≡ true
-answer_suits history call.NewMailbox r e = just call.NewMailbox r _ refl e
-answer_suits history call.NewChannel r e = just call.NewChannel r _ refl e
-answer_suits history (call.NewPort name) r e = just (call.NewPort name) r _ refl e
-answer_suits history call.NewIVar r e = just call.NewIVar r _ refl e
-answer_suits history call.NewMVar r e = just call.NewMVar r _ refl e
-answer_suits history (call.MVarInit message) r e = just (call.MVarInit message) r _ refl e
 answer_suits history (call.CopyPort name) r e = where_it_is_open (call.CopyPort name) r (is_open history name.0) _ (λ is. just (call.CopyPort name) r _ refl is) refl e
 answer_suits history (call.ClosePort name) r e = where_it_is_open (call.ClosePort name) r (is_open history name.0) _ (λ is. just (call.ClosePort name) r _ refl is) refl e
-answer_suits history (call.Send name message) r e = just (call.Send name message) r _ refl e
-answer_suits history (call.Cast name message) r e = just (call.Cast name message) r _ refl e
 answer_suits history (call.Recv name) r e = where_it_is_open (call.Recv name) r (is_open history name.0) _ (λ is. got_some (call.Recv name) r (λ m. refl) (slice_get (owed history name.0) 0) is) refl e
 answer_suits history (call.Poll name) r e = where_it_is_open (call.Poll name) r (is_open history name.0) _ (λ is. got_or_nothing (call.Poll name) r (λ m. refl) refl (slice_get (owed history name.0) 0) is) refl e
 answer_suits history (call.Put name message) r e = put_or_done (call.Put name message) r refl refl (is_some (held history name.0)) e
@@ -56,6 +48,7 @@ answer_suits history (call.GetPoll name) r e = got_or_nothing (call.GetPoll name
 answer_suits history (call.Take name) r e = got_some (call.Take name) r (λ m. refl) (held history name.0) e
 answer_suits history (call.TakePoll name) r e = got_or_nothing (call.TakePoll name) r (λ m. refl) refl (held history name.0) e
 answer_suits history (call.Swap name message) r e = got_some (call.Swap name message) r (λ m. refl) (held history name.0) e
+answer_suits history c r e = just c r _ refl e
 
 where_it_is_not : {A : Type 0} (t : Bool) → (t ≡ true → ⊥) → (t ≡ false → A) → A
 where_it_is_not true is isnt = absurd (is refl)

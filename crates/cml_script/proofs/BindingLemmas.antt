@@ -4,16 +4,19 @@ use Rattle.std.specs.Prelude.{⊤, not}
 use Rattle.std.specs.Option.{option_map, option_map_or, option_and_then}
 use Rattle.std.proofs.lemmas.Option.{same_Some, none-some}
 use Rattle.std.proofs.lemmas.Bool.{cases_lt, cases_eq, eq-eqb, ne_eqb, false≢true, true≢false}
+use Rattle.cml_calls.specs.declared.table.Give.TheVariants as give
+use Rattle.cml_calls.specs.declared.table.Ask.TheVariants as ask
+use Rattle.cml_board.specs.declared.call.Name.{Name}
 use Rattle.cml_board.specs.declared.call.Call.{Call}
 use Rattle.cml_board.specs.declared.call.Call.TheVariants as call
-use Rattle.cml_board.specs.declared.call.Kind.TheVariants as kind
+use Rattle.cml_calls.specs.declared.kind.Kind.TheVariants as kind
 use Rattle.cml_board.specs.declared.entry.Who.{Who}
 use Rattle.cml_board.specs.declared.entry.Who.TheVariants.{Seat, Lane, Feed}
 use Rattle.cml_board.specs.declared.entry.Reply.{Reply}
 use Rattle.cml_board.specs.declared.entry.Reply.TheVariants as reply
 use Rattle.cml_board.specs.declared.entry.Entry.{Entry}
 use Rattle.cml_board.specs.Origins.{Origin, mailbox, channel, port, ivar, mvar, kind_by, copy_of}
-use Rattle.cml_board.specs.Objects.{is_port}
+use Rattle.cml_calls.specs.Kinds.{is_port}
 use Rattle.cml_board.specs.History.{Lawful, Fits, made, begun_by, if_made, new_name, origin_of, kind_of, is_open, answer, sent, got}
 use Rattle.cml_board.proofs.Closing.{kind_kept}
 use Rattle.cml_grammar.specs.declared.forms.Action.{Action}
@@ -24,12 +27,13 @@ use Rattle.cml_grammar.specs.Giving.{is_giving, names_before}
 use Rattle.cml_grammar.specs.Reading.{gives_name}
 use Rattle.cml_script.specs.Counting.{one_if, how_many}
 use Rattle.cml_script.specs.Audit.{IsOfScript, IsNextOfThread, IsOfCaller}
-use Rattle.cml_script.specs.Schedule.{History, IsDeclaration, maker, is_feed, objects_of, is_called, is_seat, earlier, performed, declared_count, object_of, call_of, step_call, next_position, given_by, gives_next, bound_by, binding_of, port_bound}
+use Rattle.cml_script.specs.Schedule.{History, IsDeclaration, maker, is_feed, objects_of, is_called, is_seat, earlier, performed, declared_count, object_of, call_on, call_of, step_call, next_position, given_by, gives_next, bound_by, binding_of, port_bound}
 use Rattle.cml_script.specs.Report.{is_of_thread}
 use Rattle.cml_script.specs.Plan.{HasSeats, AsksForPorts}
 use Rattle.cml_script.proofs.ListLemmas.{slice_get_pushed}
 use Rattle.cml_script.proofs.GivingLemmas.{giver, given_at, given_once, next_at, none_other, gives_as, gives_that}
 use Rattle.cml_script.proofs.LineLemmas.{called_seated}
+use Rattle.cml_script.proofs.FitLemmas.{called_on}
 
 -- a call that asks for a port
 abbrev pub asks_port : Call (List ℕ) → Bool
@@ -37,25 +41,12 @@ asks_port (call.NewPort name) = true
 asks_port (call.CopyPort name) = true
 asks_port _ = false
 
-mapped : (f : ℕ → Call (List ℕ)) (o : Option ℕ) (c : Call (List ℕ)) (t : Bool) → ((n : ℕ) → asks_port (f n) ≡ t) → option_map f o ≡ Some c → asks_port c ≡ t
-mapped f None c t all e = absurd (none-some c e)
-mapped f (Some n) c t all e = ap asks_port (sym (same_Some _ _ e)) ∙ all n
-
 -- the call of a step that gives a name asks for a port
-call_asks : (object : ℕ → Option ℕ) (a : Action) (c : Call (List ℕ)) → call_of object a ≡ Some c → asks_port c ≡ gives_name a
-call_asks object (action.Send at message) c e = mapped (λ o. call.Send (record { 0 = o }) message) (object at) c false (λ n. refl) e
-call_asks object (action.Multicast at message) c e = mapped (λ o. call.Cast (record { 0 = o }) message) (object at) c false (λ n. refl) e
-call_asks object (action.Recv at) c e = mapped (λ o. call.Recv (record { 0 = o })) (object at) c false (λ n. refl) e
-call_asks object (action.Poll at) c e = mapped (λ o. call.Poll (record { 0 = o })) (object at) c false (λ n. refl) e
-call_asks object (action.Port at) c e = mapped (λ o. call.NewPort (record { 0 = o })) (object at) c true (λ n. refl) e
-call_asks object (action.Copy at) c e = mapped (λ o. call.CopyPort (record { 0 = o })) (object at) c true (λ n. refl) e
-call_asks object (action.Close at) c e = mapped (λ o. call.ClosePort (record { 0 = o })) (object at) c false (λ n. refl) e
-call_asks object (action.Put at message) c e = mapped (λ o. call.Put (record { 0 = o }) message) (object at) c false (λ n. refl) e
-call_asks object (action.Get at) c e = mapped (λ o. call.Get (record { 0 = o })) (object at) c false (λ n. refl) e
-call_asks object (action.GetPoll at) c e = mapped (λ o. call.GetPoll (record { 0 = o })) (object at) c false (λ n. refl) e
-call_asks object (action.Take at) c e = mapped (λ o. call.Take (record { 0 = o })) (object at) c false (λ n. refl) e
-call_asks object (action.TakePoll at) c e = mapped (λ o. call.TakePoll (record { 0 = o })) (object at) c false (λ n. refl) e
-call_asks object (action.Swap at message) c e = mapped (λ o. call.Swap (record { 0 = o }) message) (object at) c false (λ n. refl) e
+call_asks : (a : Action) (name : Name) → asks_port (call_on a name) ≡ gives_name a
+call_asks (action.Give give.Send at message) name = refl
+call_asks (action.Give give at message) name = refl
+call_asks (action.Ask ask.NewPort at) name = refl
+call_asks (action.Ask ask at) name = refl
 
 step_asks : (script : Lines) (before : History) (i : ℕ) (c : Call (List ℕ)) (line : SourceLine) → AsksForPorts script → slice_get script.steps i ≡ Some line → step_call script before i ≡ Some c → is_giving line ≡ true → asks_port c ≡ true
 step_asks script before i c line asks found calls gives =
@@ -64,7 +55,9 @@ step_asks script before i c line asks found calls gives =
   where
     by_action : (a : Option Action) → action_of (names_of script) line.words ≡ a → option_and_then (call_of (object_of script before)) a ≡ Some c → asks_port c ≡ true
     by_action None e calls = absurd (none-some c calls)
-    by_action (Some a) e calls = call_asks (object_of script before) a c calls ∙ asks i line a found e ∙ gives
+    by_action (Some a) e calls =
+        let on = called_on (object_of script before) a c calls in
+        ap asks_port (sym on.1) ∙ call_asks a on.0 ∙ asks i line a found e ∙ gives
 
 -- What a call that asks for a port gives.
 
@@ -116,22 +109,7 @@ binds before (call.CopyPort name) r asks fits answers = by_open (is_open before 
       bound = refl;
       kind = λ entry called replied. kind_kept entry before name.0 kind.Port (ap (option_map kind_by) original.2);
     })
-binds before call.NewMailbox r asks fits answers = absurd (false≢true asks)
-binds before call.NewChannel r asks fits answers = absurd (false≢true asks)
-binds before (call.ClosePort name) r asks fits answers = absurd (false≢true asks)
-binds before (call.Send name message) r asks fits answers = absurd (false≢true asks)
-binds before (call.Cast name message) r asks fits answers = absurd (false≢true asks)
-binds before (call.Recv name) r asks fits answers = absurd (false≢true asks)
-binds before (call.Poll name) r asks fits answers = absurd (false≢true asks)
-binds before call.NewIVar r asks fits answers = absurd (false≢true asks)
-binds before call.NewMVar r asks fits answers = absurd (false≢true asks)
-binds before (call.MVarInit message) r asks fits answers = absurd (false≢true asks)
-binds before (call.Put name message) r asks fits answers = absurd (false≢true asks)
-binds before (call.Get name) r asks fits answers = absurd (false≢true asks)
-binds before (call.GetPoll name) r asks fits answers = absurd (false≢true asks)
-binds before (call.Take name) r asks fits answers = absurd (false≢true asks)
-binds before (call.TakePoll name) r asks fits answers = absurd (false≢true asks)
-binds before (call.Swap name message) r asks fits answers = absurd (false≢true asks)
+binds before c r asks fits answers = absurd (false≢true asks)
 
 -- a call that asks for a port is given one
 abbrev pub GivesPort : Entry (List ℕ) → Type 0

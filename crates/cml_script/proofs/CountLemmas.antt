@@ -2,10 +2,10 @@
 use Rattle.std.proofs.Common.{◌≡◌, ℕ, List, inl, inr, Bool, true, false, ◌&&◌, Option, Some, None, IsSome, refl, ap, ◌∙◌}
 use Rattle.std.specs.Option.{option_map, option_map_or}
 use Rattle.std.proofs.lemmas.Option.{none-some, same_Some}
-use Rattle.cml_board.specs.declared.call.Kind.{Kind}
-use Rattle.cml_board.specs.declared.call.Kind.TheVariants as kind
+use Rattle.cml_calls.specs.declared.kind.Kind.{Kind}
+use Rattle.cml_calls.specs.declared.kind.Kind.TheVariants as kind
 use Rattle.cml_board.specs.Origins.{Origin, mailbox, channel, port, ivar, mvar, kind_by}
-use Rattle.cml_board.specs.Objects.{is_variable}
+use Rattle.cml_calls.specs.Kinds.{is_variable}
 use Rattle.cml_board.specs.Counts.{only_if, start_in}
 use Rattle.cml_board.specs.History.{Lawful, kind_of, is_open}
 use Rattle.cml_board.proofs.Closing.{mailbox_open}

@@ -75,24 +75,14 @@ next_port play channel (is_channel, within, o, object, next) =
 -- the call that makes this makes the next object
 next_making : (play : Play) (m : Makes) (asked : Call (List ℕ)) → making play.script m ≡ Some asked → IsNext play m → IsNextObject play asked
 next_making play makes.Thread asked e next = absurd (none-some asked e)
-next_making play makes.Mailbox asked e next = subst (IsNextObject play) (same_Some _ _ e) next
-next_making play makes.Channel asked e next = subst (IsNextObject play) (same_Some _ _ e) next
-next_making play makes.IVar asked e next = subst (IsNextObject play) (same_Some _ _ e) next
-next_making play makes.MVar asked e next = subst (IsNextObject play) (same_Some _ _ e) next
-next_making play (makes.MVarInit message) asked e next = subst (IsNextObject play) (same_Some _ _ e) next
 next_making play (makes.Port channel) asked e next = subst (IsNextObject play) (same_Some _ _ e) (next_port play channel next)
 next_making play (makes.Feed feed) asked e next = subst (IsNextObject play) (same_Some _ _ e) (next_port play feed.channel next)
+next_making play m asked e next = subst (IsNextObject play) (same_Some _ _ e) next
 
 -- what it makes is an object, but for a thread
 made_one : (script : Lines) (m : Makes) (asked : Call (List ℕ)) → making script m ≡ Some asked → makes_object m ≡ true
 made_one script makes.Thread asked e = absurd (none-some asked e)
-made_one script makes.Mailbox asked e = refl
-made_one script makes.Channel asked e = refl
-made_one script makes.IVar asked e = refl
-made_one script makes.MVar asked e = refl
-made_one script (makes.MVarInit message) asked e = refl
-made_one script (makes.Port channel) asked e = refl
-made_one script (makes.Feed feed) asked e = refl
+made_one script m asked e = refl
 
 -- who makes it, where so many feeds were declared before
 by_feed : Bool → ℕ → Who
@@ -190,12 +180,7 @@ module _ (script : Lines) (known : IsKnown script) {i : ℕ} {made : Option Made
           let entry : Entry (List ℕ) = record { who = Feed (how_many is_of_feed so_far.entries); call = asked; reply = reply.Made port } in
           one_more asked entry (feed.capacity ∷ so_far.opened) later (capacity_is feed e, so_far.so) (omega arith) well (ap (making script) e) refl (sym (ap (λ t. by_feed t (how_many is_of_feed so_far.entries)) is_feed_one)) (sym (ap one_if is_feed_one))
           (told_by entry (feed.capacity ∷ so_far.opened) (with_feed channel feed.capacity port) refl more)
-      by_makes makes.Mailbox e has = called makes.Mailbox e refl has
-      by_makes makes.Channel e has = called makes.Channel e refl has
-      by_makes (makes.Port channel) e has = called (makes.Port channel) e refl has
-      by_makes makes.IVar e has = called makes.IVar e refl has
-      by_makes makes.MVar e has = called makes.MVar e refl has
-      by_makes (makes.MVarInit message) e has = called (makes.MVarInit message) e refl has
+      by_makes m e has = called m e refl has
 
 module _ (script : Lines) {i : ℕ} {made : Option Made} (so_far : IsDeclaring script i made) where
   few : length so_far.entries ≤ declared_count script
@@ -227,22 +212,11 @@ module _ (script : Lines) {i : ℕ} {made : Option Made} (so_far : IsDeclaring s
 
 -- what is made well is made of declared names
 pub well_declared : (script : Lines) (i : ℕ) (m : Makes) → i < length script.declarations → IsMadeWell (names_of script) i m → IsMadeOfDeclared script m
-well_declared script i makes.Thread lt well = tt
-well_declared script i makes.Mailbox lt well = tt
-well_declared script i makes.Channel lt well = tt
-well_declared script i makes.IVar lt well = tt
-well_declared script i makes.MVar lt well = tt
-well_declared script i (makes.MVarInit message) lt well = tt
 well_declared script i (makes.Port channel) lt well = omega (arith, lt, well.1)
 well_declared script i (makes.Feed feed) lt well = omega (arith, lt, well.1)
+well_declared script i m lt well = tt
 
 -- and a feed has room
 pub well_fitted : (names : List Given) (i : ℕ) (m : Makes) → IsMadeWell names i m → HasCapacity m
-well_fitted names i makes.Thread well = tt
-well_fitted names i makes.Mailbox well = tt
-well_fitted names i makes.Channel well = tt
-well_fitted names i makes.IVar well = tt
-well_fitted names i makes.MVar well = tt
-well_fitted names i (makes.MVarInit message) well = tt
-well_fitted names i (makes.Port channel) well = tt
 well_fitted names i (makes.Feed feed) well = well.3
+well_fitted names i m well = tt

@@ -1,27 +1,33 @@
 -- Names that stand for an object of a kind, and the calls that it takes.
-use Rattle.std.proofs.Common.{◌≡◌, ℕ, true, inl, inr, List, map, slice_get, Option, Some, refl, ap, ◌∙◌}
-use Rattle.std.specs.Prelude.{All}
-use Rattle.std.specs.Option.{option_map, option_and_then}
+use Rattle.std.proofs.Common.{◌≡◌, ℕ, Bool, true, false, List, Option, Some, None, refl, ap, ◌∙◌}
+use Rattle.std.specs.Option.{option_map, option_map_or}
+use Rattle.std.proofs.lemmas.Bool.{false≢true}
+use Rattle.std.proofs.lemmas.Option.{none-some, same_Some}
+use Rattle.cml_calls.specs.declared.kind.Kind.{Kind}
+use Rattle.cml_calls.specs.declared.kind.Kind.TheVariants as kind
+use Rattle.cml_calls.specs.declared.shape.Takers.{Takers}
+use Rattle.cml_calls.specs.declared.table.Give.{Give}
+use Rattle.cml_calls.specs.declared.table.Give.TheVariants as give
+use Rattle.cml_calls.specs.declared.table.Ask.{Ask}
+use Rattle.cml_calls.specs.declared.table.Ask.TheVariants as ask
+use Rattle.cml_calls.specs.Kinds.{admits, is_receiver}
+use Rattle.cml_calls.specs.Table.{Row, given, asked}
 use Rattle.cml_board.specs.declared.call.Name.{Name}
-use Rattle.cml_board.specs.declared.call.Kind.{Kind}
-use Rattle.cml_board.specs.declared.call.Kind.TheVariants as kind
 use Rattle.cml_board.specs.declared.call.Call.{Call}
-use Rattle.cml_board.specs.declared.call.Call.TheVariants as call
+use Rattle.cml_board.specs.Objects.{object_in, row_of, takes, given_call}
+use Rattle.cml_board.specs.Waiting.{want_in}
+use Rattle.cml_board.specs.History.{Fits, kind_of}
 use Rattle.cml_grammar.specs.declared.forms.Action.{Action}
 use Rattle.cml_grammar.specs.declared.forms.Action.TheVariants as action
-use Rattle.cml_board.specs.Objects.{object_in, takes}
-use Rattle.cml_board.specs.History.{Fits, kind_of}
+use Rattle.cml_grammar.specs.declared.forms.Place.TheVariants.{Object}
+use Rattle.cml_grammar.specs.declared.names.Named.{Named}
 use Rattle.cml_grammar.specs.declared.names.Named.TheVariants as called
-use Rattle.cml_grammar.specs.declared.script.Step.{Step}
-use Rattle.cml_grammar.specs.Names.{Given}
-use Rattle.cml_grammar.specs.Meaning.{names_of, action_of}
-use Rattle.cml_grammar.specs.Script.{Lines}
-use Rattle.cml_grammar.specs.Reading.{IsMailboxAt, IsChannelAt, IsPortAt, IsFeedAt, IsReceiverAt, IsPolledAt, IsMVarAt, IsVariableAt, UsesWell, used_by, source_of, ReadsStep}
-use Rattle.cml_script.specs.Schedule.{History, call_of, object_of, step_call}
-use Rattle.cml_script.specs.Plan.{IsObject, IsObjectAt}
-use Rattle.cml_script.specs.Stage.{call_on}
-use Rattle.cml_script.proofs.ListLemmas.{mapped_at}
-use Rattle.cml_script.proofs.LineLemmas.{all_at}
+use Rattle.cml_grammar.specs.Names.{Given, kind_of_named, kind_named}
+use Rattle.cml_grammar.specs.Forms.{asked_place}
+use Rattle.cml_grammar.specs.Reading.{IsMailboxAt, IsChannelAt, IsPortAt, IsFeedAt, UsesWell, used_by}
+use Rattle.cml_grammar.specs.Suiting.{IsSuitedAt}
+use Rattle.cml_script.specs.Schedule.{History, call_on, call_of}
+use Rattle.cml_script.specs.Plan.{IsObjectAt}
 
 module _ (names : List Given) (at : ℕ) where
   pub mailbox_at : IsMailboxAt names at → IsObjectAt names at kind.Mailbox
@@ -36,93 +42,72 @@ module _ (names : List Given) (at : ℕ) where
   pub feed_port : IsFeedAt names at → IsObjectAt names at kind.Port
   feed_port (word, owner, found) = (word, called.Feed owner, found, refl)
 
-  pub feed_object : IsFeedAt names at → IsObject names at
-  feed_object (word, owner, found) = (kind.Port, (word, called.Feed owner, found, refl))
-
-  pub mvar_at : IsMVarAt names at → IsObjectAt names at kind.MVar
-  mvar_at (word, found) = (word, called.MVar, found, refl)
-
-  pub mvar_object : IsMVarAt names at → IsObject names at
-  mvar_object (word, found) = (kind.MVar, (word, called.MVar, found, refl))
-
-  pub variable_object : IsVariableAt names at → IsObject names at
-  variable_object (inl (word, found)) = (kind.IVar, (word, called.IVar, found, refl))
-  variable_object (inr (word, found)) = (kind.MVar, (word, called.MVar, found, refl))
-
-  pub mailbox_object : IsMailboxAt names at → IsObject names at
-  mailbox_object (word, found) = (kind.Mailbox, (word, called.Mailbox, found, refl))
-
-  pub channel_object : IsChannelAt names at → IsObject names at
-  channel_object (word, found) = (kind.Channel, (word, called.Channel, found, refl))
-
-  pub port_object : IsPortAt names at → IsObject names at
-  port_object (word, whose, found) = (kind.Port, (word, called.Port whose, found, refl))
-
-  pub receiver_object : IsReceiverAt names at → IsObject names at
-  receiver_object (inl (word, found)) = (kind.Mailbox, (word, called.Mailbox, found, refl))
-  receiver_object (inr (word, whose, found)) = (kind.Port, (word, called.Port whose, found, refl))
-
-  pub polled_object : IsPolledAt names at → IsObject names at
-  polled_object (inl receiver) = receiver_object receiver
-  polled_object (inr (word, owner, found)) = (kind.Port, (word, called.Feed owner, found, refl))
-
 -- a call on an object of a kind that takes it
 pub fits_kind : (history : History) (name : Name) (k : Kind) (c : Call (List ℕ)) → kind_of history name.0 ≡ Some k → object_in c ≡ Some name → takes k c ≡ true → Fits history c
 fits_kind history name k c is on taken = rw (on, is) (refl, taken)
 
--- a receive or a poll on a mailbox or a port
-pub fits_receiver : (names : List Given) (at : ℕ) (history : History) (name : Name) (c : Call (List ℕ)) → IsReceiverAt names at → ((k : Kind) → IsObjectAt names at k → kind_of history name.0 ≡ Some k)
-    → object_in c ≡ Some name → takes kind.Mailbox c ≡ true → takes kind.Port c ≡ true → Fits history c
-fits_receiver names at history name c (inl (word, found)) kinds on by_mailbox by_port =
-    fits_kind history name kind.Mailbox c (kinds kind.Mailbox (word, called.Mailbox, found, refl)) on by_mailbox
-fits_receiver names at history name c (inr (word, whose, found)) kinds on by_mailbox by_port =
-    fits_kind history name kind.Port c (kinds kind.Port (word, called.Port whose, found, refl)) on by_port
+-- A step and the table of calls.
 
--- a put or a get on a variable
-pub fits_variable : (names : List Given) (at : ℕ) (history : History) (name : Name) (c : Call (List ℕ)) → IsVariableAt names at → ((k : Kind) → IsObjectAt names at k → kind_of history name.0 ≡ Some k)
-    → object_in c ≡ Some name → takes kind.IVar c ≡ true → takes kind.MVar c ≡ true → Fits history c
-fits_variable names at history name c (inl (word, found)) kinds on by_ivar by_mvar =
-    fits_kind history name kind.IVar c (kinds kind.IVar (word, called.IVar, found, refl)) on by_ivar
-fits_variable names at history name c (inr (word, found)) kinds on by_ivar by_mvar =
-    fits_kind history name kind.MVar c (kinds kind.MVar (word, called.MVar, found, refl)) on by_mvar
+-- the row of a step's call
+abbrev pub row_asked : Action → Row
+row_asked (action.Give give at message) = given give
+row_asked (action.Ask ask at) = asked ask
 
--- the call of a step is what it was read as
-pub step_calls : (script : Lines) (history : History) (items : List Step) (i : ℕ) (s : Step) (c : Call (List ℕ)) → map (λ x. source_of x.line) items ≡ script.steps → All (ReadsStep (names_of script)) items → slice_get items i ≡ Some s
-    → call_of (object_of script history) s.action ≡ Some c → step_call script history i ≡ Some c
-step_calls script history items i s c lines reads found calls =
-    ap (option_and_then (λ line. option_and_then (call_of (object_of script history)) (action_of (names_of script) line.words))) (mapped_at (λ x. source_of x.line) items script.steps i s lines found)
-    ∙ ap (option_and_then (call_of (object_of script history))) (all_at (ReadsStep (names_of script)) items i s reads found).action
-    ∙ calls
+row_is : (a : Action) (name : Name) → row_of (call_on a name) ≡ row_asked a
+row_is (action.Give give.Send at message) name = refl
+row_is (action.Give give at message) name = refl
+row_is (action.Ask ask.NewPort at) name = refl
+row_is (action.Ask ask at) name = refl
 
--- the call of a step is what it asks of the object that its name stands for
-pub call_is : (object : ℕ → Option ℕ) (a : Action) → call_of object a ≡ option_map (λ o. call_on a (record { 0 = o })) (object (used_by a))
-call_is object (action.Send at message) = refl
-call_is object (action.Multicast at message) = refl
-call_is object (action.Recv at) = refl
-call_is object (action.Poll at) = refl
-call_is object (action.Port at) = refl
-call_is object (action.Copy at) = refl
-call_is object (action.Close at) = refl
-call_is object (action.Put at message) = refl
-call_is object (action.Get at) = refl
-call_is object (action.GetPoll at) = refl
-call_is object (action.Take at) = refl
-call_is object (action.TakePoll at) = refl
-call_is object (action.Swap at message) = refl
+object_is : (a : Action) (name : Name) → object_in (call_on a name) ≡ Some name
+object_is (action.Give give.Send at message) name = refl
+object_is (action.Give give at message) name = refl
+object_is (action.Ask ask.NewPort at) name = refl
+object_is (action.Ask ask at) name = refl
 
--- and fits an object of a kind that can take the step
+-- what a call waits for doesn't depend on its message
+pub want_is : {M N : Type 0} (give : Give) (name : Name) (one : M) (other : N) → want_in (given_call give name one) ≡ want_in (given_call give name other)
+want_is give.Send name one other = refl
+want_is give name one other = refl
+
+-- the call is made on an object
+pub called_on : (object : ℕ → Option ℕ) (a : Action) (c : Call (List ℕ)) → call_of object a ≡ Some c → (name : Name) × (call_on a name ≡ c)
+called_on object a c = by_object (object (used_by a))
+  where
+    by_object : (o : Option ℕ) → option_map (λ n. call_on a (record { 0 = n })) o ≡ Some c → (name : Name) × (call_on a name ≡ c)
+    by_object None e = absurd (none-some c e)
+    by_object (Some n) e = (record { 0 = n }, same_Some _ _ e)
+
+-- the name at this position is an object's that takes such calls
+abbrev pub IsTakerAt : List Given → Takers → ℕ → Type 0
+IsTakerAt names takers at = (k : Kind) × IsObjectAt names at k × (admits takers k ≡ true)
+
+some_kind : (test : Kind → Bool) (o : Option Kind) → option_map_or test o false ≡ true → (k : Kind) × (o ≡ Some k) × (test k ≡ true)
+some_kind test None e = absurd (false≢true e)
+some_kind test (Some k) e = (k, refl, e)
+
+with_feeds : (n : Named) (k : Kind) → kind_of_named n ≡ Some k → kind_named n ≡ Some k
+with_feeds (called.Feed owner) k e = absurd (none-some k e)
+with_feeds n k e = e
+
+object_taker : (names : List Given) (takers : Takers) (at : ℕ) → IsSuitedAt names (Object takers) at → IsTakerAt names takers at
+object_taker names takers at (word, n, found, suits) =
+    let k = some_kind (admits takers) (kind_of_named n) suits in
+    (k.0, (word, n, found, with_feeds n k.0 k.1), k.2)
+
+asked_taker : (names : List Given) (ask : Ask) (at : ℕ) → IsSuitedAt names (asked_place ask) at → IsTakerAt names (asked ask).takers at
+asked_taker names ask.Poll at (word, n, found, suits) =
+    let k = some_kind is_receiver (kind_named n) suits in
+    (k.0, (word, n, found, k.1), k.2)
+asked_taker names ask at suited = object_taker names (asked ask).takers at suited
+
+-- the name that a step uses is that of an object that takes its call
+pub used_taker : (names : List Given) (a : Action) → UsesWell names a → IsTakerAt names (row_asked a).takers (used_by a)
+used_taker names (action.Give give at message) uses = object_taker names (given give).takers at uses.0
+used_taker names (action.Ask ask at) uses = asked_taker names ask at uses
+
+-- and the call fits it
 pub fits_use : (names : List Given) (a : Action) (history : History) (name : Name) → UsesWell names a → ((k : Kind) → IsObjectAt names (used_by a) k → kind_of history name.0 ≡ Some k) → Fits history (call_on a name)
-fits_use names (action.Send at message) history name uses kinds = fits_kind history name kind.Mailbox (call.Send name message) (kinds kind.Mailbox (mailbox_at names at uses.0)) refl refl
-fits_use names (action.Multicast at message) history name uses kinds = fits_kind history name kind.Channel (call.Cast name message) (kinds kind.Channel (channel_at names at uses.0)) refl refl
-fits_use names (action.Recv at) history name uses kinds = fits_receiver names at history name (call.Recv name) uses kinds refl refl refl
-fits_use names (action.Poll at) history name (inl uses) kinds = fits_receiver names at history name (call.Poll name) uses kinds refl refl refl
-fits_use names (action.Poll at) history name (inr (word, owner, found)) kinds = fits_kind history name kind.Port (call.Poll name) (kinds kind.Port (word, called.Feed owner, found, refl)) refl refl
-fits_use names (action.Port at) history name uses kinds = fits_kind history name kind.Channel (call.NewPort name) (kinds kind.Channel (channel_at names at uses)) refl refl
-fits_use names (action.Copy at) history name uses kinds = fits_kind history name kind.Port (call.CopyPort name) (kinds kind.Port (port_at names at uses)) refl refl
-fits_use names (action.Close at) history name uses kinds = fits_kind history name kind.Port (call.ClosePort name) (kinds kind.Port (port_at names at uses)) refl refl
-fits_use names (action.Put at message) history name uses kinds = fits_variable names at history name (call.Put name message) uses.0 kinds refl refl refl
-fits_use names (action.Get at) history name uses kinds = fits_variable names at history name (call.Get name) uses kinds refl refl refl
-fits_use names (action.GetPoll at) history name uses kinds = fits_variable names at history name (call.GetPoll name) uses kinds refl refl refl
-fits_use names (action.Take at) history name uses kinds = fits_kind history name kind.MVar (call.Take name) (kinds kind.MVar (mvar_at names at uses)) refl refl
-fits_use names (action.TakePoll at) history name uses kinds = fits_kind history name kind.MVar (call.TakePoll name) (kinds kind.MVar (mvar_at names at uses)) refl refl
-fits_use names (action.Swap at message) history name uses kinds = fits_kind history name kind.MVar (call.Swap name message) (kinds kind.MVar (mvar_at names at uses.0)) refl refl
+fits_use names a history name uses kinds =
+    let taker = used_taker names a uses in
+    fits_kind history name taker.0 (call_on a name) (kinds taker.0 taker.1) (object_is a name) (ap (λ (r : Row). admits r.takers taker.0) (row_is a name) ∙ taker.2)

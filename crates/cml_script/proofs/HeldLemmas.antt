@@ -6,29 +6,20 @@ use Rattle.std.specs.declared.alloc.AllocError.{AllocError}
 use Rattle.cml_board.specs.declared.outcome.Refusal.{Refusal}
 use Rattle.cml_board.specs.declared.outcome.Refusal.TheVariants as refusal
 use Rattle.cml_script.specs.declared.stop.Stop.{Stop}
-use Rattle.cml_script.specs.declared.stop.Stop.TheVariants.{Done, Stalled, Full, Held}
+use Rattle.cml_script.specs.declared.stop.Stop.TheVariants.{Held}
 use Rattle.cml_script.specs.declared.perform.Played.{Played}
 use Rattle.cml_script.specs.declared.ending.Ending.{Ending}
 use Rattle.cml_script.specs.Working.{IsUnheld, stop_of}
 
 is_held : Result Stop AllocError → Bool
 is_held (Ok Held) = true
-is_held (Ok Done) = false
-is_held (Ok Stalled) = false
-is_held (Ok Full) = false
-is_held (Err error) = false
+is_held stop = false
 
 -- no refusal is a hold
 pub stop_unheld : (r : Refusal) → IsUnheld (stop_of r)
 unfolding is_held
 stop_unheld refusal.JournalFull = λ is. false≢true (ap is_held is)
-stop_unheld refusal.NoMemory = λ is. false≢true (ap is_held is)
-stop_unheld refusal.Gone = λ is. false≢true (ap is_held is)
-stop_unheld refusal.Busy = λ is. false≢true (ap is_held is)
-stop_unheld refusal.NoSuch = λ is. false≢true (ap is_held is)
-stop_unheld refusal.WrongKind = λ is. false≢true (ap is_held is)
-stop_unheld refusal.Stalled = λ is. false≢true (ap is_held is)
-stop_unheld refusal.Unseen = λ is. false≢true (ap is_held is)
+stop_unheld r = λ is. false≢true (ap is_held is)
 
 -- what is played of a run that was not held tells no hold
 pub kept_unheld : (opens : Type 0) (stop : Stop) (r : Result Played Ending) → (opens → stop ≢ Held) → IfOk r (λ p. p.stop ≡ stop) → IfOk r (λ p. opens → p.stop ≢ Held)

@@ -6,8 +6,8 @@ use Rattle.std.proofs.lemmas.List.{length_push, length-append}
 use Rattle.std.proofs.lemmas.Bool.{lt-ltb, cases_lt}
 use Rattle.cml_board.specs.declared.call.Call.{Call}
 use Rattle.cml_board.specs.declared.call.Call.TheVariants as call
-use Rattle.cml_board.specs.declared.call.Kind.{Kind}
-use Rattle.cml_board.specs.declared.call.Kind.TheVariants as kind
+use Rattle.cml_calls.specs.declared.kind.Kind.{Kind}
+use Rattle.cml_calls.specs.declared.kind.Kind.TheVariants as kind
 use Rattle.cml_board.specs.declared.entry.Entry.{Entry}
 use Rattle.cml_board.specs.Origins.{Origin, mailbox, channel, port, ivar, mvar, kind_by}
 use Rattle.cml_board.specs.History.{Lawful, made, begun_by, if_made, new_name, kind_of, answer, sent}
@@ -31,35 +31,29 @@ pub record MakesOne (before : History) (entry : Entry (List ℕ)) (k : Option Ki
   pub made : if_made entry.reply (begun_by (made before) before entry.call) ≡ origin ∷ []
   pub kind : Some (kind_by origin) ≡ k
 
-reply_is : (before : History) (entry : Entry (List ℕ)) (c : Call (List ℕ)) → c ≡ entry.call → answer before c ≡ Some (new_name before) → answer before entry.call ≡ Some entry.reply → new_name before ≡ entry.reply
-reply_is before entry c e new answers = same_Some _ _ (sym new ∙ ap (answer before) e ∙ answers)
-
-makes_begun : (before : History) (entry : Entry (List ℕ)) (c : Call (List ℕ)) (origin : Origin) → c ≡ entry.call → begun_by (made before) before c ≡ origin ∷ [] → new_name before ≡ entry.reply → MakesOne before entry (Some (kind_by origin))
-makes_begun before entry c origin e begun reply = record {
-  origin = origin;
-  made = ap (λ r. if_made r (begun_by (made before) before entry.call)) (sym reply) ∙ ap (begun_by (made before) before) (sym e) ∙ begun;
-  kind = refl;
-}
+makes_begun : (before : History) (entry : Entry (List ℕ)) (c : Call (List ℕ)) (origin : Origin) → Some c ≡ Some entry.call → begun_by (made before) before c ≡ origin ∷ [] → answer before c ≡ Some (new_name before) → answer before entry.call ≡ Some entry.reply
+    → MakesOne before entry (Some (kind_by origin))
+makes_begun before entry c origin is begun new answers =
+    let same = same_Some _ _ is in
+    let reply : new_name before ≡ entry.reply = same_Some _ _ (sym new ∙ ap (answer before) same ∙ answers) in
+    record {
+      origin = origin;
+      made = ap (λ r. if_made r (begun_by (made before) before entry.call)) (sym reply) ∙ ap (begun_by (made before) before) (sym same) ∙ begun;
+      kind = refl;
+    }
 
 makes_port : (before : History) (entry : Entry (List ℕ)) (source : Option ℕ) → option_map (λ n. call.NewPort (record { 0 = n })) source ≡ Some entry.call → answer before entry.call ≡ Some entry.reply → MakesOne before entry (Some kind.Port)
 makes_port before entry None none answers = absurd (none-some entry.call none)
-makes_port before entry (Some n) some answers =
-    let same = same_Some _ _ some in
-    makes_begun before entry (call.NewPort (record { 0 = n })) (port n (length (sent before n))) same refl (reply_is before entry (call.NewPort (record { 0 = n })) same refl answers)
+makes_port before entry (Some n) some answers = makes_begun before entry (call.NewPort (record { 0 = n })) (port n (length (sent before n))) some refl refl answers
 
 -- a declared object is of its kind
 makes_one : (before : History) (entry : Entry (List ℕ)) (object : ℕ → Option ℕ) (m : Makes) → making_call object m ≡ Some entry.call → answer before entry.call ≡ Some entry.reply → MakesOne before entry (kind_made m)
 makes_one before entry object makes.Thread e answers = absurd (none-some entry.call e)
-makes_one before entry object makes.Mailbox e answers =
-    let same = same_Some _ _ e in makes_begun before entry call.NewMailbox mailbox same refl (reply_is before entry call.NewMailbox same refl answers)
-makes_one before entry object makes.Channel e answers =
-    let same = same_Some _ _ e in makes_begun before entry call.NewChannel channel same refl (reply_is before entry call.NewChannel same refl answers)
-makes_one before entry object makes.IVar e answers =
-    let same = same_Some _ _ e in makes_begun before entry call.NewIVar ivar same refl (reply_is before entry call.NewIVar same refl answers)
-makes_one before entry object makes.MVar e answers =
-    let same = same_Some _ _ e in makes_begun before entry call.NewMVar mvar same refl (reply_is before entry call.NewMVar same refl answers)
-makes_one before entry object (makes.MVarInit message) e answers =
-    let same = same_Some _ _ e in makes_begun before entry (call.MVarInit message) mvar same refl (reply_is before entry (call.MVarInit message) same refl answers)
+makes_one before entry object makes.Mailbox e answers = makes_begun before entry call.NewMailbox mailbox e refl refl answers
+makes_one before entry object makes.Channel e answers = makes_begun before entry call.NewChannel channel e refl refl answers
+makes_one before entry object makes.IVar e answers = makes_begun before entry call.NewIVar ivar e refl refl answers
+makes_one before entry object makes.MVar e answers = makes_begun before entry call.NewMVar mvar e refl refl answers
+makes_one before entry object (makes.MVarInit message) e answers = makes_begun before entry (call.MVarInit message) mvar e refl refl answers
 makes_one before entry object (makes.Port source) e answers = makes_port before entry (object source) e answers
 makes_one before entry object (makes.Feed feed) e answers = makes_port before entry (object feed.channel) e answers
 
@@ -154,13 +148,7 @@ length_filter p (x ∷ xs) = by_test (p x) (length_filter p xs)
 object_kind : (m : Option Makes) (k : Kind) → option_and_then kind_made m ≡ Some k → option_map_or makes_object m false ≡ true
 object_kind None k e = absurd (none-some k e)
 object_kind (Some makes.Thread) k e = absurd (none-some k e)
-object_kind (Some makes.Mailbox) k e = refl
-object_kind (Some makes.Channel) k e = refl
-object_kind (Some (makes.Port source)) k e = refl
-object_kind (Some (makes.Feed feed)) k e = refl
-object_kind (Some makes.IVar) k e = refl
-object_kind (Some makes.MVar) k e = refl
-object_kind (Some (makes.MVarInit message)) k e = refl
+object_kind (Some m) k e = refl
 
 pub kind_object : (script : Lines) (line : SourceLine) (k : Kind) → kind_declared script line ≡ Some k → is_object script line ≡ true
 kind_object script line k e = object_kind (makes_of (names_of script) line.words) k e
@@ -218,10 +206,6 @@ next_object play names i d made found reads uses = by_makes d.makes refl uses
 
     by_makes : (m : Makes) → d.makes ≡ m → IsMadeWell (names_of play.script) i m → IsNext play m
     by_makes makes.Thread e uses = tt
-    by_makes makes.Mailbox e uses = next makes.Mailbox call.NewMailbox e refl refl
-    by_makes makes.Channel e uses = next makes.Channel call.NewChannel e refl refl
-    by_makes makes.IVar e uses = next makes.IVar call.NewIVar e refl refl
-    by_makes makes.MVar e uses = next makes.MVar call.NewMVar e refl refl
-    by_makes (makes.MVarInit message) e small = next (makes.MVarInit message) (call.MVarInit message) e refl refl
     by_makes (makes.Port source) e (is_channel, earlier) = port_next source (makes.Port source) e refl refl is_channel earlier
     by_makes (makes.Feed feed) e (is_channel, earlier, seat, capacity) = port_next feed.channel (makes.Feed feed) e refl refl is_channel earlier
+    by_makes m e uses = next m _ e refl refl

@@ -28,7 +28,6 @@ pub mod LeftLemmas
 pub mod ReplayLemmas
 pub mod GoingOnLemmas
 pub mod SendLemmas
-pub mod CallLemmas
 pub mod WorkLemmas
 pub mod TurnLemmas
 pub mod DeclareLemmas

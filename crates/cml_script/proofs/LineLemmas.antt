@@ -10,16 +10,17 @@ use Rattle.cml_grammar.specs.declared.forms.Makes.TheVariants as makes
 use Rattle.cml_grammar.specs.declared.names.Named.{Named}
 use Rattle.cml_grammar.specs.declared.names.Named.TheVariants as called
 use Rattle.cml_grammar.specs.declared.names.Users.TheVariants as users
-use Rattle.cml_board.specs.declared.call.Kind.{Kind}
+use Rattle.cml_calls.specs.declared.kind.Kind.{Kind}
+use Rattle.cml_calls.specs.declared.table.Ask.TheVariants as ask
 use Rattle.cml_grammar.specs.Meaning.{names_of, makes_of, action_of, seat_of_step}
-use Rattle.cml_script.specs.Plan.{NamesObjects, HasSeats, AsksForPorts, IsObjectAt, kind_made, kind_named}
+use Rattle.cml_script.specs.Plan.{NamesObjects, HasSeats, AsksForPorts, IsObjectAt, kind_made}
 use Rattle.std.proofs.lemmas.List.Elements.{All-get_or}
 use Rattle.std.proofs.lemmas.Option.{slice_get_within, get_or_from_slice_get, same_Some, some_pair_parts}
 use mir.Val.{bool_byte}
 use Rattle.cml_script.specs.Counting.{one_if}
 use Rattle.cml_grammar.specs.declared.script.Declaration.{Declaration}
 use Rattle.cml_grammar.specs.declared.script.Step.{Step}
-use Rattle.cml_grammar.specs.Names.{Given, thread_count}
+use Rattle.cml_grammar.specs.Names.{Given, kind_named, thread_count}
 use Rattle.cml_grammar.specs.Script.{SourceLine, Lines}
 use Rattle.cml_grammar.specs.Giving.{is_giving}
 use Rattle.cml_grammar.specs.Rings.{makes_feed}
@@ -52,13 +53,7 @@ feed_object script line = by_makes (makes_of (names_of script) line.words)
     by_makes : (m : Option Makes) → option_map_or makes_feed m false ≡ true → option_map_or makes_object m false ≡ true
     by_makes (Some (makes.Feed feed)) e = refl
     by_makes None e = absurd (false≢true e)
-    by_makes (Some makes.Thread) e = absurd (false≢true e)
-    by_makes (Some makes.Mailbox) e = absurd (false≢true e)
-    by_makes (Some makes.Channel) e = absurd (false≢true e)
-    by_makes (Some (makes.Port channel)) e = absurd (false≢true e)
-    by_makes (Some makes.IVar) e = absurd (false≢true e)
-    by_makes (Some makes.MVar) e = absurd (false≢true e)
-    by_makes (Some (makes.MVarInit message)) e = absurd (false≢true e)
+    by_makes (Some m) e = absurd (false≢true e)
 
 pub declaration_object : (script : Lines) (d : Declaration) → ReadsDeclaration (names_of script) d → is_object script (source_of d.line) ≡ makes_object d.makes
 declaration_object script d reads = ap (λ o. option_map_or makes_object o false) reads.makes
@@ -100,19 +95,9 @@ giving_called script i seat line asks found gives seated =
     seat_of = seat_of_step (names_of script) line.words
 
     not_apart : (a : Action) → gives_name a ≡ true → is_by_ring (route_of script seat_of a) ≡ false
-    not_apart (action.Port at) e = refl
-    not_apart (action.Copy at) e = refl
-    not_apart (action.Send at message) e = absurd (false≢true e)
-    not_apart (action.Multicast at message) e = absurd (false≢true e)
-    not_apart (action.Recv at) e = absurd (false≢true e)
-    not_apart (action.Poll at) e = absurd (false≢true e)
-    not_apart (action.Close at) e = absurd (false≢true e)
-    not_apart (action.Put at message) e = absurd (false≢true e)
-    not_apart (action.Get at) e = absurd (false≢true e)
-    not_apart (action.GetPoll at) e = absurd (false≢true e)
-    not_apart (action.Take at) e = absurd (false≢true e)
-    not_apart (action.TakePoll at) e = absurd (false≢true e)
-    not_apart (action.Swap at message) e = absurd (false≢true e)
+    not_apart (action.Give give at message) e = absurd (false≢true e)
+    not_apart (action.Ask ask.Poll at) e = absurd (false≢true e)
+    not_apart (action.Ask ask at) e = refl
 
     by_action : (o : Option Action) → action_of (names_of script) line.words ≡ o → is_apart script line ≡ false
     by_action None e = ap (λ o. is_by_ring (option_map_or (route_of script seat_of) o route.Seat)) e

@@ -1,12 +1,11 @@
 -- What comes next of a script that was read: the call of each thread's next step is there and fits, and so is that of
 -- the next declared object.
 use Rattle.std.proofs.Common.{◌≡◌, ℕ, zero, suc, ◌+◌, ◌<◌, ◌≤◌, ◌^◌, List, length, slice_get, true, Option, Some, None, MatchOption, refl, sym, ap, subst, ◌∙◌, arith}
-use Rattle.std.specs.Option.{option_map}
 use Rattle.std.proofs.lemmas.Option.{same_Some, none-some, slice_get_within}
 use Rattle.std.proofs.lemmas.List.{length-map}
 use Rattle.std.proofs.lemmas.Bool.{false≢true}
 use Rattle.cml_board.specs.declared.call.Name.{Name}
-use Rattle.cml_board.specs.declared.call.Kind.TheVariants as kind
+use Rattle.cml_calls.specs.declared.kind.Kind.TheVariants as kind
 use Rattle.cml_board.specs.declared.call.Call.{Call}
 use Rattle.cml_board.specs.declared.call.Call.TheVariants as call
 use Rattle.cml_board.specs.declared.entry.Who.TheVariants.{Seat}
@@ -19,17 +18,18 @@ use Rattle.cml_grammar.specs.declared.script.Step.{Step}
 use Rattle.cml_grammar.specs.Script.{Lines}
 use Rattle.cml_grammar.specs.Meaning.{names_of}
 use Rattle.cml_grammar.specs.Rings.{first_ring}
-use Rattle.cml_grammar.specs.Reading.{source_of, ReadsDeclaration, ReadsStep}
+use Rattle.cml_grammar.specs.Reading.{source_of, ReadsDeclaration, ReadsStep, used_by}
 use Rattle.cml_grammar.proofs.ReadableLemmas.{CanBeRead}
 use Rattle.cml_script.specs.declared.binding.Binding.{Binding}
-use Rattle.cml_script.specs.Schedule.{History, Follows, NoneReady, makes_object, is_object, declared_count, performed, next_position, step_call, object_of, binding_of}
+use Rattle.cml_script.specs.Schedule.{History, Follows, NoneReady, makes_object, is_object, declared_count, performed, next_position, step_call, call_on, binding_of}
 use Rattle.cml_script.specs.Plan.{IsKnown}
-use Rattle.cml_script.specs.Stage.{Play, Stands, IsNextObject, IsNextPort, IsNext, IsReadyOf, NoneReadyOf, IsLeast, IsLeastBelow, earlier_of, call_on}
+use Rattle.cml_script.specs.Stage.{Play, Stands, IsNextObject, IsNextPort, IsNext, IsReadyOf, NoneReadyOf, IsLeast, IsLeastBelow, earlier_of}
 use Rattle.cml_script.proofs.ListLemmas.{mapped_at, how_many-le, passes_there, listed}
 use Rattle.cml_script.proofs.LineLemmas.{all_at, stands, names_objects, has_seats, asks_for_ports, declaration_object}
 use Rattle.cml_script.proofs.KindLemmas.{next_object}
 use Rattle.cml_script.proofs.ReadyLemmas.{none_queued, queued_within, waits_there, ready_there, least_at_first, least_more, least_of_all}
-use Rattle.cml_script.proofs.FitLemmas.{fits_kind, channel_at, step_calls, call_is, fits_use}
+use Rattle.cml_script.proofs.FitLemmas.{fits_kind, channel_at, fits_use}
+use Rattle.cml_script.proofs.TrailLemmas.{named, step_calls}
 use Rattle.cml_script.proofs.GivingLemmas.{follows_own}
 use Rattle.cml_script.proofs.StandLemmas.{declared_kind}
 use Rattle.cml_script.proofs.UseLemmas.{used_is_bound}
@@ -110,8 +110,7 @@ module _ (script : Lines) (read : CanBeRead script) (plain : first_ring script �
       let name : Name = record { 0 = bound.object } in
       record {
         asked = call_on s.action name;
-        calls = step_calls script history read.steps i s (call_on s.action name) read.asked read.reading.steps there.1
-            (call_is (object_of script history) s.action ∙ ap (option_map (λ (o : ℕ). call_on s.action (record { 0 = o }))) bound.stands);
+        calls = step_calls script history read.steps i (used_by s.action) s (Some name) read.asked read.reading.steps there.1 refl (sym (ap named bound.stands));
         fits = fits_use (names_of script) s.action history name uses bound.kind;
       }
 
@@ -164,10 +163,6 @@ module _ (script : Lines) (read : CanBeRead script) (plain : first_ring script �
 
       by_makes : (m : Makes) → makes_object m ≡ true → IsNext play m → IsMaking play
       by_makes makes.Thread is next = absurd (false≢true is)
-      by_makes makes.Mailbox is next = record { asked = call.NewMailbox; next = next; fits = (tt, tt); answers = refl }
-      by_makes makes.Channel is next = record { asked = call.NewChannel; next = next; fits = (tt, tt); answers = refl }
-      by_makes makes.IVar is next = record { asked = call.NewIVar; next = next; fits = (tt, tt); answers = refl }
-      by_makes makes.MVar is next = record { asked = call.NewMVar; next = next; fits = (tt, tt); answers = refl }
-      by_makes (makes.MVarInit message) is next = record { asked = call.MVarInit message; next = next; fits = (tt, tt); answers = refl }
       by_makes (makes.Port channel) is next = by_port channel next
       by_makes (makes.Feed feed) is next = by_port feed.channel next
+      by_makes m is next = record { asked = _; next = next; fits = (tt, tt); answers = refl }

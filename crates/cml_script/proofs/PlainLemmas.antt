@@ -5,6 +5,8 @@ use Rattle.std.specs.Option.{option_map, option_map_or, option_and_then}
 use Rattle.std.specs.List.{find}
 use Rattle.std.proofs.lemmas.Option.{none-some, same_Some}
 use Rattle.std.proofs.lemmas.Bool.{true≢false, false≢true}
+use Rattle.cml_calls.specs.declared.table.Give.TheVariants as give
+use Rattle.cml_calls.specs.declared.table.Ask.TheVariants as ask
 use Rattle.cml_board.specs.declared.entry.Who.TheVariants.{Seat, Feed}
 use Rattle.cml_grammar.specs.declared.forms.Declares.{Declares}
 use Rattle.cml_grammar.specs.declared.forms.Declares.TheVariants as declares
@@ -48,20 +50,13 @@ none_found p (first ∷ lines) none i line found = by_test (p first) refl none i
 -- only the line of a feed makes a feed
 feed_made : (names : List Given) (d : Declares) (rest : List (List ℕ)) → option_map_or makes_feed (makes_by names d rest) false ≡ true → d ≡ declares.Feed
 feed_made names declares.Feed rest e = refl
-feed_made names declares.Mailbox rest e = absurd (false≢true e)
-feed_made names declares.Channel rest e = absurd (false≢true e)
-feed_made names declares.IVar rest e = absurd (false≢true e)
-feed_made names declares.Thread rest e = absurd (false≢true e)
-feed_made names declares.Port [] e = absurd (false≢true e)
 feed_made names declares.Port (channel ∷ rest) e = absurd (by_position (position_of names channel) e)
   where
     by_position : (o : Option ℕ) → option_map_or makes_feed (option_map makes.Port o) false ≡ true → ⊥
     by_position None e = false≢true e
     by_position (Some at) e = false≢true e
-feed_made names declares.MVar [] e = absurd (false≢true e)
-feed_made names declares.MVar (name ∷ []) e = absurd (false≢true e)
 feed_made names declares.MVar (name ∷ message ∷ []) e = absurd (false≢true e)
-feed_made names declares.MVar (name ∷ message ∷ more ∷ rest) e = absurd (false≢true e)
+feed_made names d rest e = absurd (false≢true e)
 
 feed_declared : (names : List Given) (words : List (List ℕ)) → option_map_or makes_feed (makes_of names words) false ≡ true → declares_feed words ≡ true
 feed_declared names [] e = absurd (false≢true e)
@@ -102,19 +97,10 @@ module _ (script : Lines) (plain : first_ring script ≡ None) where
 
   -- each step is performed by its thread's seat
   no_route : (seat : Option ℕ) (a : Action) → is_by_ring (route_of script seat a) ≡ false
-  no_route seat (action.Send at message) = ap (λ o. is_by_ring (lane_route o)) (no_capacity seat at)
-  no_route seat (action.Multicast at message) = ap (λ o. is_by_ring (lane_route o)) (no_capacity seat at)
-  no_route seat (action.Poll at) = ap (λ o. is_by_ring (feed_route o)) (no_feed at)
-  no_route seat (action.Recv at) = refl
-  no_route seat (action.Port at) = refl
-  no_route seat (action.Copy at) = refl
-  no_route seat (action.Close at) = refl
-  no_route seat (action.Put at message) = refl
-  no_route seat (action.Get at) = refl
-  no_route seat (action.GetPoll at) = refl
-  no_route seat (action.Take at) = refl
-  no_route seat (action.TakePoll at) = refl
-  no_route seat (action.Swap at message) = refl
+  no_route seat (action.Give give.Send at message) = ap (λ o. is_by_ring (lane_route o)) (no_capacity seat at)
+  no_route seat (action.Give give.Cast at message) = ap (λ o. is_by_ring (lane_route o)) (no_capacity seat at)
+  no_route seat (action.Ask ask.Poll at) = ap (λ o. is_by_ring (feed_route o)) (no_feed at)
+  no_route seat a = refl
 
   none_apart : (line : SourceLine) → is_apart script line ≡ false
   none_apart line = by_action (action_of (names_of script) line.words)

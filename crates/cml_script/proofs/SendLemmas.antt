@@ -1,14 +1,19 @@
 -- Which steps go by lanes, and that what they send to is declared.
-use Rattle.std.proofs.Common.{◌≡◌, ℕ, ◌<◌, List, [], length, map, get_or, slice_get, Option, Some, None, refl, sym, ap, ap₂, subst, ◌∙◌, inl, inr}
+use Rattle.std.proofs.Common.{◌≡◌, ℕ, ◌<◌, true, List, [], length, map, get_or, slice_get, Option, Some, None, refl, sym, ap, ap₂, subst, ◌∙◌, inl, inr}
 use Rattle.std.specs.Prelude.{All}
 use Rattle.std.specs.Option.{option_map_or, option_and_then}
 use Rattle.std.proofs.lemmas.Option.{slice_get-get_or, same_Some}
-use Rattle.std.proofs.lemmas.Bool.{cases_lt}
-use Rattle.cml_board.specs.declared.call.Kind.{Kind}
-use Rattle.cml_board.specs.declared.call.Kind.TheVariants as kind
+use Rattle.std.proofs.lemmas.Bool.{cases_lt, false≢true}
+use Rattle.cml_calls.specs.declared.kind.Kind.{Kind}
+use Rattle.cml_calls.specs.declared.kind.Kind.TheVariants as kind
+use Rattle.cml_calls.specs.declared.table.Give.{Give}
+use Rattle.cml_calls.specs.declared.table.Give.TheVariants as give
+use Rattle.cml_calls.specs.declared.table.Ask.{Ask}
+use Rattle.cml_calls.specs.declared.table.Ask.TheVariants as ask
+use Rattle.cml_calls.specs.Kinds.{admits}
+use Rattle.cml_calls.specs.Table.{given}
 use Rattle.cml_grammar.specs.declared.forms.Action.{Action}
 use Rattle.cml_grammar.specs.declared.forms.Action.TheVariants as action
-use Rattle.cml_grammar.specs.declared.names.Named.TheVariants as called
 use Rattle.cml_grammar.specs.declared.script.Step.{Step}
 use Rattle.cml_grammar.specs.Script.{SourceLine, Lines}
 use Rattle.cml_grammar.specs.Meaning.{names_of, action_of, seat_of_step}
@@ -18,40 +23,55 @@ use Rattle.cml_script.specs.Schedule.{feed_route, feed_at, route_of, route_of_li
 use Rattle.cml_script.specs.Apart.{by_feed, act_of, act_of_line}
 use Rattle.cml_script.specs.Plan.{IsKnown, IsObjectAt, route_at}
 use Rattle.cml_script.proofs.ListLemmas.{mapped_at}
-use Rattle.cml_script.proofs.LineLemmas.{all_at}
+use Rattle.cml_script.proofs.LineLemmas.{all_at, step_route}
+use Rattle.cml_script.proofs.FitLemmas.{used_taker}
 use Rattle.cml_script.proofs.UseLemmas.{given_port}
-
-step_route : (script : Lines) (items : List Step) (i : ℕ) (s : Step) → map (λ x. source_of x.line) items ≡ script.steps → All (ReadsStep (names_of script)) items → slice_get items i ≡ Some s
-    → route_at script i ≡ route_of script (seat_of_step (names_of script) (source_of s.line).words) s.action
-step_route script items i s lines reads found =
-    ap (λ l. option_map_or (route_of_line script) l route.Seat) (mapped_at (λ x. source_of x.line) items script.steps i s lines found)
-    ∙ ap (λ a. option_map_or (route_of script (seat_of_step (names_of script) (source_of s.line).words)) a route.Seat) (all_at (ReadsStep (names_of script)) items i s reads found).action
 
 no_lane : (o : Option ℕ) (capacity : ℕ) → feed_route o ≡ route.Lane capacity → ⊥
 no_lane None capacity e = cc
 no_lane (Some feed) capacity e = cc
 
--- what goes by a lane is a send or a multicast
-lane_action : (script : Lines) (seat : Option ℕ) (a : Action) (capacity : ℕ) → route_of script seat a ≡ route.Lane capacity → ((at : ℕ) (m : List ℕ) → a ≡ action.Send at m → ⊥) → ((at : ℕ) (m : List ℕ) → a ≡ action.Multicast at m → ⊥) → ⊥
-lane_action script seat (action.Send at message) capacity e no_send no_multicast = no_send at message refl
-lane_action script seat (action.Multicast at message) capacity e no_send no_multicast = no_multicast at message refl
-lane_action script seat (action.Poll at) capacity e no_send no_multicast = no_lane (feed_at script at) capacity e
-lane_action script seat (action.Recv at) capacity e no_send no_multicast = cc
-lane_action script seat (action.Port at) capacity e no_send no_multicast = cc
-lane_action script seat (action.Copy at) capacity e no_send no_multicast = cc
-lane_action script seat (action.Close at) capacity e no_send no_multicast = cc
-lane_action script seat (action.Put at message) capacity e no_send no_multicast = cc
-lane_action script seat (action.Get at) capacity e no_send no_multicast = cc
-lane_action script seat (action.GetPoll at) capacity e no_send no_multicast = cc
-lane_action script seat (action.Take at) capacity e no_send no_multicast = cc
-lane_action script seat (action.TakePoll at) capacity e no_send no_multicast = cc
-lane_action script seat (action.Swap at message) capacity e no_send no_multicast = cc
+-- what asks an object alone goes by no lane
+asks_by_none : (script : Lines) (seat : Option ℕ) (ask : Ask) (at capacity : ℕ) → route_of script seat (action.Ask ask at) ≡ route.Lane capacity → ⊥
+asks_by_none script seat ask.Poll at capacity e = no_lane (feed_at script at) capacity e
+asks_by_none script seat ask at capacity e = cc
 
-pub lane_sends : (script : Lines) (items : List Step) (i capacity : ℕ) (d : Step) → map (λ x. source_of x.line) items ≡ script.steps → All (ReadsStep (names_of script)) items → i < length items → route_at script i ≡ route.Lane capacity
-    → ((at : ℕ) (m : List ℕ) → (get_or items i d).action ≡ action.Send at m → ⊥) → ((at : ℕ) (m : List ℕ) → (get_or items i d).action ≡ action.Multicast at m → ⊥) → ⊥
-lane_sends script items i capacity d lines reads within goes =
-    let found = slice_get-get_or items i d within in
-    lane_action script (seat_of_step (names_of script) (source_of (get_or items i d).line).words) (get_or items i d).action capacity (sym (step_route script items i (get_or items i d) lines reads found) ∙ goes)
+-- a name that a step gives is a port's, so that any other was declared
+declared_name : (script : Lines) (known : IsKnown script) (at : ℕ) (k : Kind) → IsObjectAt (names_of script) at k → (Some kind.Port ≡ Some k → ⊥) → at < length script.declarations
+declared_name script known at k is other = elim (cases_lt at (length script.declarations)) [
+  | inl lt ↦ lt
+  | inr ge ↦ absurd (other (given_port script [] known at k ge is))
+]
+
+no_port : (script : Lines) (seat : Option ℕ) (give : Give) (at capacity : ℕ) (m : List ℕ) → route_of script seat (action.Give give at m) ≡ route.Lane capacity → admits (given give).takers kind.Port ≡ true → ⊥
+no_port script seat give.Send at capacity m e takes = false≢true takes
+no_port script seat give.Cast at capacity m e takes = false≢true takes
+no_port script seat give at capacity m e takes = cc
+
+module _ (script : Lines) (items : List Step) (i capacity : ℕ) (d : Step) (lines : map (λ x. source_of x.line) items ≡ script.steps) (reads : All (ReadsStep (names_of script)) items) (within : i < length items) (goes : route_at script i ≡ route.Lane capacity) where
+  abbrev step : Step
+  step = get_or items i d
+
+  found : slice_get items i ≡ Some step
+  found = slice_get-get_or items i d within
+
+  -- how the step goes that asks for this
+  lane_goes : (a : Action) → step.action ≡ a → route_of script (Some step.seat) a ≡ route.Lane capacity
+  lane_goes a is =
+      ap (route_of script (Some step.seat)) (sym is)
+      ∙ sym (step_route script step (all_at (ReadsStep (names_of script)) items i step reads found))
+      ∙ sym (ap (λ l. option_map_or (route_of_line script) l route.Seat) (mapped_at (λ x. source_of x.line) items script.steps i step lines found)) ∙ goes
+
+  pub lane_gives : (ask : Ask) (at : ℕ) → step.action ≡ action.Ask ask at → ⊥
+  lane_gives ask at is = asks_by_none script (Some step.seat) ask at capacity (lane_goes (action.Ask ask at) is)
+
+  -- and what it gives goes to a declared object: a port takes nothing that goes by a lane
+  pub lane_target : IsKnown script → (give : Give) (at : ℕ) (m : List ℕ) → step.action ≡ action.Give give at m → at < length script.declarations
+  lane_target known give at m is =
+      let uses : UsesWell (names_of script) (action.Give give at m) = subst (UsesWell (names_of script)) is (all_at (ReadsStep (names_of script)) items i step reads found).uses in
+      let taker = used_taker (names_of script) (action.Give give at m) uses in
+      declared_name script known at taker.0 taker.1
+      (λ e. no_port script (Some step.seat) give at capacity m (lane_goes (action.Give give at m) is) (ap (admits (given give).takers) (same_Some _ _ e) ∙ taker.2))
 
 -- what it does
 pub lane_acts : (script : Lines) (items : List Step) (i capacity : ℕ) (d : Step) (line : SourceLine) (a : Action) → map (λ x. source_of x.line) items ≡ script.steps → All (ReadsStep (names_of script)) items → i < length items → slice_get script.steps i ≡ Some line
@@ -71,20 +91,3 @@ feed_acts script line feed goes = ap (λ w. option_and_then (act_of script w) (a
     by_action : (o : Option Action) → option_map_or (route_of script (seat_of_step (names_of script) line.words)) o route.Seat ≡ route.Feed feed → option_and_then (act_of script (route.Feed feed)) o ≡ Some (by_feed feed)
     by_action None e = cc
     by_action (Some a) e = refl
-
--- a name that a step gives is a port's, so that any other was declared
-declared_name : (script : Lines) (known : IsKnown script) (at : ℕ) (k : Kind) → IsObjectAt (names_of script) at k → (Some kind.Port ≡ Some k → ⊥) → at < length script.declarations
-declared_name script known at k is other = elim (cases_lt at (length script.declarations)) [
-  | inl lt ↦ lt
-  | inr ge ↦ absurd (other (given_port script [] known at k ge is))
-]
-
-pub target_of_send : (script : Lines) (known : IsKnown script) (items : List Step) (i at : ℕ) (m : List ℕ) (d : Step) → All (ReadsStep (names_of script)) items → i < length items → (get_or items i d).action ≡ action.Send at m → at < length script.declarations
-target_of_send script known items i at m d reads within e =
-    let uses : UsesWell (names_of script) (action.Send at m) = subst (UsesWell (names_of script)) e (all_at (ReadsStep (names_of script)) items i (get_or items i d) reads (slice_get-get_or items i d within)).uses in
-    declared_name script known at kind.Mailbox (uses.0.0, called.Mailbox, uses.0.1, refl) (λ (e : Some kind.Port ≡ Some kind.Mailbox). cc)
-
-pub target_of_multicast : (script : Lines) (known : IsKnown script) (items : List Step) (i at : ℕ) (m : List ℕ) (d : Step) → All (ReadsStep (names_of script)) items → i < length items → (get_or items i d).action ≡ action.Multicast at m → at < length script.declarations
-target_of_multicast script known items i at m d reads within e =
-    let uses : UsesWell (names_of script) (action.Multicast at m) = subst (UsesWell (names_of script)) e (all_at (ReadsStep (names_of script)) items i (get_or items i d) reads (slice_get-get_or items i d within)).uses in
-    declared_name script known at kind.Channel (uses.0.0, called.Channel, uses.0.1, refl) (λ (e : Some kind.Port ≡ Some kind.Channel). cc)

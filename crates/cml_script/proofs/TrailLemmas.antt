@@ -23,10 +23,10 @@ use Rattle.cml_board.specs.declared.call.Call.TheVariants as call
 use Rattle.cml_script.specs.Counting.{how_many}
 use Rattle.cml_script.specs.declared.objects.Objects.{Objects}
 use Rattle.cml_script.specs.declared.binding.Binding.{Binding}
-use Rattle.cml_script.specs.Schedule.{History, IsDeclaration, objects_of, declared_count, declared_object, number_of, maker, is_object, is_feed, is_called, positions_where, making_call, call_in, performed, next_position, given_by, step_call, call_of, object_of, bound_by}
+use Rattle.cml_script.specs.Schedule.{History, IsDeclaration, objects_of, declared_count, declared_object, number_of, maker, is_object, is_feed, is_called, positions_where, making_call, call_in, performed, next_position, given_by, step_call, call_on, call_of, object_of, bound_by}
 use Rattle.cml_script.specs.Plan.{HasSeats}
 use Rattle.cml_script.specs.Bindings.{AreBindings, with_binding}
-use Rattle.cml_script.specs.Stage.{AreCounts, call_on}
+use Rattle.cml_script.specs.Stage.{AreCounts}
 use Rattle.cml_script.specs.Trail.{Progress, history_of, with_next, IsFollowed, IsNoThread, CountsOneMore, next_given, next_call}
 use Rattle.cml_script.proofs.ListLemmas.{mapped_at, counted_mono}
 use Rattle.cml_script.proofs.KindLemmas.{counted_below}
@@ -34,7 +34,6 @@ use Rattle.cml_script.proofs.QueueLemmas.{position_is, positions_count}
 use Rattle.cml_script.proofs.StandLemmas.{given_within, bindings_more}
 use Rattle.cml_script.proofs.LineLemmas.{all_at, called_seated, feed_object, stands}
 use Rattle.cml_script.proofs.ObjectLemmas.{maker_is, counted_filter}
-use Rattle.cml_script.proofs.FitLemmas.{call_is}
 use Rattle.cml_script.proofs.ReportLemmas.{placed_line, placed_within}
 use Rattle.cml_script.proofs.JournalLemmas.{before_more}
 
@@ -117,7 +116,6 @@ pub step_calls : (script : Lines) (history : History) (items : List Step) (i use
 step_calls script history items i used s r lines reads found uses is =
     ap (option_and_then (λ line. option_and_then (call_of (object_of script history)) (action_of (names_of script) line.words))) (mapped_at (λ x. source_of x.line) items script.steps i s lines found)
     ∙ ap (option_and_then (call_of (object_of script history))) (all_at (ReadsStep (names_of script)) items i s reads found).action
-    ∙ call_is (object_of script history) s.action
     ∙ on_name s.action (object_of script history (used_by s.action))
     ∙ ap (option_map (call_on s.action)) (sym (is ∙ ap (λ n. named (object_of script history n)) uses))
 

@@ -6,15 +6,14 @@ use Rattle.std.proofs.lemmas.Option.{none-some, same_Some, slice_get_within, sli
 use Rattle.std.proofs.lemmas.List.{length-map}
 use Rattle.std.proofs.lemmas.Bool.{cases_lt, eqb-true, eq-eqb, false≢true}
 use Rattle.cml_board.specs.declared.call.Name.{Name}
-use Rattle.cml_board.specs.declared.call.Kind.{Kind}
-use Rattle.cml_board.specs.declared.call.Kind.TheVariants as kind
+use Rattle.cml_calls.specs.declared.kind.Kind.{Kind}
+use Rattle.cml_calls.specs.declared.kind.Kind.TheVariants as kind
 use Rattle.cml_board.specs.declared.entry.Who.TheVariants.{Seat}
 use Rattle.cml_board.specs.History.{kind_of, Lawful}
 use Rattle.cml_grammar.specs.declared.forms.Action.{Action}
-use Rattle.cml_grammar.specs.declared.forms.Action.TheVariants as action
 use Rattle.cml_grammar.specs.declared.script.Declaration.{Declaration}
 use Rattle.cml_grammar.specs.declared.script.Step.{Step}
-use Rattle.cml_grammar.specs.Names.{Given}
+use Rattle.cml_grammar.specs.Names.{Given, kind_named}
 use Rattle.cml_grammar.specs.Script.{SourceLine, Lines}
 use Rattle.cml_grammar.specs.Meaning.{names_of}
 use Rattle.cml_grammar.specs.Giving.{IsGivenAt, is_giving, names_before}
@@ -23,7 +22,7 @@ use Rattle.cml_script.specs.declared.binding.Binding.{Binding}
 use Rattle.cml_script.specs.declared.binding.Binding.TheVariants as binding
 use Rattle.cml_script.specs.Audit.{IsOfScript}
 use Rattle.cml_script.specs.Schedule.{History, is_seated, is_called, earlier, performed, next_position, declared_count, object_of, made_of, binding_of, port_bound, port_made}
-use Rattle.cml_script.specs.Plan.{IsKnown, IsObject, IsObjectAt, kind_named}
+use Rattle.cml_script.specs.Plan.{IsKnown, IsObject, IsObjectAt}
 use Rattle.cml_script.specs.Bindings.{AreBindings}
 use Rattle.cml_script.specs.Stage.{Play, Stands, IsNextStep, IsBound}
 use Rattle.cml_script.proofs.ListLemmas.{mapped_at, counted_mono}
@@ -31,23 +30,11 @@ use Rattle.cml_script.proofs.LineLemmas.{all_at, step_seated, called_seated, giv
 use Rattle.cml_script.proofs.QueueLemmas.{position_is}
 use Rattle.cml_script.proofs.GivingLemmas.{names_le, follows_own}
 use Rattle.cml_script.proofs.BindingLemmas.{AreSteps, bound_port, gave, script_steps}
-use Rattle.cml_script.proofs.FitLemmas.{mailbox_object, channel_object, port_object, receiver_object, polled_object, mvar_object, variable_object}
+use Rattle.cml_script.proofs.FitLemmas.{used_taker}
 use Rattle.cml_script.proofs.StandLemmas.{object_declared, object_given, made_declared, made_given, declared_stands, declared_kind}
 
 used_object : (names : List Given) (a : Action) → UsesWell names a → IsObject names (used_by a)
-used_object names (action.Send at message) uses = mailbox_object names at uses.0
-used_object names (action.Multicast at message) uses = channel_object names at uses.0
-used_object names (action.Recv at) uses = receiver_object names at uses
-used_object names (action.Poll at) uses = polled_object names at uses
-used_object names (action.Port at) uses = channel_object names at uses
-used_object names (action.Copy at) uses = port_object names at uses
-used_object names (action.Close at) uses = port_object names at uses
-used_object names (action.Put at message) uses = variable_object names at uses.0
-used_object names (action.Get at) uses = variable_object names at uses
-used_object names (action.GetPoll at) uses = variable_object names at uses
-used_object names (action.Take at) uses = mvar_object names at uses
-used_object names (action.TakePoll at) uses = mvar_object names at uses
-used_object names (action.Swap at message) uses = mvar_object names at uses.0
+used_object names a uses = let taker = used_taker names a uses in (taker.0, taker.1)
 
 the_some : (o : Option ℕ) → IsSome o → (n : ℕ) × (o ≡ Some n)
 the_some None some = absurd (false≢true some)

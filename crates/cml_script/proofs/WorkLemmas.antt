@@ -86,33 +86,11 @@ opening_steps script (entry ∷ first) by = (inl (none_first script first entry 
 -- a call that asks for a port is given one
 suits_gives : (c : Call (List ℕ)) (r : Reply (List ℕ)) → suits c r ≡ true → asks_port c ≡ true → IsSome (port_bound (bound_by c r))
 suits_gives (call.NewPort name) (reply.Made made) suit asks = refl
-suits_gives (call.NewPort name) reply.Done suit asks = absurd (false≢true suit)
-suits_gives (call.NewPort name) (reply.Got message) suit asks = absurd (false≢true suit)
-suits_gives (call.NewPort name) reply.Nothing suit asks = absurd (false≢true suit)
-suits_gives (call.NewPort name) reply.Put suit asks = absurd (false≢true suit)
-suits_gives (call.NewPort name) reply.Closed suit asks = absurd (false≢true suit)
+suits_gives (call.NewPort name) r suit asks = absurd (false≢true suit)
 suits_gives (call.CopyPort name) (reply.Made made) suit asks = refl
 suits_gives (call.CopyPort name) reply.Closed suit asks = refl
-suits_gives (call.CopyPort name) reply.Done suit asks = absurd (false≢true suit)
-suits_gives (call.CopyPort name) (reply.Got message) suit asks = absurd (false≢true suit)
-suits_gives (call.CopyPort name) reply.Nothing suit asks = absurd (false≢true suit)
-suits_gives (call.CopyPort name) reply.Put suit asks = absurd (false≢true suit)
-suits_gives call.NewMailbox r suit asks = absurd (false≢true asks)
-suits_gives call.NewChannel r suit asks = absurd (false≢true asks)
-suits_gives (call.ClosePort name) r suit asks = absurd (false≢true asks)
-suits_gives (call.Send name message) r suit asks = absurd (false≢true asks)
-suits_gives (call.Cast name message) r suit asks = absurd (false≢true asks)
-suits_gives (call.Recv name) r suit asks = absurd (false≢true asks)
-suits_gives (call.Poll name) r suit asks = absurd (false≢true asks)
-suits_gives call.NewIVar r suit asks = absurd (false≢true asks)
-suits_gives call.NewMVar r suit asks = absurd (false≢true asks)
-suits_gives (call.MVarInit message) r suit asks = absurd (false≢true asks)
-suits_gives (call.Put name message) r suit asks = absurd (false≢true asks)
-suits_gives (call.Get name) r suit asks = absurd (false≢true asks)
-suits_gives (call.GetPoll name) r suit asks = absurd (false≢true asks)
-suits_gives (call.Take name) r suit asks = absurd (false≢true asks)
-suits_gives (call.TakePoll name) r suit asks = absurd (false≢true asks)
-suits_gives (call.Swap name message) r suit asks = absurd (false≢true asks)
+suits_gives (call.CopyPort name) r suit asks = absurd (false≢true suit)
+suits_gives c r suit asks = absurd (false≢true asks)
 
 pub begins : (script : Lines) (seat : ℕ) (course : Course) (made : Option Made) → IsKnown script → BeginsAt seat made → course.made ≡ declared_count script → AreBindings script [] course.bindings.items → course.is_sending ≡ false → HasTaken script seat 0 course made
 begins script seat course made known none count bound sends = record {
@@ -266,8 +244,8 @@ closed_before script seat place {course} w later now under same is =
     still false false = refl
 
 -- so that none is open at a call that may
-pub may_call : (script : Lines) (seat place : ℕ) {course : Course} {made : Option Made} (sending w : Bool) (asked : Call (List ℕ)) → IsUnderWay script seat place course made → course.is_sending ≡ (sending && not w) → waits asked ≡ w → MayCall asked made
-may_call script seat place {course} {made} sending w asked under closed is = by_made made under.told
+pub may_call : (script : Lines) (seat place : ℕ) {course : Course} {made : Option Made} (sending : Bool) (asked : Call (List ℕ)) → IsUnderWay script seat place course made → course.is_sending ≡ (sending && not (waits asked)) → MayCall asked made
+may_call script seat place {course} {made} sending asked under closed = by_made made under.told
   where
     none_open : (s w : Bool) → w ≡ true → (s && not w) ≡ false
     none_open true true e = refl
@@ -276,7 +254,7 @@ may_call script seat place {course} {made} sending w asked under closed is = by_
 
     by_made : (o : Option Made) → IfSome o (λ tells. tells ≡ record { seat = seat; entries = under.entries; opened = []; apart = under.apart; is_sending = course.is_sending; refused = None }) → MayCall asked o
     by_made None told = tt
-    by_made (Some tells) told = λ wait. ap (λ (m : Made). m.is_sending) told ∙ closed ∙ none_open sending w (sym is ∙ wait)
+    by_made (Some tells) told = λ wait. ap (λ (m : Made). m.is_sending) told ∙ closed ∙ none_open sending (waits asked) wait
 
 -- a turn that is the seat's was performed
 pub more_made : (script : Lines) (seat : ℕ) (low : 1 ≤ seat) (i : ℕ) {course : Course} {made : Option Made} (under : IsUnderWay script seat i course made) (known : IsKnown script) (turn : IsTurn script seat i) (asked : Call (List ℕ)) (r : Reply (List ℕ)) (g : Option ℕ) (next : Course) (later : Option Made)

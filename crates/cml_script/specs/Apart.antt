@@ -30,8 +30,7 @@ earlier_apart script seat i = how_many (goes_apart script seat) (take i script.s
 
 -- what an action does that goes this way
 abbrev pub act_of : Lines → Route → Action → Option Apart
-act_of script (route.Lane capacity) (action.Send at message) = Some (by_lane (record { 0 = number_of script at }) capacity message)
-act_of script (route.Lane capacity) (action.Multicast at message) = Some (by_lane (record { 0 = number_of script at }) capacity message)
+act_of script (route.Lane capacity) (action.Give give at message) = Some (by_lane (record { 0 = number_of script at }) capacity message)
 act_of script (route.Feed feed) _ = Some (by_feed feed)
 act_of script _ _ = None
 

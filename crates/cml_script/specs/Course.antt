@@ -1,9 +1,7 @@
 -- The inside of `work`: how far a thread has come, and what one step does.
-use Rattle.std.specs.Prelude.{ℕ, ◌≡◌, ◌+◌, if◌then◌else◌, Bool, true, false, List, [], ◌∷◌, ◌++◌, length, take, Option, None, IfSome, ⊤}
+use Rattle.std.specs.Prelude.{ℕ, ◌≡◌, ◌+◌, if◌then◌else◌, Bool, true, List, [], ◌∷◌, ◌++◌, length, take, Option, None, IfSome, ⊤}
 use Rattle.std.specs.Option.{option_map}
 use Rattle.cml_board.specs.declared.outcome.Refusal.{Refusal}
-use Rattle.cml_grammar.specs.declared.forms.Action.{Action}
-use Rattle.cml_grammar.specs.declared.forms.Action.TheVariants as action
 use Rattle.cml_board.specs.History.{entries_in}
 use Rattle.cml_threads.specs.Telling.{suits}
 use Rattle.cml_grammar.specs.Script.{Lines}
@@ -21,14 +19,6 @@ closed_if closes made = if closes then option_map with_closed made else made
 -- it was refused so, and at most its lanes were closed before
 abbrev pub IsRefusedSo : Refusal → Option Made → Option Made → Type 0
 IsRefusedSo refusal before after = (closes : Bool) × (after ≡ option_map (with_refused refusal) (closed_if closes before))
-
--- a step that waits where it can't be answered
-abbrev pub may_wait : Action → Bool
-may_wait (action.Recv at) = true
-may_wait (action.Get at) = true
-may_wait (action.Take at) = true
-may_wait (action.Swap at message) = true
-may_wait _ = false
 
 -- each reply is one that its call may have
 abbrev pub AreSuiting : History → Type 0

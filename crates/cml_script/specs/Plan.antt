@@ -2,13 +2,12 @@
 use Rattle.std.specs.Prelude.{ℕ, ◌≡◌, ◌+◌, ◌<◌, ◌≤◌, Bool, List, true, nat_lt, length, take, map, slice_get, Option, Some, None, if◌then◌else◌, Vec, ⊤}
 use Rattle.std.specs.Global.{Global}
 use Rattle.std.specs.Option.{option_map_or, option_and_then}
-use Rattle.cml_board.specs.declared.call.Kind.{Kind}
-use Rattle.cml_board.specs.declared.call.Kind.TheVariants as kind
+use Rattle.cml_calls.specs.declared.kind.Kind.{Kind}
+use Rattle.cml_calls.specs.declared.kind.Kind.TheVariants as kind
 use Rattle.cml_grammar.specs.Script.{SourceLine, Lines}
 use Rattle.cml_grammar.specs.Meaning.{names_of, makes_of, action_of}
-use Rattle.cml_grammar.specs.Names.{Given}
+use Rattle.cml_grammar.specs.Names.{Given, kind_named}
 use Rattle.cml_grammar.specs.declared.names.Named.{Named}
-use Rattle.cml_grammar.specs.declared.names.Named.TheVariants as called
 use Rattle.cml_grammar.specs.declared.forms.Makes.{Makes}
 use Rattle.cml_grammar.specs.declared.forms.Makes.TheVariants as makes
 use Rattle.cml_grammar.specs.declared.forms.Action.{Action}
@@ -19,16 +18,7 @@ use Rattle.cml_script.specs.Schedule.{is_feed, number_of, is_seated, is_called, 
 use Rattle.cml_script.specs.declared.route.Route.{Route}
 use Rattle.cml_script.specs.declared.route.Route.TheVariants as route
 
--- the kind of object that a name names, and that a declaration makes: a feed's is its port
-abbrev pub kind_named : Named → Option Kind
-kind_named (called.Thread seat) = None
-kind_named called.Mailbox = Some kind.Mailbox
-kind_named called.Channel = Some kind.Channel
-kind_named (called.Port whose) = Some kind.Port
-kind_named called.IVar = Some kind.IVar
-kind_named called.MVar = Some kind.MVar
-kind_named (called.Feed owner) = Some kind.Port
-
+-- the kind of object that a declaration makes: a feed's is its port
 abbrev pub kind_made : Makes → Option Kind
 kind_made makes.Thread = None
 kind_made makes.Mailbox = Some kind.Mailbox

@@ -2,6 +2,9 @@
 use Rattle.std.specs.Prelude.{ℕ, suc, ◌≡◌, ◌≢◌, ◌-◌, ◌<◌, ◌≤◌, ◌==◌, ◌&&◌, not, ◌⊎◌, Bool, true, false, nat_lt, List, [], ◌∷◌, length, take, filter, slice_get, Option, Some, None, MatchBool, if◌then◌else◌, ⊤}
 use Rattle.std.specs.Option.{option_map, option_map_or, option_and_then}
 use Rattle.cml_script.specs.Counting.{how_many}
+use Rattle.cml_calls.specs.declared.table.Give.TheVariants as give
+use Rattle.cml_calls.specs.declared.table.Ask.TheVariants as ask
+use Rattle.cml_board.specs.declared.call.Name.{Name}
 use Rattle.cml_board.specs.declared.call.Call.{Call}
 use Rattle.cml_board.specs.declared.call.Call.TheVariants as call
 use Rattle.cml_board.specs.declared.entry.Who.{Who}
@@ -9,6 +12,7 @@ use Rattle.cml_board.specs.declared.entry.Who.TheVariants.{Seat, Lane, Feed}
 use Rattle.cml_board.specs.declared.entry.Reply.{Reply}
 use Rattle.cml_board.specs.declared.entry.Reply.TheVariants as reply
 use Rattle.cml_board.specs.declared.entry.Entry.{Entry}
+use Rattle.cml_board.specs.Objects.{given_call, asked_call}
 use Rattle.cml_board.specs.History.{entries_in, Lawful, answer}
 use Rattle.cml_grammar.specs.declared.forms.Makes.{Makes}
 use Rattle.cml_grammar.specs.declared.forms.Makes.TheVariants as makes
@@ -17,6 +21,7 @@ use Rattle.cml_grammar.specs.declared.forms.Action.TheVariants as action
 use Rattle.cml_grammar.specs.Script.{SourceLine, Lines}
 use Rattle.cml_grammar.specs.Meaning.{names_of, makes_of, action_of, seat_of_step}
 use Rattle.cml_grammar.specs.Giving.{is_giving, names_before}
+use Rattle.cml_grammar.specs.Reading.{used_by}
 use Rattle.cml_grammar.specs.Rings.{makes_feed, capacity_of, first_ring}
 use Rattle.cml_script.specs.declared.binding.Binding.{Binding}
 use Rattle.cml_script.specs.declared.binding.Binding.TheVariants as binding
@@ -105,9 +110,9 @@ feed_route (Some feed) = route.Feed feed
 -- how a step of this seat goes: a send or a multicast by the seat's lane to the object, where a line lays one, a poll of a
 -- feed by that feed, and all else by the seat
 abbrev pub route_of : Lines → Option ℕ → Action → Route
-route_of script seat (action.Send at message) = lane_route (option_and_then (λ s. capacity_of (names_of script) script.lanes (s, at)) seat)
-route_of script seat (action.Multicast at message) = lane_route (option_and_then (λ s. capacity_of (names_of script) script.lanes (s, at)) seat)
-route_of script seat (action.Poll at) = feed_route (feed_at script at)
+route_of script seat (action.Give give.Send at message) = lane_route (option_and_then (λ s. capacity_of (names_of script) script.lanes (s, at)) seat)
+route_of script seat (action.Give give.Cast at message) = lane_route (option_and_then (λ s. capacity_of (names_of script) script.lanes (s, at)) seat)
+route_of script seat (action.Ask ask.Poll at) = feed_route (feed_at script at)
 route_of script seat _ = route.Seat
 
 abbrev pub route_of_line : Lines → SourceLine → Route
@@ -214,21 +219,14 @@ made_of script history at =
 
 -- What comes next.
 
--- what a step asks of the objects that its names stand for
+-- what a step asks of an object
+abbrev pub call_on : Action → Name → Call (List ℕ)
+call_on (action.Give give at message) name = given_call give name message
+call_on (action.Ask ask at) name = asked_call ask name
+
+-- and of the one that its name stands for
 abbrev pub call_of : (ℕ → Option ℕ) → Action → Option (Call (List ℕ))
-call_of object (action.Send at message) = option_map (λ o. call.Send (record { 0 = o }) message) (object at)
-call_of object (action.Multicast at message) = option_map (λ o. call.Cast (record { 0 = o }) message) (object at)
-call_of object (action.Recv at) = option_map (λ o. call.Recv (record { 0 = o })) (object at)
-call_of object (action.Poll at) = option_map (λ o. call.Poll (record { 0 = o })) (object at)
-call_of object (action.Port at) = option_map (λ o. call.NewPort (record { 0 = o })) (object at)
-call_of object (action.Copy at) = option_map (λ o. call.CopyPort (record { 0 = o })) (object at)
-call_of object (action.Close at) = option_map (λ o. call.ClosePort (record { 0 = o })) (object at)
-call_of object (action.Put at message) = option_map (λ o. call.Put (record { 0 = o }) message) (object at)
-call_of object (action.Get at) = option_map (λ o. call.Get (record { 0 = o })) (object at)
-call_of object (action.GetPoll at) = option_map (λ o. call.GetPoll (record { 0 = o })) (object at)
-call_of object (action.Take at) = option_map (λ o. call.Take (record { 0 = o })) (object at)
-call_of object (action.TakePoll at) = option_map (λ o. call.TakePoll (record { 0 = o })) (object at)
-call_of object (action.Swap at message) = option_map (λ o. call.Swap (record { 0 = o }) message) (object at)
+call_of object asked = option_map (λ o. call_on asked (record { 0 = o })) (object (used_by asked))
 
 -- the call of the i-th step, after this history
 abbrev pub step_call : Lines → History → ℕ → Option (Call (List ℕ))

@@ -1,10 +1,9 @@
 -- The inside of `play`: a script under way, what its stage shows, and what it keeps.
 use Rattle.std.specs.Prelude.{ℕ, ◌≡◌, ◌+◌, ◌<◌, List, ◌∷◌, ◌≤◌, ◌^◌, length, min, slice_get, Option, Some, None, ⊤, Bool, IsTrue, ◌↔◌}
 use Rattle.std.specs.Option.{option_and_then}
-use Rattle.cml_board.specs.declared.call.Name.{Name}
 use Rattle.cml_board.specs.declared.call.Call.{Call}
 use Rattle.cml_board.specs.declared.call.Call.TheVariants as call
-use Rattle.cml_board.specs.declared.call.Kind.{Kind}
+use Rattle.cml_calls.specs.declared.kind.Kind.{Kind}
 use Rattle.cml_board.specs.declared.entry.Who.TheVariants.{Seat}
 use Rattle.cml_board.specs.declared.entry.Entry.{Entry}
 use Rattle.cml_board.specs.History.{entries_in, Lawful, kind_of, Fits, answer}
@@ -12,8 +11,6 @@ use Rattle.cml_grammar.specs.Script.{Lines}
 use Rattle.cml_grammar.specs.Meaning.{names_of}
 use Rattle.cml_grammar.specs.declared.forms.Makes.{Makes}
 use Rattle.cml_grammar.specs.declared.forms.Makes.TheVariants as makes
-use Rattle.cml_grammar.specs.declared.forms.Action.{Action}
-use Rattle.cml_grammar.specs.declared.forms.Action.TheVariants as action
 use Rattle.cml_grammar.specs.Reading.{IsChannelAt}
 use Rattle.cml_grammar.specs.Rings.{first_ring}
 use Rattle.cml_script.specs.declared.binding.Binding.{Binding}
@@ -46,22 +43,6 @@ pub record Stands (play : Play) (counts : List ℕ) (bindings : List Binding) : 
 -- one entry more was performed
 abbrev pub with_entry : Play → Entry (List ℕ) → Play
 with_entry play entry = record { script = play.script; history = entry ∷ play.history; limit = play.limit }
-
--- what a step asks of the object that its name stands for
-abbrev pub call_on : Action → Name → Call (List ℕ)
-call_on (action.Send at message) name = call.Send name message
-call_on (action.Multicast at message) name = call.Cast name message
-call_on (action.Recv at) name = call.Recv name
-call_on (action.Poll at) name = call.Poll name
-call_on (action.Port at) name = call.NewPort name
-call_on (action.Copy at) name = call.CopyPort name
-call_on (action.Close at) name = call.ClosePort name
-call_on (action.Put at message) name = call.Put name message
-call_on (action.Get at) name = call.Get name
-call_on (action.GetPoll at) name = call.GetPoll name
-call_on (action.Take at) name = call.Take name
-call_on (action.TakePoll at) name = call.TakePoll name
-call_on (action.Swap at message) name = call.Swap name message
 
 -- the earlier of two steps, where there are two
 abbrev pub earlier_of : Option ℕ → Option ℕ → Option ℕ

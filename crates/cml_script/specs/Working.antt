@@ -6,7 +6,6 @@ use Rattle.std.specs.declared.alloc.AllocError.{AllocError}
 use Rattle.cml_board.specs.declared.call.Name.{Name}
 use Rattle.cml_board.specs.declared.call.Call.{Call}
 use Rattle.cml_board.specs.declared.call.Call.TheVariants.{NewPort}
-use Rattle.cml_board.specs.declared.call.Call.TheVariants as call
 use Rattle.cml_board.specs.declared.entry.Who.{Who}
 use Rattle.cml_board.specs.declared.entry.Who.TheVariants.{Seat, Lane, Feed}
 use Rattle.cml_board.specs.declared.entry.Reply.{Reply}
@@ -14,6 +13,7 @@ use Rattle.cml_board.specs.declared.entry.Reply.TheVariants as reply
 use Rattle.cml_board.specs.declared.entry.Entry.{Entry}
 use Rattle.cml_board.specs.declared.outcome.Refusal.{Refusal}
 use Rattle.cml_board.specs.declared.outcome.Refusal.TheVariants.{JournalFull, NoMemory}
+use Rattle.cml_board.specs.Objects.{row_of}
 use Rattle.cml_board.specs.History.{entries_in}
 use Rattle.cml_grammar.specs.Script.{SourceLine, Lines}
 use Rattle.cml_grammar.specs.Meaning.{names_of, makes_of}
@@ -68,11 +68,7 @@ with_refused refusal made = record made { refused = Some refusal }
 
 -- a call that waits where it can't be answered
 abbrev pub waits : Call (List ℕ) → Bool
-waits (call.Recv name) = true
-waits (call.Get name) = true
-waits (call.Take name) = true
-waits (call.Swap name message) = true
-waits _ = false
+waits asked = (row_of asked).blocks
 
 -- no lane may be open while such a call waits
 abbrev pub MayCall : Call (List ℕ) → Option Made → Type 0

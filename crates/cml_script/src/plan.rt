@@ -1,6 +1,8 @@
 //! What is known of a script before any of it is performed.
 ghost use Rattle.std.specs.Prelude.{◌≡◌, ◌+◌, ◌<◌, ◌^◌, [], length, take, slice_get, Some, All, IfOk, IfSome};
 ghost use Rattle.std.specs.Option.{option_map};
+ghost use Rattle.cml_calls.specs.Shown.{shown};
+ghost use Rattle.cml_calls.specs.Table.{is_name, names_one};
 ghost use Rattle.cml_board.specs.History.{no_entries, entries_in};
 ghost use Rattle.cml_grammar.specs.Rings.{makes_feed};
 ghost use Rattle.cml_script.specs.Counting.{how_many};
@@ -12,7 +14,7 @@ ghost use Rattle.cml_script.specs.Left.{laid_count};
 
 use crate::binding::Binding;
 use crate::route::Route;
-use cml_board::Name;
+use cml_board::{Ask, Give, Name, ReplyKind, Shape};
 use cml_grammar::{Action, Makes, Script, Step};
 use std::alloc::{AllocError, Global};
 use std::marker::Model;
@@ -266,20 +268,11 @@ fn route_of(script: &Script, feeds: &[usize], step: &Step) -> Route
     ensures fits { HasLaneRoom result }
 {
     match &step.action {
-        Action::Send(at, _) | Action::Multicast(at, _) => {
+        Action::Give(Give::Send | Give::Cast, at, _) => {
             lane_route(script.lane_of(step.seat, *at))
         }
-        Action::Poll(at) => feed_route(feed_at(script, feeds, *at)),
-        Action::Recv(_)
-        | Action::Port(_)
-        | Action::Copy(_)
-        | Action::Close(_)
-        | Action::Put(_, _)
-        | Action::Get(_)
-        | Action::GetPoll(_)
-        | Action::Take(_)
-        | Action::TakePoll(_)
-        | Action::Swap(_, _) => Route::Seat,
+        Action::Ask(Ask::Poll, at) => feed_route(feed_at(script, feeds, *at)),
+        Action::Give(_, _, _) | Action::Ask(_, _) => Route::Seat,
     }
 }
 
@@ -346,7 +339,22 @@ fn number_givings(alloc: Global, script: &Script) -> Result<Vec<Option<usize>>, 
 fn gives_name(action: &Action) -> bool
     ensures { result ≡ gives_name action.now }
 {
-    matches!(action, Action::Port(_) | Action::Copy(_))
+    match action {
+        Action::Give(_, _, _) => false,
+        Action::Ask(ask, _) => names_one(ask.shape()),
+    }
+}
+
+fn names_one(shape: Shape) -> bool
+    ensures { result ≡ names_one (shown shape) }
+{
+    shape.replies.iter().any(|reply| is_name(*reply))
+}
+
+fn is_name(reply: ReplyKind) -> bool
+    ensures { result ≡ is_name reply }
+{
+    matches!(reply, ReplyKind::Made)
 }
 
 /// By thread, the positions of the steps that its seat performs.

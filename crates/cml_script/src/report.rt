@@ -1,7 +1,7 @@
 //! The report's lines.
 ghost use Rattle.std.specs.Prelude.{◌≡◌, ◌++◌, [], reverse, slice_get, Some, IfOk, OnOk, string_bytes, codes};
 ghost use Rattle.std.specs.Fmt.{decimal};
-ghost use Rattle.cml_board.specs.declared.call.Kind.TheVariants as kind;
+ghost use Rattle.cml_calls.specs.declared.kind.Kind.TheVariants as kind;
 ghost use Rattle.cml_board.specs.History.{no_entries, kind_of};
 ghost use Rattle.cml_grammar.specs.declared.names.Named.TheVariants as called;
 ghost use Rattle.cml_grammar.specs.Meaning.{names_of};

@@ -1,6 +1,6 @@
 //! What a report tells of.
 ghost use Rattle.std.specs.Prelude.{◌≡◌, Some, None, reverse, MatchOption, IfSome};
-ghost use Rattle.cml_board.specs.declared.call.Kind.{Kind};
+ghost use Rattle.cml_calls.specs.declared.kind.Kind.{Kind};
 ghost use Rattle.cml_board.specs.History.{no_entries, Lawful, kind_of};
 ghost use Rattle.cml_grammar.specs.Meaning.{names_of};
 ghost use Rattle.cml_script.specs.Counting.{how_many};

@@ -1,7 +1,7 @@
 //! A script under way on a board.
 ghost use Rattle.std.specs.Prelude.{◌≡◌, ◌≢◌, ◌↔◌, ℕ, ◌+◌, ◌-◌, ◌<◌, ◌≤◌, ◌^◌, List, [], ◌∷◌, length, slice_get, false, Some, None, IfOk, OnOk, OnErr, MatchOption, MatchBool, IsTrue, IfSome, IsSome};
 ghost use Rattle.cml_board.specs.History.{no_entries, entries_in, Fits, Lawful, kind_of};
-ghost use Rattle.cml_board.specs.declared.call.Kind.{Kind};
+ghost use Rattle.cml_calls.specs.declared.kind.Kind.{Kind};
 ghost use Rattle.cml_board.specs.declared.entry.Reply.{Reply};
 ghost use Rattle.cml_board.specs.declared.entry.Entry.{Entry};
 ghost use Rattle.cml_grammar.specs.Meaning.{names_of};

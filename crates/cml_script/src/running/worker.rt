@@ -1,13 +1,13 @@
 //! What a thread does.
-ghost use Rattle.std.specs.Prelude.{◌≡◌, ◌+◌, ◌<◌, ◌^◌, ◌⊎◌, ◌&&◌, not, true, Some, Ok, length, IfSome, IfOk, IfErr, IsSome, OnOk};
+ghost use Rattle.std.specs.Prelude.{◌≡◌, ◌+◌, ◌<◌, ◌^◌, ◌⊎◌, ◌&&◌, not, true, Option, Some, Ok, length, IfSome, IfOk, IfErr, OnOk};
 ghost use Rattle.std.specs.Option.{option_map};
 ghost use Rattle.cml_board.specs.History.{entries_in};
 ghost use Rattle.cml_script.specs.Schedule.{History, step_call};
 ghost use Rattle.cml_script.specs.Bindings.{AreBindings};
-ghost use Rattle.cml_script.specs.Working.{BeginsAt, IsOpening, IsTurn, IsUnheld, Works, with_refused, stop_of, first_of, ending_with};
+ghost use Rattle.cml_script.specs.Working.{Made, BeginsAt, IsOpening, IsTurn, IsUnheld, Works, waits, with_refused, stop_of, first_of, ending_with};
 ghost use Rattle.cml_script.specs.Plan.{IsKnown, route_at};
 ghost use Rattle.cml_grammar.specs.Reading.{IsCapacity};
-ghost use Rattle.cml_script.specs.Course.{IsUnderWay, IsRefusedSo, closed_if, may_wait};
+ghost use Rattle.cml_script.specs.Course.{IsUnderWay, IsRefusedSo, closed_if};
 
 use super::caller::Caller;
 use super::gate::Gate;
@@ -128,10 +128,10 @@ fn perform_seated<C: Caller>(
     ensures way { OnOk result (IsUnderWay plan.now (thread + 1) (step + 1) course.new (C.made caller.new)) }
     ensures refused { IfErr result (λ refusal. IsRefusedSo refusal (C.made caller.old) (C.made caller.new)) }
 {
-    close_before(&plan.script().steps()[step].action, course, caller)?;
-    let Ok(call) = call_of(plan, step, course.made, &course.bindings) else {
+    let Ok(call) = call_of(plan, thread, step, course) else {
         return Err(caller.lack_memory());
     };
+    close_before(&call, course, caller)?;
     let answer = caller.call(call)?;
     let given = plan.given(step);
     bind(&mut course.bindings, given, answer.call(), answer.reply());
@@ -139,33 +139,30 @@ fn perform_seated<C: Caller>(
     Ok(())
 }
 
-/// Closes what lanes are open before a step that may wait.
+/// Closes what lanes are open before a call that may wait.
 fn close_before<C: Caller>(
-    action: &Action,
+    call: &Call<Text>,
     course: &mut Course,
     caller: &mut C,
 ) -> Result<(), Refusal>
     requires { C.goes_on caller.old ≡ true }
     ensures goes_on { OnOk result (C.goes_on caller.new ≡ true) }
-    ensures made { OnOk result (C.made caller.new ≡ closed_if (course.old.is_sending && may_wait action.now) (C.made caller.old)) }
+    ensures made { OnOk result (C.made caller.new ≡ closed_if (course.old.is_sending && waits call.now) (C.made caller.old)) }
     ensures refused { IfErr result (λ refusal. C.made caller.new ≡ option_map (with_refused refusal) (C.made caller.old)) }
-    ensures course { OnOk result (course.new ≡ record course.old { is_sending = course.old.is_sending && not (may_wait action.now) }) }
+    ensures course { OnOk result (course.new ≡ record course.old { is_sending = course.old.is_sending && not (waits call.now) }) }
 {
-    if course.is_sending && may_wait(action) {
+    if course.is_sending && may_wait(call) {
         caller.close_lanes()?;
         course.is_sending = false;
     }
     Ok(())
 }
 
-/// Whether a step waits where it can't be answered.
-fn may_wait(action: &Action) -> bool
-    ensures { result ≡ may_wait action.now }
+/// Whether a call waits where it can't be answered.
+fn may_wait(call: &Call<Text>) -> bool
+    ensures { result ≡ waits call.now }
 {
-    matches!(
-        action,
-        Action::Recv(_) | Action::Get(_) | Action::Take(_) | Action::Swap(_, _)
-    )
+    call.shape().blocks
 }
 
 /// Performs a step by the thread's lane.
@@ -189,31 +186,33 @@ fn send_apart<C: Caller>(
     ensures refused { IfErr result (λ refusal. C.made caller.new ≡ option_map (with_refused refusal) (C.made caller.old)) }
 {
     match &plan.script().steps()[step].action {
-        Action::Send(at, message) | Action::Multicast(at, message) => {
+        Action::Give(_, at, message) => {
             let Ok(message) = message.clone() else {
                 return Err(caller.lack_memory());
             };
             course.is_sending = true;
             caller.send_apart(plan.number(*at), capacity, message)
         }
-        _ => unreachable!(),
+        Action::Ask(_, _) => unreachable!(),
     }
 }
 
-/// The call of a step, with a message of its own, where so many entries are made and steps gave their names this.
+/// The call of a step that the thread's seat performs next, with a message of its own.
 fn call_of(
     plan: &Plan<'_>,
+    thread: usize,
     step: usize,
-    made: usize,
-    bindings: &[Binding],
+    course: &Course,
 ) -> Result<Call<Text>, AllocError>
-    requires within { step < length plan.now.steps }
-    requires stands { (history : History) × (entries_in history ≡ made) × AreBindings plan.now history bindings.now × IsSome (step_call plan.now history step) }
-    ensures { IfOk result (λ call. (history : History) → entries_in history ≡ made → AreBindings plan.now history bindings.now
+    requires known { IsKnown plan.now }
+    requires turn { IsTurn plan.now (thread + 1) step }
+    requires called { route_at plan.now step ≡ Route.Seat }
+    requires way { (made : Option Made) × IsUnderWay plan.now (thread + 1) step course.now made }
+    ensures { IfOk result (λ call. (history : History) → entries_in history ≡ course.now.made → AreBindings plan.now history course.now.bindings.items
         → step_call plan.now history step ≡ Some call) }
 {
     let action = &plan.script().steps()[step].action;
-    let object = plan.object(used_by(action), made as u64, bindings);
+    let object = plan.object(used_by(action), course.made as u64, &course.bindings);
     let call = call_on(action, object.unwrap())?;
     Ok(call)
 }

@@ -1,7 +1,7 @@
 use Rattle.std.proofs.Common.{refl, arith}
 use Rattle.std.proofs.lemmas.Grind.{common_steps}
-use Rattle.cml_board.specs.declared.call.Kind.TheVariants as kind
-use Rattle.cml_board.specs.Objects.{is_source, is_receiver}
+use Rattle.cml_calls.specs.declared.kind.Kind.TheVariants as kind
+use Rattle.cml_calls.specs.Kinds.{is_source, is_receiver}
 use Rattle.cml_grammar.specs.Meaning.{names_of}
 use Rattle.cml_script.proofs.FitLemmas.{mailbox_at}
 use Rattle.cml_script.proofs.CountLemmas.{some_count, some_owed, kind_there, open_there}

@@ -1,6 +1,6 @@
 use Rattle.std.proofs.Common.{refl}
-use Rattle.cml_board.specs.declared.call.Kind.TheVariants as kind
-use Rattle.cml_board.specs.Objects.{is_receiver}
+use Rattle.cml_calls.specs.declared.kind.Kind.TheVariants as kind
+use Rattle.cml_calls.specs.Kinds.{is_receiver}
 use Rattle.cml_grammar.specs.Meaning.{names_of}
 use Rattle.cml_script.proofs.FitLemmas.{port_at}
 use Rattle.cml_script.proofs.CountLemmas.{some_count, some_start, kind_there}

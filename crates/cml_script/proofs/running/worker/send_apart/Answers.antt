@@ -1,13 +1,12 @@
-use Rattle.std.proofs.Common.{◌≡◌, ◌<◌, ◌+◌, ◌∙◌, Some, length, refl, ap, sym, inl, inr, arith}
+use Rattle.std.proofs.Common.{◌≡◌, ◌<◌, ◌+◌, ◌∙◌, Some, length, refl, ap, sym, arith}
 use Rattle.std.proofs.lemmas.List.{length-map}
-use Rattle.cml_grammar.specs.declared.forms.Action.TheVariants as action
 use Rattle.cml_grammar.specs.declared.script.Step.{Step}
 use Rattle.cml_grammar.specs.Reading.{source_of}
 use Rattle.cml_script.specs.declared.route.Route.TheVariants as route
 use Rattle.cml_script.specs.Apart.{by_lane, act_of_line}
 use Rattle.cml_script.specs.Schedule.{is_by_ring}
 use Rattle.cml_script.proofs.WorkLemmas.{on_ok, turn_within, turn_goes, more_gone}
-use Rattle.cml_script.proofs.SendLemmas.{lane_sends, lane_acts, target_of_send, target_of_multicast}
+use Rattle.cml_script.proofs.SendLemmas.{lane_gives, lane_target, lane_acts}
 use Rattle.cml_script.proofs.running.worker.send_apart.Goals as goal
 
 pub unreachable-requires : goal.unreachable-requires
@@ -15,17 +14,14 @@ unreachable-requires g c =
     let steps = rw c.script.ensures at c.steps.ensures in
     let items = c.steps.result.now in
     let within : c.args.step < length items = omega (arith, turn_within c.args.plan.now (c.args.thread + 1) c.args.step c.requires.turn, ap length steps.lines, length-map items (λ (x : Step). source_of x.line)) in
-    lane_sends c.args.plan.now items c.args.step c.args.capacity _ steps.lines steps.asked within c.requires.laid c.in_default.not-Send c.in_default.not-Multicast
+    lane_gives c.args.plan.now items c.args.step c.args.capacity _ steps.lines steps.asked within c.requires.laid _ _ c.in-Ask.is
 
 pub number-requires : goal.number-requires
 number-requires g c =
     let steps = rw c.script.ensures at c.steps.ensures in
     let items = c.steps.result.now in
     let within : c.args.step < length items = omega (arith, turn_within c.args.plan.now (c.args.thread + 1) c.args.step c.requires.turn, ap length steps.lines, length-map items (λ (x : Step). source_of x.line)) in
-    elim c.in-Send.is [
-      | inl e ↦ target_of_send c.args.plan.now c.requires.known items c.args.step c.in-Send.at c.in-Send.message _ steps.asked within e
-      | inr e ↦ target_of_multicast c.args.plan.now c.requires.known items c.args.step c.in-Send.at c.in-Send.message _ steps.asked within e
-    ]
+    lane_target c.args.plan.now items c.args.step c.args.capacity _ steps.lines steps.asked within c.requires.laid c.requires.known _ c.in-Give.at c.in-Give.message c.in-Give.is
 
 pub returns-clause-way : goal.returns-clause-way
 returns-clause-way g c =
@@ -36,13 +32,10 @@ returns-clause-way g c =
     let items = c.steps.result.now in
     let within : c.args.step < length items = omega (arith, turn_within script seat c.args.step turn, ap length steps.lines, length-map items (λ (x : Step). source_of x.line)) in
     let goes = turn_goes script seat c.args.step turn (route.Lane c.args.capacity) c.requires.laid in
-    let at = c.in-Send.at in
-    let message = c.in-Send.message in
-    let acts = lane_acts script items c.args.step c.args.capacity _ turn.line in
-    let sends : act_of_line script turn.line ≡ Some (by_lane c.number.result c.args.capacity message) = elim c.in-Send.is [
-      | inl e ↦ acts (action.Send at message) steps.lines steps.asked within turn.found goes e
-      | inr e ↦ acts (action.Multicast at message) steps.lines steps.asked within turn.found goes e
-    ] ∙ ap (λ n. Some (by_lane (record { 0 = n }) c.args.capacity message)) (sym c.number.ensures) in
+    let at = c.in-Give.at in
+    let message = c.in-Give.message in
+    let sends : act_of_line script turn.line ≡ Some (by_lane c.number.result c.args.capacity message) = lane_acts script items c.args.step c.args.capacity _ turn.line _ steps.lines steps.asked within turn.found goes c.in-Give.is
+    ∙ ap (λ n. Some (by_lane (record { 0 = n }) c.args.capacity message)) (sym c.number.ensures) in
     let shared : act_of_line script turn.line ≡ Some (by_lane c.number.result c.args.capacity c.in-Ok.message) = sends ∙ ap (λ m. Some (by_lane c.number.result c.args.capacity m)) (sym c.in-Ok.ensures.cases) in
     on_ok c.send_apart.result
     (λ made. more_gone script seat c.args.step c.requires.way turn (by_lane c.number.result c.args.capacity c.in-Ok.message) _ (g.C.Caller.made c.send_apart.new.self) (ap is_by_ring goes) shared made refl refl refl)

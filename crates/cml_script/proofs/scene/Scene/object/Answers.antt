@@ -1,5 +1,5 @@
 use Rattle.std.proofs.Common.{◌≡◌, None, Some, MatchOption, IfSome, subst}
-use Rattle.cml_board.specs.declared.call.Kind.{Kind}
+use Rattle.cml_calls.specs.declared.kind.Kind.{Kind}
 use Rattle.cml_board.specs.History.{kind_of}
 use Rattle.cml_grammar.specs.Meaning.{names_of}
 use Rattle.cml_script.specs.Schedule.{History, made_of}
