@@ -4,13 +4,14 @@ use Rattle.std.specs.List.{join_with_byte}
 use Rattle.std.specs.Option.{option_map, option_map_or, option_and_then}
 use Rattle.std.specs.Str.{bytes_eq}
 use Rattle.cml_grammar.specs.declared.forms.Action.{Action}
-use Rattle.cml_grammar.specs.declared.forms.Action.TheVariants.{Send, Multicast, Poll}
+use Rattle.cml_grammar.specs.declared.forms.Action.TheVariants.{Give, Ask}
+use Rattle.cml_grammar.specs.Forms.{verb_of}
 use Rattle.cml_grammar.specs.declared.names.Named.{Named}
 use Rattle.cml_grammar.specs.declared.names.Named.TheVariants as called
 use Rattle.cml_grammar.specs.Script.{SourceLine, Lines}
 use Rattle.cml_grammar.specs.Meaning.{names_of as given_by, action_of, seat_of_step}
 use Rattle.cml_grammar.specs.Rings.{capacity_of}
-use Rattle.cml_report.specs.Lines.{Words}
+use Rattle.cml_report.specs.Lines.{Words, makes_port}
 use Rattle.cml_report.specs.Shown.{texts}
 use Rattle.cml_chart.specs.declared.plan.Made.{Made as ReadMade}
 use Rattle.cml_chart.specs.declared.plan.Plan.{Plan}
@@ -31,7 +32,7 @@ declared_in (kind ∷ rest) = made_at kind rest (if bytes_eq kind (codes "port")
 
 -- the port that a step makes: its name stands behind what it is made of
 abbrev pub port_in : Words → Option Made
-port_in (thread ∷ word ∷ rest) = if bytes_eq word (codes "port") || bytes_eq word (codes "copy") then made_at (codes "port") rest 1 else None
+port_in (thread ∷ word ∷ rest) = option_and_then (λ step. if makes_port step then made_at (codes "port") rest 1 else None) (verb_of word)
 port_in _ = None
 
 abbrev pub is_kind : List ℕ → Made → Bool
@@ -68,12 +69,10 @@ abbrev pub is_feed : Named → Bool
 is_feed (called.Feed seat) = true
 is_feed _ = false
 
--- A step that has no row of its thread: a send or a multicast that goes by a lane of that thread, and a poll of a feed.
+-- A step that has no row of its thread: a message that goes by a lane of that thread, and a poll of a feed, the only call on a feed.
 abbrev pub goes_apart : Lines → Option ℕ → Action → Bool
-goes_apart script seat (Send at message) = has_lane script seat at
-goes_apart script seat (Multicast at message) = has_lane script seat at
-goes_apart script seat (Poll at) = option_map_or (λ g. is_feed g.1) (slice_get (given_by script) at) false
-goes_apart script seat _ = false
+goes_apart script seat (Give call at message) = has_lane script seat at
+goes_apart script seat (Ask call at) = option_map_or (λ g. is_feed g.1) (slice_get (given_by script) at) false
 
 abbrev pub is_apart : Lines → SourceLine → Bool
 is_apart script line =

@@ -1,5 +1,6 @@
 //! Which ports are open, and which of them a multicast goes to.
 use crate::chart::{Added, Chart, Row, column_of};
+use cml_calls::{Ask, Give};
 use cml_grammar::{Script, Verb, split_words};
 use cml_report::Act;
 use std::alloc::{AllocError, Global};
@@ -55,9 +56,9 @@ pub(crate) fn add_declared<'a>(
 fn follow<'a>(open: &mut Vec<Listener<'a>>, act: &Act<'a>) -> Added {
     let port = act.object;
     match (act.verb, act.with) {
-        (Verb::Close, _) => open.retain(|listener| listener.port != port),
-        (Verb::Port, Some(channel)) => open.push(Listener { port, channel })?,
-        (Verb::Copy, Some(source)) if act.reply == "made" => {
+        (Verb::Ask(Ask::ClosePort), _) => open.retain(|listener| listener.port != port),
+        (Verb::Ask(Ask::NewPort), Some(channel)) => open.push(Listener { port, channel })?,
+        (Verb::Ask(Ask::CopyPort), Some(source)) if act.reply == "made" => {
             if let Some(listener) = open.iter().find(|listener| listener.port == source) {
                 let channel = listener.channel;
                 open.push(Listener { port, channel })?;
@@ -77,7 +78,7 @@ fn marks_of(
 ) -> Result<Vec<usize>, AllocError> {
     let mut marks = Vec::new(alloc);
     for listener in open {
-        if matches!(act.verb, Verb::Multicast)
+        if act.verb == Verb::Give(Give::Cast)
             && listener.channel == act.object
             && let Some(column) = column_of(&chart.names, listener.port)
         {

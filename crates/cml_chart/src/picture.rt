@@ -1,8 +1,8 @@
 //! What is drawn of a run, as lines of text or as SVG: its columns, some rows of its chart, and what is written at them.
 use crate::chart::{Added, Course};
 use crate::marks::Drawn;
-use cml_grammar::Verb;
-use cml_report::Act;
+use cml_calls::ReplyKind;
+use cml_report::{Act, makes_port, replies_to};
 use std::fmt::Write;
 
 /// A column: its name, the kind over that, and what is said of an object under it, with a space in front.
@@ -60,8 +60,7 @@ impl Picture<'_, '_> {
 pub(crate) fn push_label(out: &mut String, act: &Act<'_>) -> Added {
     out.push_str(act.word)?;
     if let Some(with) = act.with {
-        let makes_port = matches!(act.verb, Verb::Port | Verb::Copy);
-        out.push_str(if makes_port { " of " } else { " " })?;
+        out.push_str(if makes_port(act.verb) { " of " } else { " " })?;
         out.push_str(with)?;
     }
     match act.reply {
@@ -75,14 +74,14 @@ pub(crate) fn is_missed(act: &Act<'_>) -> bool {
     matches!(act.reply, "none" | "put" | "closed")
 }
 
-/// Whether something goes to the object.
-pub(crate) fn points_out(act: &Act<'_>) -> bool {
-    act.with.is_some() || matches!(act.verb, Verb::Close)
+/// Whether the act is to get a message from the object.
+pub(crate) fn points_back(act: &Act<'_>) -> bool {
+    replies_to(act.verb).contains(&ReplyKind::Got)
 }
 
-/// Whether something comes from the object. With a swap both are so.
-pub(crate) fn points_back(act: &Act<'_>) -> bool {
-    !points_out(act) || matches!(act.verb, Verb::Swap)
+/// Whether something goes to the object. With a swap both are so.
+pub(crate) fn points_out(act: &Act<'_>) -> bool {
+    act.with.is_some() || !points_back(act)
 }
 
 /// Adds a step at which a thread stands, without the thread's name.

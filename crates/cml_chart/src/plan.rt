@@ -10,7 +10,8 @@ ghost use Rattle.cml_chart.specs.Plan.{made_at, declared_in, port_in, feed_in, o
 
 use crate::chart::{Added, add_name};
 use crate::following::Thread;
-use cml_grammar::{Action, Declaration, Named, Script, Step, split_words};
+use cml_grammar::{Action, Declaration, Named, Script, Step, Verb, split_words};
+use cml_report::makes_port;
 use indexmap::IndexSet;
 use std::alloc::{AllocError, Global};
 
@@ -116,7 +117,7 @@ fn port_in<'a>(words: &[&'a str]) -> Option<Made<'a>>
 {
     let (_, rest) = words.split_first()?;
     let (word, rest) = rest.split_first()?;
-    if *word == "port" || *word == "copy" {
+    if makes_port(Verb::of_word(word)?) {
         return made_at("port", rest, 1);
     }
     None
@@ -195,11 +196,8 @@ fn is_apart(script: &Script, step: &Step) -> bool
     ensures { result ≡ is_apart script.now (source_of step.now.line) }
 {
     match &step.action {
-        Action::Send(at, _) | Action::Multicast(at, _) => {
-            script.lane_of(step.seat, *at).is_some()
-        }
-        Action::Poll(at) => is_feed_at(script, *at),
-        _ => false,
+        Action::Give(_, at, _) => script.lane_of(step.seat, *at).is_some(),
+        Action::Ask(_, at) => is_feed_at(script, *at),
     }
 }
 

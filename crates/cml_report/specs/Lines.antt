@@ -1,16 +1,19 @@
 -- What the lines of a report are, by their words.
-use Rattle.std.specs.Prelude.{ℕ, Bool, true, false, not, ◌&&◌, ◌||◌, ◌==◌, List, [], ◌∷◌, length, slice_get, Option, Some, None, if◌then◌else◌, codes}
+use Rattle.std.specs.Prelude.{ℕ, Bool, true, false, not, ◌&&◌, ◌||◌, ◌==◌, List, [], ◌∷◌, length, Option, Some, None, if◌then◌else◌, codes}
 use Rattle.std.specs.Option.{option_map, option_and_then, option_or}
 use Rattle.std.specs.List.{list_any}
 use Rattle.std.specs.Str.{bytes_eq}
 use Rattle.std.specs.Str.Parse.{digits_value}
+use Rattle.cml_calls.specs.declared.shape.ReplyKind.{ReplyKind}
+use Rattle.cml_calls.specs.declared.shape.ReplyKind.TheVariants.{Done, Made, Got, Nothing, Put, Closed}
+use Rattle.cml_calls.specs.declared.table.Give.TheVariants.{Send, Cast}
+use Rattle.cml_calls.specs.declared.table.Ask.TheVariants.{Recv}
+use Rattle.cml_calls.specs.Table.{Row, given, asked, names_one}
 use Rattle.cml_grammar.specs.Names.{is_name, is_number}
 use Rattle.cml_grammar.specs.Words.{words_of}
-use Rattle.cml_grammar.specs.Forms.{verb_of, step_places}
+use Rattle.cml_grammar.specs.Forms.{verb_of}
 use Rattle.cml_grammar.specs.declared.forms.Verb.{Verb}
 use Rattle.cml_grammar.specs.declared.forms.Verb.TheVariants as verb
-use Rattle.cml_grammar.specs.declared.forms.Place.{Place}
-use Rattle.cml_grammar.specs.declared.forms.Place.TheVariants.{Fresh, Message}
 use Rattle.cml_text.specs.Text.{is_text}
 
 -- the texts of a line, wherever they lie in memory
@@ -81,28 +84,34 @@ doer_of [] = None
 doer_of (word ∷ []) = if is_name word then Some (thread word, []) else None
 doer_of (word ∷ number ∷ rest) = if is_name word then Some (thread word, number ∷ rest) else option_map (λ doer. (doer, rest)) (ring_of word number)
 
+-- the row of a step's call
+abbrev pub row_of : Verb → Row
+row_of (verb.Give call) = given call
+row_of (verb.Ask call) = asked call
+
+-- a new port's name comes back
+abbrev pub makes_port : Verb → Bool
+makes_port step = names_one (row_of step)
+
+-- what a reply of each kind says: the message that came, or one word
+abbrev pub says : ReplyKind → List ℕ → Bool
+says Done reply = bytes_eq reply (codes "done")
+says Made reply = bytes_eq reply (codes "made")
+says Got reply = is_message reply
+says Nothing reply = bytes_eq reply (codes "none")
+says Put reply = bytes_eq reply (codes "put")
+says Closed reply = bytes_eq reply (codes "closed")
+
 -- which replies a step may have
 abbrev pub may_answer : Verb → List ℕ → Bool
-may_answer verb.Send reply = bytes_eq reply (codes "done")
-may_answer verb.Multicast reply = bytes_eq reply (codes "done")
-may_answer verb.Recv reply = is_message reply || bytes_eq reply (codes "closed")
-may_answer verb.Poll reply = is_message reply || bytes_eq reply (codes "none") || bytes_eq reply (codes "closed")
-may_answer verb.Port reply = bytes_eq reply (codes "made")
-may_answer verb.Copy reply = bytes_eq reply (codes "made") || bytes_eq reply (codes "closed")
-may_answer verb.Close reply = bytes_eq reply (codes "done") || bytes_eq reply (codes "closed")
-may_answer verb.Put reply = bytes_eq reply (codes "done") || bytes_eq reply (codes "put")
-may_answer verb.Get reply = is_message reply
-may_answer verb.GetPoll reply = is_message reply || bytes_eq reply (codes "none")
-may_answer verb.Take reply = is_message reply
-may_answer verb.TakePoll reply = is_message reply || bytes_eq reply (codes "none")
-may_answer verb.Swap reply = is_message reply
+may_answer step reply = list_any (λ kind. says kind reply) (row_of step).replies
 
 -- a thread may do anything; a lane sends or multicasts, and a feed receives a message
 abbrev pub may_do : Doer → Verb → List ℕ → Bool
 may_do (thread name) step reply = may_answer step reply
-may_do (lane number) verb.Send reply = bytes_eq reply (codes "done")
-may_do (lane number) verb.Multicast reply = bytes_eq reply (codes "done")
-may_do (feed number) verb.Recv reply = is_message reply
+may_do (lane number) (verb.Give Send) reply = says Done reply
+may_do (lane number) (verb.Give Cast) reply = says Done reply
+may_do (feed number) (verb.Ask Recv) reply = says Got reply
 may_do _ _ _ = false
 
 -- a message that a thread gives stands as in the script, and one that a lane moved as in a reply
@@ -116,19 +125,18 @@ behind_step (last ∷ reply ∷ []) = Some (None, last, reply)
 behind_step (first ∷ last ∷ reply ∷ rest) = if length rest == 0 then Some (Some first, last, reply) else None
 behind_step _ = None
 
--- the object of a step, by what its second place is for, and what stands beside it: a message, or what a port is made of, which stands
--- before the port
-abbrev pub object_of : Doer → Option Place → Option (List ℕ) → List ℕ → Option (List ℕ × Option (List ℕ))
-object_of doer None None last = Some (last, None)
-object_of doer (Some Fresh) (Some source) last = Some (last, Some source)
-object_of doer (Some Message) (Some object) last = if is_given_by doer last then Some (object, Some last) else None
-object_of doer _ _ _ = None
+-- the object of a step, and what stands beside it: a message, or what a port is made of, which stands before the port
+abbrev pub object_of : Doer → Verb → Option (List ℕ) → List ℕ → Option (List ℕ × Option (List ℕ))
+object_of doer (verb.Give call) (Some object) last = if is_given_by doer last then Some (object, Some last) else None
+object_of doer (verb.Give call) None last = None
+object_of doer (verb.Ask call) (Some source) last = if makes_port (verb.Ask call) then Some (last, Some source) else None
+object_of doer (verb.Ask call) None last = if makes_port (verb.Ask call) then None else Some (last, None)
 
 abbrev pub deed_with : Doer → Verb → List ℕ → List ℕ → Option (List ℕ) × List ℕ × List ℕ → Option Deed
 deed_with doer step word line b =
     if not (may_do doer step b.2) then None
     else option_map (λ (o : List ℕ × Option (List ℕ)). record { doer = doer; verb = step; word = word; object = o.0; with = o.1; reply = b.2; line = line })
-    (option_and_then (object_of doer (slice_get (step_places step) 1) b.0) (before_colon b.1))
+    (option_and_then (object_of doer step b.0) (before_colon b.1))
 
 -- a step, and its reply
 abbrev pub deed_by : Doer → List ℕ → Words → Option Deed

@@ -7,5 +7,6 @@ mod reading;
 mod report;
 
 pub use faults::{Fault, What};
+pub use lines::{makes_port, replies_to};
 pub use reading::read_report;
 pub use report::{Act, Actor, End, Object, Report};

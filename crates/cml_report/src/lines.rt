@@ -1,13 +1,13 @@
 //! What the lines of a report are, by their words.
-ghost use Rattle.std.specs.Prelude.{◌≡◌, slice_get};
+ghost use Rattle.std.specs.Prelude.{◌≡◌};
 ghost use Rattle.std.specs.Option.{option_map};
-ghost use Rattle.cml_grammar.specs.Forms.{step_places};
 ghost use Rattle.cml_grammar.specs.Names.{is_number};
-ghost use Rattle.cml_report.specs.Lines.{doer_of, may_answer, may_do, behind_step, object_of, deed_by, deed_of, is_closing, thing_of, may_leave, ended_of, line_by, before_colon, is_message, is_for, fits};
+ghost use Rattle.cml_report.specs.Lines.{doer_of, row_of, makes_port, says, may_answer, may_do, behind_step, object_of, deed_by, deed_of, is_closing, thing_of, may_leave, ended_of, line_by, before_colon, is_message, is_for, fits};
 ghost use Rattle.cml_report.specs.Shown.{texts, shown_actor, shown_act, shown_object, shown_end, shown_line};
 
 use crate::report::{Act, Actor, End, Line, Object};
-use cml_grammar::{Place, Verb, is_name, number_of};
+use cml_calls::{Ask, Give, ReplyKind};
+use cml_grammar::{Verb, is_name, number_of};
 use cml_text::is_text;
 
 /// The line that these words are behind so many lines of the first part: the last one, or else one of the second part or of the
@@ -91,29 +91,17 @@ fn object_of<'a>(
     first: Option<&'a str>,
     last: &'a str,
 ) -> Option<(&'a str, Option<&'a str>)>
-    ensures { option_map (λ found. (found.0.now, option_map (λ w. w.now) found.1)) result ≡ object_of (shown_actor actor.entry) (slice_get (step_places verb) 1) (option_map (λ w. w.now) first.entry) last.now }
+    ensures { option_map (λ found. (found.0.now, option_map (λ w. w.now) found.1)) result ≡ object_of (shown_actor actor.entry) verb (option_map (λ w. w.now) first.entry) last.now }
 {
     let is_given = match actor {
         Actor::Lane(_) => is_message(last),
         Actor::Thread(_) | Actor::Feed(_) => is_text(last.as_bytes()),
     };
-    match (second_place(verb), first) {
-        (None, None) => Some((last, None)),
-        (Some(Place::Fresh), Some(source)) => Some((last, Some(source))),
-        (Some(Place::Message), Some(object)) if is_given => Some((object, Some(last))),
+    match (verb, first) {
+        (Verb::Give(_), Some(object)) if is_given => Some((object, Some(last))),
+        (Verb::Ask(_), Some(source)) if makes_port(verb) => Some((last, Some(source))),
+        (Verb::Ask(_), None) if !makes_port(verb) => Some((last, None)),
         _ => None,
-    }
-}
-
-/// What a step has beside its object: a message, or the port that it makes.
-fn second_place(verb: Verb) -> Option<Place>
-    ensures { result ≡ slice_get (step_places verb) 1 }
-{
-    match verb {
-        Verb::Send | Verb::Multicast | Verb::Put | Verb::Swap => Some(Place::Message),
-        Verb::Port | Verb::Copy => Some(Place::Fresh),
-        Verb::Recv | Verb::Poll | Verb::Close => None,
-        Verb::Get | Verb::GetPoll | Verb::Take | Verb::TakePoll => None,
     }
 }
 
@@ -122,26 +110,47 @@ fn may_do(actor: Actor<'_>, verb: Verb, reply: &str) -> bool
 {
     match (actor, verb) {
         (Actor::Thread(_), _) => may_answer(verb, reply),
-        (Actor::Lane(_), Verb::Send | Verb::Multicast) => reply == "done",
-        (Actor::Feed(_), Verb::Recv) => is_message(reply),
+        (Actor::Lane(_), Verb::Give(Give::Send | Give::Cast)) => says(ReplyKind::Done, reply),
+        (Actor::Feed(_), Verb::Ask(Ask::Recv)) => says(ReplyKind::Got, reply),
         _ => false,
     }
+}
+
+/// The kinds of reply that a step may have.
+pub fn replies_to(verb: Verb) -> &'static [ReplyKind]
+    ensures { result.now ≡ (row_of verb).replies }
+{
+    match verb {
+        Verb::Give(give) => give.shape().replies,
+        Verb::Ask(ask) => ask.shape().replies,
+    }
+}
+
+/// Whether a step makes a port, whose name then stands in the report.
+pub fn makes_port(verb: Verb) -> bool
+    ensures { result ≡ makes_port verb }
+{
+    replies_to(verb).contains(&ReplyKind::Made)
 }
 
 /// Whether a step may have this reply.
 fn may_answer(verb: Verb, reply: &str) -> bool
     ensures { result ≡ may_answer verb reply.now }
 {
-    match verb {
-        Verb::Send | Verb::Multicast => reply == "done",
-        Verb::Recv => is_message(reply) || reply == "closed",
-        Verb::Poll => is_message(reply) || reply == "none" || reply == "closed",
-        Verb::Port => reply == "made",
-        Verb::Copy => reply == "made" || reply == "closed",
-        Verb::Close => reply == "done" || reply == "closed",
-        Verb::Put => reply == "done" || reply == "put",
-        Verb::Get | Verb::Take | Verb::Swap => is_message(reply),
-        Verb::GetPoll | Verb::TakePoll => is_message(reply) || reply == "none",
+    replies_to(verb).iter().any(|kind| says(*kind, reply))
+}
+
+/// Whether a reply of this kind says this.
+fn says(kind: ReplyKind, reply: &str) -> bool
+    ensures { result ≡ says kind reply.now }
+{
+    match kind {
+        ReplyKind::Done => reply == "done",
+        ReplyKind::Made => reply == "made",
+        ReplyKind::Got => is_message(reply),
+        ReplyKind::Nothing => reply == "none",
+        ReplyKind::Put => reply == "put",
+        ReplyKind::Closed => reply == "closed",
     }
 }
 

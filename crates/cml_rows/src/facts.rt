@@ -157,8 +157,9 @@ pub fn tell_call<M: Numbered>(told: &mut Told, call: &Call<M>) {
         }
         None => told.say("no object"),
     }
+    let takers = call.shape().takers;
     for kind in KINDS.iter() {
-        if kind.takes(call) {
+        if takers.has(*kind) {
             told.say(" ");
             told.say(kind_word(*kind));
         }

@@ -3,7 +3,7 @@ ghost use Rattle.std.specs.Prelude.{◌^◌, ◌≤◌};
 
 use crate::numbered::{Maker, Numbered};
 use crate::told::Told;
-use cml_board::{Call, Name, Reply};
+use cml_board::{Ask, Call, Give, Make, Name, Reply};
 
 /// Whether a line asks for nothing: it is empty, a note, or a case's name.
 pub fn is_note(line: &str) -> bool {
@@ -38,19 +38,27 @@ pub fn limit_in(lines: &[String]) -> u64
 /// The call that these words ask for. An object goes by its number.
 pub fn call_of<M: Numbered>(told: &mut Told, maker: &Maker<M>, words: &[&str]) -> Option<Call<M>> {
     let (word, rest) = words.split_first()?;
-    let Some(value) = message_in(word, rest) else {
-        return bare_call_of(word, rest);
-    };
+    if let Some(make) = Make::of_word(word) {
+        return making_call(told, maker, make, rest);
+    }
     let name = object(rest)?;
-    Some(call_with(word, name, maker.make(told, value)?))
+    if let Some(give) = Give::of_word(word) {
+        let message = maker.make(told, number(rest, 1)?)?;
+        return Some(Call::give(give, name, message));
+    }
+    Some(Call::ask(Ask::of_word(word)?, name))
 }
 
-/// The number of the message that stands behind a word.
-fn message_in(word: &str, rest: &[&str]) -> Option<u64> {
-    match word {
-        "mvar" => number(rest, 0),
-        "send" | "multicast" | "put" | "swap" => number(rest, 1),
-        _ => None,
+/// The call that makes an object. An m-variable holds the number that stands behind the word, if one does.
+fn making_call<M: Numbered>(
+    told: &mut Told,
+    maker: &Maker<M>,
+    make: Make,
+    rest: &[&str],
+) -> Option<Call<M>> {
+    match number(rest, 0) {
+        Some(value) if make == Make::MVar => Some(Call::MVarInit(maker.make(told, value)?)),
+        _ => Some(Call::make(make)),
     }
 }
 
@@ -62,43 +70,6 @@ pub fn call_and_copy<M: Numbered>(
 ) -> Option<(Call<M>, Call<M>)> {
     let call = call_of(told, maker, words)?;
     Some((call, call_of(told, maker, words)?))
-}
-
-/// The call that a word with a message asks for. One that makes a variable has no object yet.
-fn call_with<M: Numbered>(word: &str, name: Name, message: M) -> Call<M> {
-    match word {
-        "send" => Call::Send(name, message),
-        "multicast" => Call::Cast(name, message),
-        "put" => Call::Put(name, message),
-        "swap" => Call::Swap(name, message),
-        _ => Call::MVarInit(message),
-    }
-}
-
-/// The call that a word asks for without a message.
-fn bare_call_of<M: Numbered>(word: &str, rest: &[&str]) -> Option<Call<M>> {
-    match word {
-        "mailbox" => Some(Call::NewMailbox),
-        "channel" => Some(Call::NewChannel),
-        "ivar" => Some(Call::NewIVar),
-        "mvar" => Some(Call::NewMVar),
-        _ => call_on(word, object(rest)?),
-    }
-}
-
-fn call_on<M: Numbered>(word: &str, name: Name) -> Option<Call<M>> {
-    match word {
-        "port" => Some(Call::NewPort(name)),
-        "copy" => Some(Call::CopyPort(name)),
-        "close" => Some(Call::ClosePort(name)),
-        "recv" => Some(Call::Recv(name)),
-        "poll" => Some(Call::Poll(name)),
-        "get" => Some(Call::Get(name)),
-        "getpoll" => Some(Call::GetPoll(name)),
-        "take" => Some(Call::Take(name)),
-        "takepoll" => Some(Call::TakePoll(name)),
-        _ => None,
-    }
 }
 
 /// The reply that this text tells, as a table writes it.
