@@ -9,8 +9,9 @@ use std::sync::atomic::{AtomicU64, Ordering};
 
 /// How often a thread looks before it sleeps, and in how many waits not at all, at the most, once that was in vain.
 const FEW_LOOKS: (u32, u64) = (8, 16);
-/// The same if its last call has woken a thread that slept. That thread may answer as soon as it runs, and to wake it takes
-/// longer than the few looks. So two threads that answer each other don't sleep at each turn.
+/// The same if an answer may be near: if its last call has woken a thread that slept, or the one that had rung for it. That
+/// thread may answer as soon as it runs, and to wake it takes longer than the few looks. So two threads that answer each other
+/// don't sleep at each turn.
 const MANY_LOOKS: (u32, u64) = (50, 512);
 
 // What the word of a bell is.
@@ -25,8 +26,10 @@ const RUNG: u64 = 2;
 #[derive(Drop)]
 struct Bell {
     word: AtomicU64,
-    // The other three are for the seat's thread alone. Whether its last call woke another:
-    has_woken: AtomicU64,
+    // The seat whose call rang last.
+    rung_by: AtomicU64,
+    // The other three are for the seat's thread alone. Whether an answer to its last call may be near:
+    is_answer_near: AtomicU64,
     few: Looks,
     many: Looks,
 }
@@ -35,14 +38,16 @@ impl Bell {
     fn new() -> Bell {
         Bell {
             word: AtomicU64::new(QUIET),
-            has_woken: AtomicU64::new(0),
+            rung_by: AtomicU64::new(0),
+            is_answer_near: AtomicU64::new(0),
             few: Looks::new(FEW_LOOKS.0, FEW_LOOKS.1),
             many: Looks::new(MANY_LOOKS.0, MANY_LOOKS.1),
         }
     }
 
     /// Whether the thread slept, and was woken.
-    fn ring(&self) -> bool {
+    fn ring(&self, by: u64) -> bool {
+        self.rung_by.store(by, Ordering::Relaxed);
         if self.word.swap(RUNG, Ordering::AcqRel) != ASLEEP {
             return false;
         }
@@ -65,11 +70,11 @@ impl Bell {
     }
 
     fn is_soon_rung(&self) -> bool {
-        let has_woken = self.has_woken.load(Ordering::Relaxed) != 0;
-        if has_woken {
-            self.has_woken.store(0, Ordering::Relaxed);
+        let is_near = self.is_answer_near.load(Ordering::Relaxed) != 0;
+        if is_near {
+            self.is_answer_near.store(0, Ordering::Relaxed);
         }
-        if has_woken && self.many.are_due() {
+        if is_near && self.many.are_due() {
             return self.many.see(&self.word, RUNG);
         }
         self.few.are_due() && self.few.see(&self.word, RUNG)
@@ -113,18 +118,21 @@ impl Bells {
         }
     }
 
-    /// Wakes the seat's thread. If it doesn't sleep yet, it won't. Whether it slept.
-    pub fn ring(&self, seat: u64) -> bool {
+    /// Wakes the seat's thread, for a call of another seat. If it doesn't sleep yet, it won't. Whether it slept.
+    pub fn ring(&self, seat: u64, by: u64) -> bool {
         match self.bells.get(seat as usize) {
-            Some(bell) => bell.ring(),
+            Some(bell) => bell.ring(by),
             None => false,
         }
     }
 
-    /// The seat's thread has just woken another: so in its next wait it may look for longer.
-    pub fn note_woken(&self, seat: u64) {
-        if let Some(bell) = self.bells.get(seat as usize) {
-            bell.has_woken.store(1, Ordering::Relaxed);
+    /// The seat has just made a call and rung for another one, which slept or not. If that one slept, or had rung for this seat, it
+    /// may answer soon: so in its next wait this seat's thread may look for longer.
+    pub fn note_rung(&self, seat: u64, other: u64, slept: bool) {
+        if let Some(bell) = self.bells.get(seat as usize)
+            && (slept || bell.rung_by.load(Ordering::Relaxed) == other)
+        {
+            bell.is_answer_near.store(1, Ordering::Relaxed);
         }
     }
 

@@ -3,8 +3,12 @@
 use crossbeam_utils::Backoff;
 use std::sync::atomic::{AtomicU64, Ordering};
 
-/// A thread looks so often at a word, each time after a longer pause: it spins in the first seven, and lets other threads run in
-/// each later one. Once it has looked in vain, it doesn't look in its next waits: in one, and then in twice as many each time. For
+/// In how many looks a thread spins for longer each time, and then lets another thread run once.
+const FIRST: u32 = 8;
+
+/// A thread looks so often at a word. It spins between two looks: in the first seven each time twice as long, then for as long as
+/// in the seventh. Behind the eighth look it lets another thread run. It does so only once in a wait, since on a busy machine that
+/// gives up the whole time slice, and to sleep is better then. Once it has looked in vain, it doesn't look in its next waits: in one, and then in twice as many each time. For
 /// that thread alone.
 #[derive(Drop)]
 pub struct Looks {
@@ -36,12 +40,16 @@ impl Looks {
     /// Whether the word is this before the last look.
     pub fn see(&self, word: &AtomicU64, this: u64) -> bool {
         let backoff = Backoff::new();
-        for _ in 0..self.times {
+        for look in 0..self.times {
             if word.load(Ordering::Acquire) == this {
                 self.without.store(0, Ordering::Relaxed);
                 return true;
             }
-            backoff.snooze();
+            if look < FIRST {
+                backoff.snooze();
+            } else {
+                backoff.spin();
+            }
         }
         self.rest();
         false

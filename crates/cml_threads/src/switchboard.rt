@@ -191,21 +191,25 @@ impl<M: Message, L: MessageLog<M>, Led: Ledger> Switchboard<M, L, Led> {
     }
 
     /// Unlocks the hall, and then wakes one seat that is due, if there is one that wasn't woken. It is taken under the lock. Its
-    /// thread locks the hall next, makes its call, and comes by here too. Whether that thread slept.
-    fn let_go(&self, hall: MutexGuard<'_, CachePadded<Hall<M, L, Led>>>) -> bool {
+    /// thread locks the hall next, makes its call, and comes by here too.
+    fn let_go(&self, hall: MutexGuard<'_, CachePadded<Hall<M, L, Led>>>) {
         let mut hall = hall;
         let due = hall.next_due();
         drop(hall);
-        match due {
-            Some(seat) => self.bells.ring(seat),
-            None => false,
+        if let Some(due) = due {
+            // No seat's call rang, so nobody is noted whom this seat may answer: no seat rings for itself.
+            self.bells.ring(due, due);
         }
     }
 
     /// The same after a seat's call, whose thread waits next, maybe for what the woken one does.
     fn let_go_by(&self, hall: MutexGuard<'_, CachePadded<Hall<M, L, Led>>>, seat: u64) {
-        if self.let_go(hall) {
-            self.bells.note_woken(seat);
+        let mut hall = hall;
+        let due = hall.next_due();
+        drop(hall);
+        if let Some(due) = due {
+            let slept = self.bells.ring(due, seat);
+            self.bells.note_rung(seat, due, slept);
         }
     }
 

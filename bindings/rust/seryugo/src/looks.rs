@@ -4,10 +4,14 @@ use std::hint;
 use std::sync::atomic::{AtomicU32, AtomicU8, Ordering};
 use std::thread;
 
-/// How often a thread doubles the time for which it spins, from once to 64 times. Each later look lets other threads run.
-const DOUBLINGS: u32 = 7;
+/// How often a thread doubles the time for which it spins, from once to 64 times.
+const DOUBLINGS: u32 = 6;
 
-/// A thread looks so often at a state. Once it has looked in vain, it doesn't look in its next waits: in one, and then in twice as
+/// Behind which look it lets other threads run once, instead. On a busy machine that gives up the whole time slice, and to sleep
+/// is better then, so it does so only once in a wait.
+const YIELDS_AFTER: u32 = 7;
+
+/// A thread looks so often at a state. It spins between two looks. Once it has looked in vain, it doesn't look in its next waits: in one, and then in twice as
 /// many each time. For that thread alone.
 pub(crate) struct Looks {
     times: u32,
@@ -56,10 +60,10 @@ impl Looks {
 }
 
 fn pause(look: u32) {
-    if look >= DOUBLINGS {
+    if look == YIELDS_AFTER {
         return thread::yield_now();
     }
-    for _ in 0..1 << look {
+    for _ in 0..1 << look.min(DOUBLINGS) {
         hint::spin_loop();
     }
 }

@@ -70,7 +70,7 @@ impl Switchboard {
         let mut room = self.lock();
         let number = written(|seat| unsafe { raw::seryugo_new_seat(&mut room.handle, seat) })?;
         debug_assert_eq!(number, room.sleepers.len() as u64);
-        let sleeper = Arc::new(Sleeper::new());
+        let sleeper = Arc::new(Sleeper::new(number));
         room.sleepers.push(Arc::clone(&sleeper));
         Ok(Seat::new(self, number, sleeper))
     }
@@ -193,27 +193,31 @@ impl Switchboard {
     /// call too, which wakes the one after.
     #[inline]
     pub(crate) fn change<T>(&self, call: impl FnOnce(&mut Handle) -> T) -> T {
-        self.change_and_wake(call).0
+        let (answer, due) = self.make(call);
+        if let Some(due) = due {
+            due.wake(None);
+        }
+        answer
     }
 
     /// The same for a seat's thread, which waits next, maybe for what the woken one does.
     #[inline]
     pub(crate) fn change_by<T>(&self, sleeper: &Sleeper, call: impl FnOnce(&mut Handle) -> T) -> T {
-        let (answer, has_woken) = self.change_and_wake(call);
-        if has_woken {
-            sleeper.note_woken();
+        let (answer, due) = self.make(call);
+        if let Some(due) = due {
+            let slept = due.wake(Some(sleeper));
+            sleeper.note_woken(&due, slept);
         }
         answer
     }
 
-    /// Whether the thread that is woken slept comes with the answer.
+    /// Makes a call under the lock. The next seat that is due comes with the answer.
     #[inline]
-    fn change_and_wake<T>(&self, call: impl FnOnce(&mut Handle) -> T) -> (T, bool) {
+    fn make<T>(&self, call: impl FnOnce(&mut Handle) -> T) -> (T, Option<Arc<Sleeper>>) {
         let mut room = self.lock();
         let answer = call(&mut room.handle);
         let due = room.next_due();
-        drop(room);
-        (answer, due.is_some_and(|sleeper| sleeper.wake()))
+        (answer, due)
     }
 
     /// Makes a call that may block. If its seat is parked, this waits until the seat is woken, and makes the call again.
