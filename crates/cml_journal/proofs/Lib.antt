@@ -1,0 +1,11 @@
+pub mod Cutting
+pub mod EscapeSteps
+pub mod WordLaws
+pub mod CallLaws
+pub mod EntryLaws
+pub mod PieceLaws
+pub mod FeedLaws
+pub mod LineEnds
+pub mod StreamLaws
+pub mod CleanLaws
+pub mod AgainLaws

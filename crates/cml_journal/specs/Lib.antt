@@ -1,0 +1,9 @@
+pub mod Lines
+pub mod Reading
+pub mod Written
+pub mod Numbers
+pub mod NumberLaws
+pub mod Escapes
+pub mod EscapeLaws
+pub mod Streams
+pub mod Feeding

@@ -1,0 +1,73 @@
+//! What is wrong with a journal's text.
+ghost use Rattle.std.specs.Prelude.{◌≡◌};
+ghost use Rattle.cml_journal.specs.declared.fault.Unread.TheVariants.{Memory};
+
+use std::alloc::{AllocError, AllocFailed};
+use std::error::Error;
+use thiserror::Error;
+
+/// What is wrong with a line: the first fault from left to right.
+#[derive(Clone, Copy, Debug, PartialEq, Eq, Error)]
+pub enum What {
+    /// The line ends where a word is missing.
+    #[error("too few words")]
+    Short,
+    /// A word is none that may be in its place.
+    #[error("unknown word")]
+    UnknownWord,
+    /// No colon is behind the call.
+    #[error("no colon")]
+    NoColon,
+    /// A word is no number below 2^64, or has zeros in front.
+    #[error("bad number")]
+    BadNumber,
+    /// A word is no message.
+    #[error("bad message")]
+    BadMessage,
+    /// The call never has this reply.
+    #[error("wrong reply")]
+    WrongReply,
+    /// A byte is neither printed nor a space.
+    #[error("bad bytes")]
+    BadBytes,
+    /// A piece doesn't begin with the header of this version.
+    #[error("no header")]
+    NoHeader,
+    /// A piece doesn't begin where the one before ended.
+    #[error("gap")]
+    Gap,
+    /// The position in a piece's last line is not the one behind its last entry.
+    #[error("wrong end")]
+    WrongEnd,
+    /// There are more than 18,446,744,073,709,551,615 entries.
+    #[error("too many entries")]
+    TooMany,
+    /// The line has more than 1,114,112 bytes.
+    #[error("line too long")]
+    TooLong,
+}
+
+/// Why a line was not read.
+#[derive(Clone, Copy, Debug, PartialEq, Eq, Error)]
+pub enum Unread {
+    #[error("no memory")]
+    Memory,
+    #[error("{0}")]
+    Fault(What),
+}
+
+impl From<AllocError> for Unread {
+    ghost from_gives = { λ _ unread. unread ≡ Memory };
+
+    fn from(_error: AllocError) -> Unread {
+        Unread::Memory
+    }
+}
+
+impl<T: Drop> From<AllocFailed<T>> for Unread {
+    ghost from_gives = { λ _ unread. unread ≡ Memory };
+
+    fn from(_error: AllocFailed<T>) -> Unread {
+        Unread::Memory
+    }
+}

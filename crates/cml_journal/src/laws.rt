@@ -1,0 +1,51 @@
+//! Laws of the definitions, each the contract of a function that does nothing.
+ghost use Rattle.std.specs.Prelude.{◌≡◌, ℕ, ◌+◌, ◌^◌, ◌<◌, ◌∷◌, ◌++◌, List, Ok, Err, Some, length};
+ghost use Rattle.std.specs.List.{flat_map, AllByRecursion};
+ghost use Rattle.cml_board.specs.declared.entry.Entry.{Entry};
+ghost use Rattle.cml_journal.specs.Lines.{line_of, HasLine};
+ghost use Rattle.cml_journal.specs.Reading.{entry_in};
+ghost use Rattle.cml_journal.specs.Streams.{text_of, stream_lines};
+ghost use Rattle.cml_journal.specs.declared.fault.What.{What};
+ghost use Rattle.cml_journal.specs.Feeding.{State, fresh, end_of, behind, reading, IsReadable};
+
+use crate::written::Written;
+
+/// The line of an entry is read as this entry, and two entries with the same line are the same.
+pub fn lines_are_entries<M: Written>()
+    ensures read { (entry : Entry M) → HasLine M.fits entry → entry_in M.meaning (line_of M.text entry) ≡ Ok entry }
+    ensures same { (one other : Entry M) → HasLine M.fits one → HasLine M.fits other
+        → line_of M.text one ≡ line_of M.text other → one ≡ other }
+{}
+
+/// A stream may be cut anywhere. A reader of its front, and then of the rest, gives the entries of both. A fault in the front is
+/// the fault of both.
+pub fn streams_may_be_cut<M: Written>()
+    ensures on { (state next : State) (front rest : List ℕ) (entries : List (Entry M))
+        → reading M.VERSION M.meaning state front ≡ Ok (next, entries)
+        → reading M.VERSION M.meaning state (front ++ rest) ≡ behind entries (reading M.VERSION M.meaning next rest) }
+    ensures fault { (state : State) (front rest : List ℕ) (what : What)
+        → reading M.VERSION M.meaning state front ≡ Err what
+        → reading M.VERSION M.meaning state (front ++ rest) ≡ Err what }
+{}
+
+/// A stream that was read to its end is the writing of just these entries, in pieces that follow each other.
+pub fn streams_are_pieces<M: Written>()
+    ensures { (bytes : List ℕ) (state : State) (entries : List (Entry M)) (end : ℕ)
+        → reading M.VERSION M.meaning fresh bytes ≡ Ok (state, entries)
+        → end_of state ≡ Some end
+        → (from : ℕ) × (pieces : List (List (Entry M)))
+        × (bytes ≡ text_of (stream_lines M.VERSION M.text from pieces))
+        × (entries ≡ flat_map (λ piece. piece) pieces)
+        × (end ≡ from + length entries) }
+{}
+
+/// The writing of pieces is read to its end, and gives just these entries.
+pub fn pieces_are_read<M: Written>()
+    ensures { (from : ℕ) (piece : List (Entry M)) (pieces : List (List (Entry M))) → M.VERSION < 2 ^ 64
+        → AllByRecursion (AllByRecursion (IsReadable M.text M.fits)) (piece ∷ pieces)
+        → from + length (flat_map (λ piece. piece) (piece ∷ pieces)) < 2 ^ 64
+        → (state : State)
+        × (reading M.VERSION M.meaning fresh (text_of (stream_lines M.VERSION M.text from (piece ∷ pieces)))
+        ≡ Ok (state, flat_map (λ piece. piece) (piece ∷ pieces)))
+        × (end_of state ≡ Some (from + length (flat_map (λ piece. piece) (piece ∷ pieces)))) }
+{}
