@@ -20,6 +20,7 @@ steps() {
         basename "$folder"
     done
     echo cml_chart
+    echo cml_check
     echo cml_script_c
     echo cml_guide
     echo cml_caller
@@ -31,6 +32,7 @@ step() {
     case $1 in
         cml) build cml crates/cml/src/main.rt && sh tests/program.sh "$program" ;;
         cml_chart) build cml_chart crates/cml_chart/src/main.rt && sh tests/chart.sh "$program" ;;
+        cml_check) build cml_check crates/cml_check/src/main.rt && sh tests/journals.sh "$program" few ;;
         cml_rows)
             build cml_rows crates/cml_rows/src/main.rt || return
             prints cml_rows

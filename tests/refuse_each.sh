@@ -10,6 +10,7 @@
 #   run      a script by `cml run`: a report of some order of its threads, or the same
 #   threads  the same where threads are refused, and not memory: with no report
 #   chart    a report by `cml_chart`: its chart, or status 5, nothing written and `cml_chart: no memory`
+#   journal  a journal by `cml_check`: its verdict, or status 5, nothing written and `cml_check: no memory`
 #
 # The last line is `KIND HOW INPUT: N passed, M failed, K met`: so often a call, or the whole program, told of a refusal.
 work=$1
@@ -19,7 +20,11 @@ input=$4
 shift 4
 room=$(mktemp -d "$work/each.XXXXXX") || exit 1
 case $kind in threads) variable=REFUSE_THREAD ;; *) variable=REFUSE ;; esac
-case $kind in chart) lack='cml_chart: no memory' ;; *) lack='cml: no memory' ;; esac
+case $kind in
+    chart) lack='cml_chart: no memory' ;;
+    journal) lack='cml_check: no memory' ;;
+    *) lack='cml: no memory' ;;
+esac
 case $how in rest) rest=REFUSE_REST=1 ;; *) rest=REFUSED=once ;; esac
 
 # refuse NUMBER PROGRAM WORDS..: whether a request was refused. Only the program itself meets the refusal.
@@ -77,10 +82,10 @@ in_order_or_short() {
 }
 
 # report_stands REPORT: it is that of a run without refusals, or by `run` such a one. Where a thread wasn't started there is
-# none: so only the last run, in which all were, has one. A chart is that of a run without refusals too, with status 0.
+# none: so only the last run, in which all were, has one. A chart or a verdict is that of a run without refusals too, with status 0.
 report_stands() {
     case $kind in
-        chart) cmp -s "$room/report" "$1" && [ "$status" = 0 ]; return ;;
+        chart | journal) cmp -s "$room/report" "$1" && [ "$status" = 0 ]; return ;;
         replay) cmp -s "$room/report" "$1" ;;
         run) in_order_or_short "$1" ;;
         threads) [ "$number" -eq "$last" ] && in_some_order 65536 "$input" "$1" ;;
@@ -108,7 +113,7 @@ judge_script() {
     echo "$kind $how $input: $passed passed, $failed failed, $met met"
 }
 
-case $kind in replay | chart) "$@" < "$input" > "$room/report" ;; esac
+case $kind in replay | chart | journal) "$@" < "$input" > "$room/report" ;; esac
 number=1
 while refuse "$number" "$@" && [ "$number" -lt 100000 ]; do
     number=$((number + 1))

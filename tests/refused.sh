@@ -1,10 +1,11 @@
 #!/bin/sh
-# tests/refused.sh GUIDE ROWS CML CHART: the built programs are run once for each request for memory that they make, that one
+# tests/refused.sh GUIDE ROWS CML CHART CHECK: the built programs are run once for each request for memory that they make, that one
 # refused, and but for the guide once more with all later ones refused too. Whatever is refused each run comes to its end.
 #
 # The guide prints of each example what it prints with memory, or that memory was refused, or what that came to for another
 # thread: a stall, or the same result without that thread's last entries. The tables of calls of tests/board, tests/floors
-# and tests/halls, what `cml` does with scripts and `cml_chart` with their reports, are looked at by tests/refuse_each.sh.
+# and tests/halls, what `cml` does with scripts, `cml_chart` with their reports and `cml_check` with journals, are looked at by
+# tests/refuse_each.sh.
 #
 # It needs a C compiler for what refuses (`cc`, or CC); where there is none it tells that it was left out.
 # The last line is `N passed, M failed`.
@@ -13,6 +14,7 @@ guide=$(whole "$1")
 rows=$(whole "$2")
 cml=$(whole "$3")
 chart=$(whole "$4")
+check=$(whole "$5")
 cd "$(dirname "$0")/.." || exit 1
 expected=$(pwd)/crates/cml_guide/stdout
 cc=${CC:-cc}
@@ -79,6 +81,9 @@ sweeps() {
             echo "chart $how examples/$name.report $chart --script examples/$name.cml"
         done
         echo "chart $how examples/hello_mailbox.report $chart --text"
+        for journal in examples/*.journal; do
+            echo "journal $how $journal $check"
+        done
     done
 }
 
