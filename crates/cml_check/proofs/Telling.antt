@@ -1,16 +1,14 @@
 -- What was read and checked so far, and what an ending says of it.
-use Rattle.std.proofs.Common.{◌≡◌, ℕ, ◌+◌, zero, suc, List, [], ◌∷◌, ◌++◌, length, reverse, take, slice_get, Option, Some, None, Result, Ok, Err, refl, sym, ap, subst, ◌∙◌, arith, append_assoc, length-append}
-use Rattle.std.specs.Prelude.{⊤}
+use Rattle.std.proofs.Common.{◌≡◌, ℕ, Bool, true, false, ◌+◌, zero, suc, List, [], ◌∷◌, ◌++◌, length, reverse, take, slice_get, Option, Some, Result, Ok, refl, sym, ap, subst, ◌∙◌, arith, append_assoc}
 use Rattle.std.specs.Option.{option_to_list}
-use Rattle.std.proofs.lemmas.List.{append-nil, reverse-append, reverse-reverse, length-reverse}
+use Rattle.std.proofs.lemmas.List.{append-nil, reverse-append, length-reverse}
 use Rattle.std.proofs.KnownBytes.{Consumes-nil, Consumes-trans}
 use Rattle.std.specs.Io.KnownBytes.{Consumes, IsAtEnd}
 use Rattle.std.proofs.lemmas.Option.{none-some, same_Some}
 use Rattle.cml_board.specs.declared.entry.Entry.{Entry}
 use Rattle.cml_board.specs.History.{Lawful}
-use Rattle.cml_board.specs.Positions.{before, IsLawfulAt}
-use Rattle.cml_board.specs.Checking.{IsFirstUnlawful, IsLawfulNext, StopsAt, Feeds, followed_by}
-use Rattle.cml_journal.specs.declared.fault.What.{What}
+use Rattle.cml_board.specs.Positions.{before}
+use Rattle.cml_board.specs.Checking.{IsFirstUnlawful, IsLawfulNext, Feeds, followed_by}
 use Rattle.cml_journal.specs.declared.fault.Unread.{Unread}
 use Rattle.cml_journal.specs.declared.fault.Unread.TheVariants as unread
 use Rattle.cml_journal.specs.Reading.{Fails}
@@ -18,7 +16,8 @@ use Rattle.cml_journal.specs.Feeding.{State, fresh, behind, reading}
 use Rattle.cml_journal.proofs.FeedLaws.{on, placed, reading-append}
 use Rattle.cml_check.specs.declared.ending.Ending.{Ending}
 use Rattle.cml_check.specs.declared.ending.Ending.TheVariants.{Lawful as lawful, Unlawful, Fault, Torn, BehindCut, ReadFault, WriteFault, NoMemory}
-use Rattle.cml_check.specs.Checking.{Progress, IsSoFar, Tells, Goes, EndsIn, IsEarly, IsHeardOut, MayEndAt, Concludes, IsUnlawfulJournal, ending_of_unread}
+use Rattle.cml_journal.specs.Numbers.{number_of}
+use Rattle.cml_check.specs.Checking.{IsSilent, IsRead, IsVerdict, TellsAs, ConcludesAs, ConcludesBy, is_of_bytes, Progress, IsSoFar, Tells, Goes, EndsIn, IsEarly, IsHeardOut, MayEndAt, Concludes, ending_of_unread}
 
 pub lists_found : {M : Type 0} (state : State) {found other : Option (Entry M)} → found ≡ other → placed state (option_to_list found) ≡ placed state (option_to_list other)
 lists_found {M} state same = ap (λ (f : Option (Entry M)). placed state (option_to_list f)) same
@@ -223,3 +222,40 @@ module _ {M : Type 0} (version : ℕ) (meaning : List ℕ → Option M) where
     heard = heard_at_end ending new end;
     told = tells (front ++ (bytes ++ more)) (so_on check later front bytes more so goes);
   }
+
+-- ---- a front
+silent_told : {M : Type 0} (version : ℕ) (meaning : List ℕ → Option M) (front : List ℕ) (old new : Option (List ℕ)) (ending : Ending) → IsSilent ending → IsRead old new → Concludes version meaning front old new ending
+silent_told version meaning front old new BehindCut silent read = record { bytes = read.0; given = read.1; heard = tt; told = tt }
+silent_told version meaning front old new ReadFault silent read = record { bytes = read.0; given = read.1; heard = tt; told = tt }
+silent_told version meaning front old new WriteFault silent read = record { bytes = read.0; given = read.1; heard = tt; told = tt }
+silent_told version meaning front old new NoMemory silent read = record { bytes = read.0; given = read.1; heard = tt; told = tt }
+silent_told version meaning front old new (lawful count) silent read = absurd silent
+silent_told version meaning front old new (Unlawful at line) silent read = absurd silent
+silent_told version meaning front old new (Fault line what) silent read = absurd silent
+silent_told version meaning front old new (Torn line) silent read = absurd silent
+
+pub verdict_behind : (old mid new : Option (List ℕ)) (front : List ℕ) (ending : Ending) → Consumes old mid front → ConcludesBy front mid new ending → IsVerdict old new ending
+verdict_behind old mid new front ending first concluded = by (is_of_bytes front) refl concluded
+  where
+    by : (b : Bool) → is_of_bytes front ≡ b → ConcludesAs b front mid new ending → IsVerdict old new ending
+    by true is ends = record {
+      front = front;
+      rest = ends.bytes;
+      given = Consumes-trans old mid new front ends.bytes first ends.given;
+      heard = ends.heard;
+      told = subst (λ (b : Bool). TellsAs b (front ++ ends.bytes) ending) (sym is) ends.told;
+    }
+    by false is ends = record {
+      front = front;
+      rest = ends.bytes;
+      given = Consumes-trans old mid new front ends.bytes first ends.given;
+      heard = ends.heard;
+      told = subst (λ (b : Bool). TellsAs b (front ++ ends.bytes) ending) (sym is) ends.told;
+    }
+
+pub verdict_silent : (old new : Option (List ℕ)) (ending : Ending) → IsSilent ending → IsRead old new → IsVerdict old new ending
+verdict_silent old new ending silent read =
+    verdict_behind old old new [] ending (Consumes-nil old) (silent_told 1 number_of [] old new ending silent read)
+
+pub read_on_from : (old mid new : Option (List ℕ)) (front : List ℕ) → Consumes old mid front → IsRead mid new → IsRead old new
+read_on_from old mid new front first second = (front ++ second.0, Consumes-trans old mid new front second.0 first second.1)

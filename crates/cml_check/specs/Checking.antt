@@ -1,5 +1,5 @@
 -- What a check tells of the bytes of a journal.
-use Rattle.std.specs.Prelude.{◌≡◌, ℕ, List, [], ◌∷◌, ◌++◌, reverse, length, Option, Some, None, Result, Ok, Err, IfOk, ⊤}
+use Rattle.std.specs.Prelude.{◌≡◌, ℕ, Bool, true, false, nat_eq, codes, List, [], ◌∷◌, ◌++◌, reverse, length, Option, Some, None, Result, Ok, Err, IfOk, ⊤}
 use Rattle.std.specs.Io.KnownBytes.{Consumes, IsAtEnd}
 use Rattle.cml_board.specs.declared.entry.Entry.{Entry}
 use Rattle.cml_board.specs.History.{Lawful}
@@ -7,6 +7,9 @@ use Rattle.cml_board.specs.Checking.{IsFirstUnlawful, StopsAt}
 use Rattle.cml_journal.specs.declared.fault.Unread.{Unread}
 use Rattle.cml_journal.specs.declared.fault.Unread.TheVariants as unread
 use Rattle.cml_journal.specs.Feeding.{State, fresh, end_of, reading}
+use Rattle.std.specs.List.{starts_with}
+use Rattle.cml_journal.specs.Numbers.{number_of}
+use Rattle.cml_journal.specs.Escapes.{message_of_word}
 use Rattle.cml_check.specs.declared.ending.Ending.{Ending}
 use Rattle.cml_check.specs.declared.ending.Ending.TheVariants.{Lawful as lawful, Unlawful, Fault, Torn, BehindCut, ReadFault, WriteFault, NoMemory}
 
@@ -101,3 +104,40 @@ module _ {M : Type 0} (version : ℕ) (meaning : List ℕ → Option M) where
     pub given : Consumes old new bytes
     pub heard : IsHeardOut ending new
     pub told : Tells (front ++ bytes) ending
+
+-- the front of a journal of bytes
+abbrev pub is_of_bytes : List ℕ → Bool
+is_of_bytes front = starts_with nat_eq front (codes "journal 2")
+
+-- the check behind a front, whose messages are bytes or numbers
+abbrev pub ConcludesAs : Bool → List ℕ → Option (List ℕ) → Option (List ℕ) → Ending → Type 0
+ConcludesAs true front old new ending = Concludes 2 message_of_word front old new ending
+ConcludesAs false front old new ending = Concludes 1 number_of front old new ending
+
+abbrev pub ConcludesBy : List ℕ → Option (List ℕ) → Option (List ℕ) → Ending → Type 0
+ConcludesBy front old new ending = ConcludesAs (is_of_bytes front) front old new ending
+
+-- an ending that says nothing of a journal
+abbrev pub IsSilent : Ending → Type 0
+IsSilent BehindCut = ⊤
+IsSilent ReadFault = ⊤
+IsSilent WriteFault = ⊤
+IsSilent NoMemory = ⊤
+IsSilent ending = ⊥
+
+-- a reader gave some bytes
+abbrev pub IsRead : Option (List ℕ) → Option (List ℕ) → Type 0
+IsRead old new = (bytes : List ℕ) × Consumes old new bytes
+
+-- what an ending says of a journal whose messages are bytes, or numbers
+abbrev pub TellsAs : Bool → List ℕ → Ending → Type 0
+TellsAs true bytes ending = Tells 2 message_of_word bytes ending
+TellsAs false bytes ending = Tells 1 number_of bytes ending
+
+-- a reader gave a front and the rest, and this is how their check ends: the front tells the type of messages
+pub record IsVerdict (old new : Option (List ℕ)) (ending : Ending) : Type 0 where
+  pub front : List ℕ
+  pub rest : List ℕ
+  pub given : Consumes old new (front ++ rest)
+  pub heard : IsHeardOut ending new
+  pub told : TellsAs (is_of_bytes front) (front ++ rest) ending

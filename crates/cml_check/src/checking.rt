@@ -4,8 +4,8 @@ ghost use Rattle.std.specs.Prelude.{◌≡◌, ◌≤◌, ◌-◌, ◌∷◌, �
 ghost use Rattle.std.specs.Io.KnownBytes.{Consumes, Keeps, IsAtEnd};
 ghost use Rattle.cml_board.specs.Checking.{Feeds};
 ghost use Rattle.cml_journal.specs.Feeding.{State};
-ghost use Rattle.cml_check.specs.declared.ending.Ending.TheVariants.{NoMemory, ReadFault};
-ghost use Rattle.cml_check.specs.Checking.{Progress, IsSoFar, Tells, Goes, EndsIn, MayEndAt, Concludes, ending_of};
+ghost use Rattle.cml_check.specs.declared.ending.Ending.TheVariants.{NoMemory, ReadFault, BehindCut};
+ghost use Rattle.cml_check.specs.Checking.{Progress, IsSoFar, Tells, Goes, EndsIn, MayEndAt, Concludes, ConcludesBy, IsVerdict, IsRead, IsSilent, is_of_bytes, ending_of};
 
 use crate::ending::Ending;
 use cml_board::{Bytes, Checker, Entry, Message};
@@ -30,39 +30,78 @@ const SECOND_LINE: usize = 10;
 const FRONT: usize = 15;
 
 /// Checks the journal that the reader gives, up to its end or to what is wrong with it. It waits for the reader.
-pub(crate) fn check_stream<S: Wait, R: Read>(system: &S, alloc: Global, input: &mut R) -> Ending {
+#[tactic(auto, using(crate::proofs::Telling::verdict_behind))]
+pub(crate) fn check_stream<S: Wait, R: Read>(system: &S, alloc: Global, input: &mut R) -> Ending
+    ensures { IsVerdict (R.remaining input.old) (R.remaining input.new) result }
+{
     match read_front(system, alloc, input) {
-        Ok(front) if front.starts_with(BYTES) => check_rest::<Bytes, S, R>(
-            system, alloc, input, &front,
-        ),
-        Ok(front) => check_rest::<u64, S, R>(system, alloc, input, &front),
+        Ok(front) => check_behind(system, alloc, input, &front),
         Err(ending) => ending,
     }
 }
 
+/// Checks the journal whose front was read, which tells the type of messages.
+fn check_behind<S: Wait, R: Read>(system: &S, alloc: Global, input: &mut R, front: &[u8]) -> Ending
+    ensures { ConcludesBy front.now (R.remaining input.old) (R.remaining input.new) result }
+{
+    if is_of_bytes(front) {
+        return check_rest::<Bytes, S, R>(system, alloc, input, front);
+    }
+    check_rest::<u64, S, R>(system, alloc, input, front)
+}
+
+/// Whether a front is that of a journal of bytes.
+fn is_of_bytes(front: &[u8]) -> bool
+    ensures { result ≡ is_of_bytes front.now }
+{
+    front.starts_with(BYTES)
+}
+
 /// The first bytes: 15, unless there are fewer.
-fn read_front<S: Wait, R: Read>(
-    system: &S,
-    alloc: Global,
-    input: &mut R,
-) -> Result<Vec<u8>, Ending> {
+fn read_front<S: Wait, R: Read>(system: &S, alloc: Global, input: &mut R) -> Result<Vec<u8>, Ending>
+    ensures read { IfOk result (λ front. Consumes (R.remaining input.old) (R.remaining input.new) front.items) }
+    ensures ended { IfErr result (λ ending. IsSilent ending × IsRead (R.remaining input.old) (R.remaining input.new)) }
+{
     let mut front = Vec::new(alloc);
     let mut room = [0; FRONT];
     for _ in system.forever() {
         let wanted = FRONT.saturating_sub(front.len());
         if wanted == 0 {
-            break;
+            return uncut(front);
         }
-        match read_some(input, &mut room[..wanted])? {
-            Some([]) => break,
-            Some(bytes) => front.extend_from_slice(bytes)?,
-            None => {}
+        if read_more(input, &mut room[..wanted], &mut front)? {
+            return uncut(front);
         }
     }
+    unreachable!()
+}
+
+/// A front, unless it is that of a piece behind a cut.
+fn uncut(front: Vec<u8>) -> Result<Vec<u8>, Ending>
+    ensures same { IfOk result (λ same. same.items ≡ front.items) }
+    ensures cut { IfErr result (λ ending. ending ≡ BehindCut) }
+{
     if front.len() >= FRONT && front[SECOND_LINE..].starts_with(BEHIND_CUT) {
         return Err(Ending::BehindCut);
     }
     Ok(front)
+}
+
+/// Asks the reader once, adds what it gave, and answers whether it was at its end.
+fn read_more<R: Read>(input: &mut R, room: &mut [u8], front: &mut Vec<u8>) -> Result<bool, Ending>
+    requires { 0 < length room.old }
+    ensures more { OnOk result ((bytes : List ℕ) × Consumes (R.remaining input.old) (R.remaining input.new) bytes
+        × (front.new.items ≡ front.old.items ++ bytes)) }
+    ensures ended { IfErr result (λ ending. IsSilent ending × IsRead (R.remaining input.old) (R.remaining input.new)) }
+    ensures same { length room.new ≡ length room.old }
+{
+    match read_some(input, room)? {
+        Some(bytes) => {
+            front.extend_from_slice(bytes)?;
+            Ok(bytes.is_empty())
+        }
+        None => Ok(false),
+    }
 }
 
 /// What the reader gives, which is nothing at its end. `None` if it was interrupted.

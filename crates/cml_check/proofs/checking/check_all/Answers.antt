@@ -1,4 +1,4 @@
-use Rattle.std.proofs.Common.{rules, ◌≡◌, ◌++◌, [], ℕ, List, sym, subst, append-nil}
+use Rattle.std.proofs.Common.{rules, ◌++◌, [], ℕ, List, sym, subst, append-nil}
 use Rattle.std.proofs.lemmas.Result.{err_from_is_err_and}
 use Rattle.std.proofs.KnownBytes.{Consumes-nil, Consumes-trans}
 use Rattle.cml_check.specs.Checking.{IsSoFar, ending_of}

@@ -1,5 +1,4 @@
 use Rattle.cml_check.proofs.Telling.{nothing_so_far}
-use Rattle.std.proofs.Common.{refl}
 use Rattle.cml_check.proofs.checking.Check.new.Goals as goal
 
 pub returns-clause-new : goal.returns-clause-new

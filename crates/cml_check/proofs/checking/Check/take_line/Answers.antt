@@ -1,4 +1,4 @@
-use Rattle.std.proofs.Common.{◌≡◌, ◌∙◌, refl}
+use Rattle.std.proofs.Common.{◌∙◌, refl}
 use Rattle.std.proofs.lemmas.Result.{err_from_is_err_and}
 use Rattle.cml_check.specs.Checking.{Progress}
 use Rattle.cml_check.proofs.Telling.{goes_past_line, goes_past_entry_to, ends_at_fault, ends_at_entry, lists_found}
