@@ -179,7 +179,7 @@ words() {
     run --frob < /dev/null
     expect "an unknown word" 3 none some
     run --from 0 < /dev/null
-    expect "row 0" 3 none some
+    expect "a first row of zero" 3 none some
     run --to x < /dev/null
     expect "no number" 3 none some
     run --text --text < /dev/null
@@ -188,7 +188,7 @@ words() {
     expect "help" 0 some none
     run --text --from 2 --to 3 < examples/hello_mailbox.report
     { sed -n '1,2p;4,5p' examples/hello_mailbox.chart; echo "2 of 5 rows, behind row 1"; sed -n '8,$p' examples/hello_mailbox.chart; } > "$work/want"
-    if cmp -s "$work/out" "$work/want"; then pass; else fail "rows 2 to 3"; fi
+    if cmp -s "$work/out" "$work/want"; then pass; else fail "from the second row to the third"; fi
     run --text --from 7 < examples/hello_mailbox.report
     expect "rows that are not there" 0 some none
 }
