@@ -49,7 +49,7 @@ impl<M: Numbered> OnBoard<M> {
         Ok(on)
     }
 
-    /// The turns of each role with so many messages, the first of this number.
+    /// Makes the turns of each role with `count` messages, the first of which has the number `first`.
     pub fn perform(&mut self, crews: &[(u64, Role)], first: u64, count: u64) -> Done {
         for (_, role) in crews.iter() {
             let turn = role.turn(0, 1);

@@ -19,7 +19,7 @@ use std::sync::ledger::{Blank, Ledger};
 use std::time::{Duration, Instant};
 use std::{io, thread};
 
-/// For how many messages a lane or a feed has room.
+/// The number of messages for which a lane or a feed has room.
 const ROOM: usize = 1_024;
 
 /// What the threads share.
@@ -38,7 +38,7 @@ enum Job<M: Numbered, Led: Ledger> {
     ByFeed(Feed<M>, u64),
 }
 
-/// What a thread hands back, with a sum over what it received.
+/// What a thread returns, with a sum over what it received.
 #[derive(Drop)]
 enum Handed<M: Numbered, Led: Ledger> {
     Left(Left<Led>, Option<u64>),
@@ -131,7 +131,7 @@ impl<M: Numbered + Send + Sync, Led: Ledger + Send + Sync> Hall<M, Led> {
         made.ok_or(io::ErrorKind::OutOfMemory)
     }
 
-    /// A thread for each job. Where the last thread and the others wait for each other, it has to be made.
+    /// Runs a thread for each job. If the last thread and the others wait for each other, a thread must be made for it.
     fn perform_all<R: Runtime>(&self, rt: &R, jobs: Jobs<M, Led>) -> AllHanded<M, Led> {
         if !is_to_and_fro(self.crews) {
             return self.perform_each(rt, jobs);
@@ -148,7 +148,7 @@ impl<M: Numbered + Send + Sync, Led: Ledger + Send + Sync> Hall<M, Led> {
         })
     }
 
-    /// This thread does the last job. Where no thread can be made it does all, the last first.
+    /// This thread does the last job. If no thread can be made, it does all jobs, the last first.
     fn perform_each<R: Runtime>(&self, rt: &R, jobs: Jobs<M, Led>) -> AllHanded<M, Led> {
         Ok(thread::map_vec(rt, jobs, &|job: Job<M, Led>| { self.perform(rt, job) })?)
     }
@@ -174,7 +174,7 @@ impl<M: Numbered + Send + Sync, Led: Ledger + Send + Sync> Hall<M, Led> {
         }
     }
 
-    /// What a thread received. Its lane or its feed is closed.
+    /// Returns what a thread received, and closes its lane or its feed.
     fn finish<R: Runtime>(
         &self,
         rt: &R,

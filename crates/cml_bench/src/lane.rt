@@ -10,7 +10,7 @@ use std::io;
 use std::rt::Clock;
 use std::time::{Duration, Instant};
 
-/// For how many messages a ring has room. It is filled, and then emptied.
+/// The number of messages for which a ring has room. It is filled, and then emptied.
 const CAPACITY: usize = 1_024;
 
 const SENDER: &[(u64, Role)] = &[(1, Role::Sender)];

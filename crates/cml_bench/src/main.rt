@@ -1,5 +1,5 @@
 //! `cml_bench [N [NAME]]`: with a number it prints how long calls take, each workload done N times, or the named one alone.
-//! Without a number it prints what each workload came to, done a few times.
+//! Without a number it prints the sum of each workload, done a few times.
 #![tactic(auto)]
 
 mod board;

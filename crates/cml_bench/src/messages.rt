@@ -22,7 +22,7 @@ pub struct Supply {
 }
 
 impl Supply {
-    /// Messages of bytes have so many.
+    /// Makes a supply. Messages of bytes have `length` bytes each.
     pub fn new(alloc: Global, length: usize) -> Result<Supply, AllocError> {
         let mut bytes = Vec::new(alloc);
         for place in 0..(length as u64).saturating_add(BYTES) {
@@ -43,7 +43,7 @@ impl Supply {
     }
 }
 
-/// Bytes of which each share takes memory and copies all. Contracts see them as their list.
+/// Bytes of which each share allocates memory and copies all. Contracts see them as their list.
 #[derive(Drop)]
 pub struct Copied {
     pub bytes: Vec<u8>,

@@ -15,7 +15,7 @@ pub enum Role {
     /// Receives what several send, in any order.
     Collector,
     Caster,
-    /// Multicasts, and then receives by each of so many ports.
+    /// Multicasts, and then receives by each of this many ports.
     CastTo(u64),
     /// Receives by a port that no other thread uses.
     Reader,
@@ -26,7 +26,7 @@ pub enum Role {
     Passer,
     Client,
     Worker,
-    /// Sends, and waits after so many messages until it may go on.
+    /// Sends, and after each window of messages waits until it may go on.
     Pacer,
     /// Receives, and takes the journal again and again.
     Cutter,
@@ -38,7 +38,7 @@ pub enum Role {
     Pumper,
 }
 
-/// So many threads of each role. Those who receive come before those for whom they wait.
+/// How many threads of each role there are. Receivers come before the threads for which they wait.
 pub type Crews = &'static [(u64, Role)];
 
 /// What one thread does: turns for the numbers from `start` until before `end`.
@@ -72,7 +72,7 @@ impl Role {
         }
     }
 
-    /// Among how many of its threads the turns are divided. Each reader makes all of them.
+    /// The number of its threads among which the turns are divided. Each reader makes all of them.
     pub fn sharers(self, threads: u64) -> u64 {
         match self {
             Role::Reader | Role::FeedReader => 1,

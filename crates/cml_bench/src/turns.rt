@@ -36,7 +36,7 @@ pub enum Then {
     Nothing,
     /// A call with the number that the first call received.
     Once(Verb),
-    /// Each of so many ports receives.
+    /// A receive by each of this many ports.
     ByEachPort(u64),
 }
 
@@ -53,7 +53,7 @@ pub enum Adding {
 #[derive(Clone, Copy)]
 pub struct Turn(pub Verb, pub Then, pub Adding);
 
-/// Who makes calls, and adds up what it receives.
+/// A caller makes calls, and adds up what it receives.
 pub trait Caller {
     /// Makes a call, with this number's message if it gives one. Returns the number that it received, or else this number.
     fn make(&mut self, verb: Verb, number: u64) -> Result<u64, io::ErrorKind>;

@@ -34,9 +34,9 @@ pub enum Messages {
     Texts,
     /// The same with 20 digits each.
     LongTexts,
-    /// So many bytes, which all shares own together.
+    /// This many bytes, whose memory all shares share.
     Bytes(usize),
-    /// So many bytes, which each share copies.
+    /// This many bytes, which each share copies.
     Vectors(usize),
 }
 

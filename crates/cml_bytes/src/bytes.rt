@@ -11,10 +11,10 @@ use thiserror::Error;
 /// The most bytes that a `Bytes` may have.
 const MAX_BYTES: usize = 0xFFFF_FFFF;
 
-/// 0 to 4,294,967,295 bytes, which never change. Contracts see them as their list.
+/// A string of 0 to 4,294,967,295 bytes, which never change. Contracts see it as their list.
 ///
-/// Up to 14 bytes lie in the value itself. More lie in memory that all clones own, which is freed when the last of them is
-/// dropped. A value is 16 bytes large.
+/// Up to 14 bytes lie in the value itself. More lie in memory that all clones share; dropping the last clone frees it.
+/// A value is 16 bytes large.
 #[derive(Drop)]
 pub struct Bytes {
     place: Place,
@@ -33,13 +33,13 @@ impl Model for Bytes {
     ghost invariant = { λ bytes. IsPlaced bytes.place };
 }
 
-/// The bytes are more than 4,294,967,295.
+/// The error for more than 4,294,967,295 bytes.
 #[derive(Clone, Copy, Debug, PartialEq, Eq, Error)]
 #[error("there are more than 4,294,967,295 bytes")]
 pub struct TooLong;
 
 impl Bytes {
-    /// Copies these bytes. It makes no request for memory for up to 14 of them, one for up to 255, and two for more.
+    /// Copies these bytes. It allocates not at all for up to 14 of them, once for up to 255, and twice for more.
     pub fn from_slice(alloc: Global, source: &[u8]) -> Result<Result<Bytes, TooLong>, AllocError>
         ensures bytes { IfOk result (λ tested. IfOk tested (λ bytes. bytes ≡ source.now)) }
         ensures refused { IfOk result (λ tested. OnErr tested (IsTooLong source.now)) }
@@ -53,8 +53,8 @@ impl Bytes {
         Ok(Ok(Bytes { place }))
     }
 
-    /// Takes a vector's bytes. It copies up to 14 of them, and drops the vector. It copies none of more: it keeps the vector,
-    /// with its spare room, by one request for memory. If it fails, it drops the vector.
+    /// Takes a vector's bytes. It copies up to 14 bytes and drops the vector. Of more it copies none: it keeps the vector,
+    /// with its spare room, and allocates once. If it fails, it drops the vector.
     pub fn from_vec(alloc: Global, source: Vec<u8>) -> Result<Result<Bytes, TooLong>, AllocError>
         ensures bytes { IfOk result (λ tested. IfOk tested (λ bytes. bytes ≡ source.items)) }
         ensures refused { IfOk result (λ tested. OnErr tested (IsTooLong source.items)) }
@@ -68,7 +68,7 @@ impl Bytes {
         Ok(Ok(Bytes { place }))
     }
 
-    /// Shows the bytes. Up to 14 move with the value. More stay where they are until the last owner is dropped.
+    /// Lends the bytes. Up to 14 move with the value. More stay where they are until the last clone is dropped.
     pub fn as_slice(&self) -> &[u8]
         ensures bytes { result.now ≡ self.now }
         ensures bound { length result.now < 2 ^ 32 }
@@ -90,8 +90,8 @@ impl Bytes {
     }
 }
 
-/// A clone copies up to 14 bytes, and then never fails. A clone of more is one owner more, and copies none. It fails only if
-/// there are 2^63 - 1 owners already, which no clause of `Arc` says.
+/// A clone copies up to 14 bytes, and then never fails. A clone of more bytes copies none: it shares their memory. It fails
+/// only if there are 2^63 - 1 clones already, which no clause of `Arc` says.
 impl Clone for Bytes {
     ghost is_clone = { λ bytes copy. copy ≡ bytes };
 

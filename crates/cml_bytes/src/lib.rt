@@ -1,4 +1,4 @@
-//! Bytes as messages. They never change. Up to 14 lie in the value itself, and more in memory that all clones own.
+//! Bytes as messages. They never change. Up to 14 lie in the value itself, and more in memory that all clones share.
 #![tactic(auto)]
 
 mod bytes;

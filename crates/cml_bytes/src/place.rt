@@ -21,8 +21,8 @@ pub(crate) enum Place {
     Whole(Arc<Vec<u8>>),
 }
 
-/// Makes a block with these bytes in it, by one request for memory. It fills the block where it lies, because moving a full
-/// array there takes longer.
+/// Makes a block with these bytes in it, by one allocation. It fills the block where it lies, because moving a full array
+/// there takes longer.
 fn block<const N: usize>(alloc: Global, source: &[u8]) -> Result<Arc<Few<N>>, AllocError>
     requires room { length source.now ≤ N }
     requires count { length source.now < 2 ^ 8 }
@@ -83,7 +83,7 @@ impl Place {
         }
     }
 
-    /// Copies short bytes, and makes one owner more of the block or the vector of long ones.
+    /// Copies short bytes, and shares the block or the vector of long ones.
     pub(crate) fn share(&self) -> Result<Place, AllocError>
         requires { IsPlaced self.now }
         ensures bytes { IfOk result (λ place. bytes_of place ≡ bytes_of self.now) }

@@ -1,6 +1,6 @@
 //! The kinds of objects.
 
-/// What kind of object a name names.
+/// The kind of an object.
 #[derive(Clone, Copy, Debug, PartialEq, Eq, Hash)]
 pub enum Kind {
     Mailbox,
@@ -14,7 +14,7 @@ impl Kind {
     ghost use Rattle.std.specs.Prelude.{◌≡◌};
     ghost use Rattle.cml_calls.specs.Kinds.{is_receiver, is_source, is_variable};
 
-    /// Whether messages are received from an object of this kind.
+    /// Says whether messages are received from an object of this kind.
     pub fn is_receiver(self) -> bool
         ensures { result ≡ is_receiver self }
     {
@@ -24,7 +24,7 @@ impl Kind {
         }
     }
 
-    /// Whether messages are sent to an object of this kind, or multicast on it.
+    /// Says whether messages are sent to an object of this kind, or multicast on it.
     pub fn is_source(self) -> bool
         ensures { result ≡ is_source self }
     {
@@ -34,7 +34,7 @@ impl Kind {
         }
     }
 
-    /// Whether an object of this kind holds a message or is empty.
+    /// Says whether an object of this kind is a variable: it holds one message or is empty.
     pub fn is_variable(self) -> bool
         ensures { result ≡ is_variable self }
     {

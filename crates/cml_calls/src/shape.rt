@@ -20,7 +20,7 @@ pub enum Takers {
 }
 
 impl Takers {
-    /// Whether an object of this kind takes the call.
+    /// Says whether an object of this kind takes the call.
     #[inline(always)]
     pub fn has(self, kind: Kind) -> bool
         ensures { result ≡ admits self kind }
@@ -53,7 +53,7 @@ pub enum ReplyKind {
     Closed,
 }
 
-/// What the table says of a call.
+/// A row of the table: the facts about one call.
 #[derive(Clone, Copy, Debug)]
 pub struct Shape {
     /// Its number for callers in C.

@@ -91,7 +91,7 @@ fn blocking(number: u32, word: &'static str, takers: Takers, replies: &'static [
 }
 
 impl Make {
-    /// Its row.
+    /// Returns the call's row in the table.
     #[inline(always)]
     pub fn shape(self) -> Shape
         ensures { shown result ≡ made self }
@@ -110,7 +110,7 @@ impl Make {
         self.shape().word == word
     }
 
-    /// The call that a word is.
+    /// Finds the call that has this word.
     pub fn of_word(word: &str) -> Option<Make>
         ensures { result ≡ make_of word.now }
     {
@@ -123,7 +123,7 @@ impl Make {
         self.shape().number == number
     }
 
-    /// The call that a number is.
+    /// Finds the call that has this number.
     pub fn of_number(number: u32) -> Option<Make>
         ensures { result ≡ make_at number }
     {
@@ -131,7 +131,7 @@ impl Make {
     }
 }
 
-/// Of the call that makes an m-variable with its first message. Its word is that of the call that makes an empty one.
+/// Returns the row of the call that makes an m-variable with its first message. Its word is the one of `Make::MVar`.
 #[inline(always)]
 pub fn shape_of_filled() -> Shape
     ensures { shown result ≡ filled }
@@ -140,7 +140,7 @@ pub fn shape_of_filled() -> Shape
 }
 
 impl Give {
-    /// Its row.
+    /// Returns the call's row in the table.
     #[inline(always)]
     pub fn shape(self) -> Shape
         ensures { shown result ≡ given self }
@@ -164,7 +164,7 @@ impl Give {
         self.shape().word == word
     }
 
-    /// The call that a word is.
+    /// Finds the call that has this word.
     pub fn of_word(word: &str) -> Option<Give>
         ensures { result ≡ give_of word.now }
     {
@@ -177,7 +177,7 @@ impl Give {
         self.shape().number == number
     }
 
-    /// The call that a number is.
+    /// Finds the call that has this number.
     pub fn of_number(number: u32) -> Option<Give>
         ensures { result ≡ give_at number }
     {
@@ -186,7 +186,7 @@ impl Give {
 }
 
 impl Ask {
-    /// Its row.
+    /// Returns the call's row in the table.
     #[inline(always)]
     pub fn shape(self) -> Shape
         ensures { shown result ≡ asked self }
@@ -230,7 +230,7 @@ impl Ask {
         self.shape().word == word
     }
 
-    /// The call that a word is.
+    /// Finds the call that has this word.
     pub fn of_word(word: &str) -> Option<Ask>
         ensures { result ≡ ask_of word.now }
     {
@@ -243,7 +243,7 @@ impl Ask {
         self.shape().number == number
     }
 
-    /// The call that a number is.
+    /// Finds the call that has this number.
     pub fn of_number(number: u32) -> Option<Ask>
         ensures { result ≡ ask_at number }
     {

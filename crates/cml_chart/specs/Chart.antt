@@ -23,7 +23,7 @@ arrow_between doers _ _ = None
 abbrev pub arrow_of : Words → ℕ → Deed → Option Arrow
 arrow_of names doers d = arrow_between doers (column_of names (doer_text d.doer)) (column_of names d.object)
 
--- a row: a line, and the arrow that stands for it
+-- a row: a line, and its arrow
 pub record Joined : Type 0 where
   pub deed : Deed
   pub arrow : Option Arrow
@@ -37,8 +37,8 @@ shown_row row = record { deed = shown_act row.act; arrow = Some (row.actor, row.
 abbrev pub titles_of : List Thing → Words
 titles_of things = map (λ (t : Thing). t.name) things
 
--- The columns are the threads of the script, those others who act, and behind them the objects, each of which has a name of its
--- own. There is a row for each line, in their order, and each has an arrow.
+-- The columns are the threads of the script, the other actors, and behind them the objects, each with a name that no other
+-- column has. There is a row for each line, in the lines' order, and each row has an arrow.
 pub record IsChart (threads : List Standing) (deeds : List Deed) (things : List Thing) (chart : Chart) : Type 0 where
   pub names : names_of chart.names.keys ≡ doers_of threads deeds ++ titles_of things
   pub free : taken_from (doers_of threads deeds) (length deeds + 1) things ≡ None

@@ -47,11 +47,11 @@ pub record IsFlag (found : Option Text) (flag : Bool) : Type 0 where
   pub set : found ≡ Some (codes "true") → flag ≡ true
   pub unset : found ≡ Some (codes "false") → flag ≡ false
 
--- the text tells a number: decimal digits below 2^64, which a plus may precede
+-- the text is a number: decimal digits below 2^64, which a plus may precede
 abbrev pub TellsNumber : Text → Type 0
 TellsNumber text = IsNumeral 10 (without_leading_plus text) × (digits_value 10 (without_leading_plus text) < 2 ^ 64)
 
--- the number of a row is the one that is told by what is found of it
+-- the number of a row is what the option's text is, if that is a number
 pub record IsRow (found : Option Text) (row : Option ℕ) : Type 0 where
   pub none : found ≡ None → row ≡ None
   pub told : (text : Text) → found ≡ Some text → SomeIff row (TellsNumber text) (digits_value 10 (without_leading_plus text))

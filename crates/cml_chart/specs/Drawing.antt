@@ -19,14 +19,14 @@ use Rattle.cml_chart.specs.Following.{IsCourse, lines_fault}
 abbrev pub IsRead : Option (List ℕ) → Option (List ℕ) → List ℕ → Type 0
 IsRead old new text = IsReadUpTo 33554433 old new text
 
--- the first row that is asked for, and the last: the first of all, and 500 rows, where they are not told
+-- the first row that is asked for, and the last; without these options, the first of all rows, and 500 rows
 abbrev pub first_of : Order → ℕ
 first_of order = unwrap_or order.from 1
 
 abbrev pub last_of : Order → ℕ
 last_of order = unwrap_or order.to (min (first_of order + 499) (2 ^ 64 - 1))
 
--- the rows from the first to the last that are asked for, as far as there are such, stand between these of so many
+-- of `count` rows, those asked for are between these two positions, as far as there are such rows
 abbrev pub bounds_of : Order → ℕ → ℕ × ℕ
 bounds_of order count = let end = min count (last_of order) in (min end (first_of order - 1), end)
 
@@ -39,7 +39,7 @@ pub record IsDrawnOf (script : Option Lines) (old new : Option (List ℕ)) : Typ
   pub says : told text ≡ shown_report course.report
   pub is_course : IsCourse script course
 
--- the lines are no report, or there is a fault in what they tell
+-- the lines are no report, or there is a fault in what they report
 abbrev pub IsFaulty : Option Lines → List ℕ → Fault → Type 0
 IsFaulty script text fault = (told text ≡ wrong fault)
     ⊎ ((deeds : List Deed) × (things : List Thing) × (end : Ended) × (told text ≡ report deeds things end) × (lines_fault script deeds things ≡ Some fault))

@@ -20,8 +20,8 @@ use Rattle.cml_chart.specs.declared.chart.Course.{Course}
 abbrev pub is_feed : Words → List ℕ → List ℕ → Bool
 is_feed feeds number name = is_number number && option_map_or (bytes_eq name) (slice_get feeds (digits_value 10 number)) false
 
--- The threads behind a row of the script: a thread's tells the step at which it stands, a lane's is on an object that lanes lead to,
--- and a feed's on the feed of that number. Any other row is not the script's.
+-- The threads behind a row of the script. A thread's row reports the thread's next step, a lane's row is on an object that
+-- lanes lead to, and a feed's row is on the feed of that number. Any other row is not the script's.
 abbrev pub pass : Words → Words → List Standing → Deed → Doer → Option (List Standing)
 pass feeds targets threads d (thread name) = perform threads name d
 pass feeds targets threads d (lane number) = if is_among targets d.object then Some threads else None
@@ -64,7 +64,8 @@ deeds_of r = map shown_act r.acts.items
 abbrev pub things_of : Report → List Thing
 things_of r = map shown_object r.objects.items
 
--- What is drawn of a report: where there is a script its threads stand where the report leaves them, and have the first columns.
+-- What is drawn of a report. If there is a script, its threads are at the steps where the report leaves them, and have the
+-- first columns.
 pub record IsCourse (script : Option Lines) (course : Course) : Type 0 where
   pub threads : threads_behind script (deeds_of course.report) (things_of course.report) ≡ Ok (shown_threads course.threads.items)
   pub chart : IsChart (shown_threads course.threads.items) (deeds_of course.report) (things_of course.report) course.chart

@@ -25,12 +25,12 @@ Made = List ℕ × List ℕ
 abbrev pub made_at : List ℕ → Words → ℕ → Option Made
 made_at kind words at = option_map (λ name. (kind, name)) (slice_get words at)
 
--- the name that a declaration gives stands behind its kind, but a port's behind its channel, and a feed's behind its thread
+-- the name that a declaration gives follows its kind, but a port's name follows its channel, and a feed's its thread
 abbrev pub declared_in : Words → Option Made
 declared_in [] = None
 declared_in (kind ∷ rest) = made_at kind rest (if bytes_eq kind (codes "port") || bytes_eq kind (codes "feed") then 1 else 0)
 
--- the port that a step makes: its name stands behind what it is made of
+-- the port that a step makes: its name follows the channel or port that it is made of
 abbrev pub port_in : Words → Option Made
 port_in (thread ∷ word ∷ rest) = option_and_then (λ step. if makes_port step then made_at (codes "port") rest 1 else None) (verb_of word)
 port_in _ = None

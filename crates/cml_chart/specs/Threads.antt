@@ -12,18 +12,18 @@ pub record Standing : Type 0 where
   pub steps : Words
   pub performed : ℕ
 
--- the step at which it stands: the first that was not performed
+-- its next step: the first that was not performed
 abbrev pub stands_at : Standing → Option (List ℕ)
 stands_at s = slice_get s.steps s.performed
 
--- a row tells that step, with a reply
+-- a row reports that step, with a reply
 abbrev pub tells : Standing → Deed → Bool
 tells s d = option_map_or (λ step. bytes_eq (step ++ codes ": " ++ d.reply) d.line) (stands_at s) false
 
 abbrev pub advanced : Bool → Standing → Standing
 advanced told s = if told then record s { performed = s.performed + 1 } else s
 
--- the threads behind a row of the one with this name, which tells the step at which it stands
+-- the threads behind a row of the one with this name, which reports that thread's next step
 abbrev pub perform : List Standing → List ℕ → Deed → Option (List Standing)
 perform [] name d = None
 perform (s ∷ ss) name d =

@@ -35,7 +35,7 @@ pub(crate) struct Chart<'a> {
     pub(crate) rows: Vec<Row<'a>>,
 }
 
-/// The course of a run. Without a script it tells of no threads.
+/// The course of a run. Without a script it has no threads.
 #[derive(Drop)]
 pub(crate) struct Course<'a> {
     pub(crate) report: Report<'a>,
@@ -43,7 +43,7 @@ pub(crate) struct Course<'a> {
     pub(crate) chart: Chart<'a>,
 }
 
-/// The course of a run by its report, which has a chart and is one of this script, where one is given.
+/// The course of a run by its report. The report must have a chart, and be one of this script, if one is given.
 pub(crate) fn course_of<'a>(
     alloc: Global,
     script: Option<&'a Script>,
@@ -63,7 +63,8 @@ pub(crate) fn course_of<'a>(
     })
 }
 
-/// The chart of a report, where each object has a name of its own and the second part tells of it. These threads come first.
+/// The chart of a report. Each object must have a name that no other column has, and a line in the second part. These
+/// threads come first.
 fn chart_of<'a>(
     alloc: Global,
     threads: &[Thread<'_>],
@@ -98,7 +99,7 @@ fn add_threads(alloc: Global, names: &mut IndexSet<String>, threads: &[Thread<'_
     Ok(())
 }
 
-/// Adds who acts, the threads or else the lanes and feeds, each once where it first acts.
+/// Adds the actors, each once where it first acts: the lanes and feeds if `rings`, else the threads.
 fn add_actors(alloc: Global, names: &mut IndexSet<String>, acts: &[Act<'_>], rings: bool) -> Added
     ensures { OnOk result (names_of names.new.keys ≡ each_once (names_of names.old.keys) (map (doer_in rings) (map shown_act acts.now))) }
 {
@@ -110,7 +111,7 @@ fn add_actors(alloc: Global, names: &mut IndexSet<String>, acts: &[Act<'_>], rin
     Ok(())
 }
 
-/// Adds a name, where it is not among them yet.
+/// Adds a name, if it is not among them yet.
 #[tactic(auto, using(crate::proofs::NameLemmas::put_in))]
 pub(crate) fn add_name(names: &mut IndexSet<String>, name: String) -> Added
     ensures { OnOk result (names_of names.new.keys ≡ with_name (names_of names.old.keys) (string_bytes name)) }
@@ -119,7 +120,7 @@ pub(crate) fn add_name(names: &mut IndexSet<String>, name: String) -> Added
     Ok(())
 }
 
-/// Adds the objects, each of which has a name of its own; the first one's line has this number.
+/// Adds the objects, each of which must have a name that no other column has. The first one's line has this number.
 fn add_objects(
     alloc: Global,
     names: &mut IndexSet<String>,

@@ -38,9 +38,9 @@ Exit status:
 pub(crate) struct Order<'a> {
     /// As lines of text, and not as SVG.
     pub(crate) text: bool,
-    /// The first row, from 1; where it is not told, the first of all.
+    /// The first row, from 1. Without it, the first of all.
     pub(crate) from: Option<u64>,
-    /// The last row; where it is not told, 500 rows are drawn at the most.
+    /// The last row. Without it, at most 500 rows are drawn.
     pub(crate) to: Option<u64>,
     /// The file with the script that the report is of.
     pub(crate) script: Option<&'a str>,

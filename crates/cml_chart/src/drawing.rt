@@ -16,7 +16,7 @@ use cml_report::read_report;
 use std::alloc::{AllocError, Global};
 use std::io::{Read, Write};
 
-/// How many rows are drawn at the most where it is not told.
+/// How many rows are drawn at most, without the option `--to`.
 const MOST_ROWS: u64 = 500;
 
 /// A report or a script has fewer bytes than this, so that no more is read.
@@ -51,7 +51,7 @@ fn script_in<S: Read>(alloc: Global, reader: &mut S) -> Result<Script, Ending>
     Ok(script)
 }
 
-/// Draws a report, of a script where there is one: it reads all of it, and then writes the chart of the rows that are asked for.
+/// Draws a report, of a script if there is one: reads all of it, and then writes the chart of the rows that are asked for.
 pub(crate) fn draw<R: Read, W: Write>(
     alloc: Global,
     script: Option<&Script>,
@@ -87,7 +87,7 @@ fn picture<R: Read>(
     Ok(picture)
 }
 
-/// Reads all bytes, or the first 33,554,433 where there are more. Where that fails it ends so.
+/// Reads all bytes, or the first 33,554,433 if there are more. If that fails, returns how the drawing ends.
 fn read_all<R: Read>(alloc: Global, reader: &mut R, failed: Ending) -> Result<Vec<u8>, Ending>
     ensures read { IfOk result (λ bytes. IsRead (R.remaining reader.old) (R.remaining reader.new) bytes.items) }
     ensures unread { IfErr result (λ ended. (ended ≡ failed) ⊎ (ended ≡ ending.NoMemory)) }
@@ -128,7 +128,7 @@ fn draw_course<'a>(
     Ok(out)
 }
 
-/// Between which of so many rows those stand that are asked for, as far as there are such.
+/// The two positions, among `count` rows, between which the rows asked for are, as far as there are such rows.
 fn bounds(order: &Order<'_>, count: usize) -> (usize, usize)
     ensures { result ≡ bounds_of order.now count }
 {

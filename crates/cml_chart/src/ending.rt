@@ -7,7 +7,8 @@ use cml_report::{Fault, What};
 use std::alloc::AllocError;
 use thiserror::Error;
 
-/// How the drawing of a report ends. It shows as the line for standard error. A reader that was asked too often has failed.
+/// How the drawing of a report ends. Its `Display` is the line for standard error. Too many reads of a reader count as a
+/// failed read.
 #[derive(Clone, Copy, Debug, PartialEq, Eq, Error)]
 pub(crate) enum Ending {
     #[error("cml_chart: done")]

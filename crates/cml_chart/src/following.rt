@@ -26,14 +26,14 @@ pub(crate) struct Thread<'a> {
 }
 
 impl<'a> Thread<'a> {
-    /// The step at which it stands, if it has one left.
+    /// Its next step, if it has one left.
     pub(crate) fn step(&self) -> Option<&'a str>
         ensures { option_map (λ step. step.now) result ≡ stands_at (shown_thread self.now) }
     {
         self.steps.get(self.performed).copied()
     }
 
-    /// Whether a row tells the step at which it stands. It has then performed that.
+    /// Whether a row reports its next step. It has then performed that step.
     fn performs(&mut self, alloc: Global, act: &Act<'_>) -> Result<bool, AllocError>
         ensures told { IfOk result (λ told. told ≡ tells (shown_thread self.old) (shown_act act.now)) }
         ensures thread { IfOk result (λ told. shown_thread self.new ≡ advanced told (shown_thread self.old)) }
@@ -51,7 +51,7 @@ impl<'a> Thread<'a> {
     }
 }
 
-/// The threads of a script, where one is given, as they stand at the end of its report.
+/// The threads of a script, if one is given, at the steps where its report leaves them.
 pub(crate) fn threads_behind<'a>(
     alloc: Global,
     script: Option<&'a Script>,
@@ -83,7 +83,7 @@ pub(crate) fn threads_behind<'a>(
     Ok(threads)
 }
 
-/// Goes along a report's first part, as far as its rows are the script's.
+/// Follows a report's first part, as far as its rows are the script's.
 fn follow(
     alloc: Global,
     threads: &mut Vec<Thread<'_>>,
@@ -122,7 +122,7 @@ fn passes(
     }
 }
 
-/// Whether a row of the thread with this name tells the step at which it stands. It has then performed that.
+/// Whether a row of the thread with this name reports the thread's next step. It has then performed that step.
 pub(crate) fn perform(
     alloc: Global,
     threads: &mut [Thread<'_>],
@@ -152,7 +152,7 @@ fn is_feed(feeds: &[&str], number: &str, name: &str) -> bool
     }
 }
 
-/// Compares the objects of a report, the first of which stands in this line, with those of a script.
+/// Compares the objects of a report with those of a script. The first object's line has this number.
 fn compare(made: &[Made<'_>], objects: &[Object<'_>], first: usize) -> Result<(), Fault>
     requires { first + length objects.now ≤ 33554433 }
     ensures same { OnOk result (strange_thing first (map shown_object objects.now) (map shown_made made.now) ≡ None) }

@@ -25,7 +25,7 @@ fn main(rt: HostRuntime) -> ExitCode {
     ExitCode::from(end(&rt, "cml_chart", ended))
 }
 
-/// Draws the report as the program's words ask for, by the script in a file where they name one.
+/// Draws the report in the way that the program's words ask for, by the script in a file if they name one.
 fn obey(rt: &HostRuntime) -> Result<Ending, NoOrder> {
     let alloc = rt.alloc();
     let words = words(rt)?;

@@ -12,14 +12,14 @@ pub(crate) struct Listener<'a> {
     channel: &'a str,
 }
 
-/// A row, and the columns of the ports that its message goes to, where it multicasts.
+/// A row, and the columns of the ports that its message goes to if it multicasts.
 #[derive(Drop)]
 pub(crate) struct Drawn<'a> {
     pub(crate) row: Row<'a>,
     pub(crate) marks: Vec<usize>,
 }
 
-/// Adds the rows between these positions, with their marks, where these ports are open before the first of all rows.
+/// Adds the rows between these positions, with their marks. `open` has the ports that are open before the first of all rows.
 pub(crate) fn add_drawn<'a>(
     alloc: Global,
     drawn: &mut Vec<Drawn<'a>>,

@@ -19,7 +19,7 @@ pub(crate) struct Picture<'p, 'a> {
     pub(crate) course: &'p Course<'a>,
     pub(crate) columns: Vec<Column<'p>>,
     pub(crate) rows: Vec<Drawn<'a>>,
-    /// How many rows stand before those that are drawn.
+    /// How many rows are before those that are drawn.
     pub(crate) before: usize,
 }
 
@@ -56,7 +56,7 @@ impl Picture<'_, '_> {
     }
 }
 
-/// Adds what stands at the arrow of an act: its step, the message, and what came of it where that isn't as ever.
+/// Adds the label of an act's arrow: its step, the message, and its reply unless that is `done` or `made`.
 pub(crate) fn push_label(out: &mut String, act: &Act<'_>) -> Added {
     out.push_str(act.word)?;
     if let Some(with) = act.with {
@@ -84,14 +84,14 @@ pub(crate) fn points_out(act: &Act<'_>) -> bool {
     act.with.is_some() || !points_back(act)
 }
 
-/// Adds a step at which a thread stands, without the thread's name.
+/// Adds a thread's next step, without the thread's name.
 pub(crate) fn push_step(out: &mut String, stop: &str, step: &str) -> Added {
     let says = if stop == "stalled" { "waits" } else { "next" };
     let (_, step) = step.split_once(' ').unwrap_or(("", ""));
     write!(out, "{says}: {step}")
 }
 
-/// Adds how many rows are drawn of all, and behind how many others, where not all are drawn.
+/// Adds how many of all rows are drawn, and behind how many others, unless all are drawn.
 pub(crate) fn push_note(out: &mut String, picture: &Picture<'_, '_>, end: &str) -> Added {
     let (drawn, all) = (picture.rows.len(), picture.course.chart.rows.len());
     let before = picture.before;

@@ -31,7 +31,7 @@ fn push_heads(out: &mut String, picture: &Picture<'_, '_>) -> Added {
     out.push_str("\n")
 }
 
-/// Adds what stands below the rows.
+/// Adds the lines below the rows.
 fn push_below(out: &mut String, course: &Course<'_>) -> Added {
     let end = course.report.end;
     for thread in &course.threads {
@@ -64,7 +64,7 @@ fn push_cells(out: &mut String, picture: &Picture<'_, '_>, drawn: &Drawn<'_>) ->
     out.push_str(" ")
 }
 
-/// What stands where a row crosses a column's line: an arrow's head, a mark, a part of the arrow, or the column's line.
+/// The letter where a row crosses a column's line: an arrow's head, a mark, a part of the arrow, or the column's line.
 fn lead_at(drawn: &Drawn<'_>, dash: char, at: usize) -> char {
     let row = &drawn.row;
     if at == row.object && points_out(&row.act) {

@@ -9,7 +9,7 @@ use std::alloc::Global;
 use std::fmt;
 use std::fmt::Write;
 
-/// What readers of screens are told of the picture.
+/// What screen readers say of the picture.
 const ABOUT: &str =
     " role='img' aria-labelledby='title about'>\n<title id='title'>Sequence chart of a run</title>\n<desc id='about'>A column for each thread, lane, feed and object, and below each other a row for each thing that was done: an arrow between the column of who did it and that of the object.</desc>\n";
 
@@ -18,7 +18,7 @@ const ABOUT: &str =
 const STYLE: &str =
     "<style>svg{font-family:ui-monospace,Menlo,Consolas,monospace;font-size:12px;background:#fff}text{fill:#1c1e21}.kind,.name{text-anchor:middle}.kind{font-size:10px;fill:#5f6670}.name{font-weight:bold}.life{stroke:#c3c8cf}.out,.back,.both{stroke:#1f5fa8;stroke-width:1.5}.out,.both{marker-end:url(#head)}.back,.both{marker-start:url(#head)}.missed{stroke-dasharray:4 3}.told{stroke:#1f5fa8;stroke-opacity:.5;marker-end:url(#dot)}#head path,#dot circle{fill:#1f5fa8}.closing{font-size:11px}.end{font-weight:bold;font-size:14px}.done{fill:#1b7a3d}.stalled{fill:#b3261e}.full{fill:#9a5b00}.held{fill:#6b4fa0}@media(prefers-color-scheme:dark){svg{background:#16181c}text{fill:#e6e8eb}.kind{fill:#9aa2ad}.life{stroke:#434a54}.out,.back,.both,.told{stroke:#7fb2f0}#head path,#dot circle{fill:#7fb2f0}.done{fill:#6fcf97}.stalled{fill:#ff8a80}.full{fill:#f2b35c}.held{fill:#b9a3e8}}</style>\n<defs><marker id='head' viewBox='0 0 8 8' refX='8' refY='4' markerWidth='7' markerHeight='7' orient='auto-start-reverse'><path d='M0 0 8 4 0 8z'/></marker><marker id='dot' viewBox='0 0 6 6' refX='3' refY='3' markerWidth='6' markerHeight='6'><circle cx='3' cy='3' r='2.5'/></marker></defs>\n";
 
-/// How far the columns stand apart, and where their lines end.
+/// How far apart the columns are, and where their lines end.
 #[derive(Clone, Copy)]
 struct Sheet {
     alloc: Global,
@@ -63,7 +63,7 @@ pub(crate) fn draw_svg(alloc: Global, out: &mut String, picture: &Picture<'_, '_
 }
 
 impl Sheet {
-    /// Where the line of a column stands.
+    /// Where the line of a column is.
     fn column_at(&self, at: usize) -> u64 {
         place_at(60, self.gap, at)
     }
@@ -139,7 +139,7 @@ fn push_text(out: &mut String, class: &str, place: (u64, u64), says: &str) -> Ad
     writeln!(out, "<text class='{class}' x='{x}' y='{y}'>{says}</text>")
 }
 
-/// A text of which XML has a meaning for nothing.
+/// A text, shown with an escape for each character that XML gives a meaning.
 #[derive(Clone, Copy)]
 struct Escaped<'a>(&'a str);
 
@@ -159,7 +159,7 @@ impl fmt::Display for Escaped<'_> {
     }
 }
 
-/// Where what has this position stands, from this origin in steps of this size.
+/// The place of the item at this position, from this origin in steps of this size.
 fn place_at(origin: u64, step: u64, at: usize) -> u64 {
     step.saturating_mul(at as u64).saturating_add(origin)
 }

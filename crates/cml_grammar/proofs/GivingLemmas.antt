@@ -32,7 +32,7 @@ given-declaration names declared line word n h there =
 
 -- ---- one more step
 module _ (names more : List Given) (declared asked : List SourceLine) (line : SourceLine) (h : NamesAreGiven names declared asked) where
-  -- what stands before the earlier steps, and before this one
+  -- what is before the earlier steps, and before this one
   pub before_same : (k : ℕ) → k ≤ length asked → names_before declared (asked ++ line ∷ []) k ≡ names_before declared asked k
   before_same k le = ap (λ (ls : List SourceLine). length declared + count_by is_giving ls) (take-append-le k asked (line ∷ []) le)
 

@@ -334,7 +334,7 @@ module _ (v : ℕ) (es : List (String Global × Named)) (ds : List Declaration) 
   asked_lines : (view_of v ds ls (ss ++ s ∷ [])).steps ≡ (view_of v ds ls ss).steps ++ source_of s.line ∷ []
   asked_lines = map-append (λ (x : Step). source_of x.line) ss (s ∷ [])
 
-  -- before which names an earlier step and this one stand
+  -- before which names an earlier step and this one are
   before_same_step : (k : ℕ) → k ≤ length ss → names_before (view_of v ds ls ss).declarations (view_of v ds ls (ss ++ s ∷ [])).steps k ≡ names_before (view_of v ds ls ss).declarations (view_of v ds ls ss).steps k
   before_same_step k le =
       ap (λ lines. names_before (view_of v ds ls ss).declarations lines k) asked_lines

@@ -58,7 +58,7 @@ pub slice_get-push : {X : Type 0} (xs : List X) (x : X) → slice_get (xs ++ x �
 slice_get-push [] x = refl
 slice_get-push (y ∷ xs) x = slice_get-push xs x
 
--- what stands in a list with one more item behind
+-- the items of a list with one more item behind
 pub slice_get-push-cases : {X : Type 0} (xs : List X) (x : X) (i : ℕ) (y : X) → slice_get (xs ++ x ∷ []) i ≡ Some y → (slice_get xs i ≡ Some y) ⊎ ((i ≡ length xs) × (y ≡ x))
 slice_get-push-cases [] x zero y h = inr (refl, sym (same_Some x y h))
 slice_get-push-cases [] x (suc i) y h = absurd (none-some y h)

@@ -24,7 +24,7 @@ Words = List (Bor (List ℕ))
 abbrev pub bytes : Words → List (List ℕ)
 bytes words = map (λ w. w.now) words
 
--- what may stand for a channel is one
+-- a name that suits a channel's place is a channel's
 pub channel_at : (names : List Given) (at : ℕ) → IsSuitedAt names (Object Channels) at → IsChannelAt names at
 channel_at names at h = by h.1 h.2 h.3
   where
@@ -68,7 +68,7 @@ made_with names name [] message e = absurd (let f = ap length e in omega (arith,
 made_with names name (w ∷ []) message e = let same : w.now ≡ message = cc in ap (λ m. Some (makes.MVarInit m)) same
 made_with names name (v ∷ w ∷ ws) message e = absurd (let f = ap length e in omega (arith, f))
 
--- ---- the word that stands where a name is given
+-- ---- the word in the place where a name is given
 fresh_word-bytes : (places : List Place) (words : Words) → option_map (λ p. p.1.now) (find (λ p. is_fresh p.0) (zip places words)) ≡ fresh_word places (bytes words)
 fresh_word-bytes [] words = refl
 fresh_word-bytes (place ∷ places) [] = refl

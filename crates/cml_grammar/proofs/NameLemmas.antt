@@ -26,7 +26,7 @@ use Rattle.cml_grammar.specs.Names.{Given, is_letter, is_name_byte, is_reserved,
 use Rattle.cml_grammar.specs.Reading.{texts_of}
 use Rattle.cml_grammar.proofs.ListLemmas.{position-cons}
 
--- what stands at a word in a map of texts
+-- the value of a word in a map of texts
 abbrev pub Entries : Type 0
 Entries = List (String Global × Named)
 

@@ -110,7 +110,7 @@ all_suit version names (place ∷ places) (word ∷ words) count named fresh sui
 pub all_suit-passes : (scope : Scope) (form : Form) → Passes scope form → AllSuit scope.names (places_of form) (rest_of form)
 all_suit-passes scope form p = all_suit scope.version scope.names (places_of form) (rest_of form) p.count p.names p.fresh p.suited p.numbers p.texts
 
--- a name that is given is a name, and does not stand yet
+-- a name that is given is a name, and was not given before
 pub fresh_suits : (names : List Given) (places : List Place) (words : List (List ℕ)) (word : List ℕ) → AllSuit names places words → fresh_word places words ≡ Some word → Suits names Fresh word
 fresh_suits names [] words word h e = absurd (none-some word e)
 fresh_suits names (place ∷ places) [] word h e = absurd h

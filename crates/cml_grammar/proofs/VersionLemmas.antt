@@ -102,7 +102,7 @@ says_two scope k (line ∷ next ∷ more) declared laid asked one h = (
   subst (λ (s : Scope). Says s (suc k) (next ∷ more) h.1 h.2 h.3) (sym (after_two scope k line)) (says_two (after scope k line) (suc k) (next ∷ more) h.1 h.2 h.3 (after_version scope k line ∙ one) h.7),
 )
 
--- what stands behind the first line is the same
+-- what follows the first line is the same
 header_two : (parts : List (List ℕ)) (declared laid asked : List SourceLine) → 0 < length parts → Says (start 1) 1 (codes "cml 1" ∷ parts) declared laid asked → Says (start 2) 1 (codes "cml 2" ∷ parts) declared laid asked
 header_two [] declared laid asked some h = absurd (omega arith)
 header_two (next ∷ more) declared laid asked some h = (

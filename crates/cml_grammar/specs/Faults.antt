@@ -33,7 +33,7 @@ first_version (line ∷ lines) = version_in line
 abbrev pub version_of : List ℕ → ℕ
 version_of text = first_version (parts_of text)
 
--- what the lines so far leave: the version, the names that stand, whether a step was seen, and between which ends lanes were said
+-- what the lines so far leave: the version, the names given, whether a step was seen, and the ends of each lane
 pub record Scope : Type 0 where
   pub version : ℕ
   pub names : List Given
@@ -199,12 +199,12 @@ after scope k line = if says k line then after_words scope (words_of line) else 
 abbrev pub at_line : ℕ → What → Fault
 at_line k what = record { line = k; what = what }
 
--- the same, but for want of memory, which concerns no line
+-- the fault at a line; want of memory concerns no line
 abbrev pub fault_at : ℕ → What → Fault
 fault_at k Memory = at_line 0 Memory
 fault_at k what = at_line k what
 
--- what is wrong with the last part, which no line end follows: nothing where it is empty, but for a text with no line
+-- the fault of the last part, which no line end follows: none if it is empty, unless the text has no line
 abbrev pub fault_at_end : ℕ → List ℕ → Option Fault
 fault_at_end k part =
     if not (length part == 0) then Some (at_line k NoLineEnd)

@@ -1,4 +1,4 @@
--- The lines of a script: which words a declaration and a step have, and what may stand in each word's place.
+-- The lines of a script: which words a declaration and a step have, and what is allowed in each word's place.
 use Rattle.std.specs.Prelude.{ℕ, ◌+◌, ◌==◌, Bool, true, false, not, ◌&&◌, List, [], ◌∷◌, length, Option, Some, None, if◌then◌else◌, codes}
 use Rattle.std.specs.Option.{option_map, option_map_or, option_or}
 use Rattle.std.specs.List.{find, zip}
@@ -31,7 +31,7 @@ declares_of word =
     else if bytes_eq word (codes "feed") then Some declares.Feed
     else None
 
--- what stands after it: an m-variable's name stands alone, or with its first message where there are two words
+-- the places after it: an m-variable has its name alone, or, if there are two words, its name and its first message
 abbrev pub declared_places : Declares → List (List ℕ) → List Place
 declared_places declares.Mailbox rest = Fresh ∷ []
 declared_places declares.Channel rest = Fresh ∷ []
@@ -45,7 +45,7 @@ declared_places declares.Feed rest = Thread ∷ Fresh ∷ Object Channels ∷ Ca
 abbrev pub is_lane_word : List ℕ → Bool
 is_lane_word word = bytes_eq word (codes "lane")
 
--- what stands after it
+-- the places after it
 abbrev pub lane_places : List Place
 lane_places = Thread ∷ Target ∷ Capacity ∷ []
 
@@ -57,11 +57,11 @@ abbrev pub is_poll : Ask → Bool
 is_poll Poll = true
 is_poll call = false
 
--- what may stand for the object of a call without a message: a feed can be polled as well
+-- what is allowed as the object of a call without a message: a feed can be polled as well
 abbrev pub asked_place : Ask → Place
 asked_place call = if is_poll call then Polled else Object (asked call).takers
 
--- what stands after it: the object, and then the message, or the name that a new port is given
+-- the places after it: the object, and then the message, or the name that a new port is given
 abbrev pub step_places : Verb → List Place
 step_places (verb.Give call) = Object (given call).takers ∷ Message ∷ []
 step_places (verb.Ask call) = asked_place call ∷ (if names_one (asked call) then Fresh ∷ [] else [])
@@ -119,7 +119,7 @@ is_fresh _ = false
 abbrev pub is_used : Place → Bool
 is_used place = is_name_place place && not (is_fresh place)
 
--- whether what is named may stand in a place
+-- whether what is named suits a place
 abbrev pub suits : Place → Named → Bool
 suits Thread (called.Thread seat) = true
 suits (Object takers) named = option_map_or (admits takers) (kind_of_named named) false
@@ -133,11 +133,11 @@ is_others seat (called.Port (users.One owner)) = not (owner == seat)
 is_others seat (called.Feed owner) = not (owner == seat)
 is_others seat _ = false
 
--- the word that stands in the place of a name that the line gives
+-- the word in the place of a name that the line gives
 abbrev pub fresh_word : List Place → List (List ℕ) → Option (List ℕ)
 fresh_word places words = option_map (λ p. p.1) (find (λ p. is_fresh p.0) (zip places words))
 
--- the seat of the thread that stands first in the rest of a feed's line, and 0 where none does
+-- the seat of the thread that is first in the rest of a feed's line, and 0 if none is
 abbrev pub owner_of : List Given → List (List ℕ) → ℕ
 owner_of names [] = 0
 owner_of names (thread ∷ rest) = option_map_or (λ seat. seat) (seat_of names thread) 0

@@ -9,7 +9,7 @@ use Rattle.cml_grammar.specs.Forms.{declares_of, declared_places, verb_of, step_
 use Rattle.cml_grammar.specs.Script.{SourceLine}
 use Rattle.cml_grammar.specs.Meaning.{seat_of_step}
 
--- the word that stands in a declaration's line where a name is given
+-- the word in a declaration's line where a name is given
 abbrev pub declared_word : List (List ℕ) → Option (List ℕ)
 declared_word [] = None
 declared_word (word ∷ rest) = option_and_then (λ d. fresh_word (declared_places d rest) rest) (declares_of word)
@@ -23,7 +23,7 @@ asked_word (thread ∷ word ∷ rest) = option_and_then (λ v. fresh_word (step_
 abbrev pub is_giving : SourceLine → Bool
 is_giving line = is_some (asked_word line.words)
 
--- how many names stand before the k-th step: each declaration gives one, and so do some of the earlier steps
+-- how many names are given before the k-th step: each declaration gives one, and so do some of the earlier steps
 abbrev pub names_before : List SourceLine → List SourceLine → ℕ → ℕ
 names_before declared asked k = length declared + count_by is_giving (take k asked)
 
@@ -41,7 +41,7 @@ GivesDeclared names at words = (word : List ℕ) × (n : Named) × (declared_wor
 abbrev pub IsGivenAt : List SourceLine → List SourceLine → ℕ → Type 0
 IsGivenAt declared asked i = (k : ℕ) × (line : SourceLine) × (slice_get asked k ≡ Some line) × (is_giving line ≡ true) × (i ≡ names_before declared asked k)
 
--- The i-th declaration gives the i-th name. Behind those stand the names that steps give, in text order, each for a port of
+-- The i-th declaration gives the i-th name. Behind those are the names that steps give, in text order, each for a port of
 -- the step's thread. There are no others.
 pub record NamesAreGiven (names : List Given) (declared asked : List SourceLine) : Type 0 where
   pub total : length names ≡ length declared + count_by is_giving asked

@@ -28,7 +28,7 @@ NumbersArePrinted = (word : List ℕ) → is_number word ≡ true → word ≡ d
 abbrev pub PrintedNumbersAreRead : Type 0
 PrintedNumbersAreRead = (n : ℕ) → n < 2 ^ 64 → is_number (decimal n) ≡ true
 
--- A script of version 1 is one of version 2 with the same lines, but for its first: its messages are numbers, and those are
+-- A script of version 1 whose first line is changed to `cml 2` is one of version 2: its messages are numbers, and numbers are
 -- texts.
 abbrev pub NumbersAreTexts : Type 0
 NumbersAreTexts =

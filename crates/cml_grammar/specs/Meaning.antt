@@ -48,7 +48,7 @@ feed_by names (thread ∷ name ∷ channel ∷ capacity ∷ []) =
     option_and_then (λ seat. option_map (λ at. record { seat = seat; channel = at; capacity = digits_value 10 capacity }) (position_of names channel)) (seat_of names thread)
 feed_by names _ = None
 
--- what a declaration of these words makes: a port's channel by its position among the names, an m-variable with the message that stands there
+-- what a declaration of these words makes: a port's channel by its position among the names, an m-variable with its message
 abbrev pub makes_by : List Given → Declares → List (List ℕ) → Option Makes
 makes_by names declares.Mailbox rest = Some makes.Mailbox
 makes_by names declares.Channel rest = Some makes.Channel
@@ -64,7 +64,7 @@ abbrev pub makes_of : List Given → List (List ℕ) → Option Makes
 makes_of names [] = None
 makes_of names (word ∷ rest) = option_and_then (λ d. makes_by names d rest) (declares_of word)
 
--- what a call without a message asks of the object at this position: behind the object's name stands the name that a new port is
+-- what a call without a message asks of the object at this position: behind the object's name is the name that a new port is
 -- given, or nothing
 abbrev pub asked_by : Bool → Option ℕ → Ask → List (List ℕ) → Option Action
 asked_by true at call (name ∷ []) = option_map (action.Ask call) at

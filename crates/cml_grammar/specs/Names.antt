@@ -1,4 +1,4 @@
--- Names and numbers, and the list of the names that stand.
+-- Names and numbers, and the list of the names given.
 use Rattle.std.specs.Prelude.{ℕ, ◌==◌, ◌^◌, Bool, false, not, ◌&&◌, ◌||◌, nat_lt, nat_le, List, [], ◌∷◌, length, slice_get, is_some, Option, Some, None, position, count_by, codes}
 use Rattle.std.specs.Option.{option_map, option_and_then}
 use Rattle.std.specs.List.{list_any, list_all}
@@ -39,14 +39,14 @@ is_number (b ∷ bs) = all_ascii_digits (b ∷ bs) && (not (b == 48) || length b
 abbrev pub is_capacity : List ℕ → Bool
 is_capacity word = is_number word && nat_le 1 (digits_value 10 word) && nat_le (digits_value 10 word) 1024
 
--- a name that stands, and what it names
+-- a name that was given, and what it names
 abbrev pub Given : Type 0
 Given = List ℕ × Named
 
 abbrev pub is_called : List ℕ → Given → Bool
 is_called word given = bytes_eq word given.0
 
--- where a name stands among those given so far
+-- a name's position among those given so far
 abbrev pub position_of : List Given → List ℕ → Option ℕ
 position_of names word = position (is_called word) names
 

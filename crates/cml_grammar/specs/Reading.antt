@@ -76,7 +76,7 @@ IsMVarAt names at = (word : List ℕ) × (slice_get names at ≡ Some (word, cal
 abbrev pub IsVariableAt : List Given → ℕ → Type 0
 IsVariableAt names at = IsIVarAt names at ⊎ IsMVarAt names at
 
--- the name that a step uses stands, for something that takes the step's call
+-- the name that a step uses was given, to something that takes the step's call
 abbrev pub UsesWell : List Given → Action → Type 0
 UsesWell names (Give call at message) = IsSuitedAt names (Object (given call).takers) at × (is_text message ≡ true)
 UsesWell names (Ask call at) = IsSuitedAt names (asked_place call) at
@@ -133,7 +133,7 @@ GivesAt names at word makes.MVar = slice_get names at ≡ Some (word, called.MVa
 GivesAt names at word (makes.MVarInit message) = slice_get names at ≡ Some (word, called.MVar)
 GivesAt names at word (makes.Feed f) = slice_get names at ≡ Some (word, called.Feed f.seat)
 
--- the i-th declaration gives the i-th name, the word that stands there for it
+-- the i-th declaration gives the i-th name, which is the word in the name's place
 abbrev pub Gives : List Given → ℕ → Declaration → Type 0
 Gives names i d = (word : List ℕ) × (declared_word (words_of (string_bytes d.line.text)) ≡ Some word) × GivesAt names i word d.makes
 
@@ -161,7 +161,7 @@ pub record ReadsStep (names : List Given) (s : Step) : Type 0 where
   pub yours : IsYours names s.seat (used_by s.action)
   pub gives : gives_name s.action ≡ is_some (asked_word (words_of (string_bytes s.line.text)))
 
--- each name that a step uses stands before it
+-- each name that a step uses is given before it
 abbrev pub UsesEarlier : Lines → List Step → Type 0
 UsesEarlier script asked = (k : ℕ) (s : Step) → slice_get asked k ≡ Some s → used_by s.action < names_before script.declarations script.steps k
 

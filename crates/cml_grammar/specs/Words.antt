@@ -6,7 +6,7 @@ use Rattle.std.specs.List.{slice_split, list_any}
 abbrev pub parts_of : List ℕ → List (List ℕ)
 parts_of text = slice_split (λ b. b == 10) text
 
--- the words of a line: what stands between its spaces
+-- the words of a line: what is between its spaces
 abbrev pub words_of : List ℕ → List (List ℕ)
 words_of line = slice_split (λ b. b == 32) line
 

@@ -28,9 +28,9 @@ enum Flaw {
     WrongKind,
     /// It names a port or a feed of another seat than this one.
     NotYours(u64),
-    /// It is no number where a script of this version has one.
+    /// It is not a number, in a place where a script of this version has one.
     BadNumber(u64),
-    /// It is no text where a script of this version has one.
+    /// It is not a text, in a place where a script of this version has one.
     BadText(u64),
 }
 
@@ -69,7 +69,7 @@ fn is_bad_text(version: u64, place: Place, word: &str) -> bool
     }
 }
 
-/// Whether the word names what may stand in the place.
+/// Says whether the word names something that suits the place.
 fn names_suiting(names: &IndexMap<String, Named>, place: Place, word: &str) -> bool
     ensures { result ≡ option_map_or (suits place) (named (texts_of names.now.entries) word.now) false }
 {
@@ -141,8 +141,8 @@ fn first_of(tests: &[(bool, What)]) -> Option<What>
     None
 }
 
-/// What is wrong with a line of this form in a script of this version, where these names stand, so many of them threads', a
-/// step was seen or not, and there are lanes between these ends.
+/// Finds the first fault of a line of this form in a script of this version. `names` are those given so far, and `threads`
+/// of them are threads'. `started` says whether a step was seen. `lanes` has the ends of the lanes so far.
 pub(crate) fn fault_in_form(
     version: u64,
     names: &IndexMap<String, Named>,

@@ -8,8 +8,8 @@ use std::error::Error;
 use std::fmt;
 use thiserror::Error;
 
-/// What is wrong with a line of a script, in the order in which the tests are made, and then what is
-/// told of a script as a whole: that it is too long, that it is not to be replayed, or that there was no memory.
+/// The faults of a script's line, in the order in which they are tested. The last three are faults of a script as a whole:
+/// it is too long, it cannot be replayed, or there was no memory.
 #[derive(Clone, Copy, Debug, PartialEq, Eq, Error)]
 pub enum What {
     #[error("no line end")]
@@ -54,7 +54,7 @@ pub enum What {
     Memory,
 }
 
-/// The fault of a script. `line` counts from 1, and is 0 for `TooLong` and `Memory`, which concern none.
+/// A fault of a script. `line` counts from 1; it is 0 for `TooLong` and `Memory`, which concern no line.
 #[derive(Clone, Copy, Debug, PartialEq, Eq)]
 pub struct Fault {
     pub line: u64,
@@ -62,7 +62,7 @@ pub struct Fault {
 }
 
 impl What {
-    /// The fault of this at a line, or at none where it concerns none.
+    /// Returns this fault at a line, or at none if it concerns none.
     pub(crate) fn at(self, line: u64) -> Fault
         ensures { result ≡ fault_at line self }
     {

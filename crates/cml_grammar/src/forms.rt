@@ -1,4 +1,4 @@
-//! The tables of the lines: which words a declaration and a step have, and what may stand where.
+//! The tables of the lines: which words a declaration and a step have, and what is allowed where.
 ghost use Rattle.std.specs.Prelude.{◌≡◌, ◌==◌, not, map, length};
 ghost use Rattle.std.specs.Option.{option_map};
 ghost use Rattle.cml_grammar.specs.Names.{seat_of};
@@ -12,10 +12,10 @@ use cml_calls::{Ask, Give, Kind, Takers};
 use cml_text::Text;
 use indexmap::IndexMap;
 
-/// What stands behind `lane`.
+/// The places behind `lane`.
 const LANE_PLACES: &[Place] = &[Place::Thread, Place::Target, Place::Capacity];
 
-/// What a declaration line declares by a name of its own.
+/// What a declaration line declares, if it gives a name.
 #[derive(Clone, Copy, Debug, PartialEq, Eq)]
 pub enum Declares {
     Mailbox,
@@ -27,14 +27,14 @@ pub enum Declares {
     Feed,
 }
 
-/// What a step line does, by its second word.
+/// What a step line does. Its second word says so.
 #[derive(Clone, Copy, Debug, PartialEq, Eq)]
 pub enum Verb {
     Give(Give),
     Ask(Ask),
 }
 
-/// What may stand in a word's place.
+/// What is allowed in a word's place.
 #[derive(Clone, Copy, Debug, PartialEq, Eq)]
 pub enum Place {
     /// A name that the line gives.
@@ -53,7 +53,7 @@ pub enum Place {
     Capacity,
 }
 
-/// What a feed's line says: its thread's seat, its channel by its position in the script's list of names, and its capacity.
+/// A feed's line: its thread's seat, its channel by its position in the script's list of names, and its capacity.
 #[derive(Clone, Copy, Debug, PartialEq, Eq)]
 pub struct FeedMaking {
     pub seat: u64,
@@ -61,8 +61,8 @@ pub struct FeedMaking {
     pub capacity: usize,
 }
 
-/// What a declaration makes. A port's channel is a position in the script's list of names, and an m-variable may have a
-/// first message.
+/// What a declaration makes. A port has its channel's position in the script's list of names. An m-variable may have a first
+/// message.
 #[derive(Debug, Drop)]
 pub enum Makes {
     Thread,
@@ -75,8 +75,8 @@ pub enum Makes {
     Feed(FeedMaking),
 }
 
-/// What a step asks for. The name that it uses is a position in the script's list of names. A message is its word as it
-/// stands, in either version.
+/// What a step asks for. The object that it uses is a position in the script's list of names. A message is its word
+/// unchanged, in either version.
 #[derive(Debug, Drop)]
 pub enum Action {
     Give(Give, usize, Text),
@@ -109,7 +109,7 @@ impl Declares {
         }
     }
 
-    /// What stands behind it, where these words do: an m-variable's first message is the second of two.
+    /// The places behind it, if these are the words there: an m-variable's first message is the second of two words.
     pub(crate) fn places(self, rest: &[&str]) -> &'static [Place]
         ensures { result.now ≡ declared_places self (map (λ w. w.now) rest.now) }
     {
@@ -136,7 +136,7 @@ impl Declares {
 }
 
 impl Verb {
-    /// The step that a word stands for.
+    /// Finds the step that has this word.
     pub fn of_word(word: &str) -> Option<Verb>
         ensures { result ≡ verb_of word.now }
     {
@@ -184,7 +184,7 @@ impl Place {
         self.is_name_place() && !self.is_fresh()
     }
 
-    /// Whether what is named may stand here.
+    /// Says whether what is named suits this place.
     pub(crate) fn suits(self, named: Named) -> bool
         ensures { result ≡ suits self named }
     {
@@ -204,7 +204,7 @@ fn is_lane_word(word: &str) -> bool
     word == "lane"
 }
 
-/// The word that stands where the line gives a name, if it gives one.
+/// The word by which the line gives a name, if it gives one.
 pub(crate) fn fresh_word<'a>(places: &[Place], words: &'a [&'a str]) -> Option<&'a str>
     ensures { option_map (λ w. w.now) result ≡ fresh_word places.now (map (λ w. w.now) words.now) }
 {

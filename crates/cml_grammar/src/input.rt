@@ -10,7 +10,7 @@ use std::io::{ErrorKind, Read};
 /// The most bytes that the reader is asked for at once.
 const ROOM: usize = 65_536;
 
-/// Why a reader's bytes were not read.
+/// The reason why a reader's bytes were not read.
 #[derive(Clone, Copy, Debug, PartialEq, Eq)]
 pub enum Unread {
     /// A read failed, or the reader was asked too often.
@@ -27,8 +27,8 @@ impl From<AllocError> for Unread {
     }
 }
 
-/// Reads all bytes, or the first `most` where there are more. A read that was interrupted is made again, and a reader that
-/// never ends is given up when it was asked `calls` times.
+/// Reads all bytes of a reader, or the first `most` if there are more. It repeats an interrupted read. Fails with `Failed`
+/// if a read fails, or if `calls` reads do not reach the end.
 pub fn read_up_to<R: Read>(
     alloc: Global,
     reader: &mut R,

@@ -27,8 +27,8 @@ pub fn words_make_lines()
     ensures { WordsMakeLines }
 {}
 
-/// A script of version 1 is one of version 2 with the same declarations, lanes and steps, where `cml 2` stands in its first
-/// line.
+/// A script of version 1 whose first line is changed to `cml 2` is one of version 2 with the same declarations, lanes and
+/// steps.
 pub fn numbers_are_texts()
     ensures { NumbersAreTexts }
 {}

@@ -85,7 +85,7 @@ pub(crate) fn lane_by(names: &IndexMap<String, Named>, line: Line, rest: &[&str]
     }
 }
 
-/// The seat and the object's position that the words after `lane` say, where they name a thread and something.
+/// The seat and the object's position that the words after `lane` say, if they name a thread and something.
 pub(crate) fn ends_by(names: &IndexMap<String, Named>, rest: &[&str]) -> Option<(u64, usize)>
     ensures { result ≡ ends_by (texts_of names.now.entries) (map (λ w. w.now) rest.now) }
 {
@@ -128,7 +128,7 @@ pub(crate) fn makes_by(
     }
 }
 
-/// The seat of the thread that stands first in a feed's line, and 0 where none does.
+/// The seat of the thread that is first in a feed's line, and 0 if none is.
 pub(crate) fn owner_of(names: &IndexMap<String, Named>, rest: &[&str]) -> u64
     ensures { result ≡ owner_of (texts_of names.now.entries) (map (λ w. w.now) rest.now) }
 {
@@ -150,7 +150,7 @@ pub(crate) fn name_by<'a>(
     fresh_word(declares.places(rest), rest).unwrap()
 }
 
-/// What the name of a declaration names, where so many threads were declared before. A feed is the owner's.
+/// What the name of a declaration names, if `threads` threads were declared before. A feed is the owner's.
 pub(crate) fn named_by(declares: Declares, threads: u64, owner: u64) -> Named
     requires { threads < 2 ^ 32 }
     ensures { result ≡ named_by declares threads owner }

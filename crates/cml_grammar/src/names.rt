@@ -1,4 +1,4 @@
-//! Names and numbers, and look-ups among the names that stand.
+//! Names and numbers, and look-ups among the names given.
 ghost use Rattle.std.specs.Prelude.{◌≡◌, ◌^◌, ◌<◌, Some, None, if◌then◌else◌};
 ghost use Rattle.std.specs.Str.Parse.{digits_value};
 ghost use Rattle.cml_grammar.specs.Names.{kind_of_named, is_letter, is_name_byte, is_reserved, is_name, is_number, is_capacity, named, seat_of, position_of, is_given};
@@ -20,7 +20,7 @@ pub enum Users {
     One(u64),
 }
 
-/// What a name of a script names.
+/// The thing that a name of a script names.
 #[derive(Clone, Copy, Debug, PartialEq, Eq)]
 pub enum Named {
     /// A thread, and its seat: the k-th declared thread, from 1, has seat k.
@@ -35,7 +35,7 @@ pub enum Named {
 }
 
 impl Named {
-    /// The kind of object that it names: none for a thread, and for a feed.
+    /// Returns the kind of object that it names. Returns `None` for a thread and for a feed.
     pub fn kind(self) -> Option<Kind>
         ensures { result ≡ kind_of_named self }
     {
@@ -72,7 +72,7 @@ fn is_name_byte(byte: u8) -> bool
     is_letter(byte) || matches!(byte, b'0'..=b'9') || byte == b'_'
 }
 
-/// Whether the word has a meaning of its own in scripts, now or later, and so is no name.
+/// Whether scripts reserve the word, now or for later, so that it is no name.
 fn is_reserved(word: &str) -> bool
     ensures { result ≡ is_reserved word.now }
 {
@@ -82,7 +82,7 @@ fn is_reserved(word: &str) -> bool
     )
 }
 
-/// Whether the word may name something: a letter and at most 31 letters, digits and `_`, and no word with a meaning of its own.
+/// Says whether the word is a name: a letter and at most 31 letters, digits and `_`, and not a reserved word.
 pub fn is_name(word: &str) -> bool
     ensures { result ≡ is_name word.now }
 {
@@ -95,7 +95,7 @@ pub fn is_name(word: &str) -> bool
     rest.iter().all(|byte| is_name_byte(*byte))
 }
 
-/// The number below 2^64 that a word is in decimal digits, without a zero in front, if it is one.
+/// Returns the number below 2^64 that a word is in decimal digits. Returns `None` if it is none, or has a zero in front.
 pub fn number_of(word: &str) -> Option<u64>
     ensures { result ≡ (if is_number word.now then Some (digits_value 10 word.now) else None) }
 {

@@ -4,7 +4,7 @@ ghost use Rattle.std.specs.Io.KnownBytes.{Appends};
 
 use std::io::{self, Write};
 
-/// Writes all of these bytes, and flushes the writer. Where that fails some of them may have been written.
+/// Writes all of these bytes, and flushes the writer. If it fails, some of them may have been written.
 pub fn write_whole<W: Write>(writer: &mut W, bytes: &[u8]) -> io::Result<()>
     ensures { OnOk result (Appends (W.contents writer.old) (W.contents writer.new) bytes.now) }
 {

@@ -12,7 +12,7 @@ use std::alloc::Global;
 /// The most bytes that a script may have.
 const MAX_BYTES: usize = 1_048_576;
 
-/// Reads a script. Whatever text is read takes time in proportion to its length.
+/// Reads a script. Takes time in proportion to the text's length, whatever the text is.
 pub fn read_script(alloc: Global, text: &[u8]) -> Result<Script, Fault>
     ensures script { IfOk result (λ script. IsScript text.now script) }
     ensures fault { IfErr result (λ fault. IsFaultOf text.now fault) }
@@ -59,7 +59,7 @@ fn version_of(text: &[u8]) -> u64
     }
 }
 
-/// The first line, without its line end, and what follows; or nothing where no line ends.
+/// Cuts off the first line: returns it without its line end, and what follows. Returns `None` if there is no line end.
 pub fn cut_line(text: &[u8]) -> Option<(&[u8], &[u8])>
     ensures { MatchOption result
         (parts_of text.now ≡ text.now ∷ [])

@@ -6,7 +6,7 @@ use crate::names::Named;
 use indexmap::IndexMap;
 use std::marker::Model;
 
-/// A line of a script as it stands there, without its line end.
+/// A line of a script, unchanged, without its line end.
 #[derive(Debug, Drop)]
 pub struct Line {
     /// Its number, from 1.
@@ -14,15 +14,14 @@ pub struct Line {
     pub text: String,
 }
 
-/// A declaration line that gives a name, and what it makes.
+/// A declaration line that gives a name, with what it makes.
 #[derive(Debug, Drop)]
 pub struct Declaration {
     pub line: Line,
     pub makes: Makes,
 }
 
-/// A lane line, and what it says: the seat of its thread, its object by its position in the script's list of names, and the
-/// lane's capacity.
+/// A lane line: the seat of its thread, its object by its position in the script's list of names, and the lane's capacity.
 #[derive(Debug, Drop)]
 pub struct Lane {
     pub line: Line,
@@ -31,7 +30,7 @@ pub struct Lane {
     pub capacity: usize,
 }
 
-/// A step line, the seat of its thread, and what it asks for.
+/// A step line, with the seat of its thread and what it asks for.
 #[derive(Debug, Drop)]
 pub struct Step {
     pub line: Line,
@@ -93,15 +92,15 @@ impl Script {
         Script { kept }
     }
 
-    /// The version that its first line asks for, 1 or 2.
+    /// Returns the version that its first line asks for, 1 or 2.
     pub fn version(&self) -> u64
         ensures { result ≡ self.now.version }
     {
         self.kept.version
     }
 
-    /// The names in text order, with what each names: the i-th declaration gives the i-th, and behind those stand the
-    /// names that steps give.
+    /// Returns the names with what each names. The i-th declaration gives the i-th name. Behind those are the names that
+    /// steps give, in text order.
     pub fn names(&self) -> &IndexMap<String, Named>
         ensures names { texts_of result.now.entries ≡ names_of self.now }
         ensures given { NamesAreGiven (names_of self.now) self.now.declarations self.now.steps }
@@ -110,7 +109,7 @@ impl Script {
         &self.kept.names
     }
 
-    /// The declarations that give names, in text order. The i-th gives the i-th name.
+    /// Returns the declarations that give names, in text order. The i-th gives the i-th name.
     pub fn declarations(&self) -> &[Declaration]
         ensures lines { map (λ d. source_of d.line) result.now ≡ self.now.declarations }
         ensures makes { All (ReadsDeclaration (names_of self.now)) result.now }
@@ -120,7 +119,7 @@ impl Script {
         &self.kept.declarations
     }
 
-    /// The lanes in text order.
+    /// Returns the lanes in text order.
     pub fn lanes(&self) -> &[Lane]
         ensures lines { map (λ l. source_of l.line) result.now ≡ self.now.lanes }
         ensures said { All (ReadsLane (names_of self.now)) result.now }
@@ -130,7 +129,7 @@ impl Script {
         &self.kept.lanes
     }
 
-    /// The capacity of the lane by which this seat sends to the object at this position, if a line says one.
+    /// Returns the capacity of the lane by which this seat sends to the object at this position, if there is such a lane.
     pub fn lane_of(&self, seat: u64, target: usize) -> Option<usize>
         ensures capacity { result ≡ capacity_of (names_of self.now) self.now.lanes (seat, target) }
         ensures fits { IfSome result IsCapacity }
@@ -138,7 +137,7 @@ impl Script {
         self.kept.capacities.get(&(seat, target)).copied()
     }
 
-    /// The number of the first line that says a lane or a feed, if one does.
+    /// Returns the number of the first line that declares a lane or a feed, if there is one.
     pub fn first_ring(&self) -> Option<u64>
         ensures { result ≡ first_ring self.now }
     {
@@ -167,7 +166,7 @@ impl Script {
         Some(feed.line.number)
     }
 
-    /// The steps in text order.
+    /// Returns the steps in text order.
     pub fn steps(&self) -> &[Step]
         ensures lines { map (λ s. source_of s.line) result.now ≡ self.now.steps }
         ensures asked { All (ReadsStep (names_of self.now)) result.now }

@@ -5,7 +5,7 @@ ghost use Rattle.cml_grammar.specs.Words.{words_of, is_bad_byte, is_skipped, has
 
 use std::alloc::{AllocError, Global};
 
-/// Whether a byte of the line is neither a space nor printed.
+/// Says whether a byte of the line is neither a space nor printable.
 pub fn has_bad_byte(line: &[u8]) -> bool
     ensures { result ≡ list_any is_bad_byte line.now }
 {
@@ -22,7 +22,7 @@ pub(crate) fn is_skipped(line: &[u8]) -> bool
     }
 }
 
-/// The words of a line, which stand between single spaces.
+/// Splits a line into its words, which single spaces separate.
 pub fn split_words<'a>(alloc: Global, line: &'a str) -> Result<Vec<&'a str>, AllocError>
     ensures { IfOk result (λ words. map (λ w. w.now) words.items ≡ words_of line.now) }
 {

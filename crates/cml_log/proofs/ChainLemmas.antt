@@ -29,7 +29,7 @@ module _ {T : Type 0} {N : ℕ} where
   shown kept made given followed =
       record { given = given; items = items_of kept; cells = map cell_of kept; made = made; followed = followed }
 
-  -- the counts are the same, wherever they stand
+  -- the counts are the same, wherever they are
   pub shown-at : (kept : List (Option (Ptr × Chunk T N))) (made given followed made' given' followed' : ℕ)
       → made' ≡ made → given' ≡ given → followed' ≡ followed → shown kept made' given' followed' ≡ shown kept made given followed
   shown-at kept made given followed made' given' followed' same_made same_given same_followed =

@@ -31,7 +31,7 @@ Passed = arg (bare (layout Heap)) no Heap
 abbrev pub passed_laws : Laws Passed
 passed_laws = arg_laws (bare (layout Heap)) no Heap heap_laws.the_row_laws refl
 
--- its drop, which does nothing and which each crate has under a name of its own
+-- its drop, which does nothing; each crate has it under another name
 abbrev pub drops : Symbol → Dict
 drops s = impl (s ∷ []) (tcons (layout Passed) tnil) dnil
 

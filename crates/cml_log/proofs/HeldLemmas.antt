@@ -17,7 +17,7 @@ use Rattle.cml_log.proofs.LeastLemmas.{least-le_end, least-le_place, least-ge, c
 use Rattle.cml_log.proofs.LinkedLemmas.{product-next}
 use Rattle.cml_log.proofs.StandingLemmas.{stands_in, standing_found, standing-set, weight-here, weight-elsewhere}
 
--- a number of places within bounds is the size of a chunk as it stands
+-- a number of places within bounds is the size of a chunk unchanged
 pub chunk_of-within : (n : ℕ) → 0 < n → n ≤ 1024 → chunk_of n ≡ n
 chunk_of-within n low high = omega (arith, low, high)
 

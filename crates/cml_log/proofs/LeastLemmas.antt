@@ -12,7 +12,7 @@ least-le_end end [] = omega arith
 least-le_end end (None ∷ rest) = least-le_end end rest
 least-le_end end (Some place ∷ rest) = omega (arith, least-le_end (min end place) rest)
 
--- no cursor stands lower
+-- no cursor is at a lower place
 pub least-le_place : (end : ℕ) (places : List (Option ℕ)) (key place : ℕ) → get_or places key None ≡ Some place → least end places ≤ place
 least-le_place end [] key place found = absurd (cc)
 least-le_place end (None ∷ rest) zero place found = absurd (cc)
@@ -31,7 +31,7 @@ least-ge bound end (Some place ∷ rest) low below =
     let here = below zero place refl in
     least-ge bound (min end place) rest (omega arith) (λ key later found. below (suc key) later found)
 
--- a cursor stands at the least place, or it is the end
+-- a cursor is at the least place, or it is the end
 pub least-stands : (end : ℕ) (places : List (Option ℕ)) → (least end places ≡ end) ⊎ ((key : ℕ) × (get_or places key None ≡ Some (least end places)))
 least-stands end [] = inl refl
 least-stands end (None ∷ rest) =
@@ -59,7 +59,7 @@ pub least-later_end : (end later : ℕ) (places : List (Option ℕ)) → end ≤
 least-later_end end later places order =
     least-ge (least end places) later places (omega (arith, least-le_end end places)) (λ key place found. least-le_place end places key place found)
 
--- where a cursor stands no later than the end, a later end changes nothing
+-- if a cursor is no later than the end, a later end changes nothing
 pub least-past_cursor : (end later : ℕ) (places : List (Option ℕ)) (key place : ℕ) → get_or places key None ≡ Some place → place ≤ end → end ≤ later → least later places ≡ least end places
 least-past_cursor end later places key place found within order =
     let up = least-later_end end later places order in

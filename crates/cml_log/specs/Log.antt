@@ -78,7 +78,7 @@ module _ {T : Type 0} where
   abbrev pub with_place : Log T → ℕ → Option ℕ → Log T
   with_place l key slot = record l { places = slice_set l.places key slot }
 
-  -- the new log has one more cursor, which stands at this place under a key that was vacant
+  -- the new log has one more cursor, at this place, under a key that was vacant
   pub record Opens (old new : Log T) (key place : ℕ) : Type 0 where
     pub vacant : place_at old key ≡ None
     pub opened : place_at new key ≡ Some place

@@ -1,3 +1,3 @@
-/// The item of a push that was refused for want of memory.
+/// The error of a push for which there was no memory. It holds the item.
 #[derive(Debug, PartialEq, Eq, Drop)]
 pub struct Back<T>(pub T);

@@ -60,7 +60,7 @@ impl<T: Drop, const N: usize> Chain<T, N> {
         })
     }
 
-    /// Writes an item at the next place; where it fills its chunk the next one is made first.
+    /// Writes an item at the next place. If it fills its chunk, makes the next chunk first.
     #[inline(always)]
     pub(crate) fn push(&mut self, item: T) -> Result<(), Back<T>>
         requires { end_of N self.old < 18446744073709551614 }

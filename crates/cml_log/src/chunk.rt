@@ -1,4 +1,4 @@
-//! The chunks of a log in their blocks. What is done to one, or read of one, stands here.
+//! The chunks of a log in their blocks. This file has every call that reads or changes a chunk.
 ghost use Rattle.std.specs.Prelude.{◌≡◌, ◌+◌, ◌<◌, [], ◌∷◌, ◌++◌, Some, None, length, option_copied, slice_get, slice_set, IfOk, OnErr};
 ghost use Rattle.cml_log.specs.Blocks.{block_at, IsKept, IsBare};
 ghost use Rattle.cml_log.specs.Contents.{row_at, link_at, cell_of, KeepsCounts, Rewrites, with_row, with_link, with_cursors};
@@ -39,9 +39,9 @@ impl<T, const N: usize> Linked for Chunk<T, N> {
     }
 }
 
-/// The chunks of a log, and how often one was made, one was given back, and a link was followed. Whoever owns the chunks
-/// owns these counts: no other way leads to a block or to a count, and what raises a count takes the chunks by `&mut`, so
-/// that a look by `&` follows no link.
+/// The chunks of a log, and how often a chunk was made, a chunk was freed, and a link was followed. The chunks' owner owns
+/// these counts: no other way leads to a block or to a count. A call that raises a count takes the chunks by `&mut`, so a
+/// call that takes them by `&` follows no link.
 pub(crate) struct KeptChunks<T, const N: usize> {
     blocks: Blocks<Chunk<T, N>>,
     made: Counter,
@@ -81,7 +81,7 @@ impl<T: Drop, const N: usize> KeptChunks<T, N> {
         Ok(self.blocks.put(number, right))
     }
 
-    /// Gives a chunk back with all that is in it, and counts that.
+    /// Drops all that is in a chunk, frees its memory, and counts that.
     pub(crate) fn give_back(&mut self, alloc: Global, at: Address)
         requires { IsKept self.old.blocks.kept at.number at.at }
         ensures kept { self.new.blocks.kept ≡ slice_set self.old.blocks.kept at.number None }

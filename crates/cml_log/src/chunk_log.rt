@@ -10,7 +10,7 @@ use slab::Slab;
 use std::alloc::{AllocError, Global};
 use std::marker::{Model, Send};
 
-// Where a cursor stands: its place, and where the place's chunk lies.
+// Where a cursor is: its place, and where the place's chunk lies.
 #[derive(Clone, Copy)]
 struct Cursor {
     at: Address,
@@ -29,8 +29,8 @@ fn move_to(cursors: &mut Slab<Cursor>, key: usize, to: Cursor)
 
 /// A log whose items lie in chunks of `N` places of raw memory.
 ///
-/// Each cursor holds its chunk, and each chunk counts the cursors in it, so that no call looks at all cursors.
-/// `N` is from 1 to 1,024; with another there is no log, and `new` always answers `AllocError`.
+/// Each cursor holds its chunk, and each chunk counts the cursors in it, so no call looks at all cursors.
+/// `N` is from 1 to 1,024; with any other `N`, `new` always fails with `AllocError`.
 #[derive(Drop)]
 pub struct ChunkLog<T: Drop, const N: usize> {
     chain: Chain<T, N>,
@@ -197,7 +197,8 @@ impl<T: Drop, const N: usize> MessageLog<T> for ChunkLog<T, N> {
 impl<T: Drop, const N: usize> ChunkLog<T, N> {
     ghost use Rattle.cml_log.specs.Log.{chunk_count};
 
-    /// The chunks made less those given back, counted by the calls that make and give back alone, are those kept.
+    /// Shows that the chunks made, less the chunks freed, are the chunks kept. Only the calls that make and free chunks
+    /// count them.
     pub fn counted(&self)
         ensures { self.now.made ≡ self.now.given + chunk_count (chunk_of N) self.now.log }
     {

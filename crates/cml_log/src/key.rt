@@ -1,6 +1,6 @@
 use std::marker::Model;
 
-/// Names a cursor of the log that opened it. A key that was closed may be given again.
+/// The name of a cursor, in the log that opened it. The log may reuse the key of a closed cursor.
 #[derive(Clone, Copy, Debug, PartialEq, Eq)]
 pub struct Key(pub(crate) usize);
 

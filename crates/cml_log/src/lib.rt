@@ -1,4 +1,4 @@
-//! A list of messages that cursors read, each from its own place, and that is given back chunk by chunk.
+//! A list of messages. Each cursor reads it from its own place, and chunks that no cursor still needs are freed.
 #![tactic(auto)]
 
 mod back;

@@ -4,11 +4,11 @@ ghost use Rattle.cml_log.specs.Log.{Log, empty_log, next_of, IsOpen, place_of, o
 use crate::{Back, Key};
 use std::alloc::{AllocError, Global};
 
-/// A list of messages, to which one end adds and which each open cursor reads from its own place on.
+/// A list of messages that grows at one end. Each open cursor reads it from its own place on.
 ///
-/// Items lie in chunks of `CHUNK` places. What lies before the chunk of the least place of an open cursor is dropped,
-/// and without a cursor what lies before the chunk of the next place.
-/// Memory is taken only by `new`, by a push that fills its chunk, and where one more cursor is opened.
+/// Items lie in chunks of `CHUNK` places. Items before the chunk of the least place of an open cursor are dropped. Without
+/// a cursor, items before the chunk of the next place are dropped.
+/// Only `new`, a push that fills its chunk, and opening one more cursor allocate memory.
 pub trait MessageLog<T>: Drop {
     /// How many places a chunk has, from 1 to 1,024.
     const CHUNK: u64;
@@ -17,27 +17,27 @@ pub trait MessageLog<T>: Drop {
 
     ghost log: { Self → Log T };
 
-    /// An empty log.
+    /// Makes an empty log.
     fn new(alloc: Global) -> Result<Self, AllocError>
         ensures { IfOk result (λ made. log made ≡ empty_log) };
 
-    /// Adds an item at the next place, or hands it back.
+    /// Adds an item at the next place. If it fails, it returns the item.
     fn push(&mut self, item: T) -> Result<(), Back<T>>
         requires { next_of (log self.old) < 18446744073709551614 }
         ensures ok { OnOk result (log self.new ≡ trimmed CHUNK (with_item (log self.old) item)) }
         ensures err { OnErr result (log self.new ≡ log self.old) }
         ensures back { IfErr result (λ refused. refused.0 ≡ item) }
 
-        // Only a push that fills its chunk needs memory.
+        // Only a push that fills its chunk allocates.
         ensures refused { OnErr result (next_of (log self.old) % CHUNK ≡ CHUNK - 1) };
 
-    /// Opens a cursor at the next place, so that it reads what is pushed from now on.
+    /// Opens a cursor at the next place, so that it reads the items that are pushed from now on.
     fn open_cursor(&mut self) -> Result<Key, AllocError>
         ensures ok { IfOk result
             (λ key. Opens (log self.old) (log self.new) key (next_of (log self.old))) }
         ensures err { OnErr result (log self.new ≡ log self.old) };
 
-    /// Opens a cursor where another stands.
+    /// Opens a cursor at another cursor's place.
     fn copy_cursor(&mut self, k: Key) -> Result<Key, AllocError>
         requires { IsOpen (log self.old) k }
         ensures ok { IfOk result
@@ -49,7 +49,7 @@ pub trait MessageLog<T>: Drop {
         requires { IsOpen (log self.old) k }
         ensures { log self.new ≡ trimmed CHUNK (with_place (log self.old) k None) };
 
-    /// The item at a cursor's place, if one was pushed there.
+    /// Returns the item at a cursor's place, if one was pushed there.
     fn peek(&self, k: Key) -> Option<&T>
         requires { IsOpen (log self.now) k }
         ensures { option_copied result ≡ slice_get (owed_items (log self.now) k) 0 };
@@ -61,34 +61,34 @@ pub trait MessageLog<T>: Drop {
         ensures { log self.new
             ≡ trimmed CHUNK (with_place (log self.old) k (Some (place_of (log self.old) k + 1))) };
 
-    /// The place of the first kept item, at which the chunk of the least place begins.
+    /// Returns the place of the first kept item, where the chunk of the least place begins.
     fn first(&self) -> u64
         ensures value { result ≡ (log self.now).first }
         ensures starts_chunk { result ≡ chunk_start CHUNK (log self.now) };
 
-    /// The place that the next item gets, which is how many were pushed.
+    /// Returns the place that the next item gets, which is how many items were pushed.
     fn next(&self) -> u64
         ensures { result ≡ next_of (log self.now) };
 
-    /// Where a cursor stands.
+    /// Returns a cursor's place.
     fn place(&self, k: Key) -> u64
         requires { IsOpen (log self.now) k }
         ensures { result ≡ place_of (log self.now) k };
 
-    /// How many items a cursor has still to read.
+    /// Returns how many items a cursor has still to read.
     fn owed(&self, k: Key) -> u64
         requires { IsOpen (log self.now) k }
         ensures { result ≡ length (owed_items (log self.now) k) };
 
-    /// How many cursors are open.
+    /// Returns how many cursors are open.
     fn cursors(&self) -> usize
         ensures { result ≡ cursor_count (log self.now) };
 
-    /// How many chunks are kept: those from the first kept place's to the next place's.
+    /// Returns how many chunks are kept, from that of the first kept place to that of the next place.
     fn chunks(&self) -> u64
         ensures { result ≡ chunk_count CHUNK (log self.now) };
 
-    /// Whether a key's cursor is open.
+    /// Says whether a key's cursor is open.
     fn is_open(&self, k: Key) -> bool
         ensures { IsTrue result ↔ IsOpen (log self.now) k };
 

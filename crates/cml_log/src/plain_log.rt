@@ -64,7 +64,7 @@ impl<T: Drop, const N: usize> MessageLog<T> for PlainLog<T, N> {
             return Err(Back(item));
         }
         self.items.push_back_reserved(item);
-        // An open cursor stands no later than `next`, so one more item leaves the least place.
+        // An open cursor is no later than `next`, so one more item leaves the least place.
         if !self.places.is_empty() {
             return Ok(());
         }

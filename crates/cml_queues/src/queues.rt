@@ -5,8 +5,8 @@ use crate::links::{Ends, Link, append, unlink};
 use std::alloc::{AllocError, Global};
 use std::marker::Model;
 
-/// Queues by their number. No number is a member of two. A call takes the same few steps however long the queues are; only
-/// `new` and `add` allocate memory.
+/// First-in-first-out queues of numbers, each under its number. A number is a member of at most one queue. A call takes the
+/// same few steps however long the queues are. Only `new` and `add` allocate memory.
 #[derive(Drop)]
 pub struct Queues {
     ends: Vec<Ends>,
@@ -25,7 +25,7 @@ impl Model for Queues {
 }
 
 impl Queues {
-    /// `count` queues, all empty. No number may be pushed before it was added.
+    /// Makes `count` empty queues. A number can be pushed only after it was added.
     pub fn new(alloc: Global, count: usize) -> Result<Queues, AllocError>
         ensures count { IfOk result (λ queues. length queues.queues ≡ count) }
         ensures empty { IfOk result (λ queues. (row : ℕ) → queue_of queues row ≡ []) }
@@ -41,7 +41,7 @@ impl Queues {
         })
     }
 
-    /// One number more may be pushed: the least that couldn't before.
+    /// Adds one more number that can be pushed: the least that could not be pushed before.
     pub fn add(&mut self) -> Result<(), AllocError>
         ensures queues { self.new.queues ≡ self.old.queues }
         ensures bound { OnOk result (self.new.bound ≡ self.old.bound + 1) }
@@ -54,7 +54,7 @@ impl Queues {
         Ok(())
     }
 
-    /// The number goes to the end of a queue.
+    /// Puts the number at the end of a queue.
     pub fn push(&mut self, row: usize, number: u64)
         requires row { row < length self.old.queues }
         requires within { number < self.old.bound }
@@ -67,7 +67,7 @@ impl Queues {
         append(&mut self.links, &mut self.ends[row], number);
     }
 
-    /// The number leaves its queue.
+    /// Takes the number out of its queue.
     pub fn remove(&mut self, row: usize, number: u64)
         requires { is_in self.old row number ≡ true }
         ensures here { (xs ys : List ℕ) → queue_of self.old row ≡ xs ++ number ∷ ys → queue_of self.new row ≡ xs ++ ys }
@@ -81,7 +81,7 @@ impl Queues {
         unlink(&mut self.links, &mut self.ends[row], number);
     }
 
-    /// The oldest member of a queue. It gives `None` where there is none, and where there is no such queue.
+    /// Returns the oldest member of a queue. Returns `None` if the queue is empty, or if there is no such queue.
     pub fn first(&self, row: usize) -> Option<u64>
         ensures first { result ≡ slice_get (queue_of self.now row) 0 }
         ensures within { IfSome result (λ number. number < self.now.bound) }
@@ -89,7 +89,7 @@ impl Queues {
         self.ends.get(row)?.first
     }
 
-    /// The member behind this one, in its queue. Of a number in no queue it may give any number that was added.
+    /// Returns the member behind this one in its queue. For a number in no queue it may return any number that was added.
     pub fn after(&self, number: u64) -> Option<u64>
         ensures next { (row : ℕ) (xs ys : List ℕ) → queue_of self.now row ≡ xs ++ number ∷ ys → result ≡ slice_get ys 0 }
         ensures within { IfSome result (λ next. next < self.now.bound) }
@@ -97,7 +97,7 @@ impl Queues {
         self.links.get(number as usize)?.next
     }
 
-    /// How many numbers were added. No queue has more members.
+    /// Returns how many numbers were added. No queue has more members.
     pub fn bound(&self) -> usize
         ensures bound { result ≡ self.now.bound }
         ensures enough { (row : ℕ) → length (queue_of self.now row) ≤ result }

@@ -114,18 +114,18 @@ may_do (lane number) (verb.Give Cast) reply = says Done reply
 may_do (feed number) (verb.Ask Recv) reply = says Got reply
 may_do _ _ _ = false
 
--- a message that a thread gives stands as in the script, and one that a lane moved as in a reply
+-- a message that a thread gives is written as in the script, and one that a lane moved as in a reply
 abbrev pub is_given_by : Doer → List ℕ → Bool
 is_given_by (lane number) word = is_message word
 is_given_by _ word = is_text word
 
--- what stands behind the step's word: one word or two, the last with a colon, and the reply
+-- what follows the step's word: one word or two, the last with a colon, and the reply
 abbrev pub behind_step : Words → Option (Option (List ℕ) × List ℕ × List ℕ)
 behind_step (last ∷ reply ∷ []) = Some (None, last, reply)
 behind_step (first ∷ last ∷ reply ∷ rest) = if length rest == 0 then Some (Some first, last, reply) else None
 behind_step _ = None
 
--- the object of a step, and what stands beside it: a message, or what a port is made of, which stands before the port
+-- the object of a step, and what is beside it: a message, or the port's source, which comes before the port
 abbrev pub object_of : Doer → Verb → Option (List ℕ) → List ℕ → Option (List ℕ × Option (List ℕ))
 object_of doer (verb.Give call) (Some object) last = if is_given_by doer last then Some (object, Some last) else None
 object_of doer (verb.Give call) None last = None

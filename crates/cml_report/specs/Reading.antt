@@ -17,7 +17,7 @@ pub record SoFar : Type 0 where
 abbrev pub nothing_yet : SoFar
 nothing_yet = record { deeds = []; things = []; end = None }
 
--- one line more, which may stand behind those of its own part and of the parts before
+-- one line more: it may follow lines of the same part and of the parts before
 unfoldable pub with_line : SoFar → Line → Result SoFar What
 with_line read (deed d) = if is_some read.end || not (length read.things == 0) then Err OutOfPlace else Ok (record read { deeds = read.deeds ++ d ∷ [] })
 with_line read (thing t) = if is_some read.end then Err OutOfPlace else Ok (record read { things = read.things ++ t ∷ [] })
@@ -36,7 +36,7 @@ pub data Told : Type 0 where
 abbrev pub wrong_at : ℕ → What → Told
 wrong_at k what = wrong (record { line = k; what = what })
 
--- nothing stands behind the last line end, and the last line was read
+-- nothing follows the last line end, and the last line was read
 abbrev pub told_at_end : SoFar → ℕ → List ℕ → Told
 told_at_end read k rest =
     if not (length rest == 0) then wrong_at k NoLineEnd

@@ -7,7 +7,7 @@ use std::error::Error;
 use std::fmt;
 use thiserror::Error;
 
-/// Why a text is no report, or none of its script, or has no chart, in the order in which the tests are made.
+/// The reasons why a text is no report, or is not of its script, or has no chart, in the order in which they are tested.
 #[derive(Clone, Copy, Debug, PartialEq, Eq, Error)]
 pub enum What {
     #[error("no line end")]
@@ -32,7 +32,7 @@ pub enum What {
     Memory,
 }
 
-/// The fault of a report. `line` counts from 1, and is 0 for `TooLong` and `Memory`, which concern none.
+/// A fault of a report. `line` counts from 1; it is 0 for `TooLong` and `Memory`, which concern no line.
 #[derive(Clone, Copy, Debug, PartialEq, Eq)]
 pub struct Fault {
     pub line: u64,
@@ -40,7 +40,7 @@ pub struct Fault {
 }
 
 impl What {
-    /// This fault at a line.
+    /// Returns this fault at a line.
     pub fn at(self, line: u64) -> Fault
         ensures { result ≡ record { line = line; what = self } }
     {

@@ -10,8 +10,8 @@ use cml_calls::{Ask, Give, ReplyKind};
 use cml_grammar::{Verb, is_name, number_of};
 use cml_text::is_text;
 
-/// The line that these words are behind so many lines of the first part: the last one, or else one of the second part or of the
-/// first.
+/// Finds the line that these words are behind `count` lines of the first part: the last line, a line of the second part, or
+/// a line of the first, in this order.
 pub(crate) fn line_by<'a>(line: &'a str, words: &[&'a str], count: usize) -> Option<Line<'a>>
     ensures { option_map shown_line result ≡ line_by count line.now (texts words.now) }
 {
@@ -25,7 +25,7 @@ pub(crate) fn line_by<'a>(line: &'a str, words: &[&'a str], count: usize) -> Opt
     Some(Line::Act(act))
 }
 
-/// The act that a line of the first part tells.
+/// The act that a line of the first part reports.
 #[tactic(auto, unfolding(crate::specs::Lines::deed_of))]
 fn act_of<'a>(line: &'a str, words: &[&'a str]) -> Option<Act<'a>>
     ensures { option_map shown_act result ≡ deed_of line.now (texts words.now) }
@@ -71,7 +71,7 @@ fn act_by<'a>(actor: Actor<'a>, line: &'a str, words: &[&'a str]) -> Option<Act<
     })
 }
 
-/// What stands behind a step's word: one word or two, and the reply.
+/// What follows a step's word: one word or two, and the reply.
 fn behind_step<'a>(words: &[&'a str]) -> Option<(Option<&'a str>, &'a str, &'a str)>
     ensures { option_map (λ found. (option_map (λ w. w.now) found.0, found.1.now, found.2.now)) result ≡ behind_step (texts words.now) }
 {
@@ -84,7 +84,7 @@ fn behind_step<'a>(words: &[&'a str]) -> Option<(Option<&'a str>, &'a str, &'a s
     }
 }
 
-/// The object of a step, and what stands beside it.
+/// The object of a step, and what is beside it.
 fn object_of<'a>(
     actor: Actor<'_>,
     verb: Verb,
@@ -116,7 +116,7 @@ fn may_do(actor: Actor<'_>, verb: Verb, reply: &str) -> bool
     }
 }
 
-/// The kinds of reply that a step may have.
+/// Returns the kinds of reply that a step may have.
 pub fn replies_to(verb: Verb) -> &'static [ReplyKind]
     ensures { result.now ≡ (row_of verb).replies }
 {
@@ -126,7 +126,7 @@ pub fn replies_to(verb: Verb) -> &'static [ReplyKind]
     }
 }
 
-/// Whether a step makes a port, whose name then stands in the report.
+/// Says whether a step makes a port. The report then has the port's name.
 pub fn makes_port(verb: Verb) -> bool
     ensures { result ≡ makes_port verb }
 {
@@ -154,7 +154,7 @@ fn says(kind: ReplyKind, reply: &str) -> bool
     }
 }
 
-/// The object that a line tells of, if it does.
+/// The object that a line of the second part reports, if it is one.
 #[tactic(auto, unfolding(crate::specs::Lines::thing_of))]
 fn thing_of<'a>(line: &'a str, words: &[&'a str]) -> Option<Object<'a>>
     ensures { option_map shown_object result ≡ thing_of line.now (texts words.now) }
@@ -187,7 +187,7 @@ fn is_closing(kind: &str, closing: &[&str]) -> bool
     is_made || fits(&["not", "made"], closing)
 }
 
-/// How the run ended by the last line, behind so many lines of the first part.
+/// The end of the run by the last line, behind `count` lines of the first part.
 #[tactic(auto, unfolding(crate::specs::Lines::ended_of))]
 fn end_of<'a>(line: &'a str, words: &[&'a str], count: usize) -> Option<End<'a>>
     ensures { option_map shown_end result ≡ ended_of count line.now (texts words.now) }
@@ -201,7 +201,7 @@ fn end_of<'a>(line: &'a str, words: &[&'a str], count: usize) -> Option<End<'a>>
     may_leave(stop, left).then_some(End { stop, line })
 }
 
-/// Whether a run that stopped so may have left this.
+/// Whether a run that stopped like this may have left this.
 fn may_leave(stop: &str, left: &[&str]) -> bool
     ensures { result ≡ may_leave stop.now (texts left.now) }
 {
@@ -212,7 +212,7 @@ fn may_leave(stop: &str, left: &[&str]) -> bool
     }
 }
 
-/// The word without the colon at its end, where it has one.
+/// The word without the colon at its end, if it has one.
 #[tactic(auto, using(crate::proofs::WordLemmas::stripped))]
 fn before_colon(word: &str) -> Option<&str>
     ensures { option_map (λ front. front.now) result ≡ before_colon word.now }
@@ -226,7 +226,7 @@ fn is_number(word: &str) -> bool
     number_of(word).is_some()
 }
 
-/// Whether the word is a message as replies tell it: a number, or `=` and a text.
+/// Whether the word is a message as in a reply: a number, or `=` and a text.
 fn is_message(word: &str) -> bool
     ensures { result ≡ is_message word.now }
 {
@@ -236,7 +236,7 @@ fn is_message(word: &str) -> bool
     }
 }
 
-/// Whether words are as a form has them, where `#` is for a number and `=` for a message.
+/// Whether words are as a form has them: `#` is for a number and `=` for a message.
 fn fits(form: &[&str], words: &[&str]) -> bool
     ensures { result ≡ fits (texts form.now) (texts words.now) }
 {

@@ -10,8 +10,8 @@ use crate::report::{Act, End, Line, Object, Report};
 use cml_grammar::{cut_line, has_bad_byte, split_words};
 use std::alloc::Global;
 
-/// The most bytes that a report may have. With a journal of 65,536 entries, as many as there are where `cml` is not told
-/// otherwise, a report has at most some 14 megabytes of steps and some 13 of objects.
+/// The most bytes that a report may have. With a journal of 65,536 entries, which is the limit of `cml` by default, a report
+/// has at most some 14 megabytes of steps and some 13 of objects.
 const MAX_BYTES: usize = 33_554_432;
 
 /// The lines so far.
@@ -22,7 +22,7 @@ pub(crate) struct Reading<'a> {
     end: Option<End<'a>>,
 }
 
-/// Reads a report. Whatever text is read takes time in proportion to its length.
+/// Reads a report. Takes time in proportion to the text's length, whatever the text is.
 pub fn read_report(alloc: Global, text: &[u8]) -> Result<Report<'_>, Fault>
     ensures report { IfOk result (λ report. told text.now ≡ shown_report report) }
     ensures few { IfOk result (λ report. length report.acts.items + length report.objects.items ≤ 33554432) }
@@ -67,7 +67,7 @@ fn read_line<'a>(alloc: Global, reading: &mut Reading<'a>, line: &'a [u8]) -> Re
     }
 }
 
-/// Adds a line, which may stand behind those of its own part and of the parts before.
+/// Adds a line, which may follow lines of the same part and of the parts before.
 #[tactic(auto, unfolding(crate::specs::Reading::with_line))]
 fn add_line<'a>(reading: &mut Reading<'a>, line: Line<'a>) -> Result<(), What>
     ensures fits { OnOk result (with_line (so_far reading.old) (shown_line line.entry) ≡ Ok (so_far reading.new)) }
@@ -86,7 +86,7 @@ fn add_line<'a>(reading: &mut Reading<'a>, line: Line<'a>) -> Result<(), What>
     Ok(())
 }
 
-/// The report of the lines that were read, where nothing follows the last line end.
+/// The report of the lines that were read, if nothing follows the last line end.
 fn finish<'a>(reading: Reading<'a>, number: u64, rest: &[u8]) -> Result<Report<'a>, Fault>
     ensures report { IfOk result (λ report. told_at_end (so_far reading.entry) number rest.now ≡ shown_report report) }
     ensures few { IfOk result (λ report. length report.acts.items + length report.objects.items ≤ line_count reading.entry) }

@@ -9,7 +9,7 @@ pub enum Actor<'a> {
     Feed(&'a str),
 }
 
-/// A line of the first part: what somebody did with an object, and what came of it.
+/// A line of the first part: what an actor did with an object, and the reply.
 #[derive(Clone, Copy)]
 pub struct Act<'a> {
     pub actor: Actor<'a>,
@@ -18,14 +18,14 @@ pub struct Act<'a> {
     pub word: &'a str,
     /// The object that is used, or the port that is made.
     pub object: &'a str,
-    /// The message that is given; or what a port is made of.
+    /// The message that is given, or the channel or port of which a port is made.
     pub with: Option<&'a str>,
     /// The reply's word, or the message that came: in version 2 with `=` before it.
     pub reply: &'a str,
     pub line: &'a str,
 }
 
-/// A line of the second part: an object, and how it was left.
+/// A line of the second part: an object, and its state at the end.
 #[derive(Clone, Copy)]
 pub struct Object<'a> {
     /// The kind's word.
@@ -34,7 +34,7 @@ pub struct Object<'a> {
     pub line: &'a str,
 }
 
-/// The last line.
+/// The last line: how the run stopped.
 #[derive(Clone, Copy)]
 pub struct End<'a> {
     /// How the run stopped: `done`, `stalled`, `full` or `held`.
@@ -50,7 +50,7 @@ pub(crate) enum Line<'a> {
     End(End<'a>),
 }
 
-/// A report, whole.
+/// A whole report.
 #[derive(Drop)]
 pub struct Report<'a> {
     pub acts: Vec<Act<'a>>,

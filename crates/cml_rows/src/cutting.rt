@@ -1,4 +1,4 @@
-//! Cuts of a journal, and what lines tell of one that was cut.
+//! Cuts of a journal, and what lines say of a journal that was cut.
 use crate::facts::{tell_check, tell_entry};
 use crate::feeding::Feeding;
 use crate::numbered::Numbered;
@@ -13,12 +13,12 @@ use std::alloc::Global;
 pub enum Way {
     /// Its entries are dropped.
     Cut,
-    /// They are handed over.
+    /// They are returned.
     Take,
 }
 
 impl Way {
-    /// The way that a word of the command line names.
+    /// Finds the way that a word of the command line names.
     pub fn of_word(word: &str) -> Option<Way> {
         match word {
             "cut" => Some(Way::Cut),
@@ -28,7 +28,7 @@ impl Way {
     }
 }
 
-/// What is looked at behind a case's last line: where entries were handed over, that they are lawful.
+/// The line that is performed behind a case's last line: if entries were taken, it asks whether they are lawful.
 pub fn last_look(way: Option<Way>) -> Option<&'static str> {
     match way {
         Some(Way::Take) => Some("pieces"),
@@ -36,7 +36,7 @@ pub fn last_look(way: Option<Way>) -> Option<&'static str> {
     }
 }
 
-/// What has a board whose journal can be cut.
+/// A thing with a board whose journal can be cut.
 pub trait Journaled<M: Numbered> {
     fn board(&self) -> &Numbers<M>;
 
@@ -60,7 +60,7 @@ impl<M: Numbered> Journaled<M> for Numbers<M> {
     }
 }
 
-/// Entries that were handed over at once, and the position of the first.
+/// Entries that were taken at once, and the position of the first.
 #[derive(Drop)]
 struct Piece<M: Numbered> {
     from: u64,
@@ -73,7 +73,7 @@ impl<M: Numbered> Piece<M> {
     }
 }
 
-/// All that a journal handed over, oldest first.
+/// All entries that were taken from a journal, oldest first.
 #[derive(Drop)]
 pub struct Pieces<M: Numbered> {
     alloc: Global,
@@ -88,7 +88,7 @@ impl<M: Numbered> Pieces<M> {
         }
     }
 
-    /// Drops all that was handed over.
+    /// Drops all entries that were taken.
     pub fn clear(&mut self) {
         self.pieces.clear();
     }
@@ -106,7 +106,7 @@ impl<M: Numbered> Pieces<M> {
         }
     }
 
-    /// What a line about the journal comes to.
+    /// Performs a line about the journal, and writes its outcome.
     pub fn tell<J: Journaled<M>>(&mut self, told: &mut Told, ground: &mut J, words: &[&str]) {
         match *words.first().unwrap_or(&"") {
             "cut" => tell_done(told, ground.cut()),
@@ -134,7 +134,7 @@ impl<M: Numbered> Pieces<M> {
         }
     }
 
-    /// Cuts the journal, and keeps the entries that it hands over: how many.
+    /// Cuts the journal, and keeps the entries that it returns. Returns how many they are.
     fn take<J: Journaled<M>>(&mut self, told: &mut Told, ground: &mut J) -> Result<usize, Refusal> {
         let from = ground.board().cut_at();
         let entries = ground.take_journal()?;
@@ -143,7 +143,7 @@ impl<M: Numbered> Pieces<M> {
         Ok(count)
     }
 
-    /// Tells the entry at a position, which counts from the board's first entry on, also one that was handed over.
+    /// Writes the entry at a position, which counts from the board's first entry on, also one that was taken.
     fn tell_noted(&self, told: &mut Told, board: &Numbers<M>, at: u64) {
         match at.checked_sub(board.cut_at()) {
             Some(index) => tell_entry(told, board.journal().get(index as usize), "no entry"),
@@ -151,7 +151,7 @@ impl<M: Numbered> Pieces<M> {
         }
     }
 
-    /// The entry at a position that was handed over.
+    /// The entry at a position, if it was taken.
     fn entry(&self, at: u64) -> Option<&Entry<M>> {
         for piece in self.pieces.iter() {
             if let Some(entry) = piece.entry(at) {
@@ -161,7 +161,7 @@ impl<M: Numbered> Pieces<M> {
         None
     }
 
-    /// Tells whether all entries since the board was made are lawful, unless some were dropped.
+    /// Writes whether all entries since the board was made are lawful, unless some were dropped.
     fn tell_checked(&self, told: &mut Told, board: &Numbers<M>) {
         if board.cut_at() == 0 {
             tell_check(told, self.alloc, board.journal());
@@ -172,7 +172,7 @@ impl<M: Numbered> Pieces<M> {
         }
     }
 
-    /// How many entries were handed over.
+    /// How many entries were taken.
     fn count(&self) -> u64 {
         let mut count: u64 = 0;
         for piece in self.pieces.iter() {
@@ -181,7 +181,7 @@ impl<M: Numbered> Pieces<M> {
         count
     }
 
-    /// Feeds all that was handed over, and then the journal, to a checker, and tells what it found.
+    /// Feeds all that was taken, and then the journal, to a checker, and writes what it found.
     fn tell_fed(&self, told: &mut Told, board: &Numbers<M>) {
         let Ok(mut feeding) = Feeding::new(self.alloc) else {
             return told.lack();

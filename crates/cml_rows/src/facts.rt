@@ -1,4 +1,4 @@
-//! What a board's readers tell of an object, and which objects take a call, in words.
+//! What a board's readers return for an object, and which objects take a call, in words.
 use crate::numbered::Numbered;
 use crate::outcome::{Numbers, REFUSED_ONCE};
 use crate::told::Told;
@@ -25,7 +25,7 @@ enum Reader {
     Kept,
 }
 
-/// What is told of a port before whether it is open, and what is told of all objects behind that.
+/// The facts that are written of a port before whether it is open; `COUNTS` are those written behind that.
 const PLACES: &[(&str, Reader)] = &[(" of ", Reader::Of), (" start ", Reader::Start)];
 
 const COUNTS: &[(&str, Reader)] = &[
@@ -36,7 +36,7 @@ const COUNTS: &[(&str, Reader)] = &[
     (" kept ", Reader::Kept),
 ];
 
-/// Tells all that the readers have of an object; each that has nothing of it is left out.
+/// Writes all that the readers return for an object, without those that return nothing.
 pub fn tell_object<M: Numbered>(told: &mut Told, board: &Numbers<M>, name: Name) {
     tell_kind(told, board.kind(name));
     tell_counts(told, board, name, PLACES);
@@ -56,7 +56,7 @@ fn tell_kind(told: &mut Told, kind: Option<Kind>) {
     }
 }
 
-/// Tells what a variable holds.
+/// Writes what a variable holds.
 fn tell_held<M: Numbered>(told: &mut Told, board: &Numbers<M>, name: Name) {
     match board.held(name) {
         Some(Some(message)) => {
@@ -68,7 +68,7 @@ fn tell_held<M: Numbered>(told: &mut Told, board: &Numbers<M>, name: Name) {
     }
 }
 
-/// Tells how many entries a board's journal has, how many were cut away, and all that the readers have of each object.
+/// Writes how many entries a board's journal has, how many were cut away, and what the readers return for each object.
 pub fn tell_board<M: Numbered>(told: &mut Told, board: &Numbers<M>) {
     told.show(&board.journal().len());
     told.say(" entries, cut at ");
@@ -82,7 +82,7 @@ pub fn tell_board<M: Numbered>(told: &mut Told, board: &Numbers<M>) {
     }
 }
 
-/// Tells an entry of a journal, or this word where there is none.
+/// Writes an entry of a journal, or this word if there is none.
 pub fn tell_entry<M: Numbered>(told: &mut Told, entry: Option<&Entry<M>>, none: &str) {
     let Some(entry) = entry else {
         return told.say(none);
@@ -94,7 +94,7 @@ pub fn tell_entry<M: Numbered>(told: &mut Told, entry: Option<&Entry<M>>, none: 
     told.show(&entry.reply);
 }
 
-/// Tells whether a short journal is lawful, or where it first isn't. A check that memory was refused is made once more.
+/// Writes whether a short journal is lawful, or where it first is not. A check that ran out of memory is made once more.
 pub fn tell_check<M: Numbered>(told: &mut Told, alloc: Global, entries: &[Entry<M>]) {
     if entries.len() > 1000 {
         return told.say("too many entries");
@@ -119,7 +119,7 @@ fn tell_verdict(told: &mut Told, verdict: Result<(), usize>) {
     }
 }
 
-/// Tells the numbers that these readers have of an object.
+/// Writes the numbers that these readers return for an object.
 fn tell_counts<M: Numbered>(
     told: &mut Told,
     board: &Numbers<M>,
@@ -148,7 +148,7 @@ impl Reader {
     }
 }
 
-/// Tells which object a call is made on, and each kind that takes it.
+/// Writes which object a call is made on, and each kind that takes it.
 pub fn tell_call<M: Numbered>(told: &mut Told, call: &Call<M>) {
     match call.object() {
         Some(name) => {

@@ -5,7 +5,7 @@ use crate::told::Told;
 use cml_board::{Checker, Entry};
 use std::alloc::{AllocError, Global};
 
-/// What a checker told of all that it was fed.
+/// What a checker says of all that it was fed.
 #[derive(Clone, Copy)]
 enum Verdict {
     Lawful,
@@ -14,7 +14,7 @@ enum Verdict {
     TooMany,
 }
 
-/// A checker under way.
+/// A checker at work.
 #[derive(Drop)]
 pub struct Feeding<M: Numbered> {
     checker: Checker<M>,
@@ -34,7 +34,7 @@ impl<M: Numbered> Feeding<M> {
         })
     }
 
-    /// Feeds the next piece. Where memory is refused it goes on, once, with the entries that weren't taken yet.
+    /// Feeds the next piece. If memory runs out, it goes on, once, with the entries that were not taken yet.
     pub fn feed(&mut self, told: &mut Told, piece: &[Entry<M>]) {
         let before = self.checker.entries();
         self.given = self.given.saturating_add(piece.len() as u64);
@@ -53,7 +53,7 @@ impl<M: Numbered> Feeding<M> {
         }
     }
 
-    /// Tells whether all was lawful, or where it first wasn't, and where the checker counted otherwise.
+    /// Writes whether all was lawful, or where it first was not, and whether the checker's count differs.
     pub fn tell(&self, told: &mut Told) {
         let lawful_count = match self.verdict {
             Verdict::Lawful => {

@@ -1,4 +1,4 @@
-//! A floor as what calls are made on.
+//! Tables of calls on a floor.
 use crate::cutting::{Journaled, Way};
 use crate::ground::Ground;
 use crate::ground_table::perform_on;

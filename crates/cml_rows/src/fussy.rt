@@ -1,4 +1,4 @@
-//! Messages that count how many of their like live, and whose share may be refused.
+//! Messages that count how many of them live, and whose `share` may fail.
 ghost use Rattle.std.specs.Prelude.{◌≡◌, ℕ, false, IfOk};
 
 use cml_board::Message;
@@ -11,8 +11,8 @@ use std::sync::atomic::Ordering::SeqCst;
 /// The number that is never shared.
 const UNLUCKY: u64 = 13;
 
-/// A number in a block of its own, so that each share takes memory; that of 13 is refused always. A share is one message more
-/// that lives, and its end one less.
+/// A number in its own block, so that each share allocates; sharing 13 always fails. Each share adds one to the count of
+/// live messages, and each drop takes one away.
 pub struct Fussy<'a> {
     live: &'a AtomicU64,
     number: Box<u64>,
@@ -46,7 +46,7 @@ impl<'a> Fussy<'a> {
         *self.number
     }
 
-    /// Where it and its like are counted.
+    /// The count of these messages.
     pub fn counter(&self) -> &'a AtomicU64 {
         self.live
     }

@@ -1,4 +1,4 @@
-//! A table of calls on a floor or a hall under way.
+//! A table of calls at work on a floor or a hall.
 use crate::cutting::{Pieces, Way};
 use crate::facts::{tell_board, tell_object};
 use crate::ground::Ground;
@@ -12,7 +12,7 @@ use crate::told::Told;
 use crate::words::{call_and_copy, is_note, number, object};
 use cml_board::{Call, Outcome, Refusal};
 
-/// Writes each line of a case again, with what it comes to on this ground, whose journal is cut behind each.
+/// Writes each line of a case again, with its outcome on this ground. Behind each line the journal is cut.
 pub fn perform_on<M: Numbered, G: Ground<M> + Drop>(
     told: &mut Told,
     maker: &Maker<M>,
@@ -26,8 +26,8 @@ pub fn perform_on<M: Numbered, G: Ground<M> + Drop>(
     retell_over(told, maker, lines);
 }
 
-/// Writes the line that says it is over, with how many messages live where the ground is dropped, and threads have their
-/// sides of its lanes and feeds still.
+/// Writes the line that says the case is over. It has how many messages live when the ground is dropped, and threads still
+/// have their sides of its lanes and feeds.
 fn retell_over<M: Numbered>(told: &mut Told, maker: &Maker<M>, lines: &[String]) {
     let mut was_over = false;
     for line in lines.iter() {
@@ -49,7 +49,7 @@ fn tell_over<M: Numbered>(told: &mut Told, maker: &Maker<M>, line: &str) {
     told.say("\n");
 }
 
-/// Whether a line's call may have moved messages before it was refused.
+/// Whether a line's call may have moved messages before it failed.
 fn moves(words: &[&str]) -> bool {
     words.first() == Some(&"close")
 }
@@ -67,7 +67,7 @@ struct GroundTable<'a, M: Numbered, G: Ground<M>> {
 #[derive(Clone, Copy, PartialEq)]
 enum Turn {
     First,
-    /// Memory was refused, so a seat that asked again is free now.
+    /// Memory ran out, so a seat that asked again is free now.
     Second,
 }
 
@@ -81,12 +81,12 @@ impl<'a, M: Numbered, G: Ground<M> + Drop> GroundTable<'a, M, G> {
         }
     }
 
-    /// Drops the ground, and hands over what threads have of its lanes and feeds, and what its journal handed over.
+    /// Drops the ground, and returns the threads' sides of its lanes and feeds, and what was taken from its journal.
     fn into_left(self) -> (Rings<'a, M>, Pieces<M>) {
         (self.rings, self.pieces)
     }
 
-    /// All that the readers tell.
+    /// All that the readers return.
     fn reading(&self) -> Told {
         let mut told = Told::new(self.maker.alloc);
         self.tell_open(&mut told);
@@ -94,7 +94,7 @@ impl<'a, M: Numbered, G: Ground<M> + Drop> GroundTable<'a, M, G> {
         told
     }
 
-    /// Tells how many lanes and feeds are open.
+    /// Writes how many lanes and feeds are open.
     fn tell_open(&self, told: &mut Told) {
         let (lanes, feeds) = self.ground.open_rings();
         told.say("lanes ");
@@ -103,7 +103,7 @@ impl<'a, M: Numbered, G: Ground<M> + Drop> GroundTable<'a, M, G> {
         told.show(&feeds);
     }
 
-    /// What a line's words come to.
+    /// Performs a line's words, and returns their outcome.
     fn told(&mut self, words: &[&str], turn: Turn) -> Told {
         let mut told = Told::new(self.maker.alloc);
         match number(words, 0) {
@@ -113,7 +113,7 @@ impl<'a, M: Numbered, G: Ground<M> + Drop> GroundTable<'a, M, G> {
         told
     }
 
-    /// A seat's line: its number, and what it does.
+    /// Performs a seat's line, by its number and the words behind that.
     fn call(&mut self, told: &mut Told, seat: usize, words: &[&str], turn: Turn) {
         match *words.get(1).unwrap_or(&"") {
             "leave" => tell_done(told, self.ground.leave(seat)),
@@ -127,7 +127,7 @@ impl<'a, M: Numbered, G: Ground<M> + Drop> GroundTable<'a, M, G> {
         }
     }
 
-    /// A seat's call.
+    /// Makes a seat's call.
     fn ask(&mut self, told: &mut Told, seat: usize, words: &[&str], is_again: bool) {
         let Some((call, asked)) = call_and_copy(told, self.maker, words) else {
             return told.say("not understood");
@@ -140,7 +140,7 @@ impl<'a, M: Numbered, G: Ground<M> + Drop> GroundTable<'a, M, G> {
         tell_outcome(told, self.ground.board(), came, &asked);
     }
 
-    /// A line that is no seat's: a look, or something done to a lane or a feed.
+    /// Performs a line that is no seat's: a look, or a call on a lane or a feed.
     fn look(&mut self, told: &mut Told, words: &[&str]) {
         let rest = words.get(1..).unwrap_or(&[]);
         match *words.first().unwrap_or(&"") {
@@ -175,7 +175,7 @@ fn tell_seat(told: &mut Told, seat: Result<u64, Refusal>) {
     }
 }
 
-/// Tells what a seat's call came to.
+/// Writes the outcome of a seat's call.
 fn tell_outcome<M: Numbered>(
     told: &mut Told,
     board: &Numbers<M>,
@@ -190,7 +190,7 @@ fn tell_outcome<M: Numbered>(
 }
 
 impl<M: Numbered, G: Ground<M> + Drop> Performs for GroundTable<'_, M, G> {
-    /// What memory was refused is done once more, and then tells whether all was as before.
+    /// Performs the words. If memory runs out, performs them once more, and then writes whether all was as before.
     fn obey(&mut self, told: &mut Told, words: &[&str], _expected: &str) {
         let before = self.reading();
         let first = self.told(words, Turn::First);

@@ -1,4 +1,4 @@
-//! A hall with its seats as what calls are made on.
+//! Tables of calls on a hall with its seats.
 ghost use Rattle.std.specs.Prelude.{◌≡◌, ◌^◌};
 
 use crate::cutting::{Journaled, Way};
@@ -15,7 +15,7 @@ use cml_threads::{Hall, PARTS, Seat};
 use std::marker::Brand;
 use std::sync::ledger::{Blank, Ledger};
 
-/// Performs the lines of a case on a hall of its own, and so by a ledger of its own.
+/// Performs the lines of a case on a new hall, which has a new ledger.
 pub fn perform<M: Numbered>(told: &mut Told, maker: &Maker<M>, lines: &[String], way: Option<Way>) {
     perform_by::<M, Brand>(told, maker, lines, way, Blank::new(PARTS));
 }
@@ -40,7 +40,7 @@ fn perform_by<M: Numbered, Led: Ledger>(
     }
 }
 
-/// A hall, and the seats that it gave, each at its number.
+/// A hall, and the seats that it made, each at its number.
 #[derive(Drop)]
 struct Seated<M: Numbered, Led: Ledger> {
     hall: Hall<M, BoardLog<M>, Led>,

@@ -1,7 +1,7 @@
-//! Performs tables of calls on a board, a floor or a hall: each line of standard input is written again, with what it
-//! comes to behind `: `. A call that memory was refused is made once more, which the line then tells. With the word `texts`
-//! the messages are texts, the digits of the tables' numbers. With the word `cut` or `take` the journal is cut behind each
-//! line, where it can be: its entries are dropped, or handed over and in the end checked piece by piece.
+//! Performs tables of calls on a board, a floor or a hall: it writes each line of standard input again, with its outcome
+//! behind `: `. A call that ran out of memory is made once more, and the line then says so. With the word `texts` the
+//! messages are texts, the digits of the tables' numbers. With the word `cut` or `take` the journal is cut behind each line
+//! if it can be. `cut` drops its entries; `take` keeps them, and in the end checks them piece by piece.
 #![tactic(auto)]
 
 mod cutting;
@@ -31,14 +31,14 @@ use std::sync::atomic::AtomicU64;
 use std::{env, io};
 use told::Told;
 
-/// What the program's words ask for: the tables, with such messages and cuts.
+/// The program's order: the kind of messages, and the kind of cuts.
 #[derive(Clone, Copy)]
 struct Order {
     messages: Messages,
     way: Option<Way>,
 }
 
-/// What the messages are.
+/// The kind of messages.
 #[derive(Clone, Copy)]
 enum Messages {
     Blocks,
@@ -99,7 +99,7 @@ fn perform<M: Numbered>(rt: &HostRuntime, maker: &Maker<M>, way: Option<Way>) ->
     perform_case(rt, maker, case.as_slice(), way)
 }
 
-/// Performs the lines of one case, and tells of messages that live still when all is dropped.
+/// Performs the lines of one case, and reports messages that still live when all is dropped.
 fn perform_case<M: Numbered, R: Print>(
     rt: &R,
     maker: &Maker<M>,
@@ -126,7 +126,7 @@ fn told_of<M: Numbered>(
     told.end()
 }
 
-/// Performs the lines of one case on what its first call begins.
+/// Performs the lines of one case on the board, floor or hall that its first line begins.
 fn perform_begun<M: Numbered>(
     told: &mut Told,
     maker: &Maker<M>,

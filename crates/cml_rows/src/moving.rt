@@ -1,11 +1,11 @@
-//! What goes out of lanes and into feeds, until nothing more is seen.
+//! Calls that move messages out of lanes and into feeds, until no more are seen.
 use crate::ground::Ground;
 use crate::numbered::Numbered;
 use crate::outcome::{REFUSED_ONCE, refusal_word};
 use crate::told::Told;
 use cml_board::Refusal;
 
-/// What moves messages.
+/// A call that moves messages.
 #[derive(Clone, Copy)]
 pub enum Moves {
     Drain,
@@ -14,10 +14,10 @@ pub enum Moves {
     Drop,
 }
 
-/// How often a call that moves messages is made at the most: once for each that a ring has room for, and some more.
+/// How often a call that moves messages is made at most: once for each message that a ring has room for, and some more.
 const TURNS: usize = 2000;
 
-/// How many messages were moved, what refused the next one, and whether memory was refused before that.
+/// How many messages were moved, the refusal of the next one, and whether memory ran out before that.
 #[derive(Clone, Copy)]
 struct Moved {
     count: usize,
@@ -25,8 +25,8 @@ struct Moved {
     was_refused: bool,
 }
 
-/// Moves messages until there is nothing to move or one is refused, and tells how many. Where memory is refused the call
-/// is made once more, and goes on.
+/// Moves messages until there is none to move or one is refused, and writes how many. If memory runs out, the call is made
+/// once more, and goes on.
 pub fn tell_moves<M: Numbered, G: Ground<M>>(
     told: &mut Told,
     ground: &mut G,

@@ -1,4 +1,4 @@
-//! What the messages of tables can be, and what makes them.
+//! The kinds of messages of tables, and how they are made.
 use crate::fussy::Fussy;
 use crate::told::Told;
 use cml_board::{Message, Text};
@@ -48,7 +48,7 @@ impl<M: Numbered> Maker<M> {
         Maker { alloc, first }
     }
 
-    /// The message for this number, unless memory is refused, which leaves a gap in what is told.
+    /// Makes the message for this number. If memory runs out, it leaves a gap in the text.
     pub fn make(&self, told: &mut Told, number: u64) -> Option<M> {
         match self.first.another(self.alloc, number) {
             Ok(message) => Some(message),
@@ -59,7 +59,7 @@ impl<M: Numbered> Maker<M> {
         }
     }
 
-    /// How many messages live, besides its first.
+    /// Returns how many messages live, without its first.
     pub fn live(&self) -> u64 {
         self.first.live().saturating_sub(1)
     }

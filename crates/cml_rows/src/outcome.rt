@@ -1,27 +1,27 @@
-//! What becomes of a call, in words.
+//! The outcome of a call, in words.
 use crate::facts::tell_board;
 use crate::numbered::Numbered;
 use crate::told::Told;
 use cml_board::{Answer, Board, BoardLog, Call, Message, Outcome, Refusal, Reply, Who};
 use std::alloc::Global;
 
-/// A board whose messages stand for numbers, in chunks of four.
+/// A board whose messages are numbers, in chunks of four.
 pub type Numbers<M> = Board<M, BoardLog<M>>;
 
-/// What a line tells where memory was refused.
+/// The words of a line if memory ran out.
 pub const NO_MEMORY: &str = "no memory";
 
-/// What it tells behind what the call came to then, when it was made once more.
+/// The words behind the outcome of a call that was made once more.
 pub const REFUSED_ONCE: &str = ", once memory was refused";
 
-/// What a board foretells of a call.
+/// What a board says of a call before it is made.
 #[derive(Clone, Copy)]
 struct Foretold {
     waits: bool,
     is_full: bool,
 }
 
-/// What a call came to.
+/// The outcome of a call.
 #[derive(Clone, Copy)]
 enum Came {
     Answered,
@@ -29,9 +29,9 @@ enum Came {
     Refused(Refusal),
 }
 
-/// Makes a call, of which `asked` is a copy, and again where memory was refused, and tells what became of it. What each call
-/// is to keep besides is told where it doesn't: that it is handed back and nothing is changed, that an answer is confirmed,
-/// and that `would_wait` and `is_full` foretold it.
+/// Makes a call, of which `asked` is a copy, and once more if memory ran out, and writes its outcome. It also writes what is
+/// wrong: another call was returned, something has changed, an answer is not confirmed, or `would_wait` or `is_full` did not
+/// foretell the outcome.
 pub fn tell<M: Numbered>(
     told: &mut Told,
     alloc: Global,
@@ -56,7 +56,7 @@ fn foretell<M: Numbered>(board: &Numbers<M>, call: &Call<M>) -> Foretold {
     }
 }
 
-/// Makes a call, and hands it back where memory was refused. Else it tells what became of it.
+/// Makes a call, and returns it if memory ran out. Otherwise writes its outcome.
 fn tell_first<M: Numbered>(
     told: &mut Told,
     board: &mut Numbers<M>,
@@ -74,7 +74,7 @@ fn tell_first<M: Numbered>(
     }
 }
 
-/// Makes a call that memory was refused once more, and tells what becomes of it.
+/// Makes a call that ran out of memory once more, and writes its outcome.
 fn tell_again<M: Numbered>(
     told: &mut Told,
     board: &mut Numbers<M>,
@@ -90,7 +90,7 @@ fn tell_again<M: Numbered>(
     told.note(is_back, "another call back");
 }
 
-/// All that a board's readers tell.
+/// All that a board's readers return.
 fn reading<M: Numbered>(alloc: Global, board: &Numbers<M>) -> Told {
     let mut told = Told::new(alloc);
     tell_board(&mut told, board);
@@ -121,7 +121,7 @@ fn tell_once<M: Numbered>(
     note_foretold(told, foretold, came);
 }
 
-/// Tells where a call came to something else than was foretold.
+/// Writes it if a call's outcome is not the one foretold.
 fn note_foretold(told: &mut Told, foretold: Foretold, came: Came) {
     match came {
         Came::Answered => {
@@ -137,7 +137,7 @@ fn note_foretold(told: &mut Told, foretold: Foretold, came: Came) {
     }
 }
 
-/// Tells the reply of an answer to this call.
+/// Writes the reply of an answer to this call.
 pub fn tell_answer<M: Numbered>(
     told: &mut Told,
     board: &Numbers<M>,
@@ -148,13 +148,13 @@ pub fn tell_answer<M: Numbered>(
     told.note(is_noted(board, answer, asked), "not confirmed");
 }
 
-/// Tells why there is no answer, and where the call that came back is not the one that was made.
+/// Writes why there is no answer, and whether another call was returned than the one that was made.
 pub fn tell_back<M: Numbered>(told: &mut Told, word: &str, back: &Call<M>, asked: &Call<M>) {
     told.say(word);
     told.note(back.same(asked), "another call back");
 }
 
-/// Whether the answer is of this call, is confirmed, and stands last in the journal.
+/// Whether the answer is of this call, is confirmed, and has the journal's last entry.
 fn is_noted<M: Numbered>(board: &Numbers<M>, answer: &Answer<M>, asked: &Call<M>) -> bool {
     answer.call().same(asked) && board.confirm(answer) && is_last(answer.at(), board.entries())
 }
@@ -177,7 +177,7 @@ fn tell_reply<M: Numbered>(told: &mut Told, reply: &Reply<M>) {
     }
 }
 
-/// Tells whether something was done, or what refused it.
+/// Writes that something was done, or why it failed.
 pub fn tell_done(told: &mut Told, done: Result<(), Refusal>) {
     match done {
         Ok(()) => told.say("done"),

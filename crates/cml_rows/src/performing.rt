@@ -1,4 +1,4 @@
-//! Lines that are written again.
+//! How lines are performed and written again.
 use crate::cutting::{Way, last_look};
 use crate::told::Told;
 use crate::words::is_note;
@@ -6,7 +6,7 @@ use std::alloc::Global;
 
 /// What performs the lines of a case.
 pub trait Performs {
-    /// Tells what a line's words come to now; the table has `expected` behind them.
+    /// Performs a line's words, and writes their outcome. The table has `expected` behind them.
     fn obey(&mut self, told: &mut Told, words: &[&str], expected: &str);
 
     /// Cuts the journal this way, if in any.
@@ -18,8 +18,8 @@ pub fn is_over(line: &str) -> bool {
     line.starts_with("over")
 }
 
-/// Writes each line again, up to one that says it is over, with what it comes to on this table, whose journal is cut behind
-/// each.
+/// Writes each line again, up to one that says the case is over, with its outcome on this table. Behind each line the
+/// journal is cut.
 pub fn retell<T: Performs>(
     told: &mut Told,
     alloc: Global,

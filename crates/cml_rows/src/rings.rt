@@ -32,7 +32,7 @@ impl<'a, M: Numbered> Rings<'a, M> {
         }
     }
 
-    /// Does what a line's words ask of a lane or a feed, and tells what it comes to: whether they ask for that.
+    /// Performs a line's words on a lane or a feed, and writes their outcome. Returns false if they are not about one.
     pub fn obey<G: Ground<M>>(&mut self, told: &mut Told, ground: &mut G, words: &[&str]) -> bool {
         let rest = words.get(1..).unwrap_or(&[]);
         let at = number(rest, 0).unwrap_or(u64::MAX);
@@ -163,7 +163,7 @@ impl<'a, M: Numbered> Rings<'a, M> {
     }
 }
 
-/// Tells that a lane had no room for a message, and where another came back.
+/// Writes that a lane had no room for a message, and whether another message was returned.
 fn tell_full<M: Numbered>(told: &mut Told, maker: &Maker<M>, back: &M, value: u64) {
     told.say("full");
     if let Some(sent) = maker.make(told, value) {

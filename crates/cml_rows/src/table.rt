@@ -9,7 +9,7 @@ use crate::words::{call_and_copy, call_of, number, object, reply_of};
 use cml_board::{Answer, Call, Entry, Outcome, Refusal, Who};
 use std::alloc::AllocError;
 
-/// How many entries a board takes where its table doesn't say.
+/// How many entries a board takes if its table does not say.
 const LIMIT: u64 = 100;
 
 /// Performs the lines of a case on a board.
@@ -104,7 +104,7 @@ impl<'a, M: Numbered> Table<'a, M> {
         }
     }
 
-    /// Makes a call, and again where memory was refused, and keeps its answer.
+    /// Makes a call, and again if memory ran out, and keeps its answer.
     fn keep(&mut self, told: &mut Told, words: &[&str]) {
         let Some(call) = call_of(told, self.maker, words) else {
             return told.say("not understood");
@@ -140,7 +140,7 @@ impl<'a, M: Numbered> Table<'a, M> {
         });
     }
 
-    /// Takes memory for entries, and asks once more where it is refused.
+    /// Reserves memory for entries, and tries once more if that fails.
     fn reserve(&mut self, told: &mut Told, entries: usize) {
         if self.board.reserve(entries).is_ok() {
             return told.say("done");

@@ -1,8 +1,8 @@
-//! What lines come to, while it is written.
+//! The text of the outcomes, while it is written.
 use std::alloc::{AllocError, Global};
 use std::fmt::Debug;
 
-/// A text under way. It keeps in mind whether memory was refused for some of it, so only its end has a way out.
+/// A text that grows. It notes whether memory ran out for some of it, and only `end` reports that.
 #[derive(Drop)]
 pub struct Told {
     text: String,
@@ -34,12 +34,12 @@ impl Told {
         self.needs(other.is_whole);
     }
 
-    /// It has a gap, unless something that it tells of is there.
+    /// Notes a gap, unless `is_there`.
     pub fn needs(&mut self, is_there: bool) {
         self.is_whole = self.is_whole && is_there;
     }
 
-    /// It has a gap, since memory was refused.
+    /// Notes a gap, since memory ran out.
     pub fn lack(&mut self) {
         self.is_whole = false;
     }
@@ -57,7 +57,7 @@ impl Told {
         }
     }
 
-    /// Says what is wrong, unless two others say the same. Where one of them has a gap it has one too.
+    /// Says what is wrong, unless two others say the same. If one of them has a gap, it has one too.
     pub fn compare(&mut self, one: &Told, other: &Told, wrong: &str) {
         self.needs(one.is_whole && other.is_whole);
         self.note(one.text.as_str() == other.text.as_str(), wrong);

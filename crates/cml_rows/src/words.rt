@@ -20,8 +20,7 @@ pub fn first_line(lines: &[String]) -> Option<&str> {
     None
 }
 
-/// How many entries the journal takes of what a case's first line begins, as `hall 10: limit 10` does: 100 where it
-/// doesn't say.
+/// The journal's limit in a case's first line, as in `hall 10: limit 10`, or 100 if the line has none.
 pub fn limit_in(lines: &[String]) -> u64
     ensures least { 1 ≤ result }
     ensures most { result ≤ 2 ^ 32 }
@@ -49,7 +48,7 @@ pub fn call_of<M: Numbered>(told: &mut Told, maker: &Maker<M>, words: &[&str]) -
     Some(Call::ask(Ask::of_word(word)?, name))
 }
 
-/// The call that makes an object. An m-variable holds the number that stands behind the word, if one does.
+/// The call that makes an object. An m-variable holds the number behind the word, if there is one.
 fn making_call<M: Numbered>(
     told: &mut Told,
     maker: &Maker<M>,
@@ -72,7 +71,7 @@ pub fn call_and_copy<M: Numbered>(
     Some((call, call_of(told, maker, words)?))
 }
 
-/// The reply that this text tells, as a table writes it.
+/// The reply that this text is, as a table writes it.
 pub fn reply_of<M: Numbered>(told: &mut Told, maker: &Maker<M>, text: &str) -> Option<Reply<M>> {
     match text {
         "done" => Some(Reply::Done),

@@ -8,7 +8,7 @@ use crate::opening::NoOrder;
 use clap::Error;
 use clap::error::ErrorKind;
 
-/// Ends the program of this name. It says on standard error what standard output has not told, and answers the exit status.
+/// Ends the program of this name: prints on standard error what standard output does not say, and returns the exit status.
 /// Help goes to standard output.
 pub fn end<E: Ending>(rt: &HostRuntime, program: &str, ended: Result<E, NoOrder>) -> u8
     ensures { MatchResult ended (λ ending. result ≡ E.status ending) (λ why. EndsUnordered why result) }
@@ -37,7 +37,7 @@ fn show<E: Ending>(rt: &HostRuntime, error: &Error) -> u8
     status_of_error(error)
 }
 
-/// Says on standard error how the program ended, where standard output has not told it.
+/// Prints on standard error how the program ended, unless standard output says it.
 fn tell<E: Ending>(rt: &HostRuntime, ending: &E) -> u8
     ensures { result ≡ E.status ending.now }
 {
@@ -47,7 +47,7 @@ fn tell<E: Ending>(rt: &HostRuntime, ending: &E) -> u8
     ending.status()
 }
 
-/// The exit status for words that were not understood, or that ask for help.
+/// Returns the exit status for words that were not understood, or that ask for help.
 pub fn status_of_error(error: &Error) -> u8
     ensures { result ≡ error_status (kind_of error.now) }
 {

@@ -26,7 +26,7 @@ impl From<AllocError> for NoOrder {
     }
 }
 
-/// The program's words, its own name first.
+/// Returns the program's words, its name first. Fails if there is no memory for them or one is not UTF-8.
 pub fn words(rt: &HostRuntime) -> Result<Vec<String>, NoOrder> {
     match env::args(rt) {
         Ok(args) => Ok(args.collect(rt.alloc())?),

@@ -14,7 +14,7 @@ use thiserror::Error;
 /// The most bytes that a text may have.
 const MAX_BYTES: usize = 64;
 
-/// One to 64 bytes from 0x21 to 0x7E. Contracts see it as the list of its bytes.
+/// A word of 1 to 64 bytes from 0x21 to 0x7E. Contracts see it as the list of its bytes.
 ///
 /// Up to 14 bytes lie in the text itself. More lie in memory that all clones own.
 #[derive(Drop)]
@@ -33,7 +33,7 @@ impl Model for Text {
     ghost invariant = { λ text. is_text text.bytes ≡ true };
 }
 
-/// The bytes are no text: there are none or more than 64, or one is outside 0x21 to 0x7E.
+/// The error for bytes that are no text: there are none or more than 64, or one is outside 0x21 to 0x7E.
 #[derive(Clone, Copy, Debug, PartialEq, Eq, Error)]
 #[error("a text has 1 to 64 bytes, and neither spaces nor what isn't printed")]
 pub struct BadText;
@@ -44,7 +44,7 @@ fn is_text_byte(byte: u8) -> bool
     matches!(byte, b'!'..=b'~')
 }
 
-/// Whether these bytes are a text.
+/// Says whether these bytes are a text.
 pub fn is_text(bytes: &[u8]) -> bool
     ensures { result ≡ is_text bytes.now }
 {
@@ -57,7 +57,7 @@ pub fn is_text(bytes: &[u8]) -> bool
 impl Text {
     ghost use Rattle.std.specs.Prelude.{IsOk, OnOk, OnErr};
 
-    /// Copies these bytes. It allocates only for more than 14 of them.
+    /// Makes a text by copying these bytes. It allocates only for more than 14 of them.
     pub fn from_bytes(alloc: Global, bytes: &[u8]) -> Result<Result<Text, BadText>, AllocError>
         ensures text { IfOk result (λ tested. IfOk tested (λ text. text ≡ bytes.now)) }
         ensures good { IfOk result (λ tested. OnOk tested (is_text bytes.now ≡ true)) }
@@ -73,7 +73,7 @@ impl Text {
         }
     }
 
-    /// The decimal digits of a number, without zeros in front.
+    /// Makes a text of a number's decimal digits, without zeros in front.
     pub fn of_number(alloc: Global, number: u64) -> Result<Text, AllocError>
         ensures { IfOk result (λ text. text ≡ decimal number) }
     {
@@ -101,7 +101,7 @@ impl Text {
     }
 }
 
-/// A clone copies up to 14 bytes, and then never fails. A clone of more is one owner more of their memory, and copies none.
+/// A clone copies up to 14 bytes, and then never fails. A clone of more bytes copies none: it shares their memory.
 impl Clone for Text {
     ghost is_clone = { λ text copy. copy ≡ text };
 

@@ -13,7 +13,7 @@ use std::time::Duration;
 /// How often a thread tries at most.
 const TRIES: u64 = 100_000_000_000;
 
-/// How long a thread lets the others work where its ring is full or empty, in microseconds.
+/// How long a thread lets the others work if its ring is full or empty, in microseconds.
 const PAUSE: u64 = 20;
 
 const LANES: u64 = 4;
@@ -42,7 +42,7 @@ impl<M: Numbered, Led: Ledger> Hall<M, Led> {
         if next < part.end { None } else { lane.finish() }
     }
 
-    /// Takes all messages from a feed: their sum.
+    /// Takes all messages from a feed, and returns their sum.
     pub fn take<R: Runtime>(&self, rt: &R, feed: Feed<M>) -> Option<u64> {
         let (mut feed, mut taken, mut sum) = (feed, 0u64, 0u64);
         for _ in 0..TRIES {
@@ -91,7 +91,7 @@ impl<M: Numbered, Led: Ledger, R: Runtime> Seated<'_, M, Led, R> {
         Ok(())
     }
 
-    /// Drains each lane or pumps each feed once: how many messages moved. If none did, it lets the others work.
+    /// Drains each lane or pumps each feed once, and returns how many messages moved. If none did, it lets the others work.
     fn move_each(&self, rings: u64) -> u64 {
         let (rt, board) = (self.rt, &self.hall.board);
         let mut sum = 0u64;

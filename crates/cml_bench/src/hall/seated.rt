@@ -9,10 +9,10 @@ use cml_threads::Seat;
 use std::io;
 use std::sync::ledger::Ledger;
 
-/// After so many messages a sender waits until all were received.
+/// How many messages a sender sends before it waits until all were received.
 const WINDOW: u64 = 1_000;
 
-/// The journal is taken once it has so many entries.
+/// How many entries the journal has when it is taken.
 const PIECE: u64 = 100_000;
 
 /// A thread's seat and what it does, a sum, the position of its last entry, and how many entries it has taken.

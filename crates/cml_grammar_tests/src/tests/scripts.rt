@@ -1,4 +1,4 @@
-//! Scripts, and what all readers say of each: the version, where each name stands and what it names, and the
+//! Scripts, and what all readers say of each. That is the version, each name's position and what it names, and the
 //! declarations and steps with the numbers of their lines. And scripts with messages that are none.
 
 pub const INBOX: &str = "cml 1

@@ -1,4 +1,4 @@
-//! The memory of a log's chunks: every pointer of the crate stands in this file.
+//! The memory of a log's chunks. This file has every pointer of the crate.
 //!
 //! A block is made and given back by its right. While it lies among the blocks its right lies there too.
 ghost use Rattle.std.specs.Prelude.{◌≡◌, ℕ, ◌+◌, List, Option, [], ◌∷◌, ◌++◌, true, Some, None, length, slice_set, IfOk, OnErr};
@@ -38,7 +38,7 @@ impl Counter {
         Counter { mark: PhantomData }
     }
 
-    // Only what makes, gives back or follows may count it, and that stands in this file.
+    // Only the calls that make, free or follow a block may count. They are all in this file.
     fn add(&mut self)
         ensures { self.new.count ≡ self.old.count + 1 }
     {}
@@ -136,7 +136,7 @@ impl<C: Drop> Right<C> {
         Ok(Right::of(block))
     }
 
-    /// Drops the block's content and gives its memory back.
+    /// Drops the block's content and frees its memory.
     pub(crate) fn give_back(self, alloc: Global, given: &mut Counter)
         ensures { given.new.count ≡ given.old.count + 1 }
     {
@@ -152,7 +152,7 @@ pub(crate) fn fits<C>() -> bool
     size_of::<C>() < 0x8000_0000_0000_0000
 }
 
-/// The blocks of a log, each under its number. It has no bytes: each call is told where the block lies.
+/// The blocks of a log, each under its number. It has no bytes: each call takes the block's address.
 pub(crate) struct Blocks<C> {
     mark: PhantomData<*const C>,
     pub(crate) ghost kept: { List (Option (Ptr × C)) },
@@ -177,7 +177,7 @@ impl<C> Blocks<C> {
         Blocks { mark: PhantomData }
     }
 
-    /// A content fits in memory, as whoever made the blocks has shown. What reads or drops a content asks for it.
+    /// A content fits in memory, as was shown when the blocks were made. Reading or dropping a content requires it.
     pub(crate) fn fit(&self)
         ensures { FitsInMemory C.row }
     {}
@@ -230,7 +230,7 @@ impl<C> Blocks<C> {
 }
 
 impl<C: Linked> Blocks<C> {
-    /// Reads where a block's content leads, and counts it. It takes the blocks by `&mut`: whoever only looks follows nothing.
+    /// Reads where a block's content leads, and counts it. It takes the blocks by `&mut`, so a call with `&` follows no link.
     pub(crate) fn follow(&mut self, address: Address, followed: &mut Counter) -> Option<Address>
         requires { IsKept self.old.kept address.number address.at }
         ensures link { (content : C) × (block_at self.old.kept address.number ≡ Some (address.at, content)) × (result ≡ C.leads_to content) }

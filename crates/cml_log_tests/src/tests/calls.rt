@@ -10,7 +10,7 @@ pub fn push<T: Drop, L: MessageLog<T>>(log: &mut L, item: T) -> Result<(), Fail>
     Ok(())
 }
 
-/// Opens a cursor where another stands.
+/// Opens a cursor at another cursor's place.
 pub fn copy<T, L: MessageLog<T>>(log: &mut L, key: Key) -> Result<Key, Fail> {
     if !log.is_open(key) {
         return Err(Fail::from("a closed cursor is copied"));
@@ -49,7 +49,7 @@ pub fn shape<L: MessageLog<u64>>(log: &L) -> (u64, u64, u64, usize) {
     (log.first(), log.next(), log.chunks(), log.cursors())
 }
 
-/// Where an open cursor stands, how many items it is owed, and the next of them.
+/// An open cursor's place, how many items it is owed, and the next of them.
 pub fn seen<L: MessageLog<u64>>(log: &L, key: Key) -> Option<(u64, u64, Option<u64>)> {
     if !log.is_open(key) {
         return None;

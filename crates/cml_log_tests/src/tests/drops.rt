@@ -21,7 +21,7 @@ impl Drop for Counted<'_> {
     }
 }
 
-/// Nine items in chunks of 4, which one cursor passes, but for the last.
+/// Nine items in chunks of 4. One cursor passes all except the last.
 pub fn drops_each_once<'a, L: MessageLog<Counted<'a>>>(
     rt: &(impl Abort + AllocGlobal),
     drops: &'a AtomicU64,

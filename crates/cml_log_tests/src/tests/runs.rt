@@ -19,7 +19,7 @@ pub enum Call {
 use Call::{Advance, Close, Copy, Open, Push};
 
 /// A call in plain words, the call, and what the readers say behind it: the first kept place, the next place, how many
-/// chunks and open cursors there are, and of each cursor where it stands, how many items it is owed, and the next one.
+/// chunks and open cursors there are, and of each cursor its place, how many items it is owed, and the next one.
 pub type Row = (&'static str, Call, &'static str);
 
 /// Runs of a log in chunks of 4.
@@ -180,7 +180,7 @@ const FAR_BEHIND: &[Row] = &[
     ),
 ];
 
-/// Makes each run on a log of its own.
+/// Makes each run on a separate log.
 pub fn shows_each<L: MessageLog<u64>>(
     rt: &(impl Abort + AllocGlobal),
     runs: &[&[Row]],

@@ -58,7 +58,7 @@ impl Twin {
         false
     }
 
-    /// Notes a cursor that was opened: its key was vacant, and is one that was closed, where there is one.
+    /// Notes a cursor that was opened: its key was vacant, and is one that was closed, if there is one.
     fn opened(&mut self, rt: &impl Abort, key: Key, place: u64) -> Result<(), Fail> {
         let again = self.takes_closed(key);
         let vacant = !self.is_open(key) && (again || self.closed.is_empty());
