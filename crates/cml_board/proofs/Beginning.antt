@@ -27,7 +27,7 @@ module _ {M : Type 0} where
   port_makes h c n =
       record { begins = refl; sends = λ k. refl; gets = λ k reply. refl; shuts = λ k reply. refl; leaves = refl; others = λ k other. refl }
 
-  -- a port, where another stands
+  -- a port, at another port's place
   pub copy_makes : (h : List (Entry M)) (p n : Name) (source start : ℕ) → origin_of h p.0 ≡ Some (port source start)
       → Makes h (CopyPort p) n (port source (start + length (got h p.0))) None
   copy_makes h p n source start begun = record {

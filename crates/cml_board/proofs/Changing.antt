@@ -14,7 +14,7 @@ use Rattle.cml_board.specs.Keeps.{Agrees, Shows}
 use Rattle.cml_board.proofs.Logs.{same_source, same_key, log_at_past, cursor_at_past}
 
 module _ {M : Type 0} where
-  -- a cursor stands in its log at the place that the facts tell
+  -- a cursor's place in its log is the one that the facts give
   pub cursor_place : (chunk n : ℕ) (f : ℕ → Facts M) (objects : List (Object M (Log M))) (name source key : ℕ) (log : Log M)
       → Shows chunk n f objects → cursor_at objects name ≡ Some (source, key) → log_at objects source ≡ Some log
       → place_at log key ≡ Some (place_by (f name))
@@ -104,7 +104,7 @@ module _ {M : Type 0} where
       one_more : (facts : Facts M) (message : M) → place_by (record facts { got = facts.got ++ message ∷ [] }) ≡ place_by facts + 1
       one_more facts message = omega (arith, length_push facts.got message)
 
-  -- no log stands under the next object's name
+  -- there is no log under the next object's name
   pub no_log : (chunk n : ℕ) (f : ℕ → Facts M) (objects : List (Object M (Log M))) → Shows chunk n f objects → log_at objects n ≡ None
   no_log chunk n f objects shows = subst (λ k. log_at objects k ≡ None) shows.all (log_at_past objects)
 

@@ -16,7 +16,7 @@ use Rattle.cml_board.specs.Shown.{Shown}
 use Rattle.cml_board.specs.Standing.{ReadsAt, Stands}
 
 module _ {M : Type 0} where
-  -- a cursor is open in whatever log stands where it reads
+  -- a cursor is open in whatever log it reads
   pub reading_open : (board : Shown M) (name source key : ℕ) (log : Log M) → ReadsAt board name source key → log_at board.objects source ≡ Some log → IsOpen log key
   reading_open board name source key log own found =
       subst (λ l. IsOpen l key) (same_Some _ _ (sym own.cursor.stands.found ∙ found)) own.cursor.opened

@@ -1,10 +1,11 @@
 -- A journal from elsewhere that came in one piece.
-use Rattle.std.proofs.Common.{◌≡◌, ℕ, List, [], sym, subst, arith}
+use Rattle.std.proofs.Common.{◌≡◌, ◌+◌, ℕ, List, [], slice_get, Some, sym, subst, arith}
 use Rattle.std.proofs.lemmas.List.{append-nil}
 use Rattle.cml_board.specs.declared.entry.Entry.{Entry}
-use Rattle.cml_board.specs.History.{Lawful}
+use Rattle.cml_board.specs.declared.expected.Expected.{Expected}
+use Rattle.cml_board.specs.History.{Lawful, entries_in}
 use Rattle.cml_board.specs.Positions.{before}
-use Rattle.cml_board.specs.Checking.{IsLawfulNext, IsFirstUnlawful, StopsAt, followed_by}
+use Rattle.cml_board.specs.Checking.{IsLawfulNext, IsFirstUnlawful, StopsAt, IsExpected, Expects, followed_by}
 
 module _ {M : Type 0} where
   followed_from_nothing : (journal : List (Entry M)) (k : ℕ) → followed_by [] journal k ≡ before journal k
@@ -19,3 +20,26 @@ module _ {M : Type 0} where
         lawful = subst Lawful (followed_from_nothing journal stops.k) stops.lawful;
         unlawful = λ unlawful. stops.unlawful (subst (λ h. IsLawfulNext h stops.entry) (sym (followed_from_nothing journal stops.k)) (unlawful.fits, unlawful.answered));
       })
+
+  pub stops_here : (history piece now : List (Entry M)) (k at : ℕ) (entry : Entry M) (expected : Expected M)
+      → now ≡ followed_by history piece k → Lawful now
+      → slice_get piece k ≡ Some entry → at ≡ entries_in history + k
+      → (IsLawfulNext now entry → ⊥) → Expects now entry expected
+      → IsExpected history piece at expected × StopsAt history piece at
+  stops_here history piece now k at entry expected same lawful stands position unlawful expects = (
+    record {
+      k = k;
+      entry = entry;
+      stands = stands;
+      position = position;
+      expects = subst (λ h. Expects h entry expected) same expects;
+    },
+    record {
+      k = k;
+      entry = entry;
+      stands = stands;
+      position = position;
+      lawful = subst Lawful same lawful;
+      unlawful = subst (λ h. IsLawfulNext h entry → ⊥) same unlawful;
+    },
+  )

@@ -95,7 +95,7 @@ module _ {M : Type 0} where
   some_message None full = absurd (full refl)
   some_message (Some message) full = (message, refl)
 
-  -- a variable stands under its name
+  -- there is a variable under its name
   pub variable_stands : (chunk : ℕ) (board : Shown M) (name : ℕ) → Keeps chunk board → is_a is_variable board.history name ≡ true → HasVariable board.objects name
   variable_stands chunk board name keeps is = by_option (slice_get board.objects name) refl
     where

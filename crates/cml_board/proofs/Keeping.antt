@@ -66,7 +66,7 @@ module _ {M : Type 0} where
         | inr other ↦ omega (arith, least_of_other history source n other, earlier)
       ]
 
-  -- an object with a cursor of a log is told to read it
+  -- by the history, an object with a cursor of a log reads that log
   reads_told : {A : Type 0} (facts : Facts M) (name source key : ℕ) (object : Object M A)
       → Agrees facts object → cursor_in name object ≡ Some (source, key) → reads_by name facts.origin facts.opened source ≡ true
   reads_told facts name source key (Mailbox log own) agrees reads =
@@ -91,7 +91,7 @@ module _ {M : Type 0} where
         reads_told (f name) name source key object (shows.each name object found) own,
       ))
 
-  -- an object that is told to read a log has a cursor there
+  -- an object that by the history reads a log has a cursor there
   told_reader : (chunk n : ℕ) (f : ℕ → Facts M) (objects : List (Object M (Log M))) (name source : ℕ) → Shows chunk n f objects → name < n
       → reads_by name (f name).origin (f name).opened source ≡ true → (key : ℕ) × (cursor_at objects name ≡ Some (source, key))
   told_reader chunk n f objects name source shows made reader = by_origin (f name).origin refl reader
@@ -134,7 +134,7 @@ module _ {M : Type 0} where
   first_is_told chunk history objects source log shows found =
       (shows.logs source log found).first ∙ ap (λ p. chunk * (p / chunk)) (least_is_told chunk history objects source log shows found)
 
-  -- an object that is told to read a log was made
+  -- an object that by the history reads a log was made
   pub reader_made : (history : List (Entry M)) (source name : ℕ) → reads history source name ≡ true → name < length (made history)
   reader_made history source name reader = by_origin (origin_of history name) refl reader
     where
@@ -142,7 +142,7 @@ module _ {M : Type 0} where
       by_origin None begun reader = absurd (false≢true reader)
       by_origin (Some origin) begun reader = slice_get_within (made history) name origin begun
 
-  -- every log holds what it is told to hold
+  -- every log holds what the history says
   pub keeps_logs : (chunk : ℕ) (board : Shown M) → Keeps chunk board → KeepsLogs chunk board
   keeps_logs chunk board keeps = λ name source.
       let n : ℕ = length (made board.history) in

@@ -37,3 +37,5 @@ pub mod Reaching
 pub mod Receiving
 pub mod Renewing
 pub mod Since
+pub mod Numbering
+pub mod Suiting

@@ -17,7 +17,7 @@ module _ {X : Type 0} where
   slice_get-set_other (x ∷ xs) (suc i) zero y other = refl
   slice_get-set_other (x ∷ xs) (suc i) (suc j) y other = slice_get-set_other xs i j y (λ e. other (ap suc e))
 
-  -- what stands at a place after a push stood there before it, or was pushed
+  -- an item at a place after a push was there before it, or was pushed
   pub pushed_cases : (xs : List X) (y z : X) (k : ℕ) → slice_get (xs ++ y ∷ []) k ≡ Some z → (slice_get xs k ≡ Some z) ⊎ ((k ≡ length xs) × (y ≡ z))
   pushed_cases [] y z zero found = inr (refl, same_Some y z found)
   pushed_cases [] y z (suc k) found = absurd (none-some z found)

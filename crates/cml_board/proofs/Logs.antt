@@ -1,4 +1,4 @@
--- Lists of objects of which one log changes, and the logs and cursors that stand in them.
+-- Lists of objects of which one log changes, and the logs and cursors in them.
 use Rattle.std.proofs.Common.{◌≡◌, ◌≢◌, ◌⊎◌, inl, inr, ℕ, zero, suc, List, [], ◌∷◌, ◌++◌, length, slice_get, slice_set, Option, Some, None, refl, sym, ap, subst, ◌∙◌, arith}
 use Rattle.std.specs.Option.{option_map, option_and_then}
 use Rattle.std.proofs.lemmas.Bool.{cases_eq}
@@ -87,7 +87,7 @@ module _ {M A : Type 0} where
     | inr other ↦ ap (option_and_then (cursor_in k)) (get-on_log_other f objects name k other)
   ]
 
-  -- a log and a cursor that stand stay where an object more is made
+  -- a log and a cursor stay where they are when one more object is made
   pub log_at-pushed_other : (objects : List (Object M A)) (object : Object M A) (k : ℕ)
       → k ≢ length objects → log_at (objects ++ object ∷ []) k ≡ log_at objects k
   log_at-pushed_other objects object k other = ap (option_and_then log_in) (slice_get_pushed_other objects object k other)

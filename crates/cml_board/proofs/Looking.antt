@@ -23,7 +23,7 @@ use Rattle.cml_board.proofs.Keeping.{first_is_told}
 use Rattle.std.proofs.Math.Nat.{min-le_right}
 use Rattle.cml_board.proofs.Within.{sent_and_made}
 
--- past a list's end nothing stands, and nowhere else
+-- a place with no item is past the list's end
 none_within : {X : Type 0} (xs : List X) (i : ℕ) → slice_get xs i ≡ None → length xs ≤ i
 none_within [] i none = omega arith
 none_within (x ∷ xs) zero none = absurd (none-some x (sym none))
@@ -109,7 +109,7 @@ module _ {M : Type 0} where
   none_made chunk board name keeps none =
       slice_get_past (made board.history) name (omega (arith, none_within board.objects name none, keeps.shows.all))
 
-  -- where a log stands there is an object
+  -- if there is a log, there is an object
   some_object : (objects : List (Object M (Log M))) (name : ℕ) (log : Log M) → log_at objects name ≡ Some log → 0 < length objects
   some_object [] name log found = absurd (none-some log found)
   some_object (object ∷ objects) name log found = omega arith

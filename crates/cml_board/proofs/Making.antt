@@ -38,7 +38,7 @@ module _ {M : Type 0} where
   answer_made board (making.Copy port channel key) can = answer_copied board.history port can.1.opened
   answer_made board (making.Variable form) can = answer_making board.history form
 
-  -- what it stands on is there
+  -- the object that it is made of is there
   pub has_source : (chunk : ℕ) (board : Shown M) (m : Making) → Keeps chunk board → CanMake board m → HasSource board.objects m
   has_source chunk board making.Mailbox keeps can = tt
   has_source chunk board making.Channel keeps can = tt

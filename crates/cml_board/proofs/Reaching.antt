@@ -1,4 +1,4 @@
--- No object stands behind the end of what it reads.
+-- No object's place is behind the end of what it reads.
 use Rattle.std.proofs.Common.{◌≡◌, ℕ, zero, suc, ◌+◌, ◌-◌, ◌≤◌, inl, inr, List, [], ◌∷◌, length, drop, slice_get, Option, Some, refl, sym, ap, subst, ◌∙◌, arith}
 use Rattle.std.proofs.lemmas.Bool.{cases_lt}
 use Rattle.std.proofs.lemmas.List.{length-append, length-drop}
@@ -68,7 +68,7 @@ module _ {M : Type 0} where
             (entry_within before o there.0 entry.call entry.reply lawful.2 (λ k. begins_within before k lawful.2)))
       ]
 
-  -- so no object stands behind the end
+  -- so no object's place is behind the end
   pub stands_within : (h : List (Entry M)) (o : ℕ) → Lawful h → start_by (origin_of h o) + length (got h o) ≤ length (sent h (source_by o (origin_of h o)))
   stands_within h o lawful =
       let origin = origin_of h o in

@@ -12,7 +12,7 @@ use Rattle.cml_board.specs.Origins.{source_by, start_by}
 use Rattle.cml_board.specs.History.{Lawful, answer, made, if_made, begun_by, origin_of, is_open, sent, sent_by, got, got_by, message_in, due, owed, received, where_open}
 use Rattle.cml_board.proofs.Unmade.{untold, unmade_got}
 
--- what stands in a list stays there where more follows
+-- an item of a list stays at its place when more items follow
 pub slice_get-append_within : {X : Type 0} (xs ys : List X) (i : ℕ) → i < length xs → slice_get (xs ++ ys) i ≡ slice_get xs i
 slice_get-append_within [] ys i within = absurd (omega arith)
 slice_get-append_within (x ∷ xs) ys zero within = refl

@@ -54,7 +54,7 @@ module _ {M : Type 0} where
       ∙ ap (λ n. drop (n - stream_start b source) (stream_since b since source)) (stood_told chunk past since o lawful)
       ∙ stream_from chunk past since source at later
 
-  -- so what is owed is told
+  -- so the base and the entries since give what is owed
   pub owed_told : (chunk : ℕ) (past since : List (Entry M)) (o : ℕ) → Lawful (since ++ past) → is_a is_receiver (since ++ past) o ≡ true → is_open past o ≡ true
       → owed_since (base_of chunk past) since o ≡ owed (since ++ past) o
   owed_told chunk past since o lawful is opened =

@@ -1,4 +1,4 @@
--- A base and the entries since give each call the same answer, and come to the base of the whole history.
+-- A base and the entries since give each call the same answer, and together they give the base of the whole history.
 use Rattle.std.proofs.Common.{◌≡◌, ℕ, Bool, true, false, cond, List, ◌++◌, length, Option, Some, None, is_some, unwrap_or, IsTrue, IsSome, IfSome, refl, ap, ◌∙◌}
 use Rattle.std.specs.Option.{option_map_or}
 use Rattle.std.proofs.lemmas.Bool.{false≢true}

@@ -12,13 +12,13 @@ use Rattle.cml_board.specs.Base.{base_of, copy_at, count_since, held_since, stoo
 use Rattle.cml_board.proofs.Unmade.{unmade_got}
 use Rattle.cml_board.proofs.Splitting.{lawful_past, length-sent_split, length-got_split, open_split, origin_split}
 
--- something stands within a list
+-- there is an item at each place within a list
 some_within : {X : Type 0} (xs : List X) (i : ℕ) → i < length xs → is_some (slice_get xs i) ≡ true
 some_within [] i within = absurd (omega arith)
 some_within (x ∷ xs) zero within = refl
 some_within (x ∷ xs) (suc i) within = some_within xs i (omega arith)
 
--- a copy starts where its original stands
+-- a copy starts at its original's place
 copy_at_place : (origin : Option Origin) (received : ℕ) → copy_at origin (start_by origin + received) ≡ copy_of origin received
 copy_at_place (Some (port source start)) received = refl
 copy_at_place origin received = refl
@@ -62,7 +62,7 @@ module _ {M : Type 0} where
       ap (copy_at origin) (place_from_told chunk past since name.0 lawful) ∙ copy_at_place origin (length (got (since ++ past) name.0))
   begun_told chunk past since call lawful = refl
 
-  -- so the objects are told, in order
+  -- so they give the objects, in order
   pub made_told : (chunk : ℕ) (past since : List (Entry M)) → Lawful (since ++ past) → made_since (base_of chunk past) since ≡ made (since ++ past)
   made_told chunk past [] lawful = refl
   made_told chunk past (entry ∷ before) lawful =
@@ -73,7 +73,7 @@ module _ {M : Type 0} where
       → origin_since (base_of chunk past) since o ≡ origin_of (since ++ past) o
   origin_told chunk past since o lawful = ap (λ origins. slice_get origins o) (made_told chunk past since lawful)
 
-  -- and where each stands
+  -- and each object's place
   pub place_told : (chunk : ℕ) (past since : List (Entry M)) (o : ℕ) → Lawful (since ++ past)
       → place_since (base_of chunk past) since o ≡ place (since ++ past) o
   place_told chunk past since o lawful =

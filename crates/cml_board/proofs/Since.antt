@@ -77,7 +77,7 @@ module _ {M : Type 0} where
       received_closed chunk board.past since name lawful
       (port_receives (origin_of (since ++ board.past) name) channel start (ap (λ h. origin_of h name) (sym e) ∙ begun))
 
-  -- who reads is told by the base
+  -- the base and the entries since give who reads
   reads_told : (chunk : ℕ) (past since : List (Entry M)) (source reader : ℕ) → Lawful (since ++ past) → reads_since (base_of chunk past) since source reader ≡ reads (since ++ past) source reader
   reads_told chunk past since source reader lawful =
       ap (λ origin. reads_by reader origin (open_since (base_of chunk past) since reader) source) (origin_told chunk past since reader lawful)

@@ -12,7 +12,7 @@ use Rattle.cml_board.specs.declared.entry.Entry.{Entry}
 use Rattle.cml_board.specs.History.{Lawful, answer, entries_in, rings_in, made, if_made, begun_by, origin_of, is_open, closes, sent, sent_by, got, got_by, message_in, owed, received}
 use Rattle.cml_board.proofs.Received.{slice_get-append_within}
 
--- what stands in a list past its front stands in the rest
+-- an item of a list past its front is in the rest
 pub get_behind : {X : Type 0} (xs ys : List X) (i : ℕ) → length xs ≤ i → (j : ℕ) × (slice_get (xs ++ ys) i ≡ slice_get ys j)
 get_behind [] ys i past = (i, refl)
 get_behind (x ∷ xs) ys zero past = absurd (omega arith)

@@ -34,7 +34,7 @@ same_start : (source other start from : ℕ) → ◌≡◌ {A = Option Origin} (
 same_start source other start from same = cc
 
 module _ {M : Type 0} where
-  -- an object stands under each name that was made
+  -- there is an object under each name that was made
   pub object_stands : (chunk n : ℕ) (f : ℕ → Facts M) (objects : List (Object M (Log M))) (name : ℕ) → Shows chunk n f objects → name < n
       → (object : Object M (Log M)) × (slice_get objects name ≡ Some object)
   object_stands chunk n f objects name shows made = some_stands objects name (omega (arith, shows.all))
@@ -151,7 +151,7 @@ module _ {M : Type 0} where
         place_of-at own.0 key (place_by (f name)) own.2,
       )
 
-  -- so in the log that is known to stand there
+  -- so in the log that is known to be there
   pub cursor_opened : (chunk n : ℕ) (f : ℕ → Facts M) (objects : List (Object M (Log M))) (name source key : ℕ) (log : Log M) → Shows chunk n f objects
       → cursor_at objects name ≡ Some (source, key) → log_at objects source ≡ Some log → IsOpen log key
   cursor_opened chunk n f objects name source key log shows reads found =

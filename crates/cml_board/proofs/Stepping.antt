@@ -112,7 +112,7 @@ module _ {M : Type 0} where
       (makes_here h who (NewPort name) n begun None lawful makes ∙ ap (λ start. new_facts (port name.0 start) None) (sym end))
       (λ k. makes_other h who (NewPort name) n begun None k makes)))
 
-  -- where a port's cursor stands
+  -- the place of a port's cursor
   port_place : (chunk : ℕ) (h : List (Entry M)) (objects : List (Object M (Log M))) (name source start key : ℕ) (log : Log M) → ShowsAll chunk h objects
       → cursor_at objects name ≡ Some (source, key) → origin_of h name ≡ Some (port source start) → log_at objects source ≡ Some log
       → place_of log key ≡ start + length (got h name)
@@ -120,7 +120,7 @@ module _ {M : Type 0} where
       place_is chunk (length (made h)) (facts_of h) objects name source key log shows reads found
       ∙ ap (λ o. start_by o + length (got h name)) begun
 
-  -- a port was made where another stands
+  -- a port was made at another port's place
   pub step_copy : (chunk : ℕ) (who : Who) (p n : Name) (h : List (Entry M)) (objects after : List (Object M (Log M))) (source start key : ℕ)
       → Lawful h → ShowsAll chunk h objects → cursor_at objects p.0 ≡ Some (source, key) → origin_of h p.0 ≡ Some (port source start)
       → AddsPort objects after source (λ log. place_of log key) → ShowsAll chunk (noted who (CopyPort p) (Made n) ∷ h) after
@@ -166,7 +166,7 @@ module _ {M : Type 0} where
       (shows_closed chunk (length (made h)) (facts_of h) (facts_of later) objects name.0 source start key (place_of closes.log key - start)
       shows found received (shut_here h who name) (shut_other h who name)))
 
-  -- an open port stands on its channel, no earlier than its start
+  -- an open port has a place in its channel, no earlier than its start
   pub has_port : (chunk : ℕ) (h : List (Entry M)) (objects : List (Object M (Log M))) (name source start key : ℕ)
       → ShowsAll chunk h objects → slice_get objects name ≡ Some (open_port source start key) → HasPort objects name source start key
   has_port chunk h objects name source start key shows found =

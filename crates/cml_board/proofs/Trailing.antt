@@ -1,4 +1,4 @@
--- What was kept at a cut is all that is still read: nobody stands before it, and no object that is made later begins before it.
+-- What was kept at a cut is all that is still read: no object's place is before it, and no object made later begins before it.
 use Rattle.std.proofs.Common.{◌≡◌, ℕ, zero, suc, ◌+◌, ◌-◌, ◌*◌, ◌/◌, ◌≤◌, min, inl, inr, Bool, true, false, ◌&&◌, cond, eqb, List, [], ◌∷◌, ◌++◌, length, drop, slice_get, Option, Some, refl, sym, ap, subst, ◌∙◌, arith}
 use Rattle.std.proofs.Math.Nat.{mul-div-le, mul-le-mul_left}
 use Rattle.std.proofs.lemmas.Nat.{le-div}
@@ -59,7 +59,7 @@ module _ {M : Type 0} where
       → least_place past source ≤ start_by (origin_of (since ++ past) k) + length (got past k)
 
   -- so an object that a call makes begins no earlier: a mailbox has no messages yet, a port begins at its channel's end, and a
-  -- copy where its original stands
+  -- copy at its original's place
   made_later : (past since : List (Entry M)) (source k j : ℕ) (call : Call M) (n : Name) → Lawful (since ++ past) → answer (since ++ past) call ≡ Some (Made n)
       → length (made (since ++ past)) ≤ k → StandLater past since source
       → Begins (least_place past source) k source (slice_get (begun_by (made (since ++ past)) (since ++ past) call) j)
@@ -102,7 +102,7 @@ module _ {M : Type 0} where
   begun_later past since source k j call (Made n) lawful answered new stand = made_later past since source k j call n lawful answered new stand
   begun_later past since source k j call reply lawful answered new stand = begins_none (least_place past source) k source j
 
-  -- so they all stand later
+  -- so they are all at later places
   pub stood_later : (past since : List (Entry M)) (source : ℕ) → Lawful (since ++ past) → StandLater past since source
   stood_later past [] source lawful k reading = least_of-le_place past source (length (made past)) k (reader_made past source k reading) reading
   stood_later past (entry ∷ before) source lawful k reading = elim (cases_lt k (length (made (before ++ past)))) [
@@ -139,7 +139,7 @@ module _ {M : Type 0} where
   kept_from-le_end : (chunk : ℕ) (h : List (Entry M)) (source : ℕ) → kept_from chunk h source ≤ length (sent h source)
   kept_from-le_end chunk h source = omega (arith, kept_from-le_least chunk h source, least_of-le_end h source (length (made h)))
 
-  -- the least place is told, and what is kept
+  -- they give the least place, and what is kept
   reads_told : (chunk : ℕ) (past since : List (Entry M)) (source k : ℕ) → Lawful (since ++ past) → reads_since (base_of chunk past) since source k ≡ reads (since ++ past) source k
   reads_told chunk past since source k lawful =
       ap (λ origin. reads_by k origin (open_since (base_of chunk past) since k) source) (origin_told chunk past since k lawful)

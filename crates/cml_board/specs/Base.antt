@@ -1,7 +1,7 @@
--- A history read from a cut on. Of what was cut away a base is known, which has no entries, but what they left. From it and
--- the entries since is read of each object how it began, how many messages were sent to it, where it stands, whether it is
--- open, what it holds and which of its messages are kept; what is due to a receiver since the cut, and what of that is
--- still owed; what each call that fits is answered; and the next base. Entries since the cut stand newest first, as in a
+-- A history read from a cut on. Of what was cut away only a base is known: not the entries, but what they left. The base and
+-- the entries since give, for each object, how it began, how many messages were sent to it, its place, whether it is open,
+-- what it holds and which of its messages are kept. They give what is due to a receiver since the cut, what of that is still
+-- owed, the answer of each call that fits, and the next base. Entries since the cut are listed newest first, as in a
 -- history, and `since ++ past` is the whole history.
 use Rattle.std.specs.Prelude.{ℕ, zero, suc, ◌+◌, ◌-◌, ◌*◌, ◌/◌, Bool, ◌&&◌, min, List, [], ◌∷◌, ◌++◌, length, drop, slice_get, Option, Some, is_some, unwrap_or, if◌then◌else◌}
 use Rattle.cml_board.specs.declared.call.Call.{Call}
@@ -15,9 +15,9 @@ use Rattle.cml_board.specs.Held.{left_by, held}
 use Rattle.cml_board.specs.History.{entries_in, rings_in, sent, got, is_open, begun_by, if_made, made, place, received, given}
 use Rattle.cml_board.specs.Kept.{reads_by, kept_from}
 
--- what entries before a cut left: how many they were, and how many of them of lanes and feeds; how each object began; and by
--- an object's name how many messages were sent to it or multicast on it, those of them that are kept, where it stands in
--- what it receives, whether it is open, and what it holds
+-- what entries before a cut left: how many they were, and how many of them lanes and feeds made; how each object began; and
+-- by an object's name how many messages were sent to it or multicast on it, those of them that are kept, its place in what
+-- it receives, whether it is open, and what it holds
 pub record Base (M : Type 0) : Type 0 where
   pub entries : ℕ
   pub rings : ℕ
@@ -51,16 +51,16 @@ module _ {M : Type 0} where
   abbrev pub count_since : Base M → List (Entry M) → ℕ → ℕ
   count_since base since object = base.count object + length (sent since object)
 
-  -- where an object stood at the cut; one that was made since stood at its start
+  -- an object's place at the cut; for one that was made since, its start
   abbrev pub stood_at : Base M → ℕ → Option Origin → ℕ
   stood_at base object origin = if is_some (slice_get base.origins object) then base.place object else start_by origin
 
-  -- where an object stands that began so: it has passed over what it received since
+  -- the place of an object that began like this: it has passed over what it received since
   abbrev pub place_from : Base M → Option Origin → List (Entry M) → ℕ → ℕ
   place_from base origin since object = stood_at base object origin + length (got since object)
 
-  -- how the object began that a call makes, where these were made before: a new port starts behind all that was multicast on
-  -- its channel, and a copy where its original stands
+  -- how the object began that a call makes, if these were made before: a new port starts behind all that was multicast on its
+  -- channel, and a copy at its original's place
   abbrev pub begun_since : Base M → List Origin → List (Entry M) → Call M → List Origin
   begun_since base origins before (NewPort name) = port name.0 (count_since base before name.0) ∷ []
   begun_since base origins before (CopyPort name) =
@@ -77,7 +77,7 @@ module _ {M : Type 0} where
   abbrev pub origin_since : Base M → List (Entry M) → ℕ → Option Origin
   origin_since base since object = slice_get (made_since base since) object
 
-  -- where a mailbox or a port stands in the list of all that was sent or multicast
+  -- the place of a mailbox or a port in the list of all that was sent or multicast
   abbrev pub place_since : Base M → List (Entry M) → ℕ → ℕ
   place_since base since object = place_from base (origin_since base since object) since object
 

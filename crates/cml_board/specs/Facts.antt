@@ -26,6 +26,6 @@ module _ {M : Type 0} where
   abbrev pub new_facts : Origin → Option M → Facts M
   new_facts origin held = record { origin = Some origin; opened = true; sent = []; got = []; held = held }
 
-  -- where it stands in the list that it receives from
+  -- its place in the list that it receives from
   abbrev pub place_by : Facts M → ℕ
   place_by facts = start_by facts.origin + length facts.got

@@ -1,5 +1,5 @@
--- What a lawful history is. A history is a list of entries, the newest first: what stood before an entry is the tail
--- behind it, so each definition goes back from the newest entry.
+-- What a lawful history is. A history is a list of entries, the newest first. The entries before an entry are the tail behind
+-- it, so each definition goes back from the newest entry.
 use Rattle.std.specs.Prelude.{ℕ, ◌≡◌, ◌==◌, ◌+◌, Bool, true, false, not, ◌&&◌, List, [], ◌∷◌, ◌++◌, length, drop, slice_get, Option, Some, is_some, unwrap_or, IsTrue, IsSome, IfSome, ⊤, if◌then◌else◌}
 use Rattle.std.specs.Option.{option_map}
 use Rattle.cml_calls.specs.declared.kind.Kind.{Kind}
@@ -79,8 +79,8 @@ module _ {M : Type 0} where
   is_open [] object = true
   is_open (entry ∷ before) object = is_open before object && not (closes entry.call entry.reply object)
 
-  -- how the object began that a call makes, where these were made before: a new port starts behind all that was
-  -- multicast on its channel, and a copy where its original stands
+  -- how the object began that a call makes, if these were made before: a new port starts behind all that was multicast on its
+  -- channel, and a copy at its original's place
   abbrev pub begun_by : List Origin → List (Entry M) → Call M → List Origin
   begun_by origins before NewMailbox = mailbox ∷ []
   begun_by origins before NewChannel = channel ∷ []
@@ -130,15 +130,15 @@ module _ {M : Type 0} where
   abbrev pub owed : List (Entry M) → ℕ → List M
   owed history object = drop (length (got history object)) (due history object)
 
-  -- where a mailbox or a port stands in the list of all that was sent or multicast
+  -- the place of a mailbox or a port in the list of all that was sent or multicast
   abbrev pub place : List (Entry M) → ℕ → ℕ
   place history object = start_by (origin_of history object) + length (got history object)
 
-  -- what a receive answers where this is owed; none where it waits
+  -- what a receive returns if this is owed; none if it waits
   abbrev pub received : List M → Option (Reply M)
   received messages = option_map Got (slice_get messages 0)
 
-  -- what a variable gives that holds this; none where it waits
+  -- what a read of a variable that holds this returns; none if it waits
   abbrev pub given : Option M → Option (Reply M)
   given message = option_map Got message
 
@@ -148,7 +148,7 @@ module _ {M : Type 0} where
   abbrev pub where_open : List (Entry M) → ℕ → Option (Reply M) → Option (Reply M)
   where_open history object reply = if is_open history object then reply else Some Closed
 
-  -- the answer of a call that fits; none where it waits
+  -- the answer of a call that fits; none if it waits
   abbrev pub answer : List (Entry M) → Call M → Option (Reply M)
   answer history NewMailbox = Some (new_name history)
   answer history NewChannel = Some (new_name history)

@@ -71,7 +71,7 @@ module _ {M : Type 0} where
   abbrev pub shut : ℕ → ℕ → Log M → Log M
   shut chunk key log = trimmed chunk (with_place log key None)
 
-  -- a log stands under this name
+  -- there is a log under this name
   pub record HasLog (objects : List (Object M (Log M))) (name : ℕ) : Type 0 where
     pub log : Log M
     pub found : log_at objects name ≡ Some log
@@ -125,7 +125,7 @@ module _ {M : Type 0} where
     pub opens : OpensAt old after source key from
     pub changed : new ≡ after ++ open_port source (from opens.stands.log) key ∷ []
 
-  -- an open port, and what it stands on
+  -- an open port, and the cursor by which it reads
   pub record HasPort (objects : List (Object M (Log M))) (name source start key : ℕ) : Type 0 where
     pub found : slice_get objects name ≡ Some (open_port source start key)
     pub cursor : HasCursor objects source key
@@ -137,7 +137,7 @@ module _ {M : Type 0} where
     pub found : log_at old source ≡ Some log
     pub changed : new ≡ slice_set (on_log (shut chunk key) old source) name (closed_port source start (place_of log key - start))
 
-  -- a variable stands under this name
+  -- there is a variable under this name
   pub record HasVariable (objects : List (Object M (Log M))) (name : ℕ) : Type 0 where
     pub form : Form
     pub held : Option M

@@ -12,13 +12,13 @@ use Rattle.cml_board.specs.Shown.{Shown}
 use Rattle.cml_board.specs.Standing.{ReadsAt}
 
 module _ {M : Type 0} where
-  -- the object that it stands on fits it
+  -- the object that it is made of fits it
   abbrev pub CanMake : Shown M → Making → Type 0
   CanMake board (making.Port channel) = is_a is_channel board.history channel.0 ≡ true
   CanMake board (making.Copy port channel key) = (is_a is_port board.history port.0 ≡ true) × ReadsAt board port.0 channel.0 key
   CanMake board _ = ⊤
 
-  -- the log, or the cursor in it, that it stands on is there
+  -- the log that it is made of, or the cursor in it, is there
   abbrev pub HasSource : List (Object M (Log M)) → Making → Type 0
   HasSource objects (making.Port channel) = HasLog objects channel.0
   HasSource objects (making.Copy port channel key) = HasCursor objects channel.0 key

@@ -1,4 +1,4 @@
--- What a board is to those who call it, and what becomes of a call.
+-- What a board shows to its callers, and what a call does.
 use Rattle.std.specs.Prelude.{ℕ, ◌≡◌, ◌≢◌, ◌+◌, ◌<◌, ◌≤◌, Bool, Option, Some, None, Result, Ok, Err}
 use Rattle.std.specs.declared.alloc.AllocError.{AllocError}
 use Rattle.cml_board.specs.declared.call.Call.{Call}
@@ -16,8 +16,8 @@ module _ {M : Type 0} where
   abbrev pub HasRoom : Shown M → Type 0
   HasRoom board = entries_in board.history < full_at board
 
-  -- when each refusal comes: they are tested in this order, and want of memory stands behind all of them, and never
-  -- before a call that needs none but what was reserved. Those of the layers above a board never gives
+  -- when a call fails with each refusal. They are tested in this order, want of memory last. A call that needs only reserved
+  -- memory never fails for want of memory. A board never fails with the refusals of the layers above it
   abbrev pub Refuses : ℕ → Bool → Shown M → Call M → Refusal → Type 0
   Refuses chunk sure board call NoSuch = ¬ (IsMade board.history call)
   Refuses chunk sure board call WrongKind = IsMade board.history call × ¬ (IsTaken board.history call)
@@ -29,7 +29,7 @@ module _ {M : Type 0} where
   Refuses chunk sure board call Stalled = ⊥
   Refuses chunk sure board call Unseen = ⊥
 
-  -- the board is as it was, and nothing of what stands reserved is lost
+  -- the board is as it was, and no reserved memory is lost
   pub record IsAsBefore (old new : Shown M) : Type 0 where
     pub history : new.history ≡ old.history
     pub past : new.past ≡ old.past
@@ -37,29 +37,29 @@ module _ {M : Type 0} where
     pub objects : new.objects ≡ old.objects
     pub reserved : old.reserved ≤ new.reserved
 
-  -- the board has one entry more, and the same limit, and lost what was reserved for one entry at most
+  -- the board has one more entry and the same limit, and lost reserved memory for at most one entry
   pub record AddsEntry (old new : Shown M) (who : Who) (call : Call M) (reply : Reply M) : Type 0 where
     pub history : new.history ≡ with_entry old.history (record { who = who; call = call; reply = reply })
     pub past : new.past ≡ old.past
     pub limit : new.limit ≡ old.limit
     pub reserved : old.reserved ≤ new.reserved + 1
 
-  -- the whole journal was cut away: what is told of all entries is what it was, and so are the limit and the objects. How
-  -- much stands reserved then is left open
+  -- the whole journal was cut away. All that the history says is unchanged, and so are the limit and the objects. How much
+  -- memory is reserved then is left open
   pub record Cuts (old new : Shown M) : Type 0 where
     pub history : new.history ≡ old.history
     pub past : new.past ≡ old.history
     pub limit : new.limit ≡ old.limit
     pub objects : new.objects ≡ old.objects
 
-  -- what becomes of a call that is refused for nothing but memory: it adds just its entry, or it would wait, or it needs more
-  -- memory than stands reserved; both change nothing
+  -- what a call does that can fail only for want of memory: it adds just its entry; or it would wait, or needs more memory
+  -- than is reserved, and then changes nothing
   abbrev pub Performs : ℕ → Bool → Shown M → Shown M → Who → Call M → Result (Option (Reply M)) AllocError → Type 0
   Performs chunk sure old new who call (Ok (Some reply)) = (answer old.history call ≡ Some reply) × AddsEntry old new who call reply
   Performs chunk sure old new who call (Ok None) = (answer old.history call ≡ None) × IsAsBefore old new
   Performs chunk sure old new who call (Err denied) = (answer old.history call ≢ None) × ¬ (IsSpared chunk sure old call) × IsAsBefore old new
 
-  -- what becomes of a call: an answered one adds just its entry, and every other changes nothing and is handed back
+  -- what a call does: an answered one adds just its entry, and every other changes nothing and returns the call
   abbrev pub Applies : ℕ → Bool → Shown M → Shown M → Who → Call M → Outcome M → Type 0
   Applies chunk sure old new who call (Refused refusal back) = Refuses chunk sure old call refusal × (back ≡ call) × IsAsBefore old new
   Applies chunk sure old new who call (WouldWait back) =

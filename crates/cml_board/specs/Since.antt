@@ -1,4 +1,4 @@
--- What a board shows since its journal was last cut, in the words of its history: what was cut away is told by its base.
+-- What a board shows since its journal was last cut, in the words of its history. The base says what was cut away.
 use Rattle.std.specs.Prelude.{ℕ, ◌≡◌, true, false, List, ◌++◌, Some}
 use Rattle.cml_log.specs.Log.{Log, place_at, owed_items}
 use Rattle.cml_calls.specs.declared.kind.Kind.TheVariants.{Mailbox}
@@ -29,8 +29,8 @@ module _ {M : Type 0} where
   ClosedSince chunk board since = (name channel start : ℕ) → origin_of board.history name ≡ Some (port channel start) → is_open board.history name ≡ false
       → (rest : List M) × (got since name ++ rest ≡ due_since (base_of chunk board.past) since name)
 
-  -- the log of a mailbox or a channel holds what was kept at the cut and what was sent since, but for what is given back; and
-  -- has a cursor for each object that reads it, at the object's place
+  -- the log of a mailbox or a channel holds what was kept at the cut and what was sent since, except what was freed; and it has
+  -- a cursor for each object that reads it, at the object's place
   pub record LogSince (chunk : ℕ) (board : Shown M) (since : List (Entry M)) (source : ℕ) : Type 0 where
     pub log : Log M
     pub found : log_at board.objects source ≡ Some log

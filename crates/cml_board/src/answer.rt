@@ -4,7 +4,7 @@ use crate::call::Call;
 use crate::entry::Reply;
 use std::marker::Model;
 
-/// An accepted call, what it was answered, and where it stands in the journal. Only a board makes one.
+/// An accepted call, its reply, and its entry's position in the journal. Only a board makes one.
 #[derive(Debug, Drop)]
 pub struct Answer<M> {
     call: Call<M>,
@@ -41,7 +41,7 @@ impl<M> Answer<M> {
         &self.reply
     }
 
-    /// The position of its entry, from 0.
+    /// Returns the position of its entry. The first entry since the board was made has position 0.
     pub fn at(&self) -> u64
         ensures { result ≡ self.now.at }
     {
@@ -50,7 +50,7 @@ impl<M> Answer<M> {
 }
 
 impl<M: Drop> Answer<M> {
-    /// The reply alone, to be kept.
+    /// Returns the reply, and drops the rest of the answer.
     pub fn into_reply(self) -> Reply<M>
         ensures { result ≡ self.reply }
     {

@@ -1,6 +1,7 @@
-//! What a base and the entries since tell of the whole history: of each object how it began, how many messages were sent to
-//! it, where it stands, whether it is open, what it holds and which of its messages are kept; what is owed to each receiver
-//! that is open, and what is due to it since the cut; what each call that fits is answered; and the next base.
+//! Laws of bases. A base and the entries since give, for each object, what the whole history gives. These are how it began,
+//! how many messages were sent to it, its place, whether it is open, what it holds and which of its messages are kept. They
+//! give what is owed to each open receiver, and what is due to it since the cut. They give the answer of each call that
+//! fits, and the next base.
 ghost use Rattle.std.specs.Prelude.{◌≡◌, ℕ, List, [], ◌++◌, length, drop, true, false};
 ghost use Rattle.cml_board.specs.declared.entry.Entry.{Entry};
 ghost use Rattle.cml_board.specs.declared.call.Call.{Call};
@@ -12,8 +13,8 @@ ghost use Rattle.cml_board.specs.Kept.{kept_from};
 ghost use Rattle.cml_board.specs.Counts.{is_a};
 ghost use Rattle.cml_board.specs.Base.{base_of, made_since, count_since, place_since, open_since, held_since, kept_since, messages_since, due_since, owed_since, answer_since, next_base};
 
-/// Of each object a base and the entries since tell what the whole history tells: how it began, how many messages were
-/// sent to it, where it stands, whether it is open, and what it holds.
+/// Shows that a base and the entries since give the same facts about each object as the whole history. These are how it
+/// began, how many messages were sent to it, its place, whether it is open, and what it holds.
 pub fn bases_tell_objects<M>()
     ensures made { (chunk : ℕ) (past since : List (Entry M)) → Lawful (since ++ past)
         → made_since (base_of chunk past) since ≡ made (since ++ past) }
@@ -27,8 +28,8 @@ pub fn bases_tell_objects<M>()
         → held_since (base_of chunk past) since name ≡ held (since ++ past) name }
 {}
 
-/// So they tell which messages are kept, what is owed to each receiver that is open, and what each call that fits is
-/// answered; and they come to the base of the whole history, which can be cut away in its turn.
+/// Shows that they also give which messages are kept, what is owed to each open receiver, and the answer of each call that
+/// fits. Together they give the base of the whole history, which can be cut away in its turn.
 pub fn bases_tell_answers<M>()
     ensures kept { (chunk : ℕ) (past since : List (Entry M)) (name : ℕ) → Lawful (since ++ past)
         → kept_since chunk (base_of chunk past) since name ≡ kept_from chunk (since ++ past) name }
@@ -45,10 +46,10 @@ pub fn bases_tell_answers<M>()
         → next_base chunk (base_of chunk past) since ≡ base_of chunk (since ++ past) }
 {}
 
-/// Since a cut, too, nothing that was sent is lost, told twice or out of order. What an open receiver received since,
-/// followed by what it is owed, is what is due since; and for one that was there at the cut that is what waited for it then,
-/// followed by what was sent since. What was received since from a port that was closed is how what is due begins; where it
-/// was closed before the cut both are nothing.
+/// Shows that since a cut, too, no message is lost, repeated or reordered. What an open receiver received since, followed by
+/// what it is owed, is what is due since. For a receiver from before the cut, that is what waited for it at the cut,
+/// followed by what was sent since. What was received from a closed port since is a beginning of what is due. If the port
+/// was closed before the cut, both are empty.
 pub fn bases_tell_messages<M>()
     ensures received { (chunk : ℕ) (past since : List (Entry M)) (name : ℕ) → Lawful (since ++ past)
         → is_a is_receiver (since ++ past) name ≡ true

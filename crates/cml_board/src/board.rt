@@ -32,10 +32,11 @@ use std::alloc::{AllocError, Global};
 use std::marker::Model;
 use std::mem;
 
-/// The log that boards are made with: chunks of four messages.
+/// The log to make boards with. It has chunks of four messages.
 pub type BoardLog<M> = ChunkLog<M, 4>;
 
-/// The objects, and the journal of all calls that were accepted since it was last cut.
+/// Mailboxes, channels, ports and variables, with the journal of all calls that were accepted since it was last cut. None of
+/// its calls blocks.
 #[derive(Drop)]
 pub struct Board<M, L: MessageLog<M>> {
     alloc: Global,
@@ -59,7 +60,7 @@ impl<M, L: MessageLog<M>> Model for Board<M, L> {
 }
 
 impl<M: Message, L: MessageLog<M>> Board<M, L> {
-    /// A board with no objects, whose journal takes `limit` entries until it is cut, and as many again from then on.
+    /// Makes a board with no objects. Its journal takes `limit` entries, and as many again after each cut.
     pub fn new(alloc: Global, limit: u64) -> Result<Board<M, L>, AllocError>
         requires least { 1 ≤ limit }
         requires most { limit ≤ 2 ^ 32 }
@@ -68,16 +69,28 @@ impl<M: Message, L: MessageLog<M>> Board<M, L> {
         ensures limit { IfOk result (λ board. board.limit ≡ limit) }
         ensures objects { IfOk result (λ board. board.objects ≡ []) }
     {
-        Ok(Board {
+        Ok(Board::fresh(alloc, limit))
+    }
+
+    /// The same, which takes no memory yet.
+    pub(crate) fn fresh(alloc: Global, limit: u64) -> Board<M, L>
+        requires least { 1 ≤ limit }
+        requires most { limit ≤ 2 ^ 32 }
+        ensures history { result.history ≡ no_entries }
+        ensures past { result.past ≡ no_entries }
+        ensures limit { result.limit ≡ limit }
+        ensures objects { result.objects ≡ [] }
+    {
+        Board {
             alloc,
             limit,
             past: Past::none(),
             journal: Vec::new(alloc),
             objects: Vec::new(alloc),
-        })
+        }
     }
 
-    /// How many entries the journal takes between two cuts.
+    /// Returns how many entries the journal takes between two cuts.
     pub fn limit(&self) -> u64
         ensures limit { result ≡ self.now.limit }
         ensures bounded { result ≤ 2 ^ 32 }
@@ -85,7 +98,7 @@ impl<M: Message, L: MessageLog<M>> Board<M, L> {
         self.limit
     }
 
-    /// The accepted calls since the last cut, oldest first: all of them where there was none.
+    /// Returns the calls that were accepted since the last cut, oldest first. Without a cut, these are all accepted calls.
     pub fn journal(&self) -> &[Entry<M>]
         ensures entries { reverse result.now ++ self.now.past ≡ self.now.history }
         ensures room { entries_in self.now.history ≤ full_at self.now }
@@ -106,29 +119,29 @@ impl<M: Message, L: MessageLog<M>> Board<M, L> {
         // What the log of a mailbox or a channel really holds, from which place on, and which cursors are open in it.
         ensures logs { KeepsLogs L.CHUNK self.now }
 
-        // The same of the entries since the last cut: what was received since, followed by what waits, is what waited at the
+        // The same for the entries since the last cut: what was received since, followed by what waits, is what waited at the
         // cut, followed by what was sent since.
         ensures since { KeepsSince L.CHUNK self.now }
     {
         self.journal.as_slice()
     }
 
-    /// How many calls were accepted since the board was made.
+    /// Returns how many calls were accepted since the board was made.
     pub fn entries(&self) -> u64
         ensures { result ≡ entries_in self.now.history }
     {
         self.past.count() + self.journal.len() as u64
     }
 
-    /// How many of them were cut away: the position of the journal's first entry.
+    /// Returns how many entries were cut away, which is the position of the journal's first entry.
     pub fn cut_at(&self) -> u64
         ensures { result ≡ entries_in self.now.past }
     {
         self.past.count()
     }
 
-    /// Whether the journal takes no more entries: it has as many as its limit, or 2^64 - 1 calls were accepted since the
-    /// board was made, which is as far as is counted.
+    /// Says whether the journal is full. It is full if it has as many entries as its limit. It is also full if 2^64 - 1
+    /// calls, the highest count, were accepted since the board was made.
     pub fn is_full(&self) -> bool
         ensures full { MatchBool result (entries_in self.now.history ≡ full_at self.now) (HasRoom self.now) }
         ensures lawful { Lawful self.now.history }
@@ -136,14 +149,13 @@ impl<M: Message, L: MessageLog<M>> Board<M, L> {
         self.journal.len() as u64 == self.limit || self.entries() == u64::MAX
     }
 
-    /// Cuts the journal: what it has is dropped, and it has room for as many entries again. Objects stay, each with what
-    /// waits in it; names, and positions of entries, go on counting. It is never refused, and what stood reserved still
-    /// does.
+    /// Cuts the journal: drops its entries, so that it takes as many again. Objects keep what waits in them. Names and
+    /// positions of entries go on counting. Never fails, and keeps the reserved memory.
     pub fn cut(&mut self)
         ensures cut { Cuts self.old self.new }
         ensures reserved { self.old.reserved ≤ self.new.reserved }
 
-        // What is left of all that was cut away is the next base, of the one before and the entries since.
+        // What is left of all that was cut away is the next base, made of the one before and the entries since.
         ensures base { (since : List (Entry M)) → self.old.history ≡ since ++ self.old.past
             → base_of L.CHUNK self.new.past ≡ next_base L.CHUNK (base_of L.CHUNK self.old.past) since }
     {
@@ -151,7 +163,7 @@ impl<M: Message, L: MessageLog<M>> Board<M, L> {
         self.journal.clear();
     }
 
-    /// The same board with another limit, of which each entry was cut away.
+    /// Returns the same board with another limit. All its entries must have been cut away.
     pub(crate) fn with_limit(mut self, limit: u64) -> Board<M, L>
         requires least { 1 ≤ limit }
         requires most { limit ≤ 2 ^ 32 }
@@ -165,7 +177,7 @@ impl<M: Message, L: MessageLog<M>> Board<M, L> {
         self
     }
 
-    /// Cuts the journal, and hands over the entries that it had, to be kept elsewhere. What stood reserved goes with them.
+    /// Cuts the journal, and returns the entries that it had. The reserved memory goes with them.
     pub fn take_journal(&mut self) -> Vec<Entry<M>>
         ensures taken { reverse result.items ++ self.old.past ≡ self.old.history }
         ensures cut { Cuts self.old self.new }
@@ -174,8 +186,8 @@ impl<M: Message, L: MessageLog<M>> Board<M, L> {
         mem::replace(&mut self.journal, Vec::new(self.alloc))
     }
 
-    /// Whether the journal has this answer's call and reply at its position, as it has of each answer of its own since the
-    /// last cut. An answer from before that isn't in the journal any more.
+    /// Says whether the journal has this answer's call and reply at the answer's position. It does for each answer of this
+    /// board since the last cut. It does not for an answer from before the last cut.
     pub fn confirm(&self, answer: &Answer<M>) -> bool
         ensures { IsTrue result ↔ ((entries_in self.now.past ≤ answer.now.at) × IsNoted (reverse self.now.history) answer.now) }
     {
@@ -188,9 +200,9 @@ impl<M: Message, L: MessageLog<M>> Board<M, L> {
         }
     }
 
-    /// Takes memory for `n` more entries. Until `n` calls were answered, a call is not refused for want of memory if
-    /// it makes no object and fills no chunk, and its messages are such that a share of one is never refused. What was
-    /// reserved lasts over a `cut`, but not over a `take_journal`, which hands it over with the list.
+    /// Reserves memory for `n` more entries. Until `n` calls are answered, a call fails with `NoMemory` only if it makes an
+    /// object, fills a chunk, or shares a message whose `share` can fail. A `cut` keeps the reserved memory; a `take_journal`
+    /// hands it over with the entries. If it fails, the board is unchanged.
     pub fn reserve(&mut self, n: usize) -> Result<(), AllocError>
         ensures kept { IsAsBefore self.old self.new }
         ensures reserved { OnOk result (n ≤ self.new.reserved) }
@@ -199,7 +211,7 @@ impl<M: Message, L: MessageLog<M>> Board<M, L> {
         self.journal.reserve(n)
     }
 
-    /// The object's kind.
+    /// Returns the object's kind, or `None` if no object has this name.
     pub fn kind(&self, name: Name) -> Option<Kind>
         ensures { result ≡ kind_of self.now.history name.0 }
     {
@@ -211,7 +223,7 @@ impl<M: Message, L: MessageLog<M>> Board<M, L> {
         }
     }
 
-    /// How many messages were sent to a mailbox, or multicast on a channel.
+    /// Returns how many messages were sent to a mailbox, or multicast on a channel. Returns `None` for any other name.
     pub fn sent_count(&self, name: Name) -> Option<u64>
         ensures { result ≡ sent_count self.now.history name.0 }
     {
@@ -222,7 +234,7 @@ impl<M: Message, L: MessageLog<M>> Board<M, L> {
         }
     }
 
-    /// How many messages were received from a mailbox or a port.
+    /// Returns how many messages were received from a mailbox or a port. Returns `None` for any other name.
     pub fn got_count(&self, name: Name) -> Option<u64>
         ensures { result ≡ got_count self.now.history name.0 }
     {
@@ -236,7 +248,7 @@ impl<M: Message, L: MessageLog<M>> Board<M, L> {
         }
     }
 
-    /// How many messages wait in a mailbox, or are owed to an open port.
+    /// Returns how many messages wait in a mailbox, or are owed to an open port. Returns `None` for any other name.
     pub fn owed_count(&self, name: Name) -> Option<u64>
         ensures { result ≡ owed_count self.now.history name.0 }
     {
@@ -244,7 +256,7 @@ impl<M: Message, L: MessageLog<M>> Board<M, L> {
         Some(self.log(source).owed(key))
     }
 
-    /// A port's channel.
+    /// Returns a port's channel. Returns `None` for any other name.
     pub fn channel_of(&self, name: Name) -> Option<Name>
         ensures { result ≡ channel_of self.now.history name.0 }
     {
@@ -254,7 +266,8 @@ impl<M: Message, L: MessageLog<M>> Board<M, L> {
         }
     }
 
-    /// How many messages had been multicast on a port's channel before the first that the port is to receive.
+    /// Returns how many messages were multicast on a port's channel before the first that the port receives. Returns `None`
+    /// for any other name.
     pub fn start_of(&self, name: Name) -> Option<u64>
         ensures { result ≡ start_of self.now.history name.0 }
     {
@@ -264,7 +277,8 @@ impl<M: Message, L: MessageLog<M>> Board<M, L> {
         }
     }
 
-    /// The place of the first message of a mailbox or a channel that is kept.
+    /// Returns how many messages of a mailbox or a channel come before the first that is still kept. Returns `None` for any
+    /// other name.
     pub fn first_of(&self, name: Name) -> Option<u64>
         ensures { result ≡ first_of L.CHUNK self.now.history name.0 }
     {
@@ -275,7 +289,7 @@ impl<M: Message, L: MessageLog<M>> Board<M, L> {
         }
     }
 
-    /// How many messages of a mailbox or a channel are kept.
+    /// Returns how many messages a mailbox or a channel still keeps. Returns `None` for any other name.
     pub fn kept_count(&self, name: Name) -> Option<u64>
         ensures { result ≡ kept_count L.CHUNK self.now.history name.0 }
     {
@@ -286,7 +300,7 @@ impl<M: Message, L: MessageLog<M>> Board<M, L> {
         }
     }
 
-    /// Whether a port is open.
+    /// Says whether a port is open. Returns `None` for any other name.
     pub fn is_open(&self, name: Name) -> Option<bool>
         ensures { result ≡ port_is_open self.now.history name.0 }
     {
@@ -296,7 +310,7 @@ impl<M: Message, L: MessageLog<M>> Board<M, L> {
         }
     }
 
-    /// What a variable holds.
+    /// Returns what a variable holds: `Some(None)` if it is empty. Returns `None` for any other name.
     pub fn held(&self, name: Name) -> Option<Option<&M>>
         ensures { option_map option_copied result ≡ held_by self.now.history name.0 }
     {

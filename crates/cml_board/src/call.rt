@@ -4,14 +4,14 @@ ghost use Rattle.cml_calls.specs.Shown.{shown};
 ghost use Rattle.cml_board.specs.Objects.{object_in, message_of, row_of, made_call, given_call, asked_call};
 
 use crate::message::Message;
-use cml_calls::{Ask, Give, Make, Shape, shape_of_filled};
+use cml_calls::{Ask, Give, Make, Shape, Takers, shape_of_filled};
 use std::alloc::{AllocError, Global};
 
 /// An object's name: how many objects were made before it.
 #[derive(Clone, Copy, Debug, PartialEq, Eq, Hash)]
 pub struct Name(pub u64);
 
-/// A call on a board. The CML manual's call stands behind each.
+/// A call on a board. Beside each is its name in the CML manual.
 #[derive(Debug, Drop)]
 pub enum Call<M> {
     /// `Mailbox.mailbox`: makes a mailbox.
@@ -20,40 +20,40 @@ pub enum Call<M> {
     NewChannel,
     /// `Multicast.port`: makes a port of a channel, which receives what is multicast from now on.
     NewPort(Name),
-    /// `Multicast.copy`: makes a port that stands where this one does.
+    /// `Multicast.copy`: makes a port at this port's place, so that it receives what this one has still to receive.
     CopyPort(Name),
-    /// Closes a port. The manual has no such call; its ports are collected.
+    /// Closes a port. The manual has no such call; there, ports are garbage-collected.
     ClosePort(Name),
     /// `SyncVar.iVar`: makes an empty i-variable.
     NewIVar,
     /// `SyncVar.mVar`: makes an empty m-variable.
     NewMVar,
-    /// `SyncVar.mVarInit`: makes an m-variable that holds this.
+    /// `SyncVar.mVarInit`: makes an m-variable that holds this message.
     MVarInit(M),
-    /// `Mailbox.send`: adds a message, and never waits.
+    /// `Mailbox.send`: adds a message. Never blocks.
     Send(Name, M),
     /// `Multicast.multicast`: sends a message to every port of a channel.
     Cast(Name, M),
-    /// `Mailbox.recv` and `Multicast.recv`: takes the next message, and waits while there is none.
+    /// `Mailbox.recv` and `Multicast.recv`: takes the next message. Blocks while there is none.
     Recv(Name),
-    /// `Mailbox.recvPoll`, and the like of it on a port: takes the next message, or answers that there is none.
+    /// `Mailbox.recvPoll`, and the same on a port: takes the next message, or returns `Nothing` if there is none.
     Poll(Name),
-    /// `SyncVar.iPut` and `SyncVar.mPut`: fills an empty variable, and answers `Put` on a full one, which stays.
+    /// `SyncVar.iPut` and `SyncVar.mPut`: fills an empty variable. On a full one it returns `Put`, and changes nothing.
     Put(Name, M),
-    /// `SyncVar.iGet` and `SyncVar.mGet`: reads a variable and leaves what it holds, and waits while it is empty.
+    /// `SyncVar.iGet` and `SyncVar.mGet`: reads a variable and leaves its message there. Blocks while it is empty.
     Get(Name),
-    /// `SyncVar.iGetPoll` and `SyncVar.mGetPoll`: the same, or answers that it is empty.
+    /// `SyncVar.iGetPoll` and `SyncVar.mGetPoll`: the same, but returns `Nothing` if the variable is empty.
     GetPoll(Name),
-    /// `SyncVar.mTake`: reads and empties an m-variable, and waits while it is empty.
+    /// `SyncVar.mTake`: reads and empties an m-variable. Blocks while it is empty.
     Take(Name),
-    /// `SyncVar.mTakePoll`: the same, or answers that it is empty.
+    /// `SyncVar.mTakePoll`: the same, but returns `Nothing` if the variable is empty.
     TakePoll(Name),
-    /// `SyncVar.mSwap`: stores this in an m-variable and gives what it held, and waits while it is empty.
+    /// `SyncVar.mSwap`: stores this message in an m-variable and returns what it held. Blocks while it is empty.
     Swap(Name, M),
 }
 
 impl<M> Call<M> {
-    /// The call that makes this.
+    /// Returns the call that makes this kind of object.
     pub fn make(make: Make) -> Call<M>
         ensures { result ≡ made_call make }
     {
@@ -65,7 +65,7 @@ impl<M> Call<M> {
         }
     }
 
-    /// The call that gives the object this message.
+    /// Returns the call that gives the object this message.
     pub fn give(give: Give, name: Name, message: M) -> Call<M>
         ensures { result ≡ given_call give name message }
     {
@@ -77,7 +77,7 @@ impl<M> Call<M> {
         }
     }
 
-    /// The call that asks the object this.
+    /// Returns the call that asks the object this.
     pub fn ask(ask: Ask, name: Name) -> Call<M>
         ensures { result ≡ asked_call ask name }
     {
@@ -94,7 +94,7 @@ impl<M> Call<M> {
         }
     }
 
-    /// The call's row in the table of calls.
+    /// Returns the call's row in the table of calls.
     #[inline(always)]
     pub fn shape(&self) -> Shape
         ensures { shown result ≡ row_of self.now }
@@ -121,7 +121,24 @@ impl<M> Call<M> {
         }
     }
 
-    /// The message that the call gives, if it gives one.
+    /// Returns which objects take the call. This is one column of the row, which a board looks at in each call.
+    #[inline(always)]
+    pub fn takers(&self) -> Takers
+        ensures { result ≡ (row_of self.now).takers }
+    {
+        match self {
+            Call::NewMailbox | Call::NewChannel => Takers::Nobody,
+            Call::NewIVar | Call::NewMVar | Call::MVarInit(_) => Takers::Nobody,
+            Call::NewPort(_) | Call::Cast(_, _) => Takers::Channels,
+            Call::CopyPort(_) | Call::ClosePort(_) => Takers::Ports,
+            Call::Send(_, _) => Takers::Mailboxes,
+            Call::Recv(_) | Call::Poll(_) => Takers::Receivers,
+            Call::Put(_, _) | Call::Get(_) | Call::GetPoll(_) => Takers::Variables,
+            Call::Take(_) | Call::TakePoll(_) | Call::Swap(_, _) => Takers::MVars,
+        }
+    }
+
+    /// Returns the message that the call gives, if it gives one.
     pub fn message(&self) -> Option<&M>
         ensures { option_map (λ message. message.now) result ≡ message_of self.now }
     {
@@ -133,7 +150,7 @@ impl<M> Call<M> {
         }
     }
 
-    /// The object that the call is made on, unless it makes a mailbox, a channel or a variable.
+    /// Returns the object that the call is made on. Returns `None` if it makes a mailbox, a channel or a variable.
     pub fn object(&self) -> Option<Name>
         ensures { result ≡ object_in self.now }
     {
@@ -151,7 +168,7 @@ impl<M> Call<M> {
 }
 
 impl<M: Message> Call<M> {
-    /// Whether two calls are equal.
+    /// Says whether two calls are equal.
     pub fn same(&self, other: &Call<M>) -> bool
         ensures { IsTrue result ↔ (self.now ≡ other.now) }
     {
@@ -178,7 +195,7 @@ impl<M: Message> Call<M> {
         }
     }
 
-    /// A second call equal to this one. Only want of memory refuses it.
+    /// Makes a second call equal to this one. Fails only for want of memory.
     pub fn share(&self, alloc: Global) -> Result<Call<M>, AllocError>
         ensures copy { IfOk result (λ copy. copy ≡ self.now) }
         ensures sure { OnErr result (M.SURE ≡ false) }

@@ -4,7 +4,7 @@ use crate::call::{Call, Name};
 use crate::message::Message;
 use std::mem;
 
-/// Who made a call: a seat, or a lane or a feed on its thread's behalf, by its number.
+/// The maker of a call, by its number: a seat, or a lane or a feed on its thread's behalf.
 #[derive(Clone, Copy, Debug, PartialEq, Eq, Hash)]
 pub enum Who {
     Seat(u64),
@@ -12,7 +12,7 @@ pub enum Who {
     Feed(u64),
 }
 
-/// What an accepted call is answered.
+/// The reply to an accepted call.
 #[derive(Debug, Drop)]
 pub enum Reply<M> {
     Done,
@@ -28,7 +28,7 @@ pub enum Reply<M> {
 }
 
 impl<M: Message> Reply<M> {
-    /// Whether two replies are equal.
+    /// Says whether two replies are equal.
     pub fn same(&self, other: &Reply<M>) -> bool
         ensures { IsTrue result ↔ (self.now ≡ other.now) }
     {

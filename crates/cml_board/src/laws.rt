@@ -1,5 +1,5 @@
-//! What the definitions come to, in other words.
-ghost use Rattle.std.specs.Prelude.{◌≡◌, ℕ, ◌+◌, ◌<◌, ◌≤◌, ◌||◌, ◌↔◌, Some, None, Bool, true, false, not, List, reverse};
+//! What follows from the definitions.
+ghost use Rattle.std.specs.Prelude.{◌≡◌, ℕ, ◌+◌, ◌<◌, ◌≤◌, ◌||◌, ◌↔◌, Some, None, Bool, true, false, not, List, reverse, slice_get};
 ghost use Rattle.cml_board.specs.declared.entry.Entry.{Entry};
 ghost use Rattle.cml_board.specs.declared.call.Call.{Call};
 ghost use Rattle.cml_board.specs.declared.want.Want.{Want};
@@ -7,20 +7,22 @@ ghost use Rattle.cml_board.specs.History.{Lawful, Fits, answer};
 ghost use Rattle.cml_board.specs.Waiting.{want_in, Waits};
 ghost use Rattle.cml_board.specs.declared.outcome.Refusal.TheVariants.{NoMemory};
 ghost use Rattle.cml_board.specs.Positions.{IsLawfulEverywhere};
+ghost use Rattle.cml_board.specs.Objects.{row_of};
+ghost use Rattle.cml_board.specs.Replies.{may_have};
 ghost use Rattle.cml_board.specs.Shown.{Shown};
 ghost use Rattle.cml_board.specs.Sparing.{makes_object, fills_chunk, shares};
 ghost use Rattle.cml_board.specs.Outcome.{Refuses};
 ghost use Rattle.cml_board.specs.Running.{Step, Runs, answered_count};
 
-/// A journal is a lawful history just where, at every position, the call fits the entries before it and its
+/// Shows when a journal is a lawful history: exactly if at every position the call fits the entries before it, and its
 /// reply is the answer there and not a wait.
 pub fn lawful_at_every_position<M>()
     ensures each { (history : List (Entry M)) → Lawful history → IsLawfulEverywhere (reverse history) }
     ensures only { (history : List (Entry M)) → IsLawfulEverywhere (reverse history) → Lawful history }
 {}
 
-/// Over a run of calls, what was reserved is lost by answered calls alone, one entry by each. So while some is left,
-/// a call that takes no other memory is not refused for want of memory.
+/// Shows that over a run of calls only answered calls use up reserved memory, one entry each. So while some is left, a call
+/// that needs no other memory does not fail for want of memory.
 pub fn reserved_lasts<M>()
     ensures lasts { (chunk : ℕ) (sure : Bool) (steps : List (Step M)) (old new : Shown M)
         → Runs chunk sure steps old new
@@ -35,8 +37,8 @@ pub fn reserved_lasts<M>()
         → ¬ (Refuses chunk sure new call NoMemory) }
 {}
 
-/// A call fits and waits just where it wants something, and that is waited for. So which message a swap would store is
-/// all one, and what a waiting call waits for can be kept without the call.
+/// Shows that a call fits and waits exactly if it has a want, and a call with that want waits. So the message of a swap makes
+/// no difference, and a caller can keep a waiting call's want without the call.
 pub fn calls_wait_by_want<M>()
     ensures wanting { (history : List (Entry M)) (call : Call M) (on : Want)
         → want_in call ≡ Some on
@@ -44,4 +46,11 @@ pub fn calls_wait_by_want<M>()
     ensures others { (history : List (Entry M)) (call : Call M)
         → want_in call ≡ None
         → ¬ (answer history call ≡ None) }
+{}
+
+/// Shows that each entry of a lawful history has a reply that its call may have, by the table of calls.
+pub fn replies_suit_calls<M>()
+    ensures { (history : List (Entry M)) → Lawful history
+        → (k : ℕ) (entry : Entry M) → slice_get history k ≡ Some entry
+        → may_have (row_of entry.call) entry.reply ≡ true }
 {}

@@ -1,4 +1,4 @@
-//! Mailboxes, channels with their ports, and variables on one board, and the journal of every call that it accepted.
+//! Mailboxes, channels with their ports, and variables on one board, with the journal of every call that the board accepted.
 #![tactic(auto)]
 
 mod answer;
@@ -7,11 +7,13 @@ mod board;
 mod call;
 mod checking;
 mod entry;
+mod expected;
 mod laws;
 mod message;
 mod object;
 mod outcome;
 mod past;
+mod restored;
 mod want;
 
 pub use answer::Answer;
@@ -23,7 +25,9 @@ pub use cml_bytes::{Bytes, TooLong};
 pub use cml_calls::{Ask, Give, Kind, Make, ReplyKind, Shape, Takers};
 pub use cml_text::{BadText, Text};
 pub use entry::{Entry, Reply, Who};
-pub use laws::{calls_wait_by_want, lawful_at_every_position, reserved_lasts};
+pub use expected::{Expected, Unlawful};
+pub use laws::{calls_wait_by_want, lawful_at_every_position, replies_suit_calls, reserved_lasts};
 pub use message::Message;
 pub use outcome::{Outcome, Refusal};
+pub use restored::{Makers, Restored};
 pub use want::Want;

@@ -4,17 +4,17 @@ use cml_bytes::Bytes;
 use cml_text::Text;
 use std::alloc::{AllocError, Global};
 
-/// What mailboxes carry and variables hold. A journal keeps a copy of each message beside the one that is delivered.
+/// A type that mailboxes carry and variables hold. A journal keeps a copy of each message beside the one that is delivered.
 pub trait Message: Drop + Sized {
-    /// Whether a share of such a message is never refused.
+    /// Whether `share` never fails.
     ghost SURE: { Bool };
 
-    /// A second message equal to this one. Only want of memory refuses it.
+    /// Makes a second message equal to this one. Fails only for want of memory.
     fn share(&self, alloc: Global) -> Result<Self, AllocError>
         ensures copy { IfOk result (λ copy. copy ≡ self.now) }
         ensures sure { OnErr result (SURE ≡ false) };
 
-    /// Whether two messages are equal.
+    /// Says whether two messages are equal.
     fn same(&self, other: &Self) -> bool
         ensures { IsTrue result ↔ (self.now ≡ other.now) };
 }
@@ -31,7 +31,7 @@ impl Message for u64 {
     }
 }
 
-/// A share of more than 14 bytes is one owner more of their memory, and fails if there are too many owners.
+/// A share of more than 14 bytes copies none: it shares their memory, and fails if there are too many shares.
 impl Message for Bytes {
     ghost SURE = { false };
 
@@ -44,7 +44,7 @@ impl Message for Bytes {
     }
 }
 
-/// A share is as that of its bytes.
+/// A text is shared in the same way as its bytes.
 impl Message for Text {
     ghost SURE = { false };
 

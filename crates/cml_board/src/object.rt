@@ -16,14 +16,14 @@ use std::mem;
 /// An object: the messages of a mailbox or of a channel, a port, or a variable and what it holds.
 #[derive(Drop)]
 pub enum Object<M, L> {
-    /// The cursor stands at the next message to be received.
+    /// The cursor's place is that of the next message to be received.
     Mailbox(L, Key),
     Channel(L),
     Port(Port),
     Variable(Form, Option<M>),
 }
 
-/// A port of a channel, and the place of the first message that it is to receive.
+/// A port of a channel, with the place of the first message that it receives.
 #[derive(Clone, Copy)]
 pub struct Port {
     pub channel: Name,
@@ -36,7 +36,7 @@ pub struct Port {
 pub enum Reading {
     /// By this cursor of the channel's log.
     Open(Key),
-    /// No more: it was closed when it had received so many messages.
+    /// Not any more: it was closed when it had received this many messages.
     Closed(u64),
 }
 
@@ -82,7 +82,7 @@ pub fn log_in<M, L: MessageLog<M>>(object: &Object<M, L>) -> &L
     }
 }
 
-/// Adds a message to the object's log, or hands it back.
+/// Adds a message to the object's log. If it fails, it returns the message.
 #[inline(always)]
 pub fn push<M, L: MessageLog<M>>(object: &mut Object<M, L>, message: M) -> Result<(), Back<M>>
     requires stands { IsSome (log_in (map_log L.log object.old)) }
@@ -140,7 +140,7 @@ pub fn open_cursor<M, L: MessageLog<M>>(object: &mut Object<M, L>) -> Result<Key
     }
 }
 
-/// Opens a cursor of a channel's log where another stands.
+/// Opens a cursor of a channel's log at another cursor's place.
 pub fn copy_cursor<M, L: MessageLog<M>>(
     object: &mut Object<M, L>,
     key: Key,
@@ -157,7 +157,7 @@ pub fn copy_cursor<M, L: MessageLog<M>>(
     }
 }
 
-/// Where the object of this name reads: the object whose log it is, and its cursor there.
+/// The object whose log the object of this name reads, and its cursor there.
 pub fn cursor_in<M, L>(object: &Object<M, L>, name: Name) -> Option<(Name, Key)>
     ensures { option_map (λ cursor. (cursor.0.0, cursor.1)) result ≡ cursor_in name.0 object.now }
 {
@@ -171,7 +171,7 @@ pub fn cursor_in<M, L>(object: &Object<M, L>, name: Name) -> Option<(Name, Key)>
     }
 }
 
-/// Gives a variable another value, or none, and tells what it held.
+/// Gives a variable another value, or none, and returns what it held.
 pub fn hold<M, L>(object: &mut Object<M, L>, value: Option<M>) -> Option<M>
     requires { IsSome (held_in object.old) }
     ensures was { held_in object.old ≡ Some result }

@@ -1,35 +1,36 @@
 use crate::answer::Answer;
 use crate::call::Call;
 
-/// Why a call was refused. They are tested in this order. A board gives the four of its own alone: `NoSuch`,
-/// `WrongKind`, `JournalFull` and `NoMemory`, which change nothing. The others are of those who share one.
+/// The reason why a call failed. The reasons are tested in this order. A board fails only with `NoSuch`, `WrongKind`,
+/// `JournalFull` or `NoMemory`, and then nothing has changed. Floors, rooms and switchboards, which share a board, add the
+/// others.
 #[derive(Clone, Copy, Debug, PartialEq, Eq, Hash)]
 pub enum Refusal {
-    /// The seat can't make this call: it waits, or has left, or was never made.
+    /// The seat cannot make this call: it waits, has left, or was never made.
     Gone,
-    /// A lane or a feed is open, so that the journal can't be cut.
+    /// A lane or a feed is open, so the journal cannot be cut.
     Busy,
     /// No object has this name.
     NoSuch,
-    /// The object can't take this call.
+    /// The object does not take this call.
     WrongKind,
-    /// The journal has as many entries since the last cut as its limit says, or 2^64 - 1 calls were accepted since the
-    /// board was made.
+    /// The journal is full: it has as many entries since the last cut as its limit, or 2^64 - 1 calls were accepted since
+    /// the board was made.
     JournalFull,
-    /// The call would wait, and so does everybody else: nobody is left who could answer it.
+    /// The call would wait, and no present seat or open lane could ever answer it: a deadlock.
     Stalled,
-    /// A growth or a message's `share` was refused.
+    /// An allocation or a message's `share` failed.
     NoMemory,
-    /// Not as many messages were seen of a lane as its end tells.
+    /// The journal does not have as many messages of a lane as its end says.
     Unseen,
 }
 
-/// What becomes of a call, on a board, and of a seat's call in a room. A call that isn't answered is handed back.
+/// The result of a call on a board, or of a seat's call in a room. A call that is not answered is returned.
 #[derive(Debug, Drop)]
 pub enum Outcome<M> {
     Answered(Answer<M>),
-    /// On a board nothing has changed. In a room the seat is parked now: once something has changed, `Room::ask_again` makes
-    /// the call again.
+    /// The call would block. On a board nothing has changed. In a room the seat is parked now: `Room::ask_again` makes the
+    /// call again once something has changed.
     WouldWait(Call<M>),
     Refused(Refusal, Call<M>),
 }

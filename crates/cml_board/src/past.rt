@@ -1,10 +1,10 @@
-//! What was cut away from a journal: how many entries it was, and which ones for contracts alone.
+//! The entries that were cut away from a journal: their number, and for contracts alone the entries themselves.
 ghost use Rattle.std.specs.Prelude.{◌≡◌, ◌+◌, ◌<◌, ◌^◌, List, [], ◌++◌, length, reverse};
 ghost use base.Fml.{ftrue};
 
 use std::marker::{Model, PhantomData, Send};
 
-/// Entries that no memory keeps, the newest first: without bytes, and so nothing that a program could read.
+/// Entries that no memory keeps, the newest first. They have no bytes, so a program cannot read them.
 #[derive(Drop)]
 struct Traces<E> {
     mark: PhantomData<*const E>,
@@ -24,13 +24,13 @@ impl<E> Traces<E> {
         Traces { mark: PhantomData }
     }
 
-    // That a journal's entries are among them is all that this does.
+    // This only says to contracts that a journal's entries are among them.
     fn add_all(&mut self, journal: &Vec<E>)
         ensures { self.new.items ≡ reverse journal.now.items ++ self.old.items }
     {}
 }
 
-/// All entries that were cut away, the newest first, of which only the number is kept.
+/// All entries that were cut away, the newest first. Only their number is kept.
 #[derive(Drop)]
 pub struct Past<E> {
     count: u64,
@@ -61,7 +61,7 @@ impl<E> Past<E> {
         self.count
     }
 
-    /// Adds a journal's entries, which may then be dropped or handed over.
+    /// Adds a journal's entries. The caller may then drop them or hand them over.
     pub fn add_all(&mut self, journal: &Vec<E>)
         requires { length journal.now.items + length self.old < 2 ^ 64 }
         ensures { self.new ≡ reverse journal.now.items ++ self.old }

@@ -3,7 +3,7 @@ ghost use Rattle.cml_board.specs.Waiting.{want_in};
 
 use crate::call::{Call, Name};
 
-/// What a waiting call waits for: the kind of call and its object. The message of a swap stays with its caller.
+/// What a blocked call waits for: the kind of call and its object. The message of a swap stays with its caller.
 #[derive(Clone, Copy, Debug, PartialEq, Eq, Hash)]
 pub enum Want {
     Recv(Name),
@@ -13,7 +13,7 @@ pub enum Want {
 }
 
 impl<M> Call<M> {
-    /// What the call waits for where it has to wait; none for a call that never does.
+    /// Returns what the call waits for if it blocks. Returns `None` for a call that never blocks.
     pub fn want(&self) -> Option<Want>
         ensures { result ≡ want_in self.now }
     {

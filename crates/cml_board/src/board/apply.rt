@@ -1,4 +1,4 @@
-//! What becomes of a call: first whether it is refused, and then one function for each kind of call.
+//! How a call is made: first the tests by which it may fail, and then one function for each kind of call.
 ghost use Rattle.std.specs.Prelude.{◌≢◌, MatchOption};
 ghost use Rattle.cml_board.specs.History.{Fits};
 ghost use Rattle.cml_board.specs.Outcome.{Applies, Performs, Refuses, HasRoom};
@@ -14,7 +14,8 @@ use cml_log::MessageLog;
 use std::alloc::AllocError;
 
 impl<M: Message, L: MessageLog<M>> Board<M, L> {
-    /// Makes a call for `who`. An answered call adds its entry to the journal, and nothing else changes the board.
+    /// Makes a call for `who`. An answered call adds its entry to the journal. A call that fails or would wait is returned,
+    /// and changes nothing. Fails with `NoSuch`, `WrongKind`, `JournalFull` or `NoMemory`.
     #[inline(always)]
     pub fn apply(&mut self, who: Who, call: Call<M>) -> Outcome<M>
         ensures { Applies L.CHUNK M.SURE self.old self.new who call result }
@@ -30,7 +31,7 @@ impl<M: Message, L: MessageLog<M>> Board<M, L> {
         }
     }
 
-    /// Makes a call that isn't refused unless memory is. `None` is of one that would wait.
+    /// Makes a call that can fail only for want of memory. Returns `None` if it would wait.
     #[inline(always)]
     fn perform(&mut self, who: Who, call: &Call<M>) -> Performed<M>
         requires fits { Fits self.old.history call.now }
@@ -59,7 +60,7 @@ impl<M: Message, L: MessageLog<M>> Board<M, L> {
         }
     }
 
-    /// Why the call is refused, whatever memory there is.
+    /// The reason why the call fails, whatever memory there is.
     fn refusal(&self, call: &Call<M>) -> Option<Refusal>
         ensures { MatchOption result (Fits self.now.history call.now × HasRoom self.now)
             (λ refusal. (refusal ≢ Refusal.NoMemory) × Refuses L.CHUNK M.SURE self.now call.now refusal) }
@@ -68,7 +69,7 @@ impl<M: Message, L: MessageLog<M>> Board<M, L> {
             let Some(kind) = self.kind(name) else {
                 return Some(Refusal::NoSuch);
             };
-            if !call.shape().takers.has(kind) {
+            if !call.takers().has(kind) {
                 return Some(Refusal::WrongKind);
             }
         }

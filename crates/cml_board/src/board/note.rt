@@ -8,7 +8,7 @@ use crate::object::Form;
 use cml_log::Key;
 use std::alloc::AllocError;
 
-/// What becomes of a call that is refused for nothing but memory: its reply, or `None` where it would wait.
+/// The result of a call that can fail only for want of memory: its reply, or `None` if it would wait.
 pub type Performed<M> = Result<Option<Reply<M>>, AllocError>;
 
 /// The calls that take a message: one waits for it.
@@ -18,7 +18,7 @@ pub enum Taking {
     Polling,
 }
 
-/// The calls that put a message to others.
+/// The calls that put a message behind others.
 #[derive(Clone, Copy)]
 pub enum Putting {
     Sending,
@@ -50,7 +50,7 @@ pub enum Making {
     Channel,
     /// At the end of this channel.
     Port(Name),
-    /// Where this open port reads its channel, by that cursor.
+    /// At this open port's place in its channel, by that cursor.
     Copy(Name, Name, Key),
     Variable(Form),
 }

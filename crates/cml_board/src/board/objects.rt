@@ -18,7 +18,7 @@ pub fn log_at<M, L: MessageLog<M>>(objects: &Vec<Object<M, L>>, name: Name) -> &
     object::log_in(&objects[name.0 as usize])
 }
 
-/// Adds a message to a log, or hands it back.
+/// Adds a message to a log. If it fails, it returns the message.
 #[inline(always)]
 pub fn push_at<M, L: MessageLog<M>>(
     objects: &mut Vec<Object<M, L>>,
@@ -92,7 +92,7 @@ fn add_port<M, L: MessageLog<M>>(
     Ok(())
 }
 
-/// Adds a port where a cursor of its channel stands.
+/// Adds a port at the place of a cursor of its channel.
 fn add_copy<M, L: MessageLog<M>>(
     objects: &mut Vec<Object<M, L>>,
     channel: Name,
@@ -115,7 +115,7 @@ fn add_copy<M, L: MessageLog<M>>(
     Ok(())
 }
 
-/// Closes a port, which from then on knows how much it had received.
+/// Closes a port. From then on it records how many messages it had received.
 pub fn close_port<M: Drop, L: MessageLog<M>>(
     objects: &mut Vec<Object<M, L>>,
     name: Name,
@@ -151,7 +151,7 @@ pub fn add_variable<M: Drop, L: MessageLog<M>>(
     Ok(())
 }
 
-/// Adds what a call makes.
+/// Adds the object that a call makes.
 pub fn add_made<M: Drop, L: MessageLog<M>>(
     objects: &mut Vec<Object<M, L>>,
     alloc: Global,
@@ -170,7 +170,7 @@ pub fn add_made<M: Drop, L: MessageLog<M>>(
     }
 }
 
-/// Gives a variable another value, or none, and tells what it held.
+/// Gives a variable another value, or none, and returns what it held.
 pub fn hold_at<M, L: MessageLog<M>>(
     objects: &mut Vec<Object<M, L>>,
     name: Name,

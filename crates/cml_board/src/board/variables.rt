@@ -88,7 +88,7 @@ impl<M: Message, L: MessageLog<M>> Board<M, L> {
         Ok(Some(Reply::Put))
     }
 
-    /// Gives what a variable holds, and empties it or not.
+    /// Returns what a variable holds, and empties it or not.
     #[inline(never)]
     pub(super) fn look(&mut self, who: Who, name: Name, looking: Looking) -> Performed<M>
         requires fits { Fits self.old.history (looking_call looking name) }
@@ -166,7 +166,7 @@ impl<M: Message, L: MessageLog<M>> Board<M, L> {
         Ok(Some(Reply::Nothing))
     }
 
-    /// Stores a message in an m-variable and gives what it held.
+    /// Stores a message in an m-variable and returns what it held.
     #[inline(never)]
     pub(super) fn swap(&mut self, who: Who, name: Name, message: &M) -> Performed<M>
         requires fits { Fits self.old.history (Call.Swap name message.now) }

@@ -12,7 +12,8 @@ use cml_calls::Kind;
 use cml_log::MessageLog;
 
 impl<M: Message, L: MessageLog<M>> Board<M, L> {
-    /// Whether the call's object is there and can take the call, and the call would wait now.
+    /// Says whether the call's object is there and takes the call, and the call would block now. It does not ask whether the
+    /// journal is full.
     pub fn would_wait(&self, call: &Call<M>) -> bool
         ensures { IsTrue result ↔ (Fits self.now.history call.now × (answer self.now.history call.now ≡ None)) }
     {
@@ -22,7 +23,8 @@ impl<M: Message, L: MessageLog<M>> Board<M, L> {
         }
     }
 
-    /// Whether the object is there and can take a call with this want, and such a call would wait now.
+    /// Says whether the object is there and takes a call with this want, and such a call would block now. It does not ask
+    /// whether the journal is full.
     pub fn waits(&self, want: Want) -> bool
         ensures { IsTrue result ↔ Waits self.now.history want }
     {
