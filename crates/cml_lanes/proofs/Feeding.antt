@@ -1,4 +1,4 @@
--- What entries of a feed, and entries of others, make of what stands in the journal of each feed, each lane and each port.
+-- How entries of a feed, and entries of others, change what the journal has of each feed, each lane and each port.
 use Rattle.std.proofs.Common.{◌≡◌, ◌≢◌, ◌↔◌, ℕ, Bool, false, cond, List, [], ◌∷◌, ◌++◌, Some, None, IsSome, IfSome, IsTrue, subst, refl, sym, ap, ◌∙◌, append_assoc}
 use Rattle.std.proofs.lemmas.Bool.{eq-eqb, ne_eqb, false≢true}
 use Rattle.std.proofs.lemmas.List.{append-nil}
@@ -162,7 +162,7 @@ module _ {M : Type 0} where
   pub fits_recv : (history : List (Entry M)) (port : Name) → kind_of history port.0 ≡ Some Port → Fits history (Recv port)
   fits_recv history port is = (subst (λ k. IsSome k) (sym is) refl, subst (λ k. IfSome k (λ kind. IsTrue (takes {M = M} kind (Recv port)))) (sym is) refl)
 
-  -- it doesn't wait where it is told so
+  -- the receive does not wait if the board says that it would not
   pub still_owed : (history : List (Entry M)) (port name : Name) (waits : Bool) → kind_of history port.0 ≡ Some Port → name ≡ port
       → IsTrue waits ↔ (Fits history (Recv name) × (answer history (Recv name) ≡ None)) → waits ≡ false → answer history (Recv port) ≢ None
   still_owed history port name waits kind same tells never none =

@@ -1,4 +1,4 @@
--- What entries of a lane, and entries of others, make of what stands in the journal of each lane.
+-- How entries of a lane, and entries of others, change what the journal has of each lane.
 use Rattle.std.proofs.Common.{◌≡◌, ◌≢◌, ℕ, ◌≤◌, Bool, true, false, cond, List, [], ◌∷◌, ◌++◌, length, Some, IsSome, IfSome, IsTrue, subst, refl, sym, ap, ◌∙◌, arith, length-append, append_assoc}
 use Rattle.std.proofs.lemmas.Bool.{eq-eqb, ne_eqb}
 use Rattle.std.proofs.lemmas.List.{append-nil}

@@ -26,7 +26,7 @@ use Rattle.cml_lanes.proofs.FeedOpens.{none_fed}
 use Rattle.cml_lanes.proofs.Deeds.{Deed, as_it_was, lane_drained, lane_gone, lane_opened, feed_pumped, feed_gone, feed_opened, still, reserves, opens_lane, drains, drops, abandons, closes, closes_counted, opens_feed, pumps, ends}
 
 module _ {Side : Type 0} where
-  -- nothing comes to be in a place that was emptied, or in one that is another
+  -- an empty place stays empty when this place or another is emptied
   emptied_stays : (slots : List (Option Side)) (number k : ℕ) → is_taken (slice_get slots k) ≡ false → is_taken (slice_get (slice_set slots number None) k) ≡ false
   emptied_stays [] number k free = refl
   emptied_stays (s ∷ slots) zero zero free = refl

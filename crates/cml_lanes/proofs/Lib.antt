@@ -17,3 +17,4 @@ pub mod Opens
 pub mod FeedOpens
 pub mod Lasting
 pub mod Reserving
+pub mod Restoring

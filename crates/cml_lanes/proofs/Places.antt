@@ -38,7 +38,7 @@ module _ {Side : Type 0} where
       → ((from to : Side) → Does from to → So from to) → OnPlace left number old new Does → OnPlace left number old new So
   does_so So so on = record { from = on.from; to = on.to; opened = on.opened; places = on.places; does = so on.from on.to on.does }
 
-  -- what is told of each that is open now was told of it before
+  -- what holds of each one that is open now held of it before
   pub told_before : {P : Type 0} (told : Side → P) {left : Side → Option Side} {number : ℕ} {old new : List (Option Side)} {Does : Side → Side → Type 0}
       → ((from to side : Side) → Does from to → left to ≡ Some side → told side ≡ told from) → OnPlace left number old new Does
       → (k : ℕ) (side : Side) → slice_get new k ≡ Some (Some side) → (was : Side) × (slice_get old k ≡ Some (Some was)) × (told side ≡ told was)

@@ -15,7 +15,7 @@ module _ {M : Type 0} where
   abbrev pub is_feeds_port : List (Option (FeedSide M)) → ℕ → Bool
   is_feeds_port feeds object = list_any (has_port object) feeds
 
-  -- nobody but an open feed receives from its port, and nobody closes it
+  -- only an open feed receives from its port, and no call closes that port
   abbrev pub is_barred : List (Option (FeedSide M)) → Call M → Bool
   is_barred feeds (Recv port) = is_feeds_port feeds port.0
   is_barred feeds (Poll port) = is_feeds_port feeds port.0

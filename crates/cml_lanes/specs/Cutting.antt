@@ -10,8 +10,8 @@ module _ {M : Type 0} where
   abbrev pub IsBusy : FloorShown M → Type 0
   IsBusy floor = (0 < count_by is_some floor.lanes) ⊎ (0 < count_by is_some floor.feeds)
 
-  -- the whole journal was cut away while no lane and no feed was open, and of the lanes and feeds nothing changed. How much
-  -- stands reserved then is left open
+  -- the whole journal was cut away while no lane and no feed was open, and the lanes and feeds are unchanged. How much memory
+  -- is reserved then is left open
   pub record CutsFloor (old new : FloorShown M) : Type 0 where
     pub no_lane : count_by is_some old.lanes ≡ 0
     pub no_feed : count_by is_some old.feeds ≡ 0
@@ -19,7 +19,7 @@ module _ {M : Type 0} where
     pub lanes : new.lanes ≡ old.lanes
     pub feeds : new.feeds ≡ old.feeds
 
-  -- a cut is refused just where a lane or a feed is open, and then nothing is changed
+  -- a cut fails exactly if a lane or a feed is open, and then nothing is changed
   abbrev pub NotCut : FloorShown M → FloorShown M → Refusal → Type 0
   NotCut old new refusal = (refusal ≡ Busy) × IsBusy old × (new ≡ old)
 

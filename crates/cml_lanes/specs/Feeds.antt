@@ -15,15 +15,15 @@ use Rattle.cml_lanes.specs.Floor.{FloorShown, FindsNoFeed, NoSuchOr, stays, OnFe
 use Rattle.cml_lanes.specs.Pumping.{Fills, IsStarved}
 
 module _ {M : Type 0} where
-  -- the port of the feed of this number is made, by an entry of the feed's own, as it is answered
+  -- the port of the feed of this number is made, by an entry of that feed
   pub record MakesPort (number : ℕ) (old new : Shown M) (channel port : Name) : Type 0 where
     pub fits : Fits old.history (NewPort channel)
     pub room : HasRoom old
     pub made : answer old.history (NewPort channel) ≡ Some (Made port)
     pub entry : AddsEntry old new (Feed number) (NewPort channel) (Made port)
 
-  -- a feed is opened: it has the next number, a port of its own that was made for it by the only entry that was added, and
-  -- the capacity that was asked for, and nothing was pumped into it; both its ends are on one ring
+  -- a feed is opened. It has the next number, and the capacity that was asked for. The only entry that was added made its port.
+  -- Nothing was pumped into it, and both its ends are on one ring
   pub record OpensFeed (old new : FloorShown M) (channel : Name) (capacity : ℕ) (feed : FeedShown M) (number : ℕ) : Type 0 where
     pub next : number ≡ length old.feeds
     pub end : feed ≡ record { ring = feed.ring; number = number; port = feed.port; taken = [] }
@@ -38,16 +38,16 @@ module _ {M : Type 0} where
     pub lanes : new.lanes ≡ old.lanes
     pub feeds : new.feeds ≡ old.feeds
 
-  -- what becomes of the opening of a feed
+  -- how the opening of a feed ends
   abbrev pub OpensAFeed : ℕ → Bool → FloorShown M → FloorShown M → Name → ℕ → Result (FeedShown M × ℕ) Refusal → Type 0
   OpensAFeed chunk sure old new channel capacity (Ok feed) = OpensFeed old new channel capacity feed.0 feed.1
   OpensAFeed chunk sure old new channel capacity (Err refusal) = FeedRefused chunk sure old new channel refusal
 
-  -- so many messages of an open feed's port went into its ring, until it had no slot or no message more
+  -- `count` messages of an open feed's port went into its ring, until there was no free slot or no message more
   abbrev pub FillsFeed : ℕ → ℕ → FloorShown M → FloorShown M → Type 0
   FillsFeed number count old new = OnFeed stays number old new (Fills number count old.board new.board)
 
-  -- so many of them went, and then one was refused, which is still owed
+  -- `count` of them went, and then one was refused, which is still owed
   abbrev pub Starves : ℕ → Bool → ℕ → ℕ → FloorShown M → FloorShown M → Refusal → Type 0
   Starves chunk sure number count old new refusal =
       OnFeed stays number old new (λ from to. IsStarved chunk sure number count old.board new.board from to refusal)
@@ -56,23 +56,23 @@ module _ {M : Type 0} where
   abbrev pub BalksLate : ℕ → Bool → ℕ → ℕ → FloorShown M → FloorShown M → Type 0
   BalksLate chunk sure number count old new = (0 < count) × (refusal : Refusal) × Starves chunk sure number count old new refusal
 
-  -- so many went, which is all that there was a slot and a message for unless a later one was refused
+  -- `count` went, which is all that there was a slot and a message for, unless a later one was refused
   abbrev pub PumpsFeed : ℕ → Bool → ℕ → ℕ → FloorShown M → FloorShown M → Type 0
   PumpsFeed chunk sure number count old new = FillsFeed number count old new ⊎ BalksLate chunk sure number count old new
 
-  -- what becomes of a pump: so many went; or no open feed has the number; or the first that was owed was refused
+  -- how a pump ends: `count` messages went; or no open feed has the number; or the first that was owed was refused
   abbrev pub Pumps : ℕ → Bool → ℕ → FloorShown M → FloorShown M → Result ℕ Refusal → Type 0
   Pumps chunk sure number old new (Ok count) = PumpsFeed chunk sure number count old new
   Pumps chunk sure number old new (Err refusal) = NoSuchOr (FindsNoFeed number old new) (Starves chunk sure number 0 old new) refusal
 
-  -- an open feed is ended for good, and nothing else is changed; the end that is given tells all that was pumped
+  -- an open feed is ended for good, and nothing else is changed; the end that is returned has all that was pumped
   pub record EndsFeed (number : ℕ) (old new : FloorShown M) (end : Option (Ended M)) : Type 0 where
     pub from : FeedSide M
     pub opened : slice_get old.feeds number ≡ Some (Some from)
     pub floor : new ≡ record old { feeds = slice_set old.feeds number None }
     pub given : IfSome end (λ whole. whole ≡ record { ring = from.ring; number = number; sent = fed old.board.history number })
 
-  -- what becomes of the end of a feed: it is ended; or no open feed has the number
+  -- how the end of a feed ends: the feed is ended; or no open feed has the number
   abbrev pub Ends : ℕ → FloorShown M → FloorShown M → Result (Option (Ended M)) Refusal → Type 0
   Ends number old new (Ok end) = EndsFeed number old new end
   Ends number old new (Err refusal) = NoSuchOr (FindsNoFeed number old new) (λ other. ⊥) refusal

@@ -10,8 +10,8 @@ use Rattle.cml_board.specs.Outcome.{IsAsBefore, Refuses}
 use Rattle.cml_lanes.specs.Sides.{LaneSide, way_call, way_kind}
 use Rattle.cml_lanes.specs.Laned.{laned, with_lane}
 
--- what refuses a message of an open lane: a full journal, whose limit counts the entries since the last cut, and want of
--- memory; and nothing else
+-- the only reasons to refuse a message of an open lane: a full journal, whose limit counts the entries since the last cut,
+-- and want of memory
 abbrev pub IsLimit : Refusal → Type 0
 IsLimit JournalFull = ⊤
 IsLimit NoMemory = ⊤
@@ -24,8 +24,8 @@ module _ {M : Type 0} where
     pub laned : laned history number ≡ side.received
     pub kind : kind_of history side.target.0 ≡ Some (way_kind side.way)
 
-  -- so many messages went out of the ring, in order, and each of them has an entry; the journal and the lane changed in
-  -- nothing else
+  -- `count` messages went out of the ring, in order, and each of them has an entry; nothing else of the journal and the lane
+  -- changed
   pub record MovesOut (number count : ℕ) (old new : Shown M) (from to : LaneSide M) : Type 0 where
     pub moved : List M
     pub as_many : length moved ≡ count
@@ -36,7 +36,7 @@ module _ {M : Type 0} where
     pub side : to ≡ record from { received = from.received ++ moved; seen = to.seen }
     pub seen : from.seen ≡ moved ++ to.seen
 
-  -- so many went out, and then the call of the next, which is still in the ring, was refused
+  -- `count` went out, and then the call of the next, which is still in the ring, was refused
   pub record Stops (chunk : ℕ) (sure : Bool) (number count : ℕ) (old new : Shown M) (from to : LaneSide M) (refusal : Refusal) : Type 0 where
     pub at : Shown M
     pub moves : MovesOut number count old at from to
@@ -52,7 +52,7 @@ module _ {M : Type 0} where
     pub more : IsPrefix from.seen to.seen
     pub most : length to.seen ≤ to.capacity
 
-  -- the floor looked into the ring, and so many went out, which are no more than the ring has room for
+  -- the floor looked into the ring, and `count` messages went out, no more than the ring has room for
   pub record DrainsRing (number count : ℕ) (old new : Shown M) (from to : LaneSide M) : Type 0 where
     pub looked : LaneSide M
     pub looks : Looks from looked
@@ -64,7 +64,7 @@ module _ {M : Type 0} where
     pub drains : DrainsRing number count old new from to
     pub none : to.seen ≡ []
 
-  -- the floor looked into the ring, and so many went out until one was refused, which are fewer than the ring has room for
+  -- the floor looked into the ring, and `count` messages went out until one was refused, fewer than the ring has room for
   pub record IsHeld (chunk : ℕ) (sure : Bool) (number count : ℕ) (old new : Shown M) (from to : LaneSide M) (refusal : Refusal) : Type 0 where
     pub looked : LaneSide M
     pub looks : Looks from looked

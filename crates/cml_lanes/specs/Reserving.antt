@@ -1,4 +1,4 @@
--- Memory that a floor takes in advance, and which calls need no other.
+-- Memory that a floor reserves, and the calls that need no other.
 use Rattle.std.specs.Prelude.{ℕ, ◌≡◌, ◌-◌, ◌<◌, ◌≤◌, Bool, true, false, not, ◌||◌, List, slice_get, Some, Result, Ok, Err, ⊤}
 use Rattle.cml_board.specs.declared.call.Call.{Call}
 use Rattle.cml_board.specs.declared.call.Call.TheVariants.{Recv}
@@ -13,14 +13,14 @@ use Rattle.cml_lanes.specs.Sides.{LaneSide, FeedSide, way_call}
 use Rattle.cml_lanes.specs.Floor.{FloorShown}
 
 module _ {M : Type 0} where
-  -- the floor is as it was, and nothing of what stands reserved is lost
+  -- the floor is as it was, and no reserved memory is lost
   pub record IsFloorAsBefore (old new : FloorShown M) : Type 0 where
     pub board : IsAsBefore old.board new.board
     pub lanes : new.lanes ≡ old.lanes
     pub feeds : new.feeds ≡ old.feeds
 
-  -- what becomes of a reservation: so many entries stand reserved; or there is no memory, and less stood reserved before. All
-  -- else is as it was
+  -- how a reservation ends: memory for `n` entries is reserved; or there is no memory, and less was reserved before. All else
+  -- is as it was
   abbrev pub Reserves : FloorShown M → FloorShown M → ℕ → Result ⊤ Refusal → Type 0
   Reserves old new n (Ok done) = IsFloorAsBefore old new × (n ≤ new.board.reserved)
   Reserves old new n (Err refusal) = IsFloorAsBefore old new × (refusal ≡ NoMemory) × (old.board.reserved < n)
@@ -29,7 +29,7 @@ module _ {M : Type 0} where
   abbrev pub added_since : Shown M → Shown M → ℕ
   added_since old new = entries_in new.history - entries_in old.history
 
-  -- the call takes memory for its entry and no other: a message takes none where its share is sure
+  -- the call allocates memory only for its entry: sharing a message allocates none if its share is sure
   pub record TakesEntryAlone (chunk : ℕ) (sure : Bool) (history : List (Entry M)) (call : Call M) : Type 0 where
     pub makes_none : makes_object history call ≡ false
     pub fills_none : fills_chunk chunk history call ≡ false

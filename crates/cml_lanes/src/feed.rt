@@ -6,7 +6,7 @@ use cml_board::Name;
 use rtrb::{Consumer, Finished};
 use std::marker::Model;
 
-/// The subscriber's end of a feed, for one thread. Nothing that it does waits, takes a lock or takes memory.
+/// The subscriber's end of a feed, for one thread. None of its calls blocks, takes a lock or allocates memory.
 #[derive(Drop)]
 pub struct Feed<M> {
     consumer: Consumer<M>,
@@ -37,21 +37,21 @@ impl<M> Feed<M> {
         }
     }
 
-    /// The feed's number on its floor.
+    /// Returns the feed's number on its floor.
     pub fn number(&self) -> u64
         ensures { result ≡ self.now.number }
     {
         self.number
     }
 
-    /// The feed's own port, whose messages it gives.
+    /// Returns the feed's port, whose messages the feed receives.
     pub fn port(&self) -> Name
         ensures { result ≡ self.now.port }
     {
         self.port
     }
 
-    /// Takes the next message that the floor's `pump` has put into the ring; `None` where none is seen there.
+    /// Takes the next message that the floor's `pump` has put into the ring. Returns `None` if it sees none there.
     pub fn recv(&mut self) -> Option<M>
         ensures got { IfSome result (λ message. self.new ≡ record self.old { taken = self.old.taken ++ message ∷ [] }) }
         ensures none { IfNone result (self.new ≡ self.old) }
@@ -59,7 +59,8 @@ impl<M> Feed<M> {
         self.consumer.pop().ok()
     }
 
-    /// What is left of a feed that the floor has ended: together with what was taken before it is all that was pumped.
+    /// Returns the messages left in a feed that the floor has ended. Together with those taken before they are all that was
+    /// pumped.
     pub fn rest(mut self, mut end: FeedEnd<M>) -> Taken<M>
     where
         M: Drop,
@@ -73,7 +74,7 @@ impl<M> Feed<M> {
     }
 }
 
-/// What the floor leaves of a feed that it has ended. It knows all that was pumped.
+/// The end of a feed that the floor has ended. It knows all that was pumped; `Feed::rest` needs it.
 #[derive(Drop)]
 pub struct FeedEnd<M> {
     finished: Finished<M>,
@@ -98,7 +99,7 @@ impl<M> FeedEnd<M> {
         FeedEnd { finished, number }
     }
 
-    /// The number of the feed.
+    /// Returns the number of the feed.
     pub fn number(&self) -> u64
         ensures { result ≡ self.now.number }
     {
@@ -106,7 +107,7 @@ impl<M> FeedEnd<M> {
     }
 }
 
-/// The messages that were left in the ring of a feed that has ended, in order.
+/// The messages that were left in the ring of a feed that has ended, in order. `next` takes them one by one.
 #[derive(Drop)]
 pub struct Taken<M> {
     consumer: Consumer<M>,
@@ -122,7 +123,7 @@ impl<M> Model for Taken<M> {
 }
 
 impl<M> Taken<M> {
-    /// The next message; `None` where no more are left.
+    /// Returns the next message, or `None` if none is left.
     pub fn next(&mut self) -> Option<M>
         ensures { MatchOption result ((self.old ≡ []) × (self.new ≡ [])) (λ message. self.old ≡ message ∷ self.new) }
     {
@@ -132,7 +133,7 @@ impl<M> Taken<M> {
         Some(self.consumer.pop_known())
     }
 
-    /// How many are left.
+    /// Returns how many messages are left.
     pub fn left(&self) -> usize
         ensures { result ≡ length self.now }
     {

@@ -1,4 +1,4 @@
-ghost use Rattle.std.specs.Prelude.{◌≡◌, ◌<◌, ◌∷◌, ◌++◌, [], true, false, length, slice_get, slice_set, Some, None, is_some, count_by, IsSome, IfSome, OnOk};
+ghost use Rattle.std.specs.Prelude.{◌≡◌, ◌<◌, ◌-◌, ◌^◌, ◌∷◌, ◌++◌, [], true, false, length, slice_get, slice_set, replicate, Some, None, is_some, count_by, IsSome, IfSome, IfOk, OnOk};
 ghost use Rattle.cml_lanes.specs.Sides.{FeedSide};
 ghost use Rattle.cml_lanes.specs.Floor.{is_taken, stays, OnPlace};
 ghost use Rattle.cml_lanes.specs.Pumping.{KeepsFeed};
@@ -8,6 +8,7 @@ ghost use Rattle.cml_lanes.specs.Barring.{is_feeds_port, is_barred};
 use crate::feed::FeedEnd;
 use crate::inner_feed::InnerFeed;
 use crate::pumping::{finish_slot, pump_slot};
+use crate::vacant::closed_places;
 use cml_board::{Board, Call, Message, Refusal};
 use cml_log::MessageLog;
 use std::alloc::{AllocError, Global};
@@ -43,6 +44,17 @@ impl<M: Message> FeedSlots<M> {
             slots: Vec::new(alloc),
             ports: HashSet::new(alloc),
         }
+    }
+
+    /// So many feeds, none of which is open.
+    pub fn of_closed(alloc: Global, count: usize) -> Result<FeedSlots<M>, AllocError>
+        ensures closed { IfOk result (λ slots. slots.feeds ≡ replicate count None) }
+        ensures few { IfOk result (λ _. count < 2 ^ 64 - 1) }
+    {
+        Ok(FeedSlots {
+            slots: closed_places(alloc, count)?,
+            ports: HashSet::new(alloc),
+        })
     }
 
     /// How many feeds were opened.

@@ -1,8 +1,9 @@
-ghost use Rattle.std.specs.Prelude.{◌≡◌, ◌≤◌, true, false, [], ◌++◌, length, reverse, slice_set, None, count_by, is_some, MatchBool, MatchResult, IfOk};
+ghost use Rattle.std.specs.Prelude.{◌≡◌, ◌≤◌, true, false, [], ◌++◌, length, reverse, replicate, slice_set, None, count_by, is_some, MatchBool, MatchResult, IfOk};
 ghost use Rattle.cml_board.specs.declared.entry.Who.TheVariants.{Seat};
 ghost use Rattle.cml_board.specs.declared.outcome.Outcome.TheVariants.{Refused};
 ghost use Rattle.cml_board.specs.declared.outcome.Refusal.TheVariants.{WrongKind};
 ghost use Rattle.cml_board.specs.History.{no_entries};
+ghost use Rattle.cml_board.specs.Makers.{lanes_of, feeds_of};
 ghost use Rattle.cml_board.specs.Outcome.{Applies};
 ghost use Rattle.cml_lanes.specs.Laned.{laned};
 ghost use Rattle.cml_lanes.specs.Floor.{is_open_lane, is_open_feed, stays, OnLane, KeepsLanes, KeepsFeeds, KeepsRings, IsOfRing, GivesAll};
@@ -17,12 +18,12 @@ mod lanes;
 use crate::feed_slots::FeedSlots;
 use crate::lane::LaneEnd;
 use crate::lane_slots::LaneSlots;
-use cml_board::{Board, Call, Entry, Message, Outcome, Refusal, Who};
+use cml_board::{Board, Call, Entry, Message, Outcome, Refusal, Restored, Who};
 use cml_log::MessageLog;
-use std::alloc::Global;
+use std::alloc::{AllocError, Global};
 use std::marker::Model;
 
-/// A board with the inner ends of the lanes onto it and of the feeds from its ports. None of its calls waits.
+/// A board with the inner ends of the lanes onto it and of the feeds from its ports. None of its calls blocks.
 #[derive(Drop)]
 pub struct Floor<M, L: MessageLog<M>> {
     alloc: Global,
@@ -44,7 +45,7 @@ impl<M, L: MessageLog<M>> Model for Floor<M, L> {
 }
 
 impl<M: Message, L: MessageLog<M>> Floor<M, L> {
-    /// A floor with no lanes and no feeds, on a board on which nothing was done.
+    /// Makes a floor with no lanes and no feeds, on a board without entries.
     pub fn new(alloc: Global, board: Board<M, L>) -> Floor<M, L>
         requires { board.history ≡ no_entries }
         ensures { result ≡ record { board = board; lanes = []; feeds = [] } }
@@ -57,42 +58,64 @@ impl<M: Message, L: MessageLog<M>> Floor<M, L> {
         }
     }
 
-    /// The board, whose journal has the calls of seats, of lanes and of feeds.
+    /// A floor on the board of a journal. The lanes and the feeds that made its entries keep their numbers, and none of them
+    /// is open: a call on one fails with `NoSuch`. New ones are numbered behind them.
+    pub fn restore(alloc: Global, restored: Restored<M, L>) -> Result<Floor<M, L>, AllocError>
+        ensures board { IfOk result (λ floor. floor.board ≡ restored.board) }
+        ensures lanes { IfOk result (λ floor. floor.lanes ≡ replicate restored.makers.lanes None) }
+        ensures feeds { IfOk result (λ floor. floor.feeds ≡ replicate restored.makers.feeds None) }
+
+        // No number of a lane or a feed in the journal is given again.
+        ensures behind_lanes { IfOk result (λ floor. lanes_of floor.board.history ≤ length floor.lanes) }
+        ensures behind_feeds { IfOk result (λ floor. feeds_of floor.board.history ≤ length floor.feeds) }
+    {
+        let makers = restored.makers();
+        let lanes = LaneSlots::of_closed(alloc, makers.lanes as usize)?;
+        let feeds = FeedSlots::of_closed(alloc, makers.feeds as usize)?;
+        Ok(Floor {
+            alloc,
+            board: restored.into_board(),
+            lanes,
+            feeds,
+        })
+    }
+
+    /// Lends the board, whose journal has the calls of seats, of lanes and of feeds.
     pub fn board(&self) -> &Board<M, L>
         ensures board { result.now ≡ self.now.board }
 
-        // The journal has of each open lane exactly what was taken out of its ring, and nothing of a number never given.
+        // For each open lane the journal has exactly what was taken out of its ring; for a number never given, nothing.
         ensures lanes { KeepsLanes self.now.board.history self.now.lanes }
 
-        // The journal has of each open feed exactly what was put into its ring, which is all that its own port received.
+        // For each open feed the journal has exactly what was put into its ring, which is all that its port received.
         ensures feeds { KeepsFeeds self.now.board.history self.now.feeds }
     {
         &self.board
     }
 
-    /// The board, for good. Lanes and feeds that are still open are dropped, with what is in their rings.
+    /// Returns the board, and drops the rest: lanes and feeds that are still open, with the messages in their rings.
     pub fn into_board(self) -> Board<M, L>
         ensures { result ≡ self.board }
     {
         self.board
     }
 
-    /// How many lanes are open.
+    /// Returns how many lanes are open.
     pub fn open_lanes(&self) -> u64
         ensures { result ≡ count_by is_some self.now.lanes }
     {
         self.lanes.open_count()
     }
 
-    /// How many feeds are open.
+    /// Returns how many feeds are open.
     pub fn open_feeds(&self) -> u64
         ensures { result ≡ count_by is_some self.now.feeds }
     {
         self.feeds.open_count()
     }
 
-    /// Makes a call of the seat with this number. An open feed's port is the feed's own: to receive from it or to close it
-    /// is refused `WrongKind`. It may be copied, and once the feed has ended it is a port like any other.
+    /// Makes a call of the seat with this number, as `Board::apply` does. Receiving from the port of an open feed, polling or
+    /// closing it fails with `WrongKind`. It may be copied, and once the feed has ended it is a port like any other.
     #[inline(always)]
     pub fn apply(&mut self, seat: u64, call: Call<M>) -> Outcome<M>
         ensures barred { is_barred self.old.feeds call ≡ true → (result ≡ Refused WrongKind call) × (self.new ≡ self.old) }
@@ -108,10 +131,10 @@ impl<M: Message, L: MessageLog<M>> Floor<M, L> {
         self.board.apply(Who::Seat(seat), call)
     }
 
-    /// Takes memory for `n` more entries. Until `n` entries were added, no call is refused for want of memory whose next
-    /// entry makes no object, fills no chunk, and shares no message whose share can be refused; but to open a lane or a
-    /// feed takes memory of its own. What was reserved lasts over a `cut`, but not over a `take_journal`, which hands it
-    /// over with the list. The only refusal is `NoMemory`.
+    /// Reserves memory for `n` more entries. Until `n` entries are added, `NoMemory` comes only of an entry that makes an
+    /// object, fills a chunk, or shares a message whose `share` can fail. Opening a lane or a feed needs more memory.
+    /// A `cut` keeps the reserved memory; a `take_journal` hands it over with the entries. Fails only with `NoMemory`, and then
+    /// the floor is unchanged.
     pub fn reserve(&mut self, n: usize) -> Result<(), Refusal>
         ensures reserves { Reserves self.old self.new n result }
         ensures rings { KeepsRings self.old self.new }
@@ -122,8 +145,8 @@ impl<M: Message, L: MessageLog<M>> Floor<M, L> {
         }
     }
 
-    /// Cuts the board's journal, as `Board::cut` does. The only refusal is `Busy`, where a lane or a feed is open: what the
-    /// journal has of an open one goes on.
+    /// Cuts the board's journal, as `Board::cut` does. Fails only with `Busy`, if a lane or a feed is open: its part of the
+    /// journal goes on.
     pub fn cut(&mut self) -> Result<(), Refusal>
         ensures cut { CutsAFloor self.old self.new result }
         ensures reserved { self.old.board.reserved ≤ self.new.board.reserved }
@@ -136,7 +159,7 @@ impl<M: Message, L: MessageLog<M>> Floor<M, L> {
         Ok(())
     }
 
-    /// Cuts the journal and hands over the entries that it had, as `Board::take_journal` does; refused as `cut` is.
+    /// Cuts the journal and returns the entries that it had, as `Board::take_journal` does. Fails as `cut` does.
     pub fn take_journal(&mut self) -> Result<Vec<Entry<M>>, Refusal>
         ensures taken { IfOk result (λ taken. reverse taken.items ++ self.old.board.past ≡ self.old.board.history) }
         ensures cut { MatchResult result (λ _. CutsFloor self.old self.new) (NotCut self.old self.new) }
@@ -166,7 +189,7 @@ impl<M: Message, L: MessageLog<M>> Floor<M, L> {
         self.feeds.has(feed)
     }
 
-    /// Moves what is seen of an open lane, until a message is refused: how many were moved, and the refusal.
+    /// Moves the messages seen on an open lane until one is refused. Returns how many it moved, and the refusal.
     fn drain_open(&mut self, lane: u64) -> (usize, Option<Refusal>)
         requires { is_open_lane self.old lane ≡ true }
         ensures until { OnLane stays lane self.old self.new (DrainsUntil L.CHUNK M.SURE lane result.0 result.1 self.old.board self.new.board) }
@@ -175,7 +198,7 @@ impl<M: Message, L: MessageLog<M>> Floor<M, L> {
         self.lanes.drain(self.alloc, &mut self.board, lane)
     }
 
-    /// The same with all that is left of an open lane, whose end this is.
+    /// The same with all messages left on an open lane, whose end this is.
     fn drain_after(&mut self, lane: u64, end: &mut LaneEnd<M>) -> (usize, Option<Refusal>)
         requires opened { is_open_lane self.old lane ≡ true }
         requires ring { IsOfRing lane self.old end.old }
@@ -188,7 +211,7 @@ impl<M: Message, L: MessageLog<M>> Floor<M, L> {
             .drain_after(self.alloc, &mut self.board, lane, end)
     }
 
-    /// How many messages of an open lane are in the journal.
+    /// Returns how many messages of an open lane are in the journal.
     fn moved_count(&self, lane: u64) -> u64
         requires { is_open_lane self.now lane ≡ true }
         ensures { result ≡ length (laned self.now.board.history lane) }
@@ -196,7 +219,7 @@ impl<M: Message, L: MessageLog<M>> Floor<M, L> {
         self.lanes.moved_count(lane)
     }
 
-    /// Lets go of an open lane, and drops what is left in its ring.
+    /// Closes an open lane, and drops the messages left in its ring.
     fn let_go(&mut self, lane: u64)
         requires { is_open_lane self.old lane ≡ true }
         ensures floor { self.new ≡ record self.old { lanes = slice_set self.old.lanes lane None } }

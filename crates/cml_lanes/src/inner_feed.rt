@@ -63,7 +63,7 @@ impl<M> InnerFeed<M> {
         self.producer.push_reserved(message);
     }
 
-    /// Ends the feed: nothing more is put into its ring. `None` where its subscriber has let go of it before.
+    /// Ends the feed: nothing more is put into its ring. Returns `None` if its subscriber has dropped it before.
     pub fn finish(self, number: u64) -> Option<FeedEnd<M>>
     where
         M: Drop,

@@ -5,7 +5,7 @@ ghost use Rattle.cml_lanes.specs.Ring.{ring_of};
 use rtrb::{Finished, Producer};
 use std::marker::Model;
 
-/// The sender's end of a lane, for one thread. Nothing that it does waits, takes a lock or takes memory.
+/// The sender's end of a lane, for one thread. None of its calls blocks, takes a lock or allocates memory.
 #[derive(Drop)]
 pub struct Lane<M> {
     producer: Producer<M>,
@@ -40,23 +40,23 @@ impl<M> Lane<M> {
         }
     }
 
-    /// The lane's number on its floor.
+    /// Returns the lane's number on its floor.
     pub fn number(&self) -> u64
         ensures { result ≡ self.now.number }
     {
         self.number
     }
 
-    /// Sends a message, which the floor's next `drain` may move into the journal. It is handed back, `LaneFull`, where
-    /// no free slot of the ring is seen; then it may be sent again later.
+    /// Sends a message. The floor's next `drain` may move it into the journal. Fails with `LaneFull`, which returns the
+    /// message, if it sees no free slot in the ring; send it again later. Always fails after 2^64 - 1 messages.
     pub fn send(&mut self, message: M) -> Result<(), LaneFull<M>>
         ensures sent { OnOk result (self.new ≡ record self.old { accepted = self.old.accepted ++ message ∷ [] }) }
         ensures full { IfErr result (λ full. (full.0 ≡ message) × (self.new ≡ self.old)) }
 
-        // It is sure while the lane has accepted fewer than it has room for, whatever was drained.
+        // It never fails while the lane has accepted fewer messages than it has room for, whatever was drained.
         ensures sure { length self.old.accepted < self.old.capacity → IsOk result }
 
-        // A lane that accepted as many as a count can tell takes no more.
+        // A lane that has accepted the highest count of messages takes no more.
         ensures last { length self.old.accepted ≡ 2 ^ 64 - 1 → IsErr result }
     {
         if self.accepted == u64::MAX {
@@ -70,8 +70,8 @@ impl<M> Lane<M> {
         Ok(())
     }
 
-    /// Ends the lane: nothing more is sent on it. What it gives closes the lane on its floor. It gives `None` only
-    /// where the floor has let go of the lane before.
+    /// Ends the lane: nothing more is sent on it. Returns the end that closes the lane on its floor. Returns `None` only if
+    /// the floor has dropped the lane before.
     pub fn finish(self) -> Option<LaneEnd<M>>
     where
         M: Drop,
@@ -86,11 +86,11 @@ impl<M> Lane<M> {
     }
 }
 
-/// A message that a lane had no free slot for. It comes back to its sender.
+/// The error of a send on a full lane. It returns the message to its sender.
 #[derive(Debug, Drop, PartialEq, Eq)]
 pub struct LaneFull<M>(pub M);
 
-/// What is left of a lane that has finished. It knows all that was sent, and closes the lane on its floor.
+/// The end of a lane that has finished. It knows all that was sent, and closes the lane on its floor.
 #[derive(Drop)]
 pub struct LaneEnd<M> {
     pub(crate) finished: Finished<M>,
@@ -113,14 +113,14 @@ impl<M> Model for LaneEnd<M> {
 }
 
 impl<M> LaneEnd<M> {
-    /// The number of the lane.
+    /// Returns the number of the lane.
     pub fn number(&self) -> u64
         ensures { result ≡ self.now.number }
     {
         self.number
     }
 
-    /// How many messages the lane accepted.
+    /// Returns how many messages the lane accepted.
     pub fn count(&self) -> u64
         ensures { result ≡ length self.now.sent }
     {

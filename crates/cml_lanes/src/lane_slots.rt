@@ -1,4 +1,4 @@
-ghost use Rattle.std.specs.Prelude.{◌≡◌, ◌∷◌, ◌++◌, [], true, length, slice_get, slice_set, Some, None, is_some, count_by, IfSome, OnOk, OnErr};
+ghost use Rattle.std.specs.Prelude.{◌≡◌, ◌<◌, ◌-◌, ◌^◌, ◌∷◌, ◌++◌, [], true, length, slice_get, slice_set, replicate, Some, None, is_some, count_by, IfSome, IfOk, OnOk, OnErr};
 ghost use Rattle.cml_lanes.specs.Sides.{LaneSide};
 ghost use Rattle.cml_lanes.specs.Floor.{is_taken, stays, OnPlace};
 ghost use Rattle.cml_lanes.specs.Moving.{KeepsLane};
@@ -7,6 +7,7 @@ ghost use Rattle.cml_lanes.specs.Slots.{DrainsUntil, LeavesAll};
 use crate::inner_lane::InnerLane;
 use crate::lane::LaneEnd;
 use crate::moving::{drain_slot, drain_slot_after};
+use crate::vacant::closed_places;
 use cml_board::{Board, Message, Refusal};
 use cml_log::MessageLog;
 use std::alloc::{AllocError, Global};
@@ -40,6 +41,17 @@ impl<M: Message> LaneSlots<M> {
             slots: Vec::new(alloc),
             opened: 0,
         }
+    }
+
+    /// So many lanes, none of which is open.
+    pub fn of_closed(alloc: Global, count: usize) -> Result<LaneSlots<M>, AllocError>
+        ensures closed { IfOk result (λ lanes. lanes ≡ replicate count None) }
+        ensures few { IfOk result (λ _. count < 2 ^ 64 - 1) }
+    {
+        Ok(LaneSlots {
+            slots: closed_places(alloc, count)?,
+            opened: 0,
+        })
     }
 
     /// How many lanes were opened.

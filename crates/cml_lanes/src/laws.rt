@@ -1,4 +1,4 @@
-//! What the calls of a floor come to, over a run of them.
+//! Laws of runs of calls on a floor.
 ghost use Rattle.std.specs.Prelude.{◌≡◌, ℕ, ◌+◌, ◌<◌, ◌≤◌, Bool, true, false, List, length};
 ghost use Rattle.cml_board.specs.declared.call.Call.{Call};
 ghost use Rattle.cml_board.specs.declared.outcome.Outcome.TheVariants.{Refused};
@@ -11,7 +11,7 @@ ghost use Rattle.cml_lanes.specs.Feeds.{Starves};
 ghost use Rattle.cml_lanes.specs.Reserving.{added_since, TakesEntryAlone, LaneTakesEntryAlone, FeedTakesEntryAlone};
 ghost use Rattle.cml_lanes.specs.Steps.{FloorCall, AppliesSeat, AreCalled, keeps_journal};
 
-/// A lane that is closed stays closed, whatever is called on its floor, and its number gets no entry more.
+/// Shows that a closed lane stays closed, whatever is called on its floor, and its number gets no more entries.
 pub fn closed_lanes_get_no_entry<M>()
     ensures { (chunk : ℕ) (sure : Bool) (calls : List (FloorCall M)) (old new : FloorShown M) (number : ℕ)
         → AreCalled chunk sure calls old new
@@ -20,7 +20,7 @@ pub fn closed_lanes_get_no_entry<M>()
         → (is_open_lane new number ≡ false) × (laned new.board.history number ≡ laned old.board.history number) }
 {}
 
-/// A feed that is ended stays ended, whatever is called on its floor, and its number gets no entry more.
+/// Shows that an ended feed stays ended, whatever is called on its floor, and its number gets no more entries.
 pub fn ended_feeds_get_no_entry<M>()
     ensures { (chunk : ℕ) (sure : Bool) (calls : List (FloorCall M)) (old new : FloorShown M) (number : ℕ)
         → AreCalled chunk sure calls old new
@@ -29,10 +29,10 @@ pub fn ended_feeds_get_no_entry<M>()
         → (is_open_feed new number ≡ false) × (fed new.board.history number ≡ fed old.board.history number) }
 {}
 
-/// Over a run of calls on a floor, what was reserved is lost by added entries alone, one by each. So while fewer were added
-/// than were reserved, want of memory refuses no seat's call, and stops no lane and no feed, where the next entry is all
-/// that takes memory. A journal that is handed over takes the memory that stood reserved with it; a cut does not. `HoldsUp`
-/// and `Starves` are what a refused `drain` and a refused `pump` tell.
+/// Shows that over a run of calls on a floor only added entries use up reserved memory, one each. Suppose that fewer entries
+/// were added than were reserved, and that only the next entry needs memory. Then no seat's call fails for want of memory,
+/// and no lane or feed stops. `take_journal` hands the reserved memory over; a cut keeps it. `HoldsUp` and `Starves` say
+/// what a failed `drain` and a failed `pump` do.
 pub fn reserved_lasts_on_a_floor<M>()
     ensures lasts { (chunk : ℕ) (sure : Bool) (calls : List (FloorCall M)) (old new : FloorShown M)
         → AreCalled chunk sure calls old new

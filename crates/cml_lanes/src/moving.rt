@@ -1,4 +1,4 @@
-//! How messages go out of a lane's ring into the journal: each is taken out once it has its entry.
+//! How messages go from a lane's ring into the journal: each is taken out once it has its entry.
 ghost use Rattle.std.specs.Prelude.{◌≡◌, ◌<◌, [], length, IfNone, IfSome};
 ghost use Rattle.cml_lanes.specs.Moving.{KeepsLane, MovesOut, Stops};
 ghost use Rattle.cml_lanes.specs.Slots.{OnSlot, HasLane, DrainsUntil, LeavesAll};
@@ -9,8 +9,8 @@ use cml_board::{Board, Message, Outcome, Refusal, Who};
 use cml_log::MessageLog;
 use std::alloc::Global;
 
-/// Looks into the ring of a slot's lane, and moves what it sees, until one is refused: how many were moved, and the
-/// refusal.
+/// Looks into the ring of a slot's lane, and moves the messages that it sees until one is refused. Returns how many it
+/// moved, and the refusal.
 pub fn drain_slot<M: Message, L: MessageLog<M>>(
     alloc: Global,
     board: &mut Board<M, L>,
@@ -44,7 +44,7 @@ pub fn drain_slot_after<M: Message, L: MessageLog<M>>(
     move_seen(alloc, board, lane, number)
 }
 
-/// Moves all messages that were seen in the lane's ring, until one is refused: how many were moved, and the refusal.
+/// Moves all messages that were seen in the lane's ring until one is refused. Returns how many it moved, and the refusal.
 pub fn move_seen<M: Message, L: MessageLog<M>>(
     alloc: Global,
     board: &mut Board<M, L>,
@@ -65,7 +65,7 @@ pub fn move_seen<M: Message, L: MessageLog<M>>(
     (count, None)
 }
 
-/// Moves the next message that was seen. It stays in the ring where its call is refused.
+/// Moves the next message that was seen. It stays in the ring if its call is refused.
 fn move_next<M: Message, L: MessageLog<M>>(
     alloc: Global,
     board: &mut Board<M, L>,
@@ -77,7 +77,7 @@ fn move_next<M: Message, L: MessageLog<M>>(
     ensures moved { IfNone result (MovesOut number 1 board.old board.new lane.old lane.new) }
     ensures stopped { IfSome result (λ refusal. Stops L.CHUNK M.SURE number 0 board.old board.new lane.old lane.new refusal) }
 {
-    // A full journal is told before any memory is asked for.
+    // A full journal is reported before any memory is allocated.
     if board.is_full() {
         return Some(Refusal::JournalFull);
     }

@@ -1,4 +1,4 @@
-//! How messages go out of a port into a feed's ring: each is received once a slot is free for it.
+//! How messages go from a port into a feed's ring: each is received once a slot is free for it.
 ghost use Rattle.std.specs.Prelude.{◌≡◌, ◌≢◌, ◌<◌, None, IfNone, IfSome};
 ghost use Rattle.cml_board.specs.declared.call.Call.TheVariants.{Recv};
 ghost use Rattle.cml_board.specs.History.{answer};
@@ -10,8 +10,8 @@ use crate::inner_feed::InnerFeed;
 use cml_board::{Board, Call, Message, Outcome, Refusal, Reply, Who};
 use cml_log::MessageLog;
 
-/// Looks how many slots of a slot's feed are free, and pumps messages into them, until its port is owed no more or one
-/// is refused: how many were pumped, and the refusal.
+/// Looks how many slots of a slot's feed are free, and pumps messages into them until its port is owed no more or one is
+/// refused. Returns how many it pumped, and the refusal.
 pub fn pump_slot<M: Message, L: MessageLog<M>>(
     board: &mut Board<M, L>,
     slot: &mut Option<InnerFeed<M>>,
@@ -25,7 +25,7 @@ pub fn pump_slot<M: Message, L: MessageLog<M>>(
     pump_free(board, feed, number)
 }
 
-/// Ends a slot's feed, and empties the slot. `None` where there was none, or its subscriber has let go of it.
+/// Ends a slot's feed, and empties the slot. Returns `None` if there was none, or if its subscriber has dropped it.
 pub fn finish_slot<M: Drop>(slot: &mut Option<InnerFeed<M>>, number: u64) -> Option<FeedEnd<M>>
     ensures ended { IfSome result (λ end. EndsSlot number slot.old end) }
     ensures emptied { slot.new ≡ None }
@@ -33,8 +33,8 @@ pub fn finish_slot<M: Drop>(slot: &mut Option<InnerFeed<M>>, number: u64) -> Opt
     slot.take()?.finish(number)
 }
 
-/// Pumps messages into all slots that are known to be free, until the port is owed no more or one is refused: how many
-/// were pumped, and the refusal.
+/// Pumps messages into all slots that are known to be free until the port is owed no more or one is refused. Returns how
+/// many it pumped, and the refusal.
 fn pump_free<M: Message, L: MessageLog<M>>(
     board: &mut Board<M, L>,
     feed: &mut InnerFeed<M>,
@@ -46,7 +46,7 @@ fn pump_free<M: Message, L: MessageLog<M>>(
 {
     let count = feed.free();
     for pumped in 0..count {
-        // A full journal is no refusal where nothing is owed.
+        // A full journal is no refusal if nothing is owed.
         if board.would_wait(&Call::Recv(feed.port())) {
             return (pumped, None);
         }
@@ -58,7 +58,7 @@ fn pump_free<M: Message, L: MessageLog<M>>(
     (count, None)
 }
 
-/// Pumps the next message that the port is owed. It stays owed where its call is refused.
+/// Pumps the next message that the port is owed. It stays owed if its call is refused.
 fn pump_next<M: Message, L: MessageLog<M>>(
     board: &mut Board<M, L>,
     feed: &mut InnerFeed<M>,

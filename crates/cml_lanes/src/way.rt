@@ -12,7 +12,7 @@ pub enum Way {
 }
 
 impl Way {
-    /// The way of a lane to an object of this kind, unless it takes no lane.
+    /// The way of a lane to an object of this kind, or `None` if that takes no lane.
     pub fn to(kind: Kind) -> Option<Way>
         ensures { MatchOption result (NoLane kind) (λ way. way_kind way ≡ kind) }
     {

@@ -1,4 +1,4 @@
--- What stays of seats of which one doesn't wait any more, and who is told then.
+-- What stays of seats of which one does not wait any more, and which seats become due then.
 use Rattle.std.proofs.Common.{◌≡◌, ◌≢◌, ℕ, ◌<◌, ◌⊎◌, inl, inr, Bool, true, false, List, length, get_or, slice_get, slice_set, Option, Some, None, refl, sym, ap, subst, ◌∙◌, arith}
 use Rattle.std.specs.Option.{option_map}
 use Rattle.std.proofs.lemmas.Option.{same_Some, slice_get_within, slice_get-get_or, slice_get-map, get_or_from_slice_get}
@@ -35,7 +35,7 @@ MayTurn states number = (slice_get states number ≡ Some state.Free) ⊎ ((on :
 abbrev pub with_freed : List Place → ℕ → List Place
 with_freed places number = slice_set places number (freed (get_or places number Free))
 
--- a seat's state is told of its place
+-- a seat's state is that of its place
 pub stands_so : (places : List Place) (number : ℕ) (is : State) → slice_get (states_in places) number ≡ Some is
     → (slice_get places number ≡ Some (get_or places number Free)) × (state_by (get_or places number Free) ≡ is)
 stands_so places number is found =
@@ -247,7 +247,7 @@ module _ {M : Type 0} where
     stalls = λ none. absurd (true≢false (sym all ∙ none));
   }
 
-  -- nobody is forgotten after a call of others than seats
+  -- no seat is forgotten after a call of a lane or a feed
   pub settled_rests : (before after : FloorShown M) (shown : Shown M) (news : Option News) (So : Waiter → Type 0) (places lates : List Place) (all_due all_due' : Bool)
       → shown ≡ after.board → AreRoused So places lates → AreTold shown.history news lates → all_due' ≡ all_due
       → HasRoom after.board → IsWatched before places all_due → Follows news before.board after.board
@@ -264,7 +264,7 @@ module _ {M : Type 0} where
         | inr mate ↦ inr (mate_on So places lates waiter.want first mate)
       ]
 
-  -- who is told after a call of others than seats
+  -- which seats become due after a call of a lane or a feed
   pub settled : (before after : FloorShown M) (shown : Shown M) (news : Option News) (So : Waiter → Type 0) (places lates : List Place) (all_due all_due' : Bool)
       → AreAt after.board.history places → shown ≡ after.board → AreRoused So places lates → AreTold shown.history news lates → all_due' ≡ all_due
       → HasRoom after.board → ¬ (IsStalled after (states_in lates)) → IsWatched before places all_due → Follows news before.board after.board

@@ -29,7 +29,7 @@ use Rattle.cml_room.specs.Places.{AreRoused, IsMate, IsQuiet}
 use Rattle.cml_room.specs.Waking.{reaches, AreAt}
 use Rattle.cml_room.proofs.Rousing.{mate_on, quiet_before}
 
--- what stands behind the first list is in the second
+-- an item behind the first list is in the second
 behind : {X : Type 0} (xs ys : List X) (k : ℕ) (x : X) → length xs ≤ k → slice_get (xs ++ ys) k ≡ Some x → (i : ℕ) × (slice_get ys i ≡ Some x)
 behind [] ys k x past found = (k, found)
 behind (y ∷ xs) ys zero x past found = absurd (omega (arith, past))
@@ -108,7 +108,7 @@ module _ {M : Type 0} where
             made_by before entry.call entry.reply later.0 source start earlier lawful.0 later.1
       ])
 
-  -- where the messages that come to an object are from: from a channel, if it is a port
+  -- the source of an object's messages: a channel, if the object is a port
   pub source_cases : (history : List (Entry M)) (object : ℕ) (o : Option Origin) → SourcesAreChannels history → origin_of history object ≡ o
       → (source_of history object ≡ object) ⊎ (kind_of history (source_of history object) ≡ Some kind.Channel)
   source_cases history object (Some (port source start)) channels is =

@@ -16,3 +16,4 @@ pub mod Bringing
 pub mod Quiet
 pub mod Rising
 pub mod Reaching
+pub mod Restoring

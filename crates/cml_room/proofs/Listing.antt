@@ -29,7 +29,7 @@ or_true : (b : Bool) → (b || true) ≡ true
 or_true true = refl
 or_true false = refl
 
--- what was written is what stands there
+-- the item there is the one that was written
 pub set_here : {X : Type 0} (xs : List X) (i : ℕ) (y z : X) → slice_get (slice_set xs i y) i ≡ Some z → y ≡ z
 set_here xs i y z found =
     let within : i < length xs = omega (arith, length-set xs i y, slice_get_within (slice_set xs i y) i z found) in
@@ -140,7 +140,7 @@ at_has (x ∷ queue) k is = elim (this_or_other k x) [
       (suc later.0, later.1)
 ]
 
--- an empty queue has nobody
+-- an empty queue has no member
 pub none_has : (queue : List ℕ) (k : ℕ) → slice_get queue 0 ≡ None → has queue k ≡ false
 none_has [] k none = refl
 none_has (x ∷ queue) k none = absurd (none-some x (sym none))

@@ -94,7 +94,7 @@ set_alike places number old new found want source back on woken = record {
     set_same : (states : List State) (k : ℕ) (s : State) → slice_get states k ≡ Some s → slice_set states k s ≡ states
     set_same states k s is = ap (slice_set states k) (sym (get_or_from_slice_get states k s s is)) ∙ set-get_or states k s
 
--- whoever wakes next stays due
+-- the seat that wakes next stays due
 pub wakes_alike : (olds news : List Place) (given : Option ℕ) → WakesNext olds news given → AreAlike olds news
 wakes_alike olds news (Some number) woken =
     subst (AreAlike olds) (sym woken.3)

@@ -53,7 +53,7 @@ waiting_here places number k own waiter here found =
     let is : Waiting own ≡ Waiting waiter = set_here places number (Waiting own) (Waiting waiter) (ap (slice_get (slice_set places number (Waiting own))) (sym here) ∙ found) in
     cc
 
--- where nobody waits, the seat is free
+-- if no seat waits, the seat is free
 pub none_freed : (places : List Place) (number : ℕ) → ((k : ℕ) (waiter : Waiter) → slice_get places k ≢ Some (Waiting waiter)) → MayTurn (states_in places) number
     → states_in places ≡ slice_set (states_in places) number state.Free
 none_freed places number none (inl free) =
@@ -71,7 +71,7 @@ unparked_states states waiting news number want may is set =
     ∙ (ap (λ l. slice_set l number state.Free) is ∙ set-set states number (state.Parked want) state.Free))
 
 module _ {M : Type 0} where
-  -- where nobody waits, nobody is forgotten
+  -- if no seat waits, none is forgotten
   pub none_watched : (floor : FloorShown M) (places : List Place) (all_due : Bool) → ((k : ℕ) (waiter : Waiter) → slice_get places k ≢ Some (Waiting waiter))
       → IsWatched floor places all_due
   none_watched floor places all_due none = record {
@@ -156,7 +156,7 @@ module _ {M : Type 0} where
       let same : waiter.want ≡ place.0.want = cc in
       same ∙ place.2) would at
 
-  -- and nobody is forgotten then
+  -- and no seat is forgotten then
   unparked_rests : (board : Shown M) (waiting : List Place) (number : ℕ) (want : Want) → slice_get (states_in waiting) number ≡ Some (state.Parked want) → WouldWait board want
       → NoneForgotten board waiting → NoneForgotten board (with_freed waiting number)
   unparked_rests board waiting number want parked would rests = λ k waiter quiet.

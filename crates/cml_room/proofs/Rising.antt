@@ -40,11 +40,11 @@ risen_other olds news k on risen same =
 pub none_each : (olds news : List Place) → news ≡ olds → OneEach olds news
 none_each olds news same = λ one other on first second. absurd (risen_other olds news one on first (ap (λ l. slice_get l one) same))
 
--- where nobody waited, nobody became due
+-- if no seat waited, none became due
 pub nobody_risen : (olds news : List Place) → ((k : ℕ) (waiter : Waiter) → slice_get olds k ≢ Some (Waiting waiter)) → (k : ℕ) (on : Want) → ¬ (HasRisen olds news k on)
 nobody_risen olds news none k on risen = none k risen.was risen.quiet.here
 
--- a seat more: nobody became due
+-- one more seat: none became due
 pub added_none : (places : List Place) (place : Place) (k : ℕ) (on : Want) → ¬ (HasRisen places (places ++ place ∷ []) k on)
 added_none places place k on risen =
     risen_other places (places ++ place ∷ []) k on risen (slice_get-append_some places (place ∷ []) k (Waiting risen.was) risen.quiet.here ∙ sym risen.quiet.here)
@@ -130,7 +130,7 @@ freed_risen So places ends number k on free are risen = elim (this_or_other k nu
   }
 ]
 
--- the seat began to wait, or is free: nobody became due
+-- the seat began to wait, or is free: none became due
 pub set_none : (places news : List Place) (number : ℕ) (place : Place) → news ≡ slice_set places number place
     → ((waiter : Waiter) → slice_get news number ≡ Some (Waiting waiter) → waiter.notice ≡ Nothing) → (k : ℕ) (on : Want) → ¬ (HasRisen places news k on)
 set_none places news number place set quiet = λ k on risen. elim (this_or_other k number) [
@@ -150,7 +150,7 @@ due_place (Some Free) is = absurd (false≢true is)
 due_place (Some Left) is = absurd (false≢true is)
 due_place (Some (Waiting waiter)) is = (waiter, refl, is)
 
--- nobody became due, and then the seat is free
+-- no seat became due, and then the seat is free
 pub freed_none : (places waiting news : List Place) (number : ℕ) → ((k : ℕ) (on : Want) → ¬ (HasRisen places waiting k on)) → news ≡ with_freed waiting number
     → (k : ℕ) (on : Want) → ¬ (HasRisen places news k on)
 freed_none places waiting news number none set = λ k on risen.
@@ -163,7 +163,7 @@ freed_none places waiting news number none set = λ k on risen.
       due = risen.due;
     })
 
--- a seat left: nobody became due
+-- a seat left: none became due
 pub left_none : (places news : List Place) (number : ℕ) → news ≡ slice_set places number Left → (k : ℕ) (on : Want) → ¬ (HasRisen places news k on)
 left_none places news number set =
     set_none places news number Left set (λ waiter found.
@@ -173,7 +173,7 @@ module _ {M : Type 0} where
   pub for_one : (history : List (Entry M)) (given : Option News) (news is : News) → given ≡ Some news → news ≡ is → IsForOne history given → IsForOne history (Some is)
   for_one history given news is same here single = subst (IsForOne history) (same ∙ ap Some here) single
 
-  -- nobody became due
+  -- no seat became due
   pub nobody_few : (history : List (Entry M)) (news : Option News) (Handed : Want → Type 0) (places lates : List Place) → ((k : ℕ) (on : Want) → ¬ (HasRisen places lates k on))
       → RisesFew history news Handed places lates
   nobody_few history news Handed places lates none = record {
@@ -253,7 +253,7 @@ module _ {M : Type 0} where
       } in
       subst (λ (r : RoomShown M). MakesFewDue r (room_of floor' (states_in lates) (notices_in lates) all') (WantOf r number) news) view made
 
-  -- nobody became due, told of the room
+  -- no seat became due, said of the room
   pub none_due : (room : RoomShown M) (floor floor' : FloorShown M) (olds lates : List Place) (all all' : Bool)
       → room_of floor (states_in olds) (notices_in olds) all ≡ room → all' ≡ all → ((k : ℕ) (on : Want) → ¬ (HasRisen olds lates k on))
       → MakesNoneDue room (room_of floor' (states_in lates) (notices_in lates) all')
@@ -271,7 +271,7 @@ module _ {M : Type 0} where
       let made = few (λ stalled. moves (subst (IsStalled floor') (sym states) stalled)) in
       few_due room floor floor' olds lates all all' (λ on. ⊥) news view made.1 made.0
 
-  -- without news nobody does
+  -- without news no seat does
   pub none_by : (old new : RoomShown M) → MakesFewDue old new (λ on. ⊥) None → MakesNoneDue old new
   none_by old new few = λ number on due. elim (few.why number on due) [
     | inl helped ↦ absurd (none-some helped.0 helped.1)

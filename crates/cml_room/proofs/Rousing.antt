@@ -98,7 +98,7 @@ roused_to So olds news number old are was =
     let is = slice_get-get_or news number Free within in
     (get_or news number Free, is, are.now number old (get_or news number Free) was is)
 
--- whoever waits now waited for the same before, and was due only if it is due now
+-- a seat that waits now waited for the same before, and was due only if it is due now
 pub waited : (So : Waiter → Type 0) (olds news : List Place) (number : ℕ) (waiter : Waiter) → AreRoused So olds news → slice_get news number ≡ Some (Waiting waiter)
     → (old : Waiter) × (slice_get olds number ≡ Some (Waiting old)) × (old.want ≡ waiter.want) × (old.source ≡ waiter.source) × ((waiter.notice ≡ Nothing) → old.notice ≡ Nothing)
 waited So olds news number waiter are is =
@@ -115,7 +115,7 @@ waited So olds news number waiter are is =
           )
     ]
 
--- whoever waited waits for the same, and is due if it was
+-- a seat that waited waits for the same, and is due if it was
 pub waits_on : (So : Waiter → Type 0) (olds news : List Place) (number : ℕ) (old : Waiter) → AreRoused So olds news → slice_get olds number ≡ Some (Waiting old)
     → (waiter : Waiter) × (slice_get news number ≡ Some (Waiting waiter)) × (waiter.want ≡ old.want) × (is_noted old.notice ≡ true → is_noted waiter.notice ≡ true)
 waits_on So olds news number old are was =
@@ -218,7 +218,7 @@ still_noted So olds news number waiter are found noted =
       | inr due ↦ due
     ]
 
--- where a seat waits is told by what it wants and by its source
+-- a seat's want and its source give where it waits
 pub reaches_same : (object source : ℕ) (one other : Waiter) → one.want ≡ other.want → one.source ≡ other.source → reaches object source one ≡ true → reaches object source other ≡ true
 reaches_same object source one other want same is =
     ap (λ s. (s == source) && ((object == source) || (object == object_of other.want))) (sym same)

@@ -41,7 +41,7 @@ module _ {M : Type 0} where
   noted_waits history Due on woken due is = due refl
   noted_waits history Woken on woken due is = woken refl
 
-  -- nobody can go on where nobody is free, and who is due would wait
+  -- no seat can go on if none is free, and each that is due would wait
   pub idle_by_due : (board : Shown M) (places : List Place) → free_in (states_in places) ≡ 0 → NoneForgotten board places
       → ((k : ℕ) (waiter : Waiter) → slice_get places k ≡ Some (Waiting waiter) → noted_as waiter.notice 1 ≡ true → Waits board.history waiter.want)
       → ((k : ℕ) (waiter : Waiter) → slice_get places k ≡ Some (Waiting waiter) → noted_as waiter.notice 0 ≡ true → Waits board.history waiter.want)

@@ -32,7 +32,7 @@ module _ {M : Type 0} where
   abbrev pub source_of : List (Entry M) → ℕ → ℕ
   source_of history object = source_by object (origin_of history object)
 
-  -- the news may end this wait: a message comes to where it is waited for, a value into the variable, or the port closes
+  -- the news may end this wait: a message arrives where the seat waits, a value goes into the variable, or the port closes
   abbrev pub helps : List (Entry M) → News → Want → Bool
   helps history (Message name) (Recv at) = name.0 == source_of history at.0
   helps history (Multicast name) (Recv at) = name.0 == source_of history at.0

@@ -34,7 +34,7 @@ abbrev pub is_noted : Notice → Bool
 is_noted Nothing = false
 is_noted notice = true
 
--- in which of the rows who waits for messages of this object stands
+-- the row of the seats that wait for messages of this object
 abbrev pub row_of : ℕ → ℕ
 row_of source = source % 64
 

@@ -1,4 +1,4 @@
--- Who becomes due.
+-- Which seats become due.
 use Rattle.std.specs.Prelude.{ℕ, ◌≡◌, ◌⊎◌, true, false, List, slice_get, Option, Some, None, ⊤}
 use Rattle.cml_calls.specs.declared.kind.Kind.TheVariants.{MVar}
 use Rattle.cml_board.specs.declared.entry.Entry.{Entry}
@@ -63,7 +63,7 @@ module _ {M : Type 0} where
   abbrev pub MakesFewByOne : RoomShown M → RoomShown M → Type 0
   MakesFewByOne old new = (news : Option News) × MakesFewDue old new (λ on. ⊥) news
 
-  -- nobody becomes due
+  -- no seat becomes due
   abbrev pub MakesNoneDue : RoomShown M → RoomShown M → Type 0
   MakesNoneDue old new = (number : ℕ) (on : Want) → ¬ (BecomesDue old new number on)
 

@@ -51,12 +51,12 @@ module _ {M : Type 0} where
     pub due : is_due room number ≡ true
 
   -- a seat that waits for this sleeps rightly: what it waits for isn't there, and the journal has room, or another that waits
-  -- for the very same is due; and somebody can go on
+  -- for the very same is due; and there is no stall
   pub record SleepsRightly (room : RoomShown M) (on : Want) : Type 0 where
     pub rests : WouldWait room.board on ⊎ HasMate room on
     pub moves : ¬ (IsStalled (floor_of room) room.seats)
 
-  -- nobody is left asleep: each seat that waits and isn't due sleeps rightly
+  -- no seat is left asleep: each seat that waits and is not due sleeps rightly
   abbrev pub NobodyLeftAsleep : RoomShown M → Type 0
   NobodyLeftAsleep room = (number : ℕ) (on : Want) → state_of room number ≡ Some (Parked on) → is_due room number ≡ false → SleepsRightly room on
 
@@ -72,7 +72,7 @@ module _ {M : Type 0} where
   abbrev pub MayAskAgain : RoomShown M → ℕ → Call M → Type 0
   MayAskAgain room number call = (on : Want) × (want_in call ≡ Some on) × (state_of room number ≡ Some (Parked on))
 
-  -- with this seat counted as waiting too, nobody can go on
+  -- with this seat counted as waiting too, there is a stall
   abbrev pub WouldStall : RoomShown M → ℕ → Want → Type 0
   WouldStall room number on = IsStalled (floor_of room) (with_state room number (Parked on))
 

@@ -1,5 +1,5 @@
-//! Seats at a board with its lanes and feeds, and which of them can go on. Threads share it behind a lock, which isn't here.
-//! None of its calls waits.
+//! Seats at a board with its lanes and feeds, and which of them can go on. Threads share it behind a lock, which is not here.
+//! None of its calls blocks.
 #![tactic(auto)]
 
 mod news;

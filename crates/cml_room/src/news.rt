@@ -6,7 +6,7 @@ ghost use Rattle.cml_room.specs.News.{news_in};
 use cml_board::{Board, Call, Message, Name};
 use cml_log::MessageLog;
 
-/// What an answered call brings to those who wait.
+/// What an answered call brings to the seats that wait.
 #[derive(Clone, Copy)]
 pub enum News {
     /// A message in a mailbox.
@@ -19,7 +19,7 @@ pub enum News {
     Closed(Name),
 }
 
-/// What the call brings once it is answered.
+/// Returns what the call brings once it is answered.
 pub fn news_in<M>(call: &Call<M>) -> Option<News>
     ensures { result ≡ news_in call.now }
 {
@@ -32,17 +32,17 @@ pub fn news_in<M>(call: &Call<M>) -> Option<News>
     }
 }
 
-/// How many entries the board has. No more were cut away.
+/// Returns how many entries the board had since it was made. No more were cut away.
 pub fn count_entries<M: Message, L: MessageLog<M>>(board: &Board<M, L>) -> u64
     ensures count { result ≡ entries_in board.now.history }
     ensures past { entries_in board.now.past ≤ result }
 {
-    // The journal's reader tells that those that were cut away are a part of all.
+    // The contract of `journal` says that the entries that were cut away are a part of all.
     let _journal = board.journal();
     board.entries()
 }
 
-/// What the journal's last entry brings, if there are more entries than so many.
+/// Returns what the journal's last entry brings, if there are more than `before` entries.
 pub fn latest_news<M: Message, L: MessageLog<M>>(board: &Board<M, L>, before: u64) -> Option<News>
     ensures none { entries_in board.now.history ≤ before → result ≡ None }
     ensures latest { (entry : Entry M) (rest : List (Entry M)) → board.now.history ≡ entry ∷ rest → entries_in board.now.past < entries_in board.now.history

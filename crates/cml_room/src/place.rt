@@ -17,7 +17,7 @@ pub enum Place {
 #[derive(Clone, Copy)]
 pub struct Waiter {
     pub want: Want,
-    /// The object whose messages come where it waits: a port's channel, and any other object itself.
+    /// The source of what it waits for: a port's channel, or any other object itself.
     pub source: u64,
     pub notice: Notice,
 }

@@ -1,8 +1,9 @@
-ghost use Rattle.std.specs.Prelude.{◌≡◌, ◌≢◌, ℕ, true, false, ◌^◌, ◌<◌, ◌≤◌, [], ◌∷◌, ◌++◌, length, slice_get, Some, IfOk, IfErr, OnOk, IfSome, IfNone};
+ghost use Rattle.std.specs.Prelude.{◌≡◌, ◌≢◌, ℕ, true, false, ◌^◌, ◌<◌, ◌≤◌, [], ◌∷◌, ◌++◌, length, replicate, slice_get, Some, None, IfOk, IfErr, OnOk, IfSome, IfNone};
 ghost use Rattle.cml_board.specs.declared.outcome.Refusal.TheVariants.{Gone, NoMemory};
 ghost use Rattle.cml_board.specs.declared.want.Want.{Want};
 ghost use Rattle.cml_room.specs.declared.notice.Notice.TheVariants.{Woken};
 ghost use Rattle.cml_board.specs.History.{no_entries, Lawful};
+ghost use Rattle.cml_board.specs.Makers.{seats_of, lanes_of, feeds_of};
 ghost use Rattle.cml_board.specs.Since.{KeepsSince};
 ghost use Rattle.cml_board.specs.Shown.{KeepsMailboxes, KeepsPorts, KeepsClosed, KeepsVariables, KeepsLogs};
 ghost use Rattle.cml_lanes.specs.Floor.{KeepsLanes, KeepsFeeds};
@@ -18,14 +19,14 @@ mod lanes;
 use crate::seats::Seats;
 use crate::state::State;
 use crate::waking::rouse_due;
-use cml_board::{Board, Message, Refusal};
+use cml_board::{Board, Message, Refusal, Restored};
 use cml_lanes::Floor;
 use cml_log::MessageLog;
 use std::alloc::{AllocError, Global};
 use std::marker::Model;
 
-/// A board with the lanes onto it and the feeds from its ports, and what each seat does. None of its calls waits, and none
-/// is ordered by a lock: the caller who has the room by `&mut` orders them.
+/// A board with the lanes onto it, the feeds from its ports, and the state of each seat. None of its calls blocks. It has no
+/// lock: the caller that has the room by `&mut` orders the calls.
 #[derive(Drop)]
 pub struct Room<M, L: MessageLog<M>> {
     floor: Floor<M, L>,
@@ -45,8 +46,8 @@ impl<M, L: MessageLog<M>> Model for Room<M, L> {
 }
 
 impl<M: Message, L: MessageLog<M>> Room<M, L> {
-    /// A room with no seats, no lanes and no feeds, on a board with no objects whose journal takes `limit` entries between
-    /// two cuts.
+    /// Makes a room with no seats, no lanes and no feeds, on a board with no objects. Its journal takes `limit` entries
+    /// between two cuts.
     pub fn new(alloc: Global, limit: u64) -> Result<Room<M, L>, AllocError>
         requires least { 1 ≤ limit }
         requires most { limit ≤ 2 ^ 32 }
@@ -64,7 +65,31 @@ impl<M: Message, L: MessageLog<M>> Room<M, L> {
         })
     }
 
-    /// The board, as it is between two calls. What the journal is and what the objects hold are facts of a room's type:
+    /// Makes a room on the board of a journal. The seats, the lanes and the feeds that made its entries keep their numbers. Those
+    /// seats have left, and none of those lanes and feeds is open: a call of one fails with `Gone` or `NoSuch`. New ones are
+    /// numbered behind them.
+    pub fn restore(alloc: Global, restored: Restored<M, L>) -> Result<Room<M, L>, AllocError>
+        ensures board { IfOk result (λ room. room.board ≡ restored.board) }
+        ensures lanes { IfOk result (λ room. room.lanes ≡ replicate restored.makers.lanes None) }
+        ensures feeds { IfOk result (λ room. room.feeds ≡ replicate restored.makers.feeds None) }
+        ensures seats { IfOk result (λ room. room.seats ≡ replicate restored.makers.seats State.Left) }
+        ensures small { IfOk result (λ room. length room.seats < 2 ^ 63) }
+        ensures none { IfOk result (λ room. (number : ℕ) → is_due room number ≡ false) }
+
+        // No number of a seat, a lane or a feed in the journal is given again.
+        ensures behind_seats { IfOk result (λ room. seats_of room.board.history ≤ length room.seats) }
+        ensures behind_lanes { IfOk result (λ room. lanes_of room.board.history ≤ length room.lanes) }
+        ensures behind_feeds { IfOk result (λ room. feeds_of room.board.history ≤ length room.feeds) }
+    {
+        let makers = restored.makers();
+        let seats = Seats::of_left(alloc, makers.seats as usize)?;
+        Ok(Room {
+            floor: Floor::restore(alloc, restored)?,
+            seats,
+        })
+    }
+
+    /// Lends the board, as it is between two calls. The facts of the journal and of the objects are facts of a room's type:
     /// they hold of each room.
     pub fn board(&self) -> &Board<M, L>
         ensures board { result.now ≡ self.now.board }
@@ -92,24 +117,24 @@ impl<M: Message, L: MessageLog<M>> Room<M, L> {
         // What each log really holds, from which place on, and which cursors are open in it.
         ensures logs { KeepsLogs L.CHUNK self.now.board }
 
-        // The same of the entries since the last cut: what was received since, followed by what waits, is what waited at the
+        // The same for the entries since the last cut: what was received since, followed by what waits, is what waited at the
         // cut, followed by what was sent since.
         ensures since { KeepsSince L.CHUNK self.now.board }
     {
-        // The facts are those that the journal's reader tells.
+        // These facts are in the contract of the board's `journal`.
         let board = self.floor.board();
         let _journal = board.journal();
         board
     }
 
-    /// The board with its lanes and feeds, to be read.
+    /// Lends the board with its lanes and feeds.
     pub fn floor(&self) -> &Floor<M, L>
         ensures { result.now ≡ floor_of self.now }
     {
         &self.floor
     }
 
-    /// The board, for good. Lanes and feeds that are still open are dropped, with what is in their rings.
+    /// Returns the board, and drops the rest: lanes and feeds that are still open, with the messages in their rings.
     pub fn into_board(self) -> Board<M, L>
         ensures { result ≡ self.board }
     {
@@ -117,22 +142,22 @@ impl<M: Message, L: MessageLog<M>> Room<M, L> {
         floor.into_board()
     }
 
-    /// How many seats were made.
+    /// Returns how many seats were made.
     pub fn seats(&self) -> usize
         ensures { result ≡ length self.now.seats }
     {
         self.seats.count()
     }
 
-    /// What the seat does, if it was made.
+    /// Returns the seat's state, if it was made.
     pub fn state(&self, seat: u64) -> Option<State>
         ensures { result ≡ state_of self.now seat }
     {
         self.seats.state(seat)
     }
 
-    /// Whether the seat is due: it waits, and something has come since it last asked for which it may go on. A seat that waits
-    /// and isn't due sleeps rightly. So a caller who wakes each seat that `next_due` returns leaves none asleep.
+    /// Says whether the seat is due: it waits, and something has come since it last asked for which it may go on. A seat that
+    /// waits and is not due sleeps rightly. So wake each seat that `next_due` returns, and none is left asleep.
     pub fn is_due(&self, seat: u64) -> bool
         ensures due { result ≡ is_due self.now seat }
         ensures asleep { result ≡ false → (on : Want) → state_of self.now seat ≡ Some (State.Parked on) → SleepsRightly self.now on }
@@ -140,8 +165,8 @@ impl<M: Message, L: MessageLog<M>> Room<M, L> {
         self.seats.is_due(seat)
     }
 
-    /// The next seat that is due, and wasn't returned since it last asked. Wake its thread, and let it ask again. The seat that
-    /// has been due the longest comes first. None, if each seat that is due was returned.
+    /// Returns the next seat that is due, and was not returned since it last asked. Wake its thread, and let it ask again. The
+    /// seat that has been due the longest comes first. Returns `None` if each seat that is due was returned.
     pub fn next_due(&mut self) -> Option<u64>
         ensures given { IfSome result (λ number. (is_due self.old number ≡ true) × (slice_get self.old.notices number ≢ Some Woken) × (slice_get self.new.notices number ≡ Some Woken)) }
         ensures woken { (number : ℕ) → slice_get self.old.notices number ≡ Some Woken → slice_get self.new.notices number ≡ Some Woken }
@@ -154,7 +179,7 @@ impl<M: Message, L: MessageLog<M>> Room<M, L> {
         self.seats.wake_next()
     }
 
-    /// A new seat, which is free: its number, which is how many were made before. Only want of memory refuses it.
+    /// Makes a new seat, which is free. Returns its number: how many were made before. Fails only with `NoMemory`.
     pub fn new_seat(&mut self) -> Result<u64, Refusal>
         ensures number { IfOk result (λ number. number ≡ length self.old.seats) }
         ensures seats { OnOk result (self.new.seats ≡ self.old.seats ++ State.Free ∷ []) }
@@ -172,8 +197,8 @@ impl<M: Message, L: MessageLog<M>> Room<M, L> {
         Ok(number)
     }
 
-    /// The seat leaves: it makes no more calls. Fails with `Gone` if there is no such seat, or if it waits or has left. If no
-    /// seat is free then, all that wait are due, since they may be stalled.
+    /// Makes the seat leave: it makes no more calls. Fails with `Gone` if there is no such seat, or if it waits or has left. If
+    /// no seat is free then, all that wait are due, since they may be stalled.
     pub fn leave(&mut self, seat: u64) -> Result<(), Refusal>
         ensures left { OnOk result (MayAsk self.old seat × (self.new.seats ≡ with_state self.old seat State.Left)) }
         ensures board { self.new.board ≡ self.old.board }

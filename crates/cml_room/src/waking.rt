@@ -15,8 +15,8 @@ use crate::seats::Seats;
 use cml_board::{Board, Kind, Message, Name, Want};
 use cml_log::MessageLog;
 
-/// Makes due who may go on by the news: one for each want at a mailbox or an m-variable, and all at an i-variable, at a port
-/// and at the ports of a channel.
+/// Makes the seats due that may go on by the news. At a mailbox or an m-variable this is one seat for each want. At an
+/// i-variable, at a port and at the ports of a channel it is all that wait.
 pub fn tell<M: Message, L: MessageLog<M>>(
     board: &Board<M, L>,
     seats: &mut Seats,
@@ -43,7 +43,7 @@ pub fn tell<M: Message, L: MessageLog<M>>(
     }
 }
 
-/// Makes due who may go on by a value in this variable.
+/// Makes the seats due that may go on by a value in this variable.
 fn tell_value<M: Message, L: MessageLog<M>>(board: &Board<M, L>, seats: &mut Seats, name: Name)
     requires placed { AreAt board.now.history seats.old.places }
     requires of { IsOf board.now.history (News.Value name) }
@@ -96,7 +96,7 @@ pub fn object_of(want: Want) -> Name
     }
 }
 
-/// Rouses each seat that waits, where all are due: then each that is due has a notice.
+/// Rouses each seat that waits, if all are due: then each that is due has a notice.
 pub fn rouse_due(seats: &mut Seats)
     ensures alike { AreAlike seats.old.places seats.new.places }
     ensures quiet { (number : ℕ) (waiter : Waiter) → IsQuiet seats.new.places number waiter → seats.old.all_due ≡ false }

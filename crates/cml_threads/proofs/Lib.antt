@@ -1,3 +1,4 @@
 pub mod Counting
 pub mod Tallying
 pub mod Lasting
+pub mod Restoring

@@ -1,4 +1,4 @@
--- What becomes of a seat's call in a hall.
+-- How a seat's call in a hall ends.
 use Rattle.std.specs.Prelude.{ℕ, ◌≡◌, ◌+◌, Bool}
 use Rattle.cml_board.specs.declared.call.Call.{Call}
 use Rattle.cml_board.specs.declared.outcome.Outcome.{Outcome}
@@ -13,7 +13,7 @@ module _ {M : Type 0} where
   Tallies book book' before after (Answered answer) = (after ≡ raised before) × (book' ≡ book + 1)
   Tallies book book' before after told = (after ≡ before) × (book' ≡ book)
 
-  -- what becomes of it in the room, and how it is counted; `may` says that the seat may make the call
+  -- how the call ends in the room, and how it is counted; `may` says that the seat may make the call
   abbrev pub Asks : ℕ → Bool → Type 0 → Hosted M → Hosted M → Sitting → Sitting → Call M → Outcome M → Type 0
   Asks chunk sure may old new before after call told =
       room.Asks chunk sure may (room_of old) (room_of new) before.number call told × Tallies old.book new.book before after told

@@ -93,23 +93,27 @@ impl Bell {
     }
 }
 
-/// The bells of all seats, by number. They are read without the lock.
+/// The bells of all seats from one on, by number. They are read without the lock.
 #[derive(Drop)]
 pub struct Bells {
+    // The seats before this one have left, and need no bell.
+    first: usize,
     // Apart from each other, so that a thread which looks doesn't slow another's down.
     bells: Table<CachePadded<Bell>>,
 }
 
 impl Bells {
-    pub fn new(alloc: Global) -> Result<Bells, AllocError> {
+    /// The bells of seats from the number `first` on.
+    pub fn new(alloc: Global, first: usize) -> Result<Bells, AllocError> {
         Ok(Bells {
+            first,
             bells: Table::new(alloc)?,
         })
     }
 
     /// Sees that the seat of the next number has a bell, where so many seats were made. One thread at a time may call it.
     pub fn hang<R: Wait>(&self, rt: &R, seats: usize) -> Result<(), AllocError> {
-        if self.bells.count() > seats {
+        if self.bells.count() > seats.saturating_sub(self.first) {
             return Ok(());
         }
         match self.bells.push(rt, CachePadded::new(Bell::new())) {
@@ -120,7 +124,7 @@ impl Bells {
 
     /// Wakes the seat's thread, for a call of another seat. If it doesn't sleep yet, it won't. Whether it slept.
     pub fn ring(&self, seat: u64, by: u64) -> bool {
-        match self.bells.get(seat as usize) {
+        match self.bell(seat) {
             Some(bell) => bell.ring(by),
             None => false,
         }
@@ -129,7 +133,7 @@ impl Bells {
     /// The seat has just made a call and rung for another one, which slept or not. If that one slept, or had rung for this seat, it
     /// may answer soon: so in its next wait this seat's thread may look for longer.
     pub fn note_rung(&self, seat: u64, other: u64, slept: bool) {
-        if let Some(bell) = self.bells.get(seat as usize)
+        if let Some(bell) = self.bell(seat)
             && (slept || bell.rung_by.load(Ordering::Relaxed) == other)
         {
             bell.is_answer_near.store(1, Ordering::Relaxed);
@@ -138,8 +142,12 @@ impl Bells {
 
     /// Waits until the seat's bell was rung, once for each wait.
     pub fn wait<R: Wait>(&self, rt: &R, seat: u64) {
-        if let Some(bell) = self.bells.get(seat as usize) {
+        if let Some(bell) = self.bell(seat) {
             bell.wait(rt);
         }
+    }
+
+    fn bell(&self, seat: u64) -> Option<&CachePadded<Bell>> {
+        self.bells.get((seat as usize).checked_sub(self.first)?)
     }
 }

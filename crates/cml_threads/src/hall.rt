@@ -14,6 +14,7 @@ mod counting;
 mod due;
 mod feeds;
 mod lanes;
+mod restoring;
 mod settling;
 
 use crate::seat::Seat;
@@ -24,11 +25,11 @@ use std::alloc::{AllocError, Global};
 use std::marker::Model;
 use std::sync::ledger::{Blank, Book, Ledger, Share};
 
-/// How many parts a hall's ledger is cut into: more than there can be seats. A `Blank` is made with as many.
+/// How many parts a hall's ledger has: more than there can be seats. Make the `Blank` with as many.
 pub const PARTS: u64 = 1 << 63;
 
-/// What the lock of a switchboard holds: a room, which is the board with its lanes, its feeds and its seats, and the book
-/// of a ledger in which each answer is counted. None of its calls waits.
+/// The content of a switchboard's lock: a room and the book of a ledger that counts each answer. The room is the board with
+/// its lanes, its feeds and its seats. None of its calls blocks.
 #[derive(Drop)]
 pub struct Hall<M, L: MessageLog<M>, Led: Ledger> {
     room: Room<M, L>,
@@ -48,8 +49,8 @@ impl<M, L: MessageLog<M>, Led: Ledger> Model for Hall<M, L, Led> {
 }
 
 impl<M: Message, L: MessageLog<M>, Led: Ledger> Hall<M, L, Led> {
-    /// A hall with no seats, no lanes and no feeds, on a board with no objects whose journal takes `limit` entries between
-    /// two cuts. The blank is `Blank::new(PARTS)`, and names the hall's ledger.
+    /// Makes a hall with no seats, no lanes and no feeds, on a board with no objects. Its journal takes `limit` entries
+    /// between two cuts. The blank is `Blank::new(PARTS)`, and names the hall's ledger.
     pub fn new(alloc: Global, limit: u64, blank: Blank) -> Result<Hall<M, L, Led>, AllocError>
         requires least { 1 ≤ limit }
         requires most { limit ≤ 2 ^ 32 }
@@ -67,8 +68,8 @@ impl<M: Message, L: MessageLog<M>, Led: Ledger> Hall<M, L, Led> {
         Ok(Hall { room, book, rest })
     }
 
-    /// The board, as it is while nobody makes a call. What the journal is and what the objects hold are facts of a
-    /// hall's type: they hold of each hall, and so whenever the lock of a switchboard is free.
+    /// Lends the board, as it is between two calls. The facts of the journal and of the objects are facts of a hall's type.
+    /// So they hold of each hall, and whenever the lock of a switchboard is free.
     pub fn board(&self) -> &Board<M, L>
         ensures board { result.now ≡ self.now.board }
 
@@ -98,14 +99,14 @@ impl<M: Message, L: MessageLog<M>, Led: Ledger> Hall<M, L, Led> {
         // What each log really holds, from which place on, and which cursors are open in it.
         ensures logs { KeepsLogs L.CHUNK self.now.board }
 
-        // The same of the entries since the last cut: what was received since, followed by what waits, is what waited at the
+        // The same for the entries since the last cut: what was received since, followed by what waits, is what waited at the
         // cut, followed by what was sent since.
         ensures since { KeepsSince L.CHUNK self.now.board }
     {
         self.room.board()
     }
 
-    /// Takes memory for `n` more entries, as `Floor::reserve` does, for all seats, lanes and feeds. The only refusal is `NoMemory`.
+    /// Reserves memory for `n` more entries of any seat, lane or feed, as `Floor::reserve` does. Fails only with `NoMemory`.
     pub fn reserve(&mut self, n: usize) -> Result<(), Refusal>
         ensures reserves { Reserves (floor_of self.old) (floor_of self.new) n result }
         ensures rings { KeepsRings (floor_of self.old) (floor_of self.new) }
@@ -115,8 +116,8 @@ impl<M: Message, L: MessageLog<M>, Led: Ledger> Hall<M, L, Led> {
         self.room.reserve(n)
     }
 
-    /// Cuts the journal, as `Floor::cut` does: a seat that waits goes on waiting, and what each was answered stays counted.
-    /// The only refusal is `Busy`, where a lane or a feed is open.
+    /// Cuts the journal, as `Floor::cut` does. A seat that waits goes on waiting, and all answers stay counted. Fails only
+    /// with `Busy`, if a lane or a feed is open.
     pub fn cut(&mut self) -> Result<(), Refusal>
         ensures cut { CutsAFloor (floor_of self.old) (floor_of self.new) result }
         ensures reserved { self.old.board.reserved ≤ self.new.board.reserved }
@@ -127,7 +128,7 @@ impl<M: Message, L: MessageLog<M>, Led: Ledger> Hall<M, L, Led> {
         self.room.cut()
     }
 
-    /// Cuts the journal and hands over the entries that it had, as `Floor::take_journal` does; refused as `cut` is.
+    /// Cuts the journal and returns the entries that it had, as `Floor::take_journal` does. Fails as `cut` does.
     pub fn take_journal(&mut self) -> Result<Vec<Entry<M>>, Refusal>
         ensures taken { IfOk result (λ taken. reverse taken.items ++ self.old.board.past ≡ self.old.board.history) }
         ensures cut { MatchResult result (λ _. CutsFloor (floor_of self.old) (floor_of self.new)) (NotCut (floor_of self.old) (floor_of self.new)) }
@@ -138,7 +139,7 @@ impl<M: Message, L: MessageLog<M>, Led: Ledger> Hall<M, L, Led> {
         self.room.take_journal()
     }
 
-    /// A new seat, which is free and has the next number. Only want of memory refuses it.
+    /// Makes a new seat, which is free and has the next number. Fails only with `NoMemory`.
     pub fn new_seat(&mut self) -> Result<Seat<Led>, Refusal>
         ensures seat { IfOk result (λ seat. seat ≡ record { number = length self.old.seats; share = 0 }) }
         ensures seats { OnOk result (self.new.seats ≡ self.old.seats ++ State.Free ∷ []) }
@@ -152,8 +153,8 @@ impl<M: Message, L: MessageLog<M>, Led: Ledger> Hall<M, L, Led> {
         Ok(Seat::new(number, self.rest.split_off(1, 0)))
     }
 
-    /// The seat leaves: it makes no more calls. It is refused, `Gone`, where the seat
-    /// waits or has left before.
+    /// Makes the seat leave: it makes no more calls. Fails with `Gone` if the seat waits or has left before. If no seat is
+    /// free then, all that wait are due.
     pub fn leave(&mut self, seat: &Seat<Led>) -> Result<(), Refusal>
         ensures left { OnOk result (MayAsk self.old seat.now.number
             × (self.new.seats ≡ with_state self.old seat.now.number State.Left)) }

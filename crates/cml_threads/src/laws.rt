@@ -1,4 +1,4 @@
-//! What the calls of a hall come to, over a run of them.
+//! Laws of runs of calls in a hall.
 ghost use Rattle.std.specs.Prelude.{◌≡◌, ℕ, ◌+◌, ◌<◌, ◌≤◌, Bool, true, List};
 ghost use Rattle.cml_board.specs.declared.call.Call.{Call};
 ghost use Rattle.cml_board.specs.declared.outcome.Refusal.TheVariants.{NoMemory};
@@ -13,17 +13,17 @@ ghost use Rattle.cml_threads.specs.Hosting.{Hosted, floor_of, MayAsk, MayAskAgai
 ghost use Rattle.cml_threads.specs.Asking.{Asks};
 ghost use Rattle.cml_threads.specs.Running.{HallCall, AreMade, keeps_entries};
 
-/// What the calls of a hall do to its floor, calls of a floor do: so what is a law of all runs on a floor holds in a hall.
+/// Shows that calls of a floor do to the hall's floor what the hall's calls do. So each law of runs on a floor holds in a hall.
 pub fn halls_call_their_floor<M>()
     ensures { (chunk : ℕ) (sure : Bool) (calls : List (HallCall M)) (old new : Hosted M)
         → AreMade chunk sure calls old new
         → (under : List (FloorCall M)) × AreCalled chunk sure under (floor_of old) (floor_of new) }
 {}
 
-/// Over a run of calls in a hall, what was reserved is lost by added entries alone, one by each, whoever made them. So while
-/// fewer were added than were reserved, want of memory refuses no seat's call, made for the first time or again, and stops
-/// no lane and no feed, where the next entry is all that takes memory. A journal that is handed over takes what stood
-/// reserved with it.
+/// Shows that over a run of calls in a hall only added entries use up reserved memory, one each, of any seat, lane or feed.
+/// Suppose that fewer entries were added than were reserved, and that only the next entry needs memory. Then no seat's call,
+/// made for the first time or again, fails for want of memory, and no lane or feed stops. `take_journal` hands the reserved
+/// memory over.
 pub fn reserved_lasts_in_a_hall<M>()
     ensures lasts { (chunk : ℕ) (sure : Bool) (calls : List (HallCall M)) (old new : Hosted M)
         → AreMade chunk sure calls old new

@@ -1,4 +1,4 @@
-//! Threads that share one room: its lock, their seats, how they wait for each other, and a ledger of their answers.
+//! Threads that share one room: its lock, their seats, how they block and wake each other, and a ledger of their answers.
 #![tactic(auto)]
 
 mod bells;

@@ -6,10 +6,10 @@ use std::sync::atomic::{AtomicU64, Ordering};
 /// In how many looks a thread spins for longer each time, and then lets another thread run once.
 const FIRST: u32 = 8;
 
-/// A thread looks so often at a word. It spins between two looks: in the first seven each time twice as long, then for as long as
-/// in the seventh. Behind the eighth look it lets another thread run. It does so only once in a wait, since on a busy machine that
-/// gives up the whole time slice, and to sleep is better then. Once it has looked in vain, it doesn't look in its next waits: in one, and then in twice as many each time. For
-/// that thread alone.
+/// How often a thread looks at a word, for that thread alone. It spins between two looks: in the first seven each time twice
+/// as long, then for as long as in the seventh. After the eighth look it lets another thread run. It does so only once in a
+/// wait, since on a busy machine that gives up the whole time slice, and sleeping is better then. Once it has looked in
+/// vain, it does not look in its next wait, and then in twice as many waits each time.
 #[derive(Drop)]
 pub struct Looks {
     times: u32,

@@ -4,9 +4,8 @@ ghost use Rattle.cml_threads.specs.Seating.{Sitting, raised};
 use std::marker::Model;
 use std::sync::ledger::{Book, Ledger, Share};
 
-/// The right to make calls on one switchboard or hall. A seat is one thread's: it is moved into that thread, and given
-/// back as a `Left`. A seat that is dropped before it was left takes its part of the ledger along, and then `settle`
-/// hands everything back.
+/// The right to make calls on one switchboard or hall. A seat belongs to one thread: move it into that thread, and get it
+/// back as a `Left`. If you drop a seat instead, its part of the ledger is lost, and `settle` then always fails.
 #[derive(Drop)]
 pub struct Seat<Led: Ledger> {
     number: u64,
@@ -14,8 +13,7 @@ pub struct Seat<Led: Ledger> {
     share: Share<Led>,
 }
 
-/// A seat that makes no more calls: what `settle` counts. One of another switchboard has another ledger, and so is of
-/// another type.
+/// A seat that makes no more calls. `settle` counts it. One of another switchboard has another ledger, and so another type.
 #[derive(Drop)]
 pub struct Left<Led: Ledger> {
     number: u64,
@@ -58,15 +56,15 @@ impl<Led: Ledger> Seat<Led> {
         }
     }
 
-    /// Its number: how many seats were made before it.
+    /// Returns the seat's number, which is how many seats were made before it.
     pub fn number(&self) -> u64
         ensures { result ≡ self.now.number }
     {
         self.number
     }
 
-    /// The seat's end. Leave it first: a seat that hasn't left counts as one that may still go on, and keeps others
-    /// from being told that they are stalled.
+    /// Ends the seat. Leave first: a seat that has not left counts as one that may still go on, and keeps the others' calls
+    /// from failing with `Stalled`.
     pub fn into_left(self) -> Left<Led>
         ensures { result ≡ self }
     {
@@ -95,21 +93,33 @@ impl<Led: Ledger> Seat<Led> {
 }
 
 impl<Led: Ledger> Left<Led> {
-    /// The number that its seat had.
+    pub(crate) fn new(number: u64, answers: u64, share: Share<Led>) -> Left<Led>
+        requires parts { share.parts ≡ 1 }
+        requires amount { share.amount ≡ answers }
+        ensures { result ≡ record { number = number; share = answers } }
+    {
+        Left {
+            number,
+            answers,
+            share,
+        }
+    }
+
+    /// Returns the number of its seat.
     pub fn seat(&self) -> u64
         ensures { result ≡ self.now.number }
     {
         self.number
     }
 
-    /// How many calls of its seat were answered: its share of what `settle` counts.
+    /// Returns how many calls of its seat were answered, which is its share of what `settle` counts.
     pub fn answers(&self) -> u64
         ensures { result ≡ self.now.share }
     {
         self.answers
     }
 
-    /// Adds its share to the rest, and gives how many answers were counted for it.
+    /// Adds its share to the rest, and returns how many answers were counted for it.
     pub(crate) fn join_to(self, book: &mut Book<Led>, rest: &mut Share<Led>) -> u64
         ensures answers { result ≡ self.share }
         ensures total { book.new.total ≡ book.old.total }

@@ -8,7 +8,7 @@ use cml_board::{Board, Message};
 use cml_log::MessageLog;
 use std::marker::Model;
 
-/// What is left of a switchboard or a hall that all seats have left: its board, for good, and the counts of its entries.
+/// The rest of a switchboard or a hall that all seats have left: its board, and the counts of its entries.
 #[derive(Drop)]
 pub struct Settled<M, L: MessageLog<M>> {
     board: Board<M, L>,
@@ -16,8 +16,8 @@ pub struct Settled<M, L: MessageLog<M>> {
     rings: u64,
 }
 
-/// How many answers were counted for seats, how many entries are of lanes and feeds, and how many entries there were
-/// since the board was made, which is their sum.
+/// The counts of entries: the answers counted for seats, the entries of lanes and feeds, and all entries since the board was
+/// made. The last is the sum of the other two.
 #[derive(Clone, Copy, Debug, PartialEq, Eq)]
 pub struct Count {
     pub seats: u64,
@@ -51,8 +51,8 @@ impl<M: Message, L: MessageLog<M>> Settled<M, L> {
         }
     }
 
-    /// The board, with all that always holds of one: an answer that a seat was given since the last cut is confirmed here,
-    /// and one from before that is not.
+    /// Lends the board, with all that always holds of one. Its `confirm` says yes to an answer that a seat got since the last
+    /// cut, and no to one from before that.
     pub fn board(&self) -> &Board<M, L>
         ensures board { result.now ≡ self.now.board }
         ensures lawful { Lawful self.now.board.history }
@@ -63,7 +63,7 @@ impl<M: Message, L: MessageLog<M>> Settled<M, L> {
         ensures logs { KeepsLogs L.CHUNK self.now.board }
         ensures since { KeepsSince L.CHUNK self.now.board }
     {
-        // The facts are those that the journal's reader tells.
+        // These facts are in the contract of the board's `journal`.
         let _journal = self.board.journal();
         &self.board
     }

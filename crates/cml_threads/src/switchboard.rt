@@ -1,4 +1,4 @@
-ghost use Rattle.std.specs.Prelude.{◌≡◌, ◌+◌, ◌^◌, ◌≤◌, true, IfOk, IfErr, OnOk};
+ghost use Rattle.std.specs.Prelude.{ℕ, ◌≡◌, ◌+◌, ◌^◌, ◌≤◌, true, slice_get, Some, vec_len, IfOk, IfErr, OnOk};
 ghost use Rattle.cml_board.specs.declared.outcome.Refusal.TheVariants.{Busy, NoMemory};
 ghost use Rattle.cml_board.specs.Waiting.{want_in};
 ghost use Rattle.cml_board.specs.History.{entries_in, rings_in};
@@ -15,30 +15,30 @@ use crate::bells::Bells;
 use crate::hall::Hall;
 use crate::seat::{Left, Seat};
 use crate::settled::Settled;
-use cml_board::{Answer, Call, Entry, Message, Outcome, Refusal, Reply};
+use cml_board::{Answer, Call, Entry, Message, Outcome, Refusal, Reply, Restored};
 use cml_log::MessageLog;
 use crossbeam_utils::CachePadded;
 use std::alloc::{AllocError, Global};
 use std::sync::ledger::{Blank, Ledger};
 use std::sync::{Mutex, MutexGuard, Wait};
 
-/// What threads share: a hall under one lock. Each thread makes its calls by a seat of its own. A call that would wait
-/// waits, and is made again when its seat is due. Each call wakes one seat at most, of those that are due, and a thread that
-/// is woken makes a call, which wakes the next. While the lock is held none of a caller's code runs but a message's own
-/// `share` and its end.
+/// A hall under one lock, which threads share. Each thread makes its calls by its seat. A call that would wait blocks, and is
+/// made again when its seat is due. Each call wakes at most one of the seats that are due. A thread that is woken makes a
+/// call, which wakes the next. The only code of a caller that runs while the lock is held is a message's `share` and its
+/// drop.
 ///
-/// A contract here can tell of what the caller holds, the call, the answer and the seat, but not of the board: another
-/// thread may change it before the caller looks. What holds whenever the lock is free is what `Hall::board` tells, and
-/// what was answered is seen at the end, in what `settle` gives.
+/// A contract here is about what the caller holds: the call, the answer and the seat. It says nothing of the board, which
+/// another thread may change before the caller looks. Whenever the lock is free, the facts of `Hall::board` hold. At the
+/// end, `settle` returns the board with all that was answered.
 #[derive(Drop)]
 pub struct Switchboard<M, L: MessageLog<M>, Led: Ledger> {
-    // Apart from the lock's own word, which those who wait for the lock look at while its holder writes.
+    // Apart from the lock's word, at which threads that wait for the lock look while its holder writes.
     hall: Mutex<CachePadded<Hall<M, L, Led>>>,
     bells: Bells,
 }
 
 impl<M: Message, L: MessageLog<M>, Led: Ledger> Switchboard<M, L, Led> {
-    /// A switchboard with no seats and no objects, whose journal takes `limit` entries between two cuts. The blank is
+    /// Makes a switchboard with no seats and no objects. Its journal takes `limit` entries between two cuts. The blank is
     /// `Blank::new(PARTS)`, and names the switchboard's ledger.
     pub fn new(
         alloc: Global,
@@ -53,11 +53,31 @@ impl<M: Message, L: MessageLog<M>, Led: Ledger> Switchboard<M, L, Led> {
     {
         Ok(Switchboard {
             hall: Mutex::new(CachePadded::new(Hall::new(alloc, limit, blank)?)),
-            bells: Bells::new(alloc)?,
+            bells: Bells::new(alloc, 0)?,
         })
     }
 
-    /// A new seat. Only want of memory refuses it. Make all seats before the first thread begins to wait, and keep none
+    /// Makes a switchboard that goes on from a journal, and the lefts of the seats that made its entries, as `Hall::restore`
+    /// returns them. New seats are numbered behind these. Keep the lefts for `settle`.
+    pub fn restore(
+        alloc: Global,
+        restored: Restored<M, L>,
+        blank: Blank,
+    ) -> Result<(Switchboard<M, L, Led>, Vec<Left<Led>>), AllocError>
+        requires name { blank.name ≡ Led.name }
+        requires parts { blank.parts ≡ Led.parts }
+        requires enough { blank.parts ≡ 2 ^ 63 }
+        ensures lefts { IfOk result (λ made. vec_len made.1 ≡ restored.makers.seats) }
+        ensures numbers { IfOk result (λ made. (number : ℕ) (left : Sitting) → slice_get made.1.items number ≡ Some left → left.number ≡ number) }
+        ensures answers { IfOk result (λ made. answers_in made.1.items + rings_in restored.board.history ≡ entries_in restored.board.history) }
+    {
+        let (hall, lefts) = Hall::restore(alloc, restored, blank)?;
+        let bells = Bells::new(alloc, hall.seats())?;
+        let hall = Mutex::new(CachePadded::new(hall));
+        Ok((Switchboard { hall, bells }, lefts))
+    }
+
+    /// Makes a new seat. Fails only with `NoMemory`. Make all seats before the first thread begins to wait. Keep no free seat
     /// while you wait for the threads themselves, as by a join: while a seat is free, no call fails with `Stalled`.
     pub fn seat<R: Wait>(&self, rt: &R) -> Result<Seat<Led>, Refusal>
         ensures share { IfOk result (λ seat. seat.share ≡ 0) }
@@ -70,26 +90,25 @@ impl<M: Message, L: MessageLog<M>, Led: Ledger> Switchboard<M, L, Led> {
         hall.new_seat()
     }
 
-    /// Takes memory for `n` more entries, as `Hall::reserve` does: it may be refused, `NoMemory`, and for nothing else. Who
-    /// uses it nobody can say: any thread's entries do, those of lanes and feeds too, and some may be added before the
-    /// caller's next call.
+    /// Reserves memory for `n` more entries, as `Hall::reserve` does. Fails only with `NoMemory`. The entries of any thread,
+    /// lane or feed use it, and some may be added before the caller's next call.
     pub fn reserve<R: Wait>(&self, rt: &R, n: usize) -> Result<(), Refusal>
         ensures { IfErr result (λ refusal. refusal ≡ NoMemory) }
     {
         self.hall.lock(rt).reserve(n)
     }
 
-    /// Cuts the journal, as `Hall::cut` does: it may be refused, `Busy`, where a lane or a feed is open, and for nothing
-    /// else. Who waits goes on waiting, since no call would be answered otherwise. All that the journal had is dropped under
-    /// the lock; `take_journal` hands it over instead, to be dropped or written elsewhere.
+    /// Cuts the journal, as `Hall::cut` does. Fails only with `Busy`, if a lane or a feed is open. A blocked thread stays
+    /// blocked, since a cut changes no call's answer. The journal's entries are dropped under the lock; `take_journal` returns
+    /// them instead, so that you can drop or write them elsewhere.
     pub fn cut<R: Wait>(&self, rt: &R) -> Result<(), Refusal>
         ensures { IfErr result (λ refusal. refusal ≡ Busy) }
     {
         self.hall.lock(rt).cut()
     }
 
-    /// Cuts the journal and hands over the entries that it had, oldest first, as `Hall::take_journal` does; refused as `cut`
-    /// is. Where nothing else cuts it, what is handed over so, piece by piece, is all that was accepted, once each.
+    /// Cuts the journal and returns the entries that it had, oldest first, as `Hall::take_journal` does. Fails as `cut` does.
+    /// If nothing else cuts the journal, the pieces that it returns are all accepted calls, each once.
     pub fn take_journal<R: Wait>(&self, rt: &R) -> Result<Vec<Entry<M>>, Refusal>
         ensures { IfErr result (λ refusal. refusal ≡ Busy) }
     {
@@ -97,7 +116,7 @@ impl<M: Message, L: MessageLog<M>, Led: Ledger> Switchboard<M, L, Led> {
     }
 
     /// Makes a call, and blocks until it returns or fails. It may block for ever, if no thread sends what it waits for. A call
-    /// that fails is handed back, and did nothing.
+    /// that fails is returned, and did nothing.
     ///
     /// `Stalled` means that the call would block, that each other seat is blocked too or has left, and that no lane is open. So
     /// no seat and no lane could ever answer it. The seat is free then: make another call, which may let others go on, or
@@ -129,8 +148,8 @@ impl<M: Message, L: MessageLog<M>, Led: Ledger> Switchboard<M, L, Led> {
         unreachable!()
     }
 
-    /// The seat leaves. If no seat is free then, all that wait look again whether they can go on: they may be stalled now. Leave
-    /// whatever became of your calls, since no call fails with `Stalled` while your seat is free.
+    /// Makes the seat leave. If no seat is free then, all blocked threads look again whether they can go on, since they may be
+    /// stalled now. Leave even if your calls failed: no call fails with `Stalled` while your seat is free.
     pub fn leave<R: Wait>(&self, rt: &R, seat: Seat<Led>) -> Left<Led>
         ensures { result ≡ seat }
     {
@@ -140,9 +159,9 @@ impl<M: Message, L: MessageLog<M>, Led: Ledger> Switchboard<M, L, Led> {
         seat.into_left()
     }
 
-    /// The end, for when all threads are joined: the board, with the counts of its entries. It needs the lefts of all
-    /// seats that were made, else all is handed back; so where a seat was dropped it never succeeds, and `into_hall` is
-    /// what is left.
+    /// Ends the switchboard, once all threads are joined: returns the board, with the counts of its entries. Needs the lefts
+    /// of all seats that were made; otherwise it fails, and returns the switchboard and the lefts. So if a seat was dropped
+    /// it always fails; use `into_hall` then.
     pub fn settle(
         self,
         lefts: Vec<Left<Led>>,
@@ -162,15 +181,15 @@ impl<M: Message, L: MessageLog<M>, Led: Ledger> Switchboard<M, L, Led> {
         }
     }
 
-    /// What the lock held. Where a seat was lost, so that it can't be settled, the board is still to be read: its clauses
-    /// are those of `Hall::board`.
+    /// Returns the content of the lock. If a seat was lost, so that `settle` always fails, read the board in this way: the
+    /// facts of `Hall::board` hold of it.
     pub fn into_hall(self) -> Hall<M, L, Led> {
         let Switchboard { hall, bells: _ } = self;
         hall.into_inner().into_inner()
     }
 
-    /// Makes the seat's call, and wakes one that is due. Parked, the seat waits at its bell next: what comes for it from now on
-    /// has it rung, and the ring is kept.
+    /// Makes the seat's call, and wakes a seat that is due. If the seat is parked, it waits at its bell next. What comes for it
+    /// from now on rings the bell, and the ring is kept.
     fn ask<R: Wait>(&self, rt: &R, seat: &mut Seat<Led>, call: Call<M>) -> Outcome<M>
         ensures { Tells seat.old seat.new call result }
     {
@@ -180,7 +199,7 @@ impl<M: Message, L: MessageLog<M>, Led: Ledger> Switchboard<M, L, Led> {
         outcome
     }
 
-    /// The same where the seat is parked.
+    /// The same for a parked seat.
     fn ask_again<R: Wait>(&self, rt: &R, seat: &mut Seat<Led>, call: Call<M>) -> Outcome<M>
         ensures { Tells seat.old seat.new call result }
     {
@@ -190,14 +209,14 @@ impl<M: Message, L: MessageLog<M>, Led: Ledger> Switchboard<M, L, Led> {
         outcome
     }
 
-    /// Unlocks the hall, and then wakes one seat that is due, if there is one that wasn't woken. It is taken under the lock. Its
-    /// thread locks the hall next, makes its call, and comes by here too.
+    /// Unlocks the hall, and then wakes one seat that is due, if there is one that was not woken. It is taken under the lock.
+    /// Its thread locks the hall next, makes its call, and then does the same.
     fn let_go(&self, hall: MutexGuard<'_, CachePadded<Hall<M, L, Led>>>) {
         let mut hall = hall;
         let due = hall.next_due();
         drop(hall);
         if let Some(due) = due {
-            // No seat's call rang, so nobody is noted whom this seat may answer: no seat rings for itself.
+            // No seat's call rang, so the bell notes no seat that this one may answer: no seat rings for itself.
             self.bells.ring(due, due);
         }
     }
@@ -213,7 +232,7 @@ impl<M: Message, L: MessageLog<M>, Led: Ledger> Switchboard<M, L, Led> {
         }
     }
 
-    /// Makes a call, and gives what its answer replies.
+    /// Makes a call, and returns its reply.
     fn reply<R: Wait>(
         &self,
         rt: &R,
@@ -229,7 +248,7 @@ impl<M: Message, L: MessageLog<M>, Led: Ledger> Switchboard<M, L, Led> {
     }
 }
 
-/// `Hall::ask`, of which the caller of a switchboard can be told this much.
+/// `Hall::ask`, with as much of its contract as holds for the caller of a switchboard.
 fn ask<M: Message, L: MessageLog<M>, Led: Ledger>(
     hall: &mut Hall<M, L, Led>,
     seat: &mut Seat<Led>,

@@ -3,6 +3,7 @@ mod crew;
 mod cutting;
 mod forms;
 mod refusing;
+mod restoring;
 mod rings;
 mod scene;
 mod senders;
@@ -14,10 +15,10 @@ use crew::Crew;
 use scene::{Scene, performed};
 use std::process::Abort;
 
-/// How many entries a journal takes where a scene needs no limit.
+/// How many entries a journal takes if a scene needs no limit.
 const MANY: u64 = 65_536;
 
-/// How many entries each scene's journal takes, and what the scene comes to.
+/// How many entries each scene's journal takes, and the scene's result.
 const SCENES: &[(u64, Scene, &str)] = &[
     (MANY, Scene::Alone(rings::STEPS), rings::TOLD),
     (MANY, Scene::Threads(Crew::Callers), verdict::CALLERS),
@@ -51,4 +52,9 @@ fn plays_scenes_of_threads(rt: HostRuntime) {
         );
     }
     is_same(&rt, counting::told(rt.alloc()).as_str(), counting::TOLD);
+    is_same(
+        &rt,
+        restoring::told(&rt, rt.alloc()).as_str(),
+        restoring::TOLD,
+    );
 }

@@ -1,4 +1,4 @@
-//! Feeds are opened, pumped and ended.
+//! The calls that open, pump and end feeds.
 ghost use Rattle.std.specs.Prelude.{ℕ, ◌≡◌, ◌≤◌, ◌<◌, true, length, IfOk, IfErr, IfNone, IfSome, MatchOption};
 ghost use Rattle.cml_board.specs.declared.call.Call.TheVariants.{NewPort};
 ghost use Rattle.cml_board.specs.History.{Fits, Lawful};
@@ -16,16 +16,16 @@ use cml_log::MessageLog;
 use rtrb::RingBuffer;
 
 impl<M: Message, L: MessageLog<M>> Floor<M, L> {
-    /// Opens a feed of what is multicast on a channel from now on, whose ring has room for `capacity` messages, and tells
-    /// its number. The feed has a port of its own, which is made for it. It is refused `NoSuch`, `WrongKind`,
-    /// `JournalFull` and `NoMemory` just where the port would be, and for want of memory for the ring.
+    /// Opens a feed of what is multicast on a channel from now on, with room for `capacity` messages in its ring. Makes the
+    /// feed's port. Returns the feed and its number. Fails with `NoSuch`, `WrongKind` or `JournalFull` if making the port
+    /// would, and with `NoMemory`.
     pub fn open_feed(&mut self, channel: Name, capacity: usize) -> Result<(Feed<M>, u64), Refusal>
         requires least { 1 ≤ capacity }
         requires most { capacity ≤ MAX_CAPACITY }
         ensures opens { OpensAFeed L.CHUNK M.SURE self.old self.new channel capacity result }
         ensures rings { (number : ℕ) → number < length self.old.feeds → SameFeedRing number self.old self.new }
     {
-        // What refuses the port is told before any memory is asked for.
+        // The other refusals of the port come before any memory is allocated.
         if let Some(refusal) = port_refusal(&self.board, channel) {
             return Err(refusal);
         }
@@ -41,9 +41,9 @@ impl<M: Message, L: MessageLog<M>> Floor<M, L> {
         Ok((Feed::new(consumer, number, port), number))
     }
 
-    /// Receives from an open feed's port what it is owed, in order, each by a call of the feed's own, and puts it into the
-    /// ring while a slot is known to be free: how many messages. It stops where one is refused, and is itself refused,
-    /// `JournalFull` or `NoMemory`, only where that was the first; `NoSuch` where no open feed has the number.
+    /// Receives the messages that an open feed's port is owed into the feed's ring, in order, while it sees a free slot. Each
+    /// is a call of the feed. Returns how many. It stops at a message whose call fails. Fails with `JournalFull` or `NoMemory`
+    /// only if the first call does, and with `NoSuch` if no open feed has the number.
     pub fn pump(&mut self, feed: u64) -> Result<usize, Refusal>
         ensures pumps { Pumps L.CHUNK M.SURE feed self.old self.new result }
         ensures rings { KeepsRings self.old self.new }
@@ -61,7 +61,7 @@ impl<M: Message, L: MessageLog<M>> Floor<M, L> {
         Ok(count)
     }
 
-    /// Pumps an open feed until one is refused: how many messages, and the refusal.
+    /// Pumps an open feed until a message is refused. Returns how many it pumped, and the refusal.
     fn pump_open(&mut self, feed: u64) -> (usize, Option<Refusal>)
         requires { is_open_feed self.old feed ≡ true }
         ensures until { OnFeed stays feed self.old self.new (PumpsUntil L.CHUNK M.SURE feed result.0 result.1 self.old.board self.new.board) }
@@ -70,9 +70,9 @@ impl<M: Message, L: MessageLog<M>> Floor<M, L> {
         self.feeds.pump(&mut self.board, feed)
     }
 
-    /// Ends an open feed for good: nothing more is put into its ring. What it gives tells the subscriber what is left
-    /// there; it gives `None` only where the subscriber has let go of the feed before. The port stays, and is a port like
-    /// any other from now on. `NoSuch` where no open feed has the number.
+    /// Ends an open feed for good: nothing more is put into its ring. Returns the end, by which `Feed::rest` returns what is
+    /// left there, or `None` if the subscriber has dropped the feed before. The port stays, and is from now on a port like
+    /// any other. Fails with `NoSuch` if no open feed has the number.
     pub fn end_feed(&mut self, feed: u64) -> Result<Option<FeedEnd<M>>, Refusal>
         ensures ends { Ends feed self.old self.new result }
         ensures rings { KeepsRings self.old self.new }
@@ -84,7 +84,7 @@ impl<M: Message, L: MessageLog<M>> Floor<M, L> {
     }
 }
 
-/// Why a board would make no port of this channel, but for want of memory.
+/// The reason, other than want of memory, why a board would make no port of this channel.
 fn port_refusal<M: Message, L: MessageLog<M>>(board: &Board<M, L>, channel: Name) -> Option<Refusal>
     ensures told { MatchOption result (Fits board.now.history (NewPort channel) × HasRoom board.now)
         (λ refusal. Refuses L.CHUNK M.SURE board.now (NewPort channel) refusal) }

@@ -1,4 +1,4 @@
-//! Lanes are opened, drained and closed.
+//! The calls that open, drain and close lanes.
 ghost use Rattle.std.specs.Prelude.{ℕ, ◌≤◌, ◌<◌, length};
 ghost use Rattle.cml_lanes.specs.Floor.{KeepsRings, SameRing, IsOfItsRing};
 ghost use Rattle.cml_lanes.specs.Lanes.{OpensALane, Drains, Closes, ClosesCounted, Drops, Abandons};
@@ -13,9 +13,9 @@ use cml_log::MessageLog;
 use rtrb::RingBuffer;
 
 impl<M: Message, L: MessageLog<M>> Floor<M, L> {
-    /// Opens a lane to a mailbox or a channel, which has room for `capacity` messages, and tells its number. It is
-    /// refused `NoSuch` where the target was never made, `WrongKind` where it takes no lane, and `NoMemory`. The journal
-    /// has no entry of it.
+    /// Opens a lane to a mailbox or a channel, with room for `capacity` messages. Returns the lane and its number. Adds no
+    /// entry to the journal. Fails with `NoSuch` if the target was never made, with `WrongKind` if it is no mailbox and no
+    /// channel, and with `NoMemory`.
     pub fn open_lane(&mut self, target: Name, capacity: usize) -> Result<(Lane<M>, u64), Refusal>
         requires least { 1 ≤ capacity }
         requires most { capacity ≤ MAX_CAPACITY }
@@ -39,9 +39,9 @@ impl<M: Message, L: MessageLog<M>> Floor<M, L> {
         Ok((Lane::new(producer, number), number))
     }
 
-    /// Moves the messages that are seen in the lane's ring into the journal, in order, each as a call of the lane's own:
-    /// how many. It stops where one is refused, and is itself refused, `JournalFull` or `NoMemory`, only where that was
-    /// the first; `NoSuch` where no open lane has the number.
+    /// Moves the messages that it sees in the lane's ring into the journal, in order, each as a call of the lane. Returns
+    /// how many it moved. It stops at a message whose call fails, and leaves that message in the ring. Fails with
+    /// `JournalFull` or `NoMemory` only if the first call does, and with `NoSuch` if no open lane has the number.
     pub fn drain(&mut self, lane: u64) -> Result<usize, Refusal>
         ensures drains { Drains L.CHUNK M.SURE lane self.old self.new result }
         ensures rings { KeepsRings self.old self.new }
@@ -59,9 +59,9 @@ impl<M: Message, L: MessageLog<M>> Floor<M, L> {
         Ok(count)
     }
 
-    /// Moves all that is left of a lane that has finished into the journal, and closes the lane. It is refused `NoSuch`
-    /// where no open lane has the end's number. `JournalFull` and `NoMemory` may come after work: each message that was
-    /// moved before has its entry, the others are in the ring, and the lane is open, so that the end may be tried again.
+    /// Moves all messages left on a finished lane into the journal, and closes the lane. Fails with `NoSuch` if no open lane
+    /// has the end's number. It may move some messages and then fail with `JournalFull` or `NoMemory`. Those have entries,
+    /// the others are in the ring, and the lane is open: try the returned end again.
     pub fn close_lane(&mut self, mut end: LaneEnd<M>) -> Result<(), (LaneEnd<M>, Refusal)>
         requires { IsOfItsRing self.old end }
         ensures closes { Closes L.CHUNK M.SURE self.old self.new end result }
@@ -78,9 +78,9 @@ impl<M: Message, L: MessageLog<M>> Floor<M, L> {
         Ok(())
     }
 
-    /// Moves what is seen of a lane that has finished, and closes the lane where then as many of its messages stand in
-    /// the journal as the end tells; else it is refused `Unseen`, and the lane stays open. This asks for no end of the
-    /// lane's own ring, but can tell of the count alone. The other refusals come as those of `close_lane`.
+    /// Moves the messages that it sees on a finished lane. Then it closes the lane if the journal has as many of its messages
+    /// as the end says. Fails with `Unseen` if it has not; the lane stays open. The end need not be of the lane's ring, but
+    /// only counts are compared. It has the other failures of `close_lane`.
     pub fn close_counted(&mut self, end: LaneEnd<M>) -> Result<(), (LaneEnd<M>, Refusal)>
         ensures closes { ClosesCounted L.CHUNK M.SURE self.old self.new end result }
         ensures rings { KeepsRings self.old self.new }
@@ -99,9 +99,9 @@ impl<M: Message, L: MessageLog<M>> Floor<M, L> {
         Ok(())
     }
 
-    /// Moves what is seen of a lane, and closes it where no message was refused: how many were moved, and whether it is
-    /// closed. It is refused as `drain` is; then, and where it tells that it isn't closed, the lane is open. Whether all
-    /// that was sent was seen, nothing tells.
+    /// Moves the messages that it sees on a lane, and closes the lane if none was refused. Returns how many it moved, and
+    /// whether the lane is closed. Fails as `drain` does, and then the lane is open. It does not say whether it saw all
+    /// messages that were sent.
     pub fn drop_lane(&mut self, lane: u64) -> Result<(usize, bool), Refusal>
         ensures drops { Drops L.CHUNK M.SURE lane self.old self.new result }
         ensures rings { KeepsRings self.old self.new }
@@ -120,7 +120,7 @@ impl<M: Message, L: MessageLog<M>> Floor<M, L> {
         Ok((count, false))
     }
 
-    /// Closes an open lane at once. What is left in its ring is dropped. `NoSuch` where no open lane has the number.
+    /// Closes an open lane at once, and drops the messages in its ring. Fails with `NoSuch` if no open lane has the number.
     pub fn abandon_lane(&mut self, lane: u64) -> Result<(), Refusal>
         ensures abandons { Abandons lane self.old self.new result }
         ensures rings { KeepsRings self.old self.new }

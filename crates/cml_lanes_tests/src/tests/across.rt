@@ -18,8 +18,8 @@ const MAILBOX: Name = Name(0);
 
 const CHANNEL: Name = Name(0);
 
-/// One thread sends numbers on a lane of capacity 2 while another drains it; once it is closed they stand in the journal,
-/// in order, each once.
+/// One thread sends numbers on a lane of capacity 2 while another drains it. Once it is closed, the journal has them in
+/// order, each once.
 pub fn all_go_across<R: Threads + Sync>(rt: &R, alloc: Global) -> Result<bool, AllocError> {
     let mut floor = floor(alloc, 2_000)?;
     floor.apply(SEAT, Call::NewMailbox);

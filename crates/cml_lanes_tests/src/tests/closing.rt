@@ -32,7 +32,7 @@ fn closed(floor: &mut Numbers) -> Option<(u64, bool, u64)> {
     Some((taken, is_closed, floor.open_lanes()))
 }
 
-/// Whether a lane stays open where the journal has no room for its third message, and whether its end closes nothing more
+/// Whether a lane stays open if the journal has no room for its third message, and whether its end closes nothing more
 /// once it is abandoned.
 pub fn stays_open_where_the_journal_is_full(alloc: Global) -> Result<bool, AllocError> {
     let mut floor = floor(alloc, 3)?;
@@ -75,8 +75,8 @@ fn ended(floor: &mut Numbers, capacity: usize) -> Option<LaneEnd<u64>>
     lane.finish()
 }
 
-/// Whether the end of another floor's lane of the same number, of which as many were sent as this one has not, closes
-/// nothing; and the own end then closes the lane.
+/// Whether the end of another floor's lane of the same number, with another count of messages, closes nothing. Then the
+/// lane's end closes it.
 pub fn is_closed_by_its_own_count(alloc: Global) -> Result<bool, AllocError> {
     let mut first = floor(alloc, 100)?;
     let mut second = floor(alloc, 100)?;

@@ -1,8 +1,9 @@
 //! A seat's calls.
-ghost use Rattle.std.specs.Prelude.{◌≡◌, ◌⊎◌, ⊤};
+ghost use Rattle.std.specs.Prelude.{◌≡◌, ◌≢◌, ◌⊎◌, Some, None, IfErr, OnOk, ⊤};
+ghost use Rattle.cml_board.specs.declared.want.Want.{Want};
 ghost use Rattle.cml_board.specs.declared.outcome.Outcome.TheVariants.{WouldWait, Refused};
 ghost use Rattle.cml_board.specs.Outcome.{HasRoom};
-ghost use Rattle.cml_room.specs.Room.{MayAsk, MayAskAgain};
+ghost use Rattle.cml_room.specs.Room.{state_of, MayAsk, MayAskAgain, Moves};
 ghost use Rattle.cml_room.specs.Asking.{Asks};
 ghost use Rattle.cml_room.specs.Rising.{MakesFewDue, WantOf, news_by};
 
@@ -43,6 +44,22 @@ impl<M: Message, L: MessageLog<M>> Room<M, L> {
         self.take_turn(seat, call)
     }
 
+    /// Withdraws a parked seat's call: the seat is free, and nothing was done. If what it waited for is there, the next seat that
+    /// waits for the same is due. Fails with `Gone` if the seat isn't parked.
+    pub fn withdraw(&mut self, seat: u64) -> Result<(), Refusal>
+        ensures freed { OnOk result ((on : Want) × (state_of self.old seat ≡ Some (State.Parked on)) × Moves self.old self.new seat State.Free) }
+        ensures board { self.new.board ≡ self.old.board }
+        ensures few { MakesFewDue self.old self.new (WantOf self.old seat) None }
+        ensures refused { IfErr result (λ refusal. (refusal ≡ Refusal.Gone) × (self.new ≡ self.old)
+            × ((on : Want) → state_of self.old seat ≢ Some (State.Parked on))) }
+    {
+        let Some(State::Parked(_)) = self.seats.state(seat) else {
+            return Err(Refusal::Gone);
+        };
+        end_turn(&self.floor, &mut self.seats, seat, None);
+        Ok(())
+    }
+
     /// Makes the call of a seat that may make it.
     fn take_turn(&mut self, seat: u64, call: Call<M>) -> Outcome<M>
         requires { MayAsk self.old seat ⊎ MayAskAgain self.old seat call }
@@ -67,7 +84,7 @@ impl<M: Message, L: MessageLog<M>> Room<M, L> {
     }
 }
 
-/// What would wait is refused, since no seat could go on then.
+/// Turns a call that would wait into one that fails with `Stalled`, since no seat could go on then.
 fn stalled<M: Message>(outcome: Outcome<M>) -> Outcome<M>
     requires { (back : Call M) × (outcome ≡ WouldWait back) }
     ensures { (back : Call M) → outcome ≡ WouldWait back → result ≡ Refused Refusal.Stalled back }

@@ -1,4 +1,4 @@
-//! The calls on feeds. None of them changes what a seat does, and none brings anything to those that wait.
+//! The calls on feeds. None of them changes a seat's state, and none brings anything to the seats that wait.
 ghost use Rattle.std.specs.Prelude.{ℕ, ◌≡◌, ◌≤◌, ◌<◌, length, count_by, is_some};
 ghost use Rattle.cml_board.specs.Outcome.{HasRoom};
 ghost use Rattle.cml_lanes.specs.Floor.{KeepsRings, SameFeedRing};
@@ -14,7 +14,7 @@ use cml_lanes::{Feed, FeedEnd, MAX_CAPACITY};
 use cml_log::MessageLog;
 
 impl<M: Message, L: MessageLog<M>> Room<M, L> {
-    /// How many feeds are open.
+    /// Returns how many feeds are open.
     pub fn open_feeds(&self) -> u64
         ensures { result ≡ count_by is_some self.now.feeds }
     {
@@ -35,7 +35,7 @@ impl<M: Message, L: MessageLog<M>> Room<M, L> {
         told
     }
 
-    /// Receives what an open feed's port is owed and puts it into the ring, as `Floor::pump` does.
+    /// Receives what an open feed's port is owed, and puts it into the ring, as `Floor::pump` does.
     pub fn pump(&mut self, feed: u64) -> Result<usize, Refusal>
         ensures pumps { Pumps L.CHUNK M.SURE feed (floor_of self.old) (floor_of self.new) result }
         ensures rings { KeepsRings (floor_of self.old) (floor_of self.new) }
@@ -47,7 +47,7 @@ impl<M: Message, L: MessageLog<M>> Room<M, L> {
         told
     }
 
-    /// Ends an open feed for good, as `Floor::end_feed` does. Its port is a port like any other from now on.
+    /// Ends an open feed for good, as `Floor::end_feed` does. From now on its port is a port like any other.
     pub fn end_feed(&mut self, feed: u64) -> Result<Option<FeedEnd<M>>, Refusal>
         ensures ends { Ends feed (floor_of self.old) (floor_of self.new) result }
         ensures rings { KeepsRings (floor_of self.old) (floor_of self.new) }

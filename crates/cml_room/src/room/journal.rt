@@ -1,4 +1,4 @@
-//! The calls on the journal. They make nobody due.
+//! The calls on the journal. They make no seat due.
 ghost use Rattle.std.specs.Prelude.{◌≡◌, ◌≤◌, ◌++◌, IfOk, MatchResult, reverse};
 ghost use Rattle.cml_lanes.specs.Floor.{KeepsRings};
 ghost use Rattle.cml_lanes.specs.Cutting.{CutsAFloor, CutsFloor, NotCut};
@@ -10,7 +10,7 @@ use cml_board::{Entry, Message, Refusal};
 use cml_log::MessageLog;
 
 impl<M: Message, L: MessageLog<M>> Room<M, L> {
-    /// Takes memory for `n` more entries, as `Floor::reserve` does.
+    /// Reserves memory for `n` more entries, as `Floor::reserve` does.
     pub fn reserve(&mut self, n: usize) -> Result<(), Refusal>
         ensures reserves { Reserves (floor_of self.old) (floor_of self.new) n result }
         ensures rings { KeepsRings (floor_of self.old) (floor_of self.new) }
@@ -30,12 +30,12 @@ impl<M: Message, L: MessageLog<M>> Room<M, L> {
         ensures notices { self.new.notices ≡ self.old.notices }
         ensures due { self.new.all_due ≡ self.old.all_due }
     {
-        // The journal is a part of all entries, as its reader tells: so a cut makes room.
+        // The contract of `journal` says that it is a part of all entries: so a cut makes room.
         let _journal = self.floor.board().journal();
         self.floor.cut()
     }
 
-    /// Cuts the journal and hands over the entries that it had, as `Floor::take_journal` does.
+    /// Cuts the journal and returns the entries that it had, as `Floor::take_journal` does.
     pub fn take_journal(&mut self) -> Result<Vec<Entry<M>>, Refusal>
         ensures taken { IfOk result (λ taken. reverse taken.items ++ self.old.board.past ≡ self.old.board.history) }
         ensures cut { MatchResult result (λ _. CutsFloor (floor_of self.old) (floor_of self.new)) (NotCut (floor_of self.old) (floor_of self.new)) }

@@ -1,4 +1,5 @@
-//! The calls on lanes. None of them changes what a seat does. Who waits at a lane's target becomes due by what moves there.
+//! The calls on lanes. None of them changes a seat's state. A seat that waits at a lane's target becomes due by what moves
+//! there.
 ghost use Rattle.std.specs.Prelude.{ℕ, ◌≡◌, ◌≤◌, ◌<◌, length, count_by, is_some};
 ghost use Rattle.cml_board.specs.Outcome.{HasRoom};
 ghost use Rattle.cml_lanes.specs.Floor.{KeepsRings, SameRing, IsOfItsRing};
@@ -15,7 +16,7 @@ use cml_lanes::{Lane, LaneEnd, MAX_CAPACITY};
 use cml_log::MessageLog;
 
 impl<M: Message, L: MessageLog<M>> Room<M, L> {
-    /// How many lanes are open. While any is open, no call fails with `Stalled`.
+    /// Returns how many lanes are open. While any is open, no call fails with `Stalled`.
     pub fn open_lanes(&self) -> u64
         ensures { result ≡ count_by is_some self.now.lanes }
     {
@@ -34,7 +35,7 @@ impl<M: Message, L: MessageLog<M>> Room<M, L> {
         self.floor.open_lane(target, capacity)
     }
 
-    /// Moves the messages that are seen in the lane's ring into the journal, as `Floor::drain` does.
+    /// Moves the messages that it sees in the lane's ring into the journal, as `Floor::drain` does.
     pub fn drain(&mut self, lane: u64) -> Result<usize, Refusal>
         ensures drains { Drains L.CHUNK M.SURE lane (floor_of self.old) (floor_of self.new) result }
         ensures rings { KeepsRings (floor_of self.old) (floor_of self.new) }
@@ -48,8 +49,7 @@ impl<M: Message, L: MessageLog<M>> Room<M, L> {
         told
     }
 
-    /// Moves all that is left of a lane that has finished into the journal, and closes the lane, as `Floor::close_lane`
-    /// does.
+    /// Moves all messages left on a finished lane into the journal, and closes the lane, as `Floor::close_lane` does.
     pub fn close_lane(&mut self, end: LaneEnd<M>) -> Result<(), (LaneEnd<M>, Refusal)>
         requires { IsOfItsRing (floor_of self.old) end }
         ensures closes { Closes L.CHUNK M.SURE (floor_of self.old) (floor_of self.new) end result }
@@ -64,8 +64,7 @@ impl<M: Message, L: MessageLog<M>> Room<M, L> {
         told
     }
 
-    /// Closes a lane that has finished where as many of its messages stand in the journal as the end tells, as
-    /// `Floor::close_counted` does.
+    /// Closes a finished lane if the journal has as many of its messages as the end says, as `Floor::close_counted` does.
     pub fn close_counted(&mut self, end: LaneEnd<M>) -> Result<(), (LaneEnd<M>, Refusal)>
         ensures closes { ClosesCounted L.CHUNK M.SURE (floor_of self.old) (floor_of self.new) end result }
         ensures rings { KeepsRings (floor_of self.old) (floor_of self.new) }
@@ -79,8 +78,8 @@ impl<M: Message, L: MessageLog<M>> Room<M, L> {
         told
     }
 
-    /// Moves what is seen of a lane, and closes it where no message was refused, as `Floor::drop_lane` does: how many
-    /// were moved, and whether it is closed.
+    /// Moves the messages that it sees on a lane, and closes the lane if none was refused, as `Floor::drop_lane` does.
+    /// Returns how many it moved, and whether the lane is closed.
     pub fn drop_lane(&mut self, lane: u64) -> Result<(usize, bool), Refusal>
         ensures drops { Drops L.CHUNK M.SURE lane (floor_of self.old) (floor_of self.new) result }
         ensures rings { KeepsRings (floor_of self.old) (floor_of self.new) }
@@ -94,7 +93,7 @@ impl<M: Message, L: MessageLog<M>> Room<M, L> {
         told
     }
 
-    /// Closes an open lane at once. What is left in its ring is dropped. `NoSuch` where no open lane has the number.
+    /// Closes an open lane at once, and drops the messages in its ring. Fails with `NoSuch` if no open lane has the number.
     pub fn abandon_lane(&mut self, lane: u64) -> Result<(), Refusal>
         ensures abandons { Abandons lane (floor_of self.old) (floor_of self.new) result }
         ensures rings { KeepsRings (floor_of self.old) (floor_of self.new) }

@@ -1,16 +1,19 @@
 //! A seat's calls.
-ghost use Rattle.std.specs.Prelude.{◌≡◌, ◌+◌, ◌<◌, ◌^◌};
+ghost use Rattle.std.specs.Prelude.{◌≡◌, ◌≢◌, ◌+◌, ◌<◌, ◌^◌, Some, None, IfErr, OnOk};
+ghost use Rattle.cml_board.specs.declared.want.Want.{Want};
 ghost use Rattle.cml_board.specs.declared.answer.Answer.{Answer};
 ghost use Rattle.cml_board.specs.declared.outcome.Outcome.TheVariants.{Answered};
 ghost use Rattle.cml_board.specs.Outcome.{HasRoom};
 ghost use Rattle.cml_room.specs.Rising.{MakesFewDue, WantOf, news_by};
+ghost use Rattle.cml_room.specs.Room.{state_of, Moves};
 ghost use Rattle.cml_threads.specs.Hosting.{room_of, MayAsk, MayAskAgain};
 ghost use Rattle.cml_threads.specs.Asking.{Asks, Tallies};
 
 use super::Hall;
 use crate::seat::Seat;
-use cml_board::{Call, Message, Outcome};
+use cml_board::{Call, Message, Outcome, Refusal};
 use cml_log::MessageLog;
+use cml_room::State;
 use std::sync::ledger::{Book, Ledger};
 
 impl<M: Message, L: MessageLog<M>, Led: Ledger> Hall<M, L, Led> {
@@ -37,9 +40,22 @@ impl<M: Message, L: MessageLog<M>, Led: Ledger> Hall<M, L, Led> {
         count(&outcome, seat, &mut self.book);
         outcome
     }
+
+    /// Withdraws a parked seat's call, as `Room::withdraw` does. Fails with `Gone` if the seat isn't parked.
+    pub fn withdraw(&mut self, seat: &Seat<Led>) -> Result<(), Refusal>
+        ensures freed { OnOk result ((on : Want) × (state_of (room_of self.old) seat.now.number ≡ Some (State.Parked on))
+            × Moves (room_of self.old) (room_of self.new) seat.now.number State.Free) }
+        ensures board { self.new.board ≡ self.old.board }
+        ensures book { self.new.book ≡ self.old.book }
+        ensures few { MakesFewDue (room_of self.old) (room_of self.new) (WantOf (room_of self.old) seat.now.number) None }
+        ensures refused { IfErr result (λ refusal. (refusal ≡ Refusal.Gone) × (self.new ≡ self.old)
+            × ((on : Want) → state_of (room_of self.old) seat.now.number ≢ Some (State.Parked on))) }
+    {
+        self.room.withdraw(seat.number())
+    }
 }
 
-/// Counts an answer for its seat, and in the book. What isn't answered is counted nowhere.
+/// Counts an answer for its seat, and in the book. A call without an answer is not counted.
 fn count<M: Message, Led: Ledger>(outcome: &Outcome<M>, seat: &mut Seat<Led>, book: &mut Book<Led>)
     requires { (answer : Answer M) → outcome.now ≡ Answered answer → book.old.total + 1 < 2 ^ 64 }
     ensures { Tallies book.old.total book.new.total seat.old seat.new outcome.now }

@@ -1,4 +1,4 @@
-//! Entries of lanes and feeds are counted for no seat.
+//! How entries of lanes and feeds are counted: in the book, for no seat.
 ghost use Rattle.std.specs.Prelude.{◌≡◌, ◌+◌, ◌≤◌, ◌<◌};
 ghost use Rattle.cml_board.specs.History.{entries_in};
 
@@ -6,7 +6,7 @@ use cml_board::{Board, Message};
 use cml_log::MessageLog;
 use std::sync::ledger::{Book, Ledger, Share};
 
-/// Counts the entries beyond so many, in the book and as the hall's own.
+/// Counts the entries beyond the first `before`, in the book and as the hall's.
 pub fn count_since<M: Message, L: MessageLog<M>, Led: Ledger>(
     before: u64,
     board: &Board<M, L>,

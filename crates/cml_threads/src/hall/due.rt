@@ -1,4 +1,4 @@
-//! Who is due, of the seats that wait.
+//! Which of the waiting seats are due.
 ghost use Rattle.std.specs.Prelude.{◌≡◌, ◌≢◌, ℕ, true, false, Some, IfSome, IfNone, length, slice_get};
 ghost use Rattle.cml_board.specs.declared.want.Want.{Want};
 ghost use Rattle.cml_room.specs.declared.notice.Notice.TheVariants.{Woken};
@@ -12,15 +12,15 @@ use cml_room::State;
 use std::sync::ledger::Ledger;
 
 impl<M: Message, L: MessageLog<M>, Led: Ledger> Hall<M, L, Led> {
-    /// How many seats were made.
+    /// Returns how many seats were made.
     pub fn seats(&self) -> usize
         ensures { result ≡ length self.now.seats }
     {
         self.room.seats()
     }
 
-    /// Whether the seat is due: it waits, and something has come since it last asked for which it may go on. A seat that waits
-    /// and isn't due sleeps rightly. So a caller who wakes each seat that `next_due` returns leaves none asleep.
+    /// Says whether the seat is due: it waits, and something has come since it last asked for which it may go on. A seat that
+    /// waits and is not due sleeps rightly. So wake each seat that `next_due` returns, and none is left asleep.
     pub fn is_due(&self, seat: u64) -> bool
         ensures due { result ≡ is_due (room_of self.now) seat }
         ensures asleep { result ≡ false → (on : Want) → state_of (room_of self.now) seat ≡ Some (State.Parked on) → SleepsRightly (room_of self.now) on }
@@ -28,8 +28,8 @@ impl<M: Message, L: MessageLog<M>, Led: Ledger> Hall<M, L, Led> {
         self.room.is_due(seat)
     }
 
-    /// The next seat that is due, and wasn't returned since it last asked. Wake its thread, and let it ask again. The seat that
-    /// has been due the longest comes first. None, if each seat that is due was returned.
+    /// Returns the next seat that is due, and was not returned since it last asked. Wake its thread, and let it ask again. The
+    /// seat that has been due the longest comes first. Returns `None` if each seat that is due was returned.
     pub fn next_due(&mut self) -> Option<u64>
         ensures given { IfSome result (λ number. (is_due (room_of self.old) number ≡ true) × (slice_get self.old.notices number ≢ Some Woken)
             × (slice_get self.new.notices number ≡ Some Woken)) }

@@ -1,4 +1,4 @@
-//! The calls on feeds. None of them changes what a seat does.
+//! The calls on feeds. None of them changes a seat's state.
 ghost use Rattle.std.specs.Prelude.{ℕ, ◌≡◌, ◌≤◌, ◌<◌, length, count_by, is_some};
 ghost use Rattle.cml_lanes.specs.Floor.{KeepsRings, SameFeedRing};
 ghost use Rattle.cml_lanes.specs.Feeds.{OpensAFeed, Pumps, Ends};
@@ -12,15 +12,15 @@ use cml_log::MessageLog;
 use std::sync::ledger::Ledger;
 
 impl<M: Message, L: MessageLog<M>, Led: Ledger> Hall<M, L, Led> {
-    /// How many feeds are open.
+    /// Returns how many feeds are open.
     pub fn open_feeds(&self) -> u64
         ensures { result ≡ count_by is_some self.now.feeds }
     {
         self.room.open_feeds()
     }
 
-    /// Opens a feed of what is multicast on a channel from now on, as `Floor::open_feed` does. The entry that makes its
-    /// port is counted in the book, and for no seat.
+    /// Opens a feed of what is multicast on a channel from now on, as `Floor::open_feed` does. The book counts the entry that
+    /// makes its port, for no seat.
     pub fn open_feed(&mut self, channel: Name, capacity: usize) -> Result<(Feed<M>, u64), Refusal>
         requires least { 1 ≤ capacity }
         requires most { capacity ≤ MAX_CAPACITY }
@@ -34,8 +34,8 @@ impl<M: Message, L: MessageLog<M>, Led: Ledger> Hall<M, L, Led> {
         told
     }
 
-    /// Receives what an open feed's port is owed and puts it into the ring, as `Floor::pump` does. Each entry is counted
-    /// in the book, and for no seat.
+    /// Receives what an open feed's port is owed, and puts it into the ring, as `Floor::pump` does. The book counts each
+    /// entry, for no seat.
     pub fn pump(&mut self, feed: u64) -> Result<usize, Refusal>
         ensures pumps { Pumps L.CHUNK M.SURE feed (floor_of self.old) (floor_of self.new) result }
         ensures rings { KeepsRings (floor_of self.old) (floor_of self.new) }
@@ -47,7 +47,7 @@ impl<M: Message, L: MessageLog<M>, Led: Ledger> Hall<M, L, Led> {
         told
     }
 
-    /// Ends an open feed for good, as `Floor::end_feed` does. Its port is a port like any other from now on.
+    /// Ends an open feed for good, as `Floor::end_feed` does. From now on its port is a port like any other.
     pub fn end_feed(&mut self, feed: u64) -> Result<Option<FeedEnd<M>>, Refusal>
         ensures ends { Ends feed (floor_of self.old) (floor_of self.new) result }
         ensures rings { KeepsRings (floor_of self.old) (floor_of self.new) }

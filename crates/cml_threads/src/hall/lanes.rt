@@ -1,4 +1,4 @@
-//! The calls on lanes. None of them changes what a seat does.
+//! The calls on lanes. None of them changes a seat's state.
 ghost use Rattle.std.specs.Prelude.{ℕ, ◌≡◌, ◌≤◌, ◌<◌, length, count_by, is_some};
 ghost use Rattle.cml_lanes.specs.Floor.{KeepsRings, SameRing, IsOfItsRing};
 ghost use Rattle.cml_lanes.specs.Lanes.{OpensALane, Drains, Closes, ClosesCounted, Drops, Abandons};
@@ -12,7 +12,7 @@ use cml_log::MessageLog;
 use std::sync::ledger::Ledger;
 
 impl<M: Message, L: MessageLog<M>, Led: Ledger> Hall<M, L, Led> {
-    /// How many lanes are open. While any is open, no call fails with `Stalled`.
+    /// Returns how many lanes are open. While any is open, no call fails with `Stalled`.
     pub fn open_lanes(&self) -> u64
         ensures { result ≡ count_by is_some self.now.lanes }
     {
@@ -30,8 +30,8 @@ impl<M: Message, L: MessageLog<M>, Led: Ledger> Hall<M, L, Led> {
         self.room.open_lane(target, capacity)
     }
 
-    /// Moves the messages that are seen in the lane's ring into the journal, as `Floor::drain` does. Each entry is
-    /// counted in the book, and for no seat.
+    /// Moves the messages that it sees in the lane's ring into the journal, as `Floor::drain` does. The book counts each
+    /// entry, for no seat.
     pub fn drain(&mut self, lane: u64) -> Result<usize, Refusal>
         ensures drains { Drains L.CHUNK M.SURE lane (floor_of self.old) (floor_of self.new) result }
         ensures rings { KeepsRings (floor_of self.old) (floor_of self.new) }
@@ -43,8 +43,8 @@ impl<M: Message, L: MessageLog<M>, Led: Ledger> Hall<M, L, Led> {
         told
     }
 
-    /// Moves all that is left of a lane that has finished into the journal, and closes the lane, as `Floor::close_lane`
-    /// does. What a refusal left in the journal is counted too.
+    /// Moves all messages left on a finished lane into the journal, and closes the lane, as `Floor::close_lane` does. If it
+    /// fails, the book also counts the entries that it added before.
     pub fn close_lane(&mut self, end: LaneEnd<M>) -> Result<(), (LaneEnd<M>, Refusal)>
         requires { IsOfItsRing (floor_of self.old) end }
         ensures closes { Closes L.CHUNK M.SURE (floor_of self.old) (floor_of self.new) end result }
@@ -57,8 +57,7 @@ impl<M: Message, L: MessageLog<M>, Led: Ledger> Hall<M, L, Led> {
         told
     }
 
-    /// Closes a lane that has finished where as many of its messages stand in the journal as the end tells, as
-    /// `Floor::close_counted` does.
+    /// Closes a finished lane if the journal has as many of its messages as the end says, as `Floor::close_counted` does.
     pub fn close_counted(&mut self, end: LaneEnd<M>) -> Result<(), (LaneEnd<M>, Refusal)>
         ensures closes { ClosesCounted L.CHUNK M.SURE (floor_of self.old) (floor_of self.new) end result }
         ensures rings { KeepsRings (floor_of self.old) (floor_of self.new) }
@@ -70,8 +69,8 @@ impl<M: Message, L: MessageLog<M>, Led: Ledger> Hall<M, L, Led> {
         told
     }
 
-    /// Moves what is seen of a lane, and closes it where no message was refused, as `Floor::drop_lane` does: how many
-    /// were moved, and whether it is closed.
+    /// Moves the messages that it sees on a lane, and closes the lane if none was refused, as `Floor::drop_lane` does.
+    /// Returns how many it moved, and whether the lane is closed.
     pub fn drop_lane(&mut self, lane: u64) -> Result<(usize, bool), Refusal>
         ensures drops { Drops L.CHUNK M.SURE lane (floor_of self.old) (floor_of self.new) result }
         ensures rings { KeepsRings (floor_of self.old) (floor_of self.new) }
@@ -83,7 +82,7 @@ impl<M: Message, L: MessageLog<M>, Led: Ledger> Hall<M, L, Led> {
         told
     }
 
-    /// Closes an open lane at once. What is left in its ring is dropped. `NoSuch` where no open lane has the number.
+    /// Closes an open lane at once, and drops the messages in its ring. Fails with `NoSuch` if no open lane has the number.
     pub fn abandon_lane(&mut self, lane: u64) -> Result<(), Refusal>
         ensures abandons { Abandons lane (floor_of self.old) (floor_of self.new) result }
         ensures rings { KeepsRings (floor_of self.old) (floor_of self.new) }

@@ -11,9 +11,9 @@ use cml_log::MessageLog;
 use std::sync::ledger::{Book, Ledger, Share};
 
 impl<M: Message, L: MessageLog<M>, Led: Ledger> Hall<M, L, Led> {
-    /// The end: the board, with a proof that the answers that were counted for the seats, and the entries of lanes and
-    /// feeds, are all its entries. It needs as many lefts as seats were made, else all is handed back. Lanes that are
-    /// still open are dropped, with what is in their rings.
+    /// Ends the hall: returns the board, with a proof that the answers counted for the seats, and the entries of lanes and
+    /// feeds, are all its entries. Needs as many lefts as seats were made; otherwise it fails, and returns the hall and the
+    /// lefts. Drops lanes that are still open, with the messages in their rings.
     pub fn settle(
         self,
         lefts: Vec<Left<Led>>,
@@ -40,7 +40,7 @@ impl<M: Message, L: MessageLog<M>, Led: Ledger> Hall<M, L, Led> {
     }
 }
 
-/// Takes the shares of all lefts to the rest, and gives how many answers were counted for them.
+/// Adds the shares of all lefts to the rest, and returns how many answers were counted for them.
 fn gather<Led: Ledger>(lefts: Vec<Left<Led>>, book: &mut Book<Led>, rest: &mut Share<Led>) -> u64
     requires { book.old.total < 2 ^ 64 }
     ensures answers { result ≡ answers_in lefts.items }

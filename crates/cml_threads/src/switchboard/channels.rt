@@ -21,7 +21,7 @@ impl<M: Message, L: MessageLog<M>, Led: Ledger> Switchboard<M, L, Led> {
         self.reply(rt, seat, Call::NewChannel)
     }
 
-    /// `Multicast.multicast`: sends a message to every port of a channel, and never waits. Replies `Done`.
+    /// `Multicast.multicast`: sends a message to every port of a channel. Never blocks. Replies `Done`.
     pub fn multicast<R: Wait>(
         &self,
         rt: &R,
@@ -46,7 +46,7 @@ impl<M: Message, L: MessageLog<M>, Led: Ledger> Switchboard<M, L, Led> {
         self.reply(rt, seat, Call::NewPort(channel))
     }
 
-    /// `Multicast.copy`: makes a port that stands where this one does. Replies `Made`, or `Closed` where this one is closed.
+    /// `Multicast.copy`: makes a port at this port's place. Replies `Made`, or `Closed` if this port is closed.
     pub fn copy<R: Wait>(
         &self,
         rt: &R,
@@ -58,8 +58,8 @@ impl<M: Message, L: MessageLog<M>, Led: Ledger> Switchboard<M, L, Led> {
         self.reply(rt, seat, Call::CopyPort(port))
     }
 
-    /// Closes a port: whoever waits on it is told `Closed`. Replies `Done`, or `Closed` where it was closed before. The
-    /// manual has no such call.
+    /// Closes a port: each call that is blocked on it replies `Closed`. Replies `Done`, or `Closed` if it was closed before.
+    /// The manual has no such call.
     pub fn close<R: Wait>(
         &self,
         rt: &R,

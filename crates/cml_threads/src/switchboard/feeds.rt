@@ -11,9 +11,9 @@ use std::sync::Wait;
 use std::sync::ledger::Ledger;
 
 impl<M: Message, L: MessageLog<M>, Led: Ledger> Switchboard<M, L, Led> {
-    /// Opens a feed of what is multicast on a channel from now on, whose ring has room for `capacity` messages, and tells
-    /// its number. Its port is the feed's own while it is open: what a seat would receive from it, and what would close
-    /// it, is refused `WrongKind`.
+    /// Opens a feed of what is multicast on a channel from now on, with room for `capacity` messages in its ring. Returns the
+    /// feed and its number. While it is open, a seat's call that would receive from its port, poll it or close it fails with
+    /// `WrongKind`. Fails with `NoSuch`, `WrongKind`, `JournalFull` or `NoMemory`.
     pub fn open_feed<R: Wait>(
         &self,
         rt: &R,
@@ -31,9 +31,9 @@ impl<M: Message, L: MessageLog<M>, Led: Ledger> Switchboard<M, L, Led> {
         told
     }
 
-    /// Receives from an open feed's port what it is owed, in order, each by a call of the feed's own, and puts it into the
-    /// ring while a slot is known to be free: how many messages. It stops where one is refused, and is itself refused,
-    /// `JournalFull` or `NoMemory`, only where that was the first; `NoSuch` where no open feed has the number.
+    /// Receives the messages that an open feed's port is owed into the feed's ring, in order, while it sees a free slot. Each
+    /// is a call of the feed. Returns how many. It stops at a message whose call fails. Fails with `JournalFull` or `NoMemory`
+    /// only if the first call does, and with `NoSuch` if no open feed has the number.
     pub fn pump<R: Wait>(&self, rt: &R, feed: u64) -> Result<usize, Refusal>
         ensures { IfErr result MayRefuseDrain }
     {
@@ -43,8 +43,8 @@ impl<M: Message, L: MessageLog<M>, Led: Ledger> Switchboard<M, L, Led> {
         told
     }
 
-    /// Ends an open feed for good: nothing more is put into its ring, and what is left there its subscriber still
-    /// receives. The port stays, and is a port like any other from now on. `NoSuch` where no open feed has the number.
+    /// Ends an open feed for good: nothing more is put into its ring. The subscriber still receives what is left there. The
+    /// port stays, and is from now on a port like any other. Fails with `NoSuch` if no open feed has the number.
     pub fn end_feed<R: Wait>(&self, rt: &R, feed: u64) -> Result<Option<FeedEnd<M>>, Refusal>
         ensures end { IfOk result (λ end. IfSome end (λ whole. whole.number ≡ feed)) }
         ensures refused { IfErr result (λ refusal. refusal ≡ NoSuch) }

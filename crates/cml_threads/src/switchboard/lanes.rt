@@ -11,8 +11,9 @@ use std::sync::Wait;
 use std::sync::ledger::Ledger;
 
 impl<M: Message, L: MessageLog<M>, Led: Ledger> Switchboard<M, L, Led> {
-    /// Opens a lane to a mailbox or a channel, which has room for `capacity` messages, and tells its number. While a
-    /// lane is open no call fails with `Stalled`, so close it, drop it or abandon it in the end.
+    /// Opens a lane to a mailbox or a channel, with room for `capacity` messages. Returns the lane and its number. While a
+    /// lane is open no call fails with `Stalled`, so close, drop or abandon it in the end. Fails with `NoSuch`, `WrongKind`
+    /// or `NoMemory`.
     pub fn open_lane<R: Wait>(
         &self,
         rt: &R,
@@ -30,9 +31,9 @@ impl<M: Message, L: MessageLog<M>, Led: Ledger> Switchboard<M, L, Led> {
         told
     }
 
-    /// Moves the messages that are seen in a lane's ring into the journal, in order, each as a call of the lane's own:
-    /// how many. It stops where one is refused, and is itself refused, `JournalFull` or `NoMemory`, only where that was
-    /// the first; `NoSuch` where no open lane has the number. A thread that waits for what was moved is woken.
+    /// Moves the messages that it sees in a lane's ring into the journal, in order, each as a call of the lane. Returns how
+    /// many it moved, and wakes a thread that waits for them. It stops at a message whose call fails. Fails with `JournalFull`
+    /// or `NoMemory` only if the first call does, and with `NoSuch` if no open lane has the number.
     pub fn drain<R: Wait>(&self, rt: &R, lane: u64) -> Result<usize, Refusal>
         ensures { IfErr result MayRefuseDrain }
     {
@@ -42,9 +43,9 @@ impl<M: Message, L: MessageLog<M>, Led: Ledger> Switchboard<M, L, Led> {
         told
     }
 
-    /// Moves what is seen of a lane that has finished, and closes the lane where then as many of its messages stand in
-    /// the journal as the end tells, as `Hall::close_counted` does; else it is refused `Unseen`. What is refused may have
-    /// moved some, and hands the very end back. A thread that waits for what was moved is woken.
+    /// Moves the messages that it sees on a finished lane, and wakes a thread that waits for them. Then it closes the lane if
+    /// the journal has as many of its messages as the end says, as `Hall::close_counted` does. Fails with `Unseen` if it has
+    /// not, and with `NoSuch`, `JournalFull` or `NoMemory`. If it fails, it returns the end, and may have moved some.
     pub fn close_lane<R: Wait>(&self, rt: &R, end: LaneEnd<M>) -> Result<(), (LaneEnd<M>, Refusal)>
         ensures { IfErr result (λ failed. (failed.0 ≡ end) × MayRefuseClose failed.1) }
     {
@@ -54,8 +55,8 @@ impl<M: Message, L: MessageLog<M>, Led: Ledger> Switchboard<M, L, Led> {
         told
     }
 
-    /// Moves what is seen of a lane, and closes it where no message was refused: how many were moved, and whether it is
-    /// closed. It is refused as `drain` is. A thread that waits for what was moved is woken.
+    /// Moves the messages that it sees on a lane, and closes the lane if none was refused. Returns how many it moved, and
+    /// whether the lane is closed. Wakes a thread that waits for them. Fails as `drain` does.
     pub fn drop_lane<R: Wait>(&self, rt: &R, lane: u64) -> Result<(usize, bool), Refusal>
         ensures stopped { IfOk result (λ told. told.1 ≡ false → 0 < told.0) }
         ensures refused { IfErr result MayRefuseDrain }
@@ -66,8 +67,8 @@ impl<M: Message, L: MessageLog<M>, Led: Ledger> Switchboard<M, L, Led> {
         told
     }
 
-    /// Closes an open lane at once. What is left in its ring is dropped. Where nobody can go on then, those who wait ask again,
-    /// since they may be stalled. `NoSuch` where no open lane has the number.
+    /// Closes an open lane at once, and drops the messages in its ring. If no seat can go on then, all blocked calls are made
+    /// again, since they may be stalled. Fails with `NoSuch` if no open lane has the number.
     pub fn abandon_lane<R: Wait>(&self, rt: &R, lane: u64) -> Result<(), Refusal>
         ensures { IfErr result (λ refusal. refusal ≡ NoSuch) }
     {

@@ -1,4 +1,4 @@
-//! The calls on mailboxes, by the CML manual's names. Each gives what its answer replies, and is refused as `call` is.
+//! The calls on mailboxes, by the CML manual's names. Each returns the reply of its answer, and fails as `call` does.
 ghost use Rattle.cml_threads.specs.Telling.{Replies};
 
 use super::Switchboard;
@@ -20,7 +20,7 @@ impl<M: Message, L: MessageLog<M>, Led: Ledger> Switchboard<M, L, Led> {
         self.reply(rt, seat, Call::NewMailbox)
     }
 
-    /// `Mailbox.send`: adds a message, and never waits. Replies `Done`.
+    /// `Mailbox.send`: adds a message. Never blocks. Replies `Done`.
     pub fn send<R: Wait>(
         &self,
         rt: &R,
@@ -33,8 +33,8 @@ impl<M: Message, L: MessageLog<M>, Led: Ledger> Switchboard<M, L, Led> {
         self.reply(rt, seat, Call::Send(mailbox, message))
     }
 
-    /// `Mailbox.recv`, and `Multicast.recv` on a port: takes the next message, and waits while there is none. Replies `Got`,
-    /// or `Closed` on a port that was closed, also while this call waited.
+    /// `Mailbox.recv`, and `Multicast.recv` on a port: takes the next message. Blocks while there is none. Replies `Got`, or
+    /// `Closed` on a port that was closed, also if it was closed while this call was blocked.
     pub fn recv<R: Wait>(
         &self,
         rt: &R,
@@ -46,8 +46,8 @@ impl<M: Message, L: MessageLog<M>, Led: Ledger> Switchboard<M, L, Led> {
         self.reply(rt, seat, Call::Recv(object))
     }
 
-    /// `Mailbox.recvPoll`, and the like of it on a port: takes the next message. Replies `Got`, or `Nothing` where there is
-    /// none, or `Closed` on a closed port.
+    /// `Mailbox.recvPoll`, and the same on a port: takes the next message. Never blocks. Replies `Got`, or `Nothing` if there
+    /// is none, or `Closed` on a closed port.
     pub fn recv_poll<R: Wait>(
         &self,
         rt: &R,

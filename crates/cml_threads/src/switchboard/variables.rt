@@ -1,4 +1,4 @@
-//! The calls on i-variables and m-variables, by the CML manual's names.
+//! The calls on i-variables and m-variables, by the CML manual's names. Each fails as `call` does.
 ghost use Rattle.cml_threads.specs.Telling.{Replies};
 
 use super::Switchboard;
@@ -31,7 +31,7 @@ impl<M: Message, L: MessageLog<M>, Led: Ledger> Switchboard<M, L, Led> {
         self.reply(rt, seat, Call::NewMVar)
     }
 
-    /// `SyncVar.mVarInit`: makes an m-variable that holds this. Replies `Made` with its name.
+    /// `SyncVar.mVarInit`: makes an m-variable that holds this message. Replies `Made` with its name.
     pub fn m_var_init<R: Wait>(
         &self,
         rt: &R,
@@ -43,7 +43,7 @@ impl<M: Message, L: MessageLog<M>, Led: Ledger> Switchboard<M, L, Led> {
         self.reply(rt, seat, Call::MVarInit(message))
     }
 
-    /// `SyncVar.iPut`: fills an empty variable. Replies `Done`, or `Put` where it is full, and then it stays as it is.
+    /// `SyncVar.iPut`: fills an empty variable. Never blocks. Replies `Done`, or `Put` if it is full and stays as it is.
     pub fn i_put<R: Wait>(
         &self,
         rt: &R,
@@ -56,7 +56,7 @@ impl<M: Message, L: MessageLog<M>, Led: Ledger> Switchboard<M, L, Led> {
         self.reply(rt, seat, Call::Put(variable, message))
     }
 
-    /// `SyncVar.iGet`: reads a variable and leaves what it holds, and waits while it is empty. Replies `Got`.
+    /// `SyncVar.iGet`: reads a variable and leaves its message there. Blocks while it is empty. Replies `Got`.
     pub fn i_get<R: Wait>(
         &self,
         rt: &R,
@@ -68,7 +68,7 @@ impl<M: Message, L: MessageLog<M>, Led: Ledger> Switchboard<M, L, Led> {
         self.reply(rt, seat, Call::Get(variable))
     }
 
-    /// `SyncVar.iGetPoll`: the same. Replies `Got`, or `Nothing` where it is empty.
+    /// `SyncVar.iGetPoll`: the same, but never blocks. Replies `Got`, or `Nothing` if the variable is empty.
     pub fn i_get_poll<R: Wait>(
         &self,
         rt: &R,
@@ -80,7 +80,7 @@ impl<M: Message, L: MessageLog<M>, Led: Ledger> Switchboard<M, L, Led> {
         self.reply(rt, seat, Call::GetPoll(variable))
     }
 
-    /// `SyncVar.mPut`: fills an empty variable. Replies `Done`, or `Put` where it is full, and then it stays as it is.
+    /// `SyncVar.mPut`: fills an empty variable. Never blocks. Replies `Done`, or `Put` if it is full and stays as it is.
     pub fn m_put<R: Wait>(
         &self,
         rt: &R,
@@ -93,7 +93,7 @@ impl<M: Message, L: MessageLog<M>, Led: Ledger> Switchboard<M, L, Led> {
         self.reply(rt, seat, Call::Put(variable, message))
     }
 
-    /// `SyncVar.mTake`: reads and empties an m-variable, and waits while it is empty. Replies `Got`.
+    /// `SyncVar.mTake`: reads and empties an m-variable. Blocks while it is empty. Replies `Got`.
     pub fn m_take<R: Wait>(
         &self,
         rt: &R,
@@ -105,7 +105,7 @@ impl<M: Message, L: MessageLog<M>, Led: Ledger> Switchboard<M, L, Led> {
         self.reply(rt, seat, Call::Take(variable))
     }
 
-    /// `SyncVar.mTakePoll`: the same. Replies `Got`, or `Nothing` where it is empty.
+    /// `SyncVar.mTakePoll`: the same, but never blocks. Replies `Got`, or `Nothing` if the variable is empty.
     pub fn m_take_poll<R: Wait>(
         &self,
         rt: &R,
@@ -117,7 +117,7 @@ impl<M: Message, L: MessageLog<M>, Led: Ledger> Switchboard<M, L, Led> {
         self.reply(rt, seat, Call::TakePoll(variable))
     }
 
-    /// `SyncVar.mGet`: reads a variable and leaves what it holds, and waits while it is empty. Replies `Got`.
+    /// `SyncVar.mGet`: reads a variable and leaves its message there. Blocks while it is empty. Replies `Got`.
     pub fn m_get<R: Wait>(
         &self,
         rt: &R,
@@ -129,7 +129,7 @@ impl<M: Message, L: MessageLog<M>, Led: Ledger> Switchboard<M, L, Led> {
         self.reply(rt, seat, Call::Get(variable))
     }
 
-    /// `SyncVar.mGetPoll`: the same. Replies `Got`, or `Nothing` where it is empty.
+    /// `SyncVar.mGetPoll`: the same, but never blocks. Replies `Got`, or `Nothing` if the variable is empty.
     pub fn m_get_poll<R: Wait>(
         &self,
         rt: &R,
@@ -141,8 +141,8 @@ impl<M: Message, L: MessageLog<M>, Led: Ledger> Switchboard<M, L, Led> {
         self.reply(rt, seat, Call::GetPoll(variable))
     }
 
-    /// `SyncVar.mSwap`: stores this in an m-variable and gives what it held, in one step, and waits while it is empty. Replies
-    /// `Got`.
+    /// `SyncVar.mSwap`: stores this message in an m-variable and returns what it held, in one step. Blocks while it is empty.
+    /// Replies `Got`.
     pub fn m_swap<R: Wait>(
         &self,
         rt: &R,

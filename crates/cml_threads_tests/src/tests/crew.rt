@@ -1,4 +1,4 @@
-//! Threads at work on one switchboard, each by a seat or a lane of its own.
+//! Threads at work on one switchboard, each with its seat or its lane.
 use super::scene::Numbers;
 use super::steps::{Form, Step, taken};
 use super::{senders, verdict};
@@ -16,7 +16,7 @@ const CALLS: u64 = 200;
 /// How many messages each thread of the crowd sends or receives.
 const MESSAGES: u64 = 2_500;
 
-/// How often a call is made again at most, where the journal is full.
+/// How often a call is made again at most, if the journal is full.
 const CUTS: u64 = 1_000_000;
 
 /// How many of the crowd receive; as many send.
@@ -36,13 +36,13 @@ pub enum Crew {
     Callers,
     /// Four receive from one mailbox what four others send.
     Crowd,
-    /// The same, where the journal is full again and again: a call that is refused for it is made again after a cut.
+    /// The same, but the journal is full again and again: a call that fails with `JournalFull` is made again after a cut.
     Full,
-    /// Seven wait, and one sends elsewhere until the journal is full: each of the seven is refused for it.
+    /// Seven wait, and one sends elsewhere until the journal is full: the calls of all seven fail with `JournalFull`.
     Refused,
-    /// Eight receive, and nobody sends: each is told that all are stalled.
+    /// Eight receive, and no thread sends: the calls of all eight fail with `Stalled`.
     Stalled,
-    /// Four send on lanes of their own, one drains them, and two receive.
+    /// Four send, each on its lane, one drains the lanes, and two receive.
     Senders,
 }
 
@@ -55,7 +55,7 @@ pub enum Job<Led: Ledger> {
     Drain,
 }
 
-/// What it hands back: what its seat left, if it had one, and what became of its calls.
+/// What a thread returns: what its seat left, if it had one, and the results of its calls.
 #[derive(Drop)]
 struct Done<Led: Ledger> {
     left: Option<Left<Led>>,
@@ -118,7 +118,7 @@ fn sent_first(number: u64) -> u64 {
         .saturating_mul(MESSAGES)
 }
 
-/// All threads at work until each has left, and what that comes to.
+/// Runs all threads until each has left, and returns the result.
 pub fn perform<Led: Ledger + Send + Sync, R: Threads + Wait + Sync>(
     rt: &R,
     alloc: Global,
@@ -181,7 +181,7 @@ fn add_jobs<Led: Ledger, R: Wait>(
     }
 }
 
-/// Adds a job. One that is missing for want of memory shows in what all comes to.
+/// Adds a job. One that is missing for want of memory shows in the result.
 pub fn add<Led: Ledger>(jobs: &mut Vec<Job<Led>>, job: Job<Led>) {
     jobs.push(job).is_ok();
 }

@@ -1,5 +1,5 @@
-//! A switchboard's journal that is cut: refused while a lane is open, and else dropped or handed over. What waits is received
-//! after it, and there is room for as many entries again.
+//! Cuts of a switchboard's journal. They fail while a lane is open, and else drop or return the entries. What waits is
+//! received after a cut, and there is room for as many entries again.
 use super::steps::{Form, Step};
 use cml_board::Name;
 
@@ -20,7 +20,7 @@ pub const STEPS: &[Step] = &[
     Step::Form(Form::Recv(MAILBOX)),
 ];
 
-/// What each comes to. The counts are of all five entries, and the journal has the last alone.
+/// The result of each step. The counts are of all five entries, and the journal has the last alone.
 pub const TOLD: &str = "Ok(Made(Name(0)))
 Ok(Done)
 0

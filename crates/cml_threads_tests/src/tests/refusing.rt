@@ -1,5 +1,5 @@
-//! Calls that a switchboard refuses: by a named form and by `call` each is told its own refusal, is handed back, and costs no
-//! entry. Nor does what is reserved.
+//! Calls on a switchboard that fail. By a named form and by `call` each returns its refusal and the call, and adds no entry.
+//! Nor does a reservation.
 use super::steps::{Form, Step};
 use cml_board::Name;
 
@@ -20,7 +20,7 @@ pub const STEPS: &[Step] = &[
     Step::Recv(MAILBOX),
 ];
 
-/// What each comes to, and then the counts and the journal.
+/// The result of each step, and then the counts and the journal.
 pub const TOLD: &str = "Ok(())
 Err((NoSuch, Recv(Name(0))))
 Err((NoSuch, Recv(Name(0))))

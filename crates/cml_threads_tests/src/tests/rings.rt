@@ -8,9 +8,9 @@ const CHANNEL: Name = Name(3);
 
 const PORT: Name = Name(4);
 
-/// What is sent on a lane comes to its mailbox alone, once the lane is closed. The feed gets what is multicast on its channel,
-/// as much as it has room for, and nobody else receives from its port. Once it is ended it gives what is left in its ring and
-/// is pumped no more, and its port is an ordinary one.
+/// What is sent on a lane arrives in its mailbox alone, once the lane is closed. The feed gets what is multicast on its
+/// channel, as much as it has room for, and no seat receives from its port. Once it is ended it gives what is left in its
+/// ring and is pumped no more, and its port is an ordinary one.
 pub const STEPS: &[Step] = &[
     Step::Form(Form::Mailbox),
     Step::Form(Form::Mailbox),
@@ -43,7 +43,7 @@ pub const STEPS: &[Step] = &[
     Step::Pump,
 ];
 
-/// What each comes to, and then the counts and the journal.
+/// The result of each step, and then the counts and the journal.
 pub const TOLD: &str = "Ok(Made(Name(0)))
 Ok(Made(Name(1)))
 Ok(Made(Name(2)))

@@ -1,4 +1,4 @@
-//! Scenes on a switchboard, and the one place that names a ledger for them. What comes of a scene is a text.
+//! Scenes on a switchboard, and the one place that names a ledger for them. The result of a scene is a text.
 ghost use Rattle.std.specs.Prelude.{◌≡◌, ◌≤◌, ◌^◌};
 
 use super::crew::{self, Crew};
@@ -31,7 +31,7 @@ pub enum Scene {
     Dropped(&'static [Step]),
 }
 
-/// What the scene comes to on a switchboard whose journal takes so many entries.
+/// Performs the scene on a switchboard whose journal takes so many entries, and returns its result.
 pub fn performed<R: Threads + Wait + Sync>(
     rt: &R,
     alloc: Global,
@@ -94,7 +94,7 @@ fn settle_alone<Led: Ledger, R: Wait>(
     }
 }
 
-/// Two seats take their steps. With what the first left the switchboard is handed back, and with what both left it is settled.
+/// Two seats take their steps. With the left of the first `settle` fails, and with the lefts of both it succeeds.
 fn settle_late<Led: Ledger, R: Wait>(
     rt: &R,
     alloc: Global,

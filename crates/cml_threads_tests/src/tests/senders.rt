@@ -1,4 +1,4 @@
-//! Threads that send on lanes of their own, and one that drains them.
+//! Threads that send, each on its lane, and one that drains the lanes.
 use super::crew::{Job, add};
 use super::scene::{Numbers, tell};
 use super::steps::closed;
@@ -33,7 +33,7 @@ pub fn add_jobs<Led: Ledger, R: Wait>(rt: &R, board: &Numbers<Led>, jobs: &mut V
     add(jobs, Job::Drain);
 }
 
-/// Sends numbers of the lane's own, each again until it is taken, and closes the lane.
+/// Sends the lane's numbers, each again until it is taken, and closes the lane.
 pub fn send_all<Led: Ledger, R: Wait>(
     rt: &R,
     board: &Numbers<Led>,
@@ -82,7 +82,7 @@ pub fn let_go<Led: Ledger, R: Wait>(rt: &R, text: &mut String, board: &Numbers<L
     }
 }
 
-/// Opens two lanes that nobody sends on.
+/// Opens two lanes on which no thread sends.
 fn open_two<Led: Ledger, R: Wait>(rt: &R, text: &mut String, board: &Numbers<Led>) {
     for _ in 0..2u32 {
         tell(text, &board.open_lane(rt, MAILBOX, 1).is_ok());

@@ -16,7 +16,7 @@ pub const POLLS: &[Step] = &[
     Step::Form(Form::RecvPoll(MAILBOX)),
 ];
 
-/// Six calls by two seats. With one left all is handed back, and with both it is settled.
+/// Six calls by two seats. With one left `settle` fails and returns all, and with both it succeeds.
 pub const LATE: &str = "Ok(Made(Name(0)))
 Ok(Done)
 Ok(Done)

@@ -1,4 +1,4 @@
-//! Steps of one seat, with a lane and a feed that it has at hand. What each comes to is a line of a text.
+//! Steps of one seat, with a lane and a feed that it has at hand. The result of each step is a line of a text.
 use super::scene::{Numbers, tell};
 use cml_board::{Call, Name, Refusal, Reply};
 use cml_lanes::{Feed, Lane};

@@ -1,4 +1,4 @@
-//! What a crew's answers and the settled board come to.
+//! The results of a crew: its answers and the settled board.
 use super::crew::Made;
 use super::scene::{Final, tell};
 use super::senders::{EACH, LANES, MAILBOX};
@@ -54,7 +54,7 @@ Count { seats: 2000, rings: 0, total: 2000 }
 Ok(Ok(()))
 ";
 
-/// Each is told that all are stalled.
+/// The calls of all fail with `Stalled`.
 pub const STALLED: &str = "Ok(Made(Name(0)))
 Ok(Made(Name(1)))
 (0, 0, Some(Stalled))
@@ -100,8 +100,8 @@ Lane(2) in order
 Lane(3) in order
 ";
 
-/// Tells of each thread how many answers it had, how many of them the journal confirms, and what refused it one; how many
-/// messages were received, and whether each was once; the counts, and whether the journal is lawful.
+/// Writes for each thread how many answers it had, how many of them the journal confirms, and the refusal of a call. Then it
+/// writes how many messages were received, and whether each was once; the counts; and whether the journal is lawful.
 pub fn tell_all(alloc: Global, text: &mut String, settled: &Final, all: &[Made]) {
     for made in all.iter() {
         let answers = made.answers.as_slice();

@@ -1,7 +1,7 @@
 use Rattle.cml_threads.specs.Telling.{Tells}
 use Rattle.cml_threads.proofs.switchboard.Switchboard.call.Given as goal
 
--- the call is told of as the first time, however often it was made again
+-- the outcome is as of a first call, however often the call was made again
 pub record Waiting (g : goal.Over) (l : goal.Live-loop g) : Type 0 where
   pub can : (goal.iterator-loop g).can_next l.iterator'
   pub ends : (goal.iterator-loop g).is_finite l.iterator'

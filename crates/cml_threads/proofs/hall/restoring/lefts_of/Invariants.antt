@@ -1,0 +1,15 @@
+use Rattle.std.proofs.Common.{ℕ, ◌≡◌, ◌+◌, ◌<◌, ◌≤◌, length, slice_get, Some, vec_len, vec_capacity}
+use Rattle.cml_threads.specs.Seating.{Sitting, answers_in}
+use Rattle.cml_threads.proofs.hall.restoring.lefts_of.Given as goal
+
+abbrev pub invariant-loop-number : goal.invariant-loop-number
+invariant-loop-number g l = record {
+  made : vec_len l.lefts ≡ l.number;
+  many : length l.lefts.items ≡ l.number;
+  room : l.seats ≤ vec_capacity l.lefts;
+  numbers : (number : ℕ) (left : Sitting) → slice_get l.lefts.items number ≡ Some left → left.number ≡ number;
+  answers : answers_in l.lefts.items + l.answers ≡ l.fn.answers;
+  none : 0 < l.number → l.answers ≡ 0;
+  amount : l.rest.amount + l.fn.answers ≡ l.initial.rest.amount + l.answers;
+  parts : l.rest.parts + l.number ≡ l.initial.rest.parts;
+}
