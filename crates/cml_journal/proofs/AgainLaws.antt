@@ -183,7 +183,7 @@ end_read {M} version read position small =
     line_reads version read (Inside position) (numbered_line (codes "end") position) (Waiting (Some position), None)
     (numbered_clean (codes "end") position refl small) (short_numbered (codes "end") position (lit≤ tt) small) (inside_end read position small)
 
--- a piece behind what stands before its entries
+-- a piece behind its header and its position line
 abbrev body : {M : Type 0} → (M → List ℕ) → ℕ → List (Entry M) → List ℕ
 body text from entries = flat_map (entry_text text) entries ++ with_line_end (numbered_line (codes "end") (from + length entries))
 

@@ -15,7 +15,8 @@ use Rattle.cml_journal.specs.declared.fault.What.{What}
 use Rattle.cml_journal.specs.declared.fault.What.TheVariants.{UnknownWord, BadMessage, WrongReply}
 use Rattle.cml_journal.specs.declared.fault.Unread.{Unread}
 use Rattle.cml_journal.specs.Written.{IsWritten}
-use Rattle.cml_journal.specs.Lines.{who_text, call_text, reply_text, line_of, may_have, ReplyFits, HasLine}
+use Rattle.cml_board.specs.Replies.{may_have}
+use Rattle.cml_journal.specs.Lines.{who_text, call_text, reply_text, line_of, ReplyFits, HasLine}
 use Rattle.cml_journal.specs.Reading.{◌>>=◌, ok_or, Gives, cut, name_in, who_at, call_at, made_known, told_by, told_in, reply_in, entry_in}
 use Rattle.cml_journal.proofs.Cutting.{cut_again, cut_none, cut_takes, printed_no_space}
 use Rattle.cml_journal.proofs.WordLaws.{bind_ok, ok_is, some_from_ok, chosen, same_bytes, name_takes, name_again, who_takes, who_again}
@@ -135,7 +136,7 @@ entry_takes {M} text fits read written line entry e =
       | inr h ↦ let e : Err WrongReply ≡ Ok entry = h.1 in absurd cc
     ]
 
--- an entry has a line of its own
+-- two entries with the same line are the same
 pub entry_by_line : {M : Type 0} (text : M → List ℕ) (fits : M → Bool) (read : List ℕ → Option M) (written : IsWritten text fits read) (one other : Entry M)
     → HasLine fits one → HasLine fits other → line_of text one ≡ line_of text other → one ≡ other
 entry_by_line text fits read written one other has had same =

@@ -56,7 +56,7 @@ bad_first a (c ∷ d ∷ bs) is apart =
     ap (λ t. if t then before (escaped c d) (bytes_in bs) else before (plain a) (bytes_in (c ∷ d ∷ bs))) is
     ∙ ap (λ t. before (if t then Some a else None) (bytes_in (c ∷ d ∷ bs))) apart
 
--- where no byte is next, the text is at its end or stands for nothing
+-- if no byte is next, the text is at its end or has no meaning
 pub byte_end : (text : List ℕ) → byte_at text ≡ None → bytes_in text ≡ (if length text == 0 then Some [] else None)
 unfolding bytes_in
 byte_end [] e = refl

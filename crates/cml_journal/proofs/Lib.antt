@@ -4,8 +4,11 @@ pub mod WordLaws
 pub mod CallLaws
 pub mod EntryLaws
 pub mod PieceLaws
+pub mod PartLaws
 pub mod FeedLaws
 pub mod LineEnds
 pub mod StreamLaws
 pub mod CleanLaws
 pub mod AgainLaws
+pub mod PositionLaws
+pub mod CheckLaws

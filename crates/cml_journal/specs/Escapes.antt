@@ -24,18 +24,18 @@ are_bytes bytes = list_all (λ b. nat_lt b (2 ^ 8)) bytes
 abbrev pub is_message : List ℕ → Bool
 is_message bytes = nat_lt (length bytes) (2 ^ 32) && are_bytes bytes
 
--- what a capital hex digit stands for
+-- the value of a capital hex digit
 abbrev pub digit_in : ℕ → Option ℕ
 digit_in b = if nat_le 48 b && nat_le b 57 then Some (b - 48) else (if nat_le 65 b && nat_le b 70 then Some (b - 55) else None)
 
--- the byte that two hex digits stand for, unless it is written as it is
+-- the byte that two hex digits mean, unless it is written as it is
 abbrev pub unless_plain : ℕ → Option ℕ
 unless_plain b = if is_plain b then None else Some b
 
 abbrev pub escaped : ℕ → ℕ → Option ℕ
 escaped high low = option_and_then (λ h. option_and_then (λ l. unless_plain (h * 16 + l)) (digit_in low)) (digit_in high)
 
--- a byte that stands first in a text, and what is behind it
+-- the first byte of a text that begins with two hex digits, and what is behind them
 abbrev pub escape_at : List ℕ → Option (ℕ × List ℕ)
 escape_at [] = None
 escape_at (high ∷ []) = None
@@ -54,7 +54,7 @@ before (Some b) bytes = option_map (λ rest. b ∷ rest) bytes
 abbrev pub plain : ℕ → Option ℕ
 plain b = if is_plain b then Some b else None
 
--- the bytes that a text stands for
+-- the bytes that a text means
 unfoldable pub bytes_in : List ℕ → Option (List ℕ)
 bytes_in [] = Some []
 bytes_in (b ∷ []) = before (plain b) (Some [])

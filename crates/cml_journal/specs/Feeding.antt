@@ -23,6 +23,10 @@ pub record State : Type 0 where
 abbrev pub fresh : State
 fresh = record { stage = Waiting None; lines = 0; line = [] }
 
+-- nothing is read yet, and the first piece begins at this position
+abbrev pub waiting_at : ℕ → State
+waiting_at position = record { stage = Waiting (Some position); lines = 0; line = [] }
+
 -- the position behind the last piece, where nothing is behind that
 abbrev pub end_by : Stage → ℕ → Option ℕ
 end_by (Waiting end) left = if left == 0 then end else None

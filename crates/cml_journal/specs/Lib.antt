@@ -5,5 +5,7 @@ pub mod Numbers
 pub mod NumberLaws
 pub mod Escapes
 pub mod EscapeLaws
+pub mod Words
 pub mod Streams
 pub mod Feeding
+pub mod Checks

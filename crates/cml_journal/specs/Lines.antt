@@ -1,10 +1,6 @@
 -- The line of an entry, for messages that are written by `text`.
-use Rattle.std.specs.Prelude.{◌≡◌, ℕ, ◌<◌, ◌^◌, Bool, true, false, List, [], ◌∷◌, ◌++◌, Option, Some, None, IfSome, codes}
+use Rattle.std.specs.Prelude.{◌≡◌, ℕ, ◌<◌, ◌^◌, Bool, true, List, [], ◌∷◌, ◌++◌, Option, Some, None, IfSome, codes}
 use Rattle.std.specs.Fmt.{decimal}
-use Rattle.std.specs.List.{list_any}
-use Rattle.cml_calls.specs.declared.shape.ReplyKind.{ReplyKind}
-use Rattle.cml_calls.specs.declared.shape.ReplyKind.TheVariants as kind
-use Rattle.cml_calls.specs.Table.{Row}
 use Rattle.cml_board.specs.declared.call.Name.{Name}
 use Rattle.cml_board.specs.declared.call.Call.{Call}
 use Rattle.cml_board.specs.declared.entry.Entry.{Entry}
@@ -13,6 +9,7 @@ use Rattle.cml_board.specs.declared.entry.Who.TheVariants.{Seat, Lane, Feed}
 use Rattle.cml_board.specs.declared.entry.Reply.{Reply}
 use Rattle.cml_board.specs.declared.entry.Reply.TheVariants.{Done, Made, Got, Nothing, Put, Closed}
 use Rattle.cml_board.specs.Objects.{object_in, message_of, row_of}
+use Rattle.cml_board.specs.Replies.{may_have}
 
 abbrev pub who_word : Who → List ℕ
 who_word (Seat number) = codes "seat"
@@ -48,20 +45,6 @@ reply_text text Closed = codes "closed"
 -- an entry's line, without its line end
 abbrev pub line_of : {M : Type 0} → (M → List ℕ) → Entry M → List ℕ
 line_of text entry = who_text entry.who ++ 32 ∷ call_text text entry.call ++ 58 ∷ 32 ∷ reply_text text entry.reply
-
--- a reply is of a kind
-abbrev pub is_of : {M : Type 0} → Reply M → ReplyKind → Bool
-is_of Done kind.Done = true
-is_of (Made name) kind.Made = true
-is_of (Got message) kind.Got = true
-is_of Nothing kind.Nothing = true
-is_of Put kind.Put = true
-is_of Closed kind.Closed = true
-is_of reply other = false
-
--- a call with this row may have this reply
-abbrev pub may_have : {M : Type 0} → Row → Reply M → Bool
-may_have row reply = list_any (is_of reply) row.replies
 
 abbrev pub ReplyFits : {M : Type 0} → (M → Bool) → Reply M → Type 0
 ReplyFits fits Done = Unit {0}

@@ -19,7 +19,7 @@ use Rattle.cml_journal.specs.declared.fault.What.TheVariants.{Short, UnknownWord
 use Rattle.cml_journal.specs.declared.fault.Unread.{Unread}
 use Rattle.cml_journal.specs.declared.fault.Unread.TheVariants as unread
 use Rattle.cml_journal.specs.Numbers.{number_of}
-use Rattle.cml_journal.specs.Lines.{may_have}
+use Rattle.cml_board.specs.Replies.{may_have}
 
 infixl 10 ◌>>=◌
 abbrev pub ◌>>=◌ : {A B : Type 0} → Result A What → (A → Result B What) → Result B What

@@ -1,7 +1,8 @@
 -- The text of a journal: pieces one behind the other.
-use Rattle.std.specs.Prelude.{ℕ, ◌+◌, ◌==◌, if◌then◌else◌, List, [], ◌∷◌, ◌++◌, length, map, codes}
+use Rattle.std.specs.Prelude.{◌≡◌, ℕ, ◌+◌, ◌==◌, if◌then◌else◌, List, [], ◌∷◌, ◌++◌, length, map, Option, codes}
 use Rattle.std.specs.Fmt.{decimal}
 use Rattle.std.specs.List.{flat_map}
+use Rattle.std.specs.Io.KnownBytes.{Appends}
 use Rattle.cml_board.specs.declared.entry.Entry.{Entry}
 use Rattle.cml_journal.specs.Lines.{line_of}
 
@@ -32,3 +33,7 @@ piece_lines version text from entries =
 abbrev pub stream_lines : {M : Type 0} → ℕ → (M → List ℕ) → ℕ → List (List (Entry M)) → List (List ℕ)
 stream_lines version text from [] = []
 stream_lines version text from (entries ∷ later) = piece_lines version text from entries ++ stream_lines version text (from + length entries) later
+
+-- of a text its front was written, and this is left
+abbrev pub Writes : Option (List ℕ) → Option (List ℕ) → List ℕ → List ℕ → Type 0
+Writes held holds text left = (front : List ℕ) × Appends held holds front × (text ≡ front ++ left)

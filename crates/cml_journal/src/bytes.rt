@@ -3,7 +3,7 @@ ghost use Rattle.std.specs.Prelude.{◌≡◌, ◌<◌, ◌/◌, ◌%◌, ◌++�
 ghost use Rattle.std.specs.Fmt.{digit_glyph};
 ghost use Rattle.std.specs.List.{flat_map};
 ghost use Rattle.std.specs.Option.{option_map, option_and_then};
-ghost use Rattle.cml_journal.specs.Escapes.{is_plain, byte_text, bytes_in, if_short, escaped, escape_at, byte_at, digit_in};
+ghost use Rattle.cml_journal.specs.Escapes.{is_plain, byte_text, bytes_text, bytes_in, if_short, escaped, escape_at, byte_at, digit_in};
 
 use crate::written::Written;
 use cml_board::Bytes;
@@ -56,6 +56,14 @@ fn write_bytes(line: &mut String, bytes: &[u8]) -> Result<(), AllocError>
     Ok(())
 }
 
+/// Adds the word of a message of bytes.
+pub(crate) fn write_message(line: &mut String, bytes: &[u8]) -> Result<(), AllocError>
+    ensures { OnOk result (string_bytes line.new ≡ string_bytes line.old ++ bytes_text bytes.now) }
+{
+    line.push_str("=")?;
+    write_bytes(line, bytes)
+}
+
 /// The value of a capital hex digit.
 fn digit_in(byte: u8) -> Option<u8>
     ensures value { result ≡ digit_in byte }
@@ -67,7 +75,7 @@ fn digit_in(byte: u8) -> Option<u8>
     }
 }
 
-/// The byte that two hex digits stand for, unless it is written as it is.
+/// The byte that two hex digits mean, unless it is written as it is.
 fn escaped(high: u8, low: u8) -> Option<u8>
     ensures { result ≡ escaped high low }
 {
@@ -95,8 +103,7 @@ impl Written for Bytes {
     ghost written = { bytes_are_written };
 
     fn write(&self, line: &mut String) -> Result<(), AllocError> {
-        line.push_str("=")?;
-        write_bytes(line, self.as_slice())
+        write_message(line, self.as_slice())
     }
 
     fn read(alloc: Global, word: &str) -> Result<Option<Bytes>, AllocError> {
@@ -119,7 +126,7 @@ fn message_in(alloc: Global, text: &[u8]) -> Result<Option<Bytes>, AllocError>
     }
 }
 
-/// The byte that two hex digits are, and the bytes behind them.
+/// The byte that a text's first two hex digits mean, and the bytes behind them.
 fn escape_at(text: &[u8]) -> Option<(u8, &[u8])>
     ensures { option_map (λ next. (next.0, next.1.now)) result ≡ escape_at text.now }
 {
@@ -140,7 +147,7 @@ fn byte_at(text: &[u8]) -> Option<(u8, &[u8])>
     is_plain(*byte).then_some((*byte, rest))
 }
 
-/// The bytes that a text stands for, if it stands for some.
+/// The bytes that a text means, if it means some.
 fn bytes_in(alloc: Global, text: &[u8]) -> Result<Option<Vec<u8>>, AllocError>
     ensures { IfOk result (λ bytes. option_map (λ v. v.items) bytes ≡ bytes_in text.now) }
 {

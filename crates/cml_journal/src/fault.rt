@@ -6,22 +6,22 @@ use std::alloc::{AllocError, AllocFailed};
 use std::error::Error;
 use thiserror::Error;
 
-/// What is wrong with a line: the first fault from left to right.
+/// The first fault of a line, from left to right.
 #[derive(Clone, Copy, Debug, PartialEq, Eq, Error)]
 pub enum What {
     /// The line ends where a word is missing.
     #[error("too few words")]
     Short,
-    /// A word is none that may be in its place.
+    /// A word is not allowed in its place.
     #[error("unknown word")]
     UnknownWord,
     /// No colon is behind the call.
     #[error("no colon")]
     NoColon,
-    /// A word is no number below 2^64, or has zeros in front.
+    /// A word is not a number below 2^64, or has zeros in front.
     #[error("bad number")]
     BadNumber,
-    /// A word is no message.
+    /// A word is not a message.
     #[error("bad message")]
     BadMessage,
     /// The call never has this reply.
@@ -30,10 +30,10 @@ pub enum What {
     /// A byte is neither printed nor a space.
     #[error("bad bytes")]
     BadBytes,
-    /// A piece doesn't begin with the header of this version.
+    /// A piece does not begin with the header of this version.
     #[error("no header")]
     NoHeader,
-    /// A piece doesn't begin where the one before ended.
+    /// A piece does not begin where the one before ended.
     #[error("gap")]
     Gap,
     /// The position in a piece's last line is not the one behind its last entry.
@@ -47,7 +47,7 @@ pub enum What {
     TooLong,
 }
 
-/// Why a line was not read.
+/// The reason why a line was not read.
 #[derive(Clone, Copy, Debug, PartialEq, Eq, Error)]
 pub enum Unread {
     #[error("no memory")]

@@ -10,15 +10,15 @@ ghost use Rattle.cml_journal.specs.Feeding.{State, fresh, end_of, behind, readin
 
 use crate::written::Written;
 
-/// The line of an entry is read as this entry, and two entries with the same line are the same.
+/// Shows that the line of an entry is read as this entry, and that two entries with the same line are the same.
 pub fn lines_are_entries<M: Written>()
     ensures read { (entry : Entry M) → HasLine M.fits entry → entry_in M.meaning (line_of M.text entry) ≡ Ok entry }
     ensures same { (one other : Entry M) → HasLine M.fits one → HasLine M.fits other
         → line_of M.text one ≡ line_of M.text other → one ≡ other }
 {}
 
-/// A stream may be cut anywhere. A reader of its front, and then of the rest, gives the entries of both. A fault in the front is
-/// the fault of both.
+/// Shows that a stream may be cut anywhere: a reader of its front, and then of the rest, gives the entries of both. A fault
+/// in the front is the fault of both.
 pub fn streams_may_be_cut<M: Written>()
     ensures on { (state next : State) (front rest : List ℕ) (entries : List (Entry M))
         → reading M.VERSION M.meaning state front ≡ Ok (next, entries)
@@ -28,7 +28,7 @@ pub fn streams_may_be_cut<M: Written>()
         → reading M.VERSION M.meaning state (front ++ rest) ≡ Err what }
 {}
 
-/// A stream that was read to its end is the writing of just these entries, in pieces that follow each other.
+/// Shows that a stream that was read to its end is the writing of exactly these entries, in pieces that follow each other.
 pub fn streams_are_pieces<M: Written>()
     ensures { (bytes : List ℕ) (state : State) (entries : List (Entry M)) (end : ℕ)
         → reading M.VERSION M.meaning fresh bytes ≡ Ok (state, entries)
@@ -39,7 +39,7 @@ pub fn streams_are_pieces<M: Written>()
         × (end ≡ from + length entries) }
 {}
 
-/// The writing of pieces is read to its end, and gives just these entries.
+/// Shows that the writing of pieces is read to its end, and gives exactly these entries.
 pub fn pieces_are_read<M: Written>()
     ensures { (from : ℕ) (piece : List (Entry M)) (pieces : List (List (Entry M))) → M.VERSION < 2 ^ 64
         → AllByRecursion (AllByRecursion (IsReadable M.text M.fits)) (piece ∷ pieces)

@@ -2,19 +2,25 @@
 #![tactic(auto)]
 
 mod bytes;
+mod check;
 mod fault;
 mod laws;
 mod pieces;
 mod reader;
 mod reading;
+mod spelling;
+mod stop;
 mod words;
 mod writing;
 mod written;
 
+pub use check::Check;
 pub use fault::{Unread, What};
 pub use laws::{lines_are_entries, pieces_are_read, streams_are_pieces, streams_may_be_cut};
-pub use pieces::{add_piece, write_piece};
+pub use pieces::{add_piece, add_piece_in, write_piece};
 pub use reader::Reader;
 pub use reading::read_entry;
-pub use writing::write_entry;
+pub use spelling::{ScriptWords, Spelling};
+pub use stop::{Halt, Stop};
+pub use writing::{write_entry, write_reply};
 pub use written::Written;

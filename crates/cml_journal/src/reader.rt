@@ -1,8 +1,8 @@
-//! A journal's text is read as it comes.
+//! How a journal's text is read as it comes.
 ghost use Rattle.std.specs.Prelude.{◌≡◌, ◌≤◌, ◌-◌, ◌==◌, ◌++◌, ◌∷◌, ℕ, List, Ok, false, length, position, IfOk, IfErr, OnErr, MatchOption};
 ghost use Rattle.std.specs.Option.{option_to_list};
 ghost use Rattle.cml_journal.specs.Reading.{Gives, Fails};
-ghost use Rattle.cml_journal.specs.Feeding.{State, fresh, numbered, headed, begun, entered, ended_by, inside, from_by, behind_header, line_step, line_read, has_line_end, held_all, most, turned, reading, end_of};
+ghost use Rattle.cml_journal.specs.Feeding.{State, fresh, waiting_at, numbered, headed, begun, entered, ended_by, inside, from_by, behind_header, line_step, line_read, has_line_end, held_all, most, turned, reading, end_of};
 
 use crate::fault::{Unread, What};
 use crate::reading::read_entry;
@@ -19,7 +19,7 @@ const MOST: usize = 1_114_112;
 /// Where in a stream of pieces a line is.
 #[derive(Clone, Copy, Debug, PartialEq, Eq)]
 pub(crate) enum Stage {
-    /// Before a piece, and behind one that ended at this position, if there was one.
+    /// Before a piece, and behind one that ended at this position, if there was one before.
     Waiting(Option<u64>),
     /// Behind a header.
     Headed(Option<u64>),
@@ -82,7 +82,7 @@ fn inside<M: Written>(alloc: Global, position: u64, line: &str) -> Result<Told<M
     }
 }
 
-/// The position of a piece's first entry, or that entry where it is 0.
+/// The position of a piece's first entry, or, if that is 0, the entry.
 #[tactic(auto, unfolding(crate::specs::Feeding::behind_header))]
 fn behind_header<M: Written>(
     alloc: Global,
@@ -121,7 +121,7 @@ fn line_read<M: Written>(alloc: Global, stage: Stage, line: &[u8]) -> Result<Tol
     }
 }
 
-/// Reads a stream of pieces that comes in parts, cut anywhere. It keeps one line at most.
+/// A reader of a stream of pieces that comes in parts, cut anywhere. It keeps at most one line.
 ///
 /// Use one type of messages for a stream.
 #[derive(Drop)]
@@ -164,6 +164,18 @@ impl Reader {
     {
         Reader {
             stage: Stage::Waiting(None),
+            lines: 0,
+            line: Vec::new(alloc),
+        }
+    }
+
+    /// A reader of a stream whose first piece begins at this position: it is a gap if that begins elsewhere. `end` gives the
+    /// position before the first line too.
+    pub fn from(alloc: Global, position: u64) -> Reader
+        ensures { result ≡ waiting_at position }
+    {
+        Reader {
+            stage: Stage::Waiting(Some(position)),
             lines: 0,
             line: Vec::new(alloc),
         }
@@ -219,14 +231,14 @@ impl Reader {
         Ok(entry)
     }
 
-    /// How many lines have ended, modulo 2^64.
+    /// Returns how many lines have ended, modulo 2^64.
     pub fn lines(&self) -> u64
         ensures { result ≡ self.now.lines }
     {
         self.lines
     }
 
-    /// The position behind the last piece, if the stream is at its end.
+    /// Returns the position behind the last piece, if the stream so far ends with a whole piece.
     pub fn end(&self) -> Option<u64>
         ensures { result ≡ end_of self.now }
     {

@@ -1,9 +1,10 @@
-//! A line is read as an entry.
+//! How a line is read as an entry.
 ghost use Rattle.std.specs.Prelude.{◌≡◌, IfOk, Ok};
 ghost use Rattle.cml_board.specs.Objects.{row_of};
 ghost use Rattle.cml_board.specs.declared.entry.Entry.{Entry};
 ghost use Rattle.cml_journal.specs.declared.fault.What.TheVariants.{BadMessage};
-ghost use Rattle.cml_journal.specs.Lines.{line_of, may_have, is_of, HasLine};
+ghost use Rattle.cml_board.specs.Replies.{may_have, is_of};
+ghost use Rattle.cml_journal.specs.Lines.{line_of, HasLine};
 ghost use Rattle.cml_journal.specs.Reading.{Gives, ok_or, who_by, who_at, made_in, given_at, asked_at, filled_at, called_at, call_at, made_known, told_in, reply_in, entry_in};
 
 use crate::fault::{Unread, What};
@@ -171,7 +172,7 @@ fn may_have<M>(call: &Call<M>, reply: &Reply<M>) -> bool
     call.shape().replies.iter().any(|kind| is_of(reply, *kind))
 }
 
-/// The entry that a line is.
+/// Reads a line as an entry.
 #[tactic(auto, unfolding(crate::specs::Reading::entry_in))]
 fn entry_in<M: Written>(alloc: Global, line: &str) -> Result<Entry<M>, Unread>
     ensures { Gives (λ entry. entry) result (entry_in M.meaning line.now) }
@@ -187,7 +188,7 @@ fn entry_in<M: Written>(alloc: Global, line: &str) -> Result<Entry<M>, Unread>
 
 /// Reads a line, without its line end, as an entry.
 ///
-/// Errors: `Memory` if an allocation fails; else the first fault of the line.
+/// Fails with `Memory` if an allocation fails, and else with the first fault of the line.
 pub fn read_entry<M: Written>(alloc: Global, line: &str) -> Result<Entry<M>, Unread>
     // What is read is written so.
     ensures found { IfOk result (λ entry. (line.now ≡ line_of M.text entry) × HasLine M.fits entry) }

@@ -1,4 +1,4 @@
-//! A line's next word.
+//! The next word of a line.
 ghost use Rattle.std.specs.Prelude.{◌≡◌, Ok};
 ghost use Rattle.std.specs.Option.{option_map};
 ghost use Rattle.cml_journal.specs.Reading.{Gives, cut, without_colon, word_at, last_at, number_in, name_in};
@@ -31,7 +31,7 @@ pub(crate) fn word_at(line: &str) -> Result<(&str, &str), Unread>
     }
 }
 
-/// The next word where a colon ends it.
+/// The next word, if a colon ends it.
 #[tactic(auto, unfolding(crate::specs::Reading::last_at))]
 pub(crate) fn last_at(line: &str) -> Result<(&str, &str), Unread>
     ensures { Gives (λ parts. (parts.0.now, parts.1.now)) result (last_at line.now) }

@@ -1,7 +1,8 @@
-//! An entry's line is written.
+//! How an entry's line is written.
 ghost use Rattle.std.specs.Prelude.{◌≡◌, ◌++◌, OnOk, string_bytes};
 ghost use Rattle.cml_journal.specs.Lines.{who_text, call_text, reply_text, line_of};
 
+use crate::spelling::{OwnWords, Spelling};
 use crate::written::Written;
 use cml_board::{Call, Entry, Reply, Who};
 use std::alloc::AllocError;
@@ -10,11 +11,22 @@ use std::alloc::AllocError;
 pub fn write_entry<M: Written>(text: &mut String, entry: &Entry<M>) -> Result<(), AllocError>
     ensures { OnOk result (string_bytes text.new ≡ string_bytes text.old ++ line_of M.text entry.now) }
 {
+    write_entry_in(text, &OwnWords, entry)
+}
+
+/// Adds an entry's line, with its messages spelled so.
+pub(crate) fn write_entry_in<M, S: Spelling<M>>(
+    text: &mut String,
+    spelling: &S,
+    entry: &Entry<M>,
+) -> Result<(), AllocError>
+    ensures { OnOk result (string_bytes text.new ≡ string_bytes text.old ++ line_of (S.word spelling.now) entry.now) }
+{
     write_who(text, entry.who)?;
     text.push_str(" ")?;
-    write_call(text, &entry.call)?;
+    write_call(text, spelling, &entry.call)?;
     text.push_str(": ")?;
-    write_reply(text, &entry.reply)
+    write_reply_in(text, spelling, &entry.reply)
 }
 
 fn write_who(text: &mut String, who: Who) -> Result<(), AllocError>
@@ -28,8 +40,12 @@ fn write_who(text: &mut String, who: Who) -> Result<(), AllocError>
 }
 
 /// Adds a call's word, its object's number and its message.
-fn write_call<M: Written>(text: &mut String, call: &Call<M>) -> Result<(), AllocError>
-    ensures { OnOk result (string_bytes text.new ≡ string_bytes text.old ++ call_text M.text call.now) }
+fn write_call<M, S: Spelling<M>>(
+    text: &mut String,
+    spelling: &S,
+    call: &Call<M>,
+) -> Result<(), AllocError>
+    ensures { OnOk result (string_bytes text.new ≡ string_bytes text.old ++ call_text (S.word spelling.now) call.now) }
 {
     text.push_str(call.shape().word)?;
     if let Some(name) = call.object() {
@@ -38,13 +54,24 @@ fn write_call<M: Written>(text: &mut String, call: &Call<M>) -> Result<(), Alloc
     }
     if let Some(message) = call.message() {
         text.push_str(" ")?;
-        message.write(text)?;
+        spelling.spell(message, text)?;
     }
     Ok(())
 }
 
-fn write_reply<M: Written>(text: &mut String, reply: &Reply<M>) -> Result<(), AllocError>
+/// Adds a reply in the words of an entry's line. If it fails, it may have added a part of it.
+pub fn write_reply<M: Written>(text: &mut String, reply: &Reply<M>) -> Result<(), AllocError>
     ensures { OnOk result (string_bytes text.new ≡ string_bytes text.old ++ reply_text M.text reply.now) }
+{
+    write_reply_in(text, &OwnWords, reply)
+}
+
+fn write_reply_in<M, S: Spelling<M>>(
+    text: &mut String,
+    spelling: &S,
+    reply: &Reply<M>,
+) -> Result<(), AllocError>
+    ensures { OnOk result (string_bytes text.new ≡ string_bytes text.old ++ reply_text (S.word spelling.now) reply.now) }
 {
     match reply {
         Reply::Done => text.push_str("done"),
@@ -52,7 +79,7 @@ fn write_reply<M: Written>(text: &mut String, reply: &Reply<M>) -> Result<(), Al
             let number = name.0;
             write!(text, "made {number}")
         }
-        Reply::Got(message) => message.write(text),
+        Reply::Got(message) => spelling.spell(message, text),
         Reply::Nothing => text.push_str("none"),
         Reply::Put => text.push_str("put"),
         Reply::Closed => text.push_str("closed"),

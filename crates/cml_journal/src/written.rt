@@ -5,7 +5,7 @@ ghost use Rattle.cml_journal.specs.Written.{IsWritten};
 use cml_grammar::number_of;
 use std::alloc::{AllocError, Global};
 
-/// A message that a line can have as a word.
+/// A type of messages that a journal's line can have as words.
 pub trait Written: Drop + Sized {
     /// The version of journals with such messages.
     const VERSION: u64;
@@ -25,7 +25,7 @@ pub trait Written: Drop + Sized {
     fn write(&self, line: &mut String) -> Result<(), AllocError>
         ensures { OnOk result (string_bytes line.new ≡ string_bytes line.old ++ text self.now) };
 
-    /// The message that a word is.
+    /// Reads a word as a message, or returns `None` if it is none.
     fn read(alloc: Global, word: &str) -> Result<Option<Self>, AllocError>
         ensures { IfOk result (λ message. message ≡ meaning word.now) };
 

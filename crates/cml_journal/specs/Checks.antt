@@ -1,0 +1,134 @@
+-- What a check has found of a journal's text so far, and why it stops.
+use Rattle.std.specs.Prelude.{◌≡◌, ℕ, ◌==◌, Bool, false, not, ◌&&◌, ◌≢◌, is_some, is_none, List, [], ◌∷◌, ◌++◌, reverse, length, slice_get, string_bytes, Option, Some, None, Result, Ok, Err, IfOk, ⊤}
+use Rattle.cml_board.specs.declared.entry.Entry.{Entry}
+use Rattle.cml_board.specs.declared.expected.Expected.{Expected}
+use Rattle.cml_board.specs.History.{Lawful}
+use Rattle.cml_board.specs.Positions.{before}
+use Rattle.cml_board.specs.Makers.{AreMakers, RestoredShown}
+use Rattle.cml_board.specs.Checking.{Expects, Found, HasMade, IsFirstUnlawful, Shows, StopsAt}
+use Rattle.cml_journal.specs.declared.fault.Unread.{Unread}
+use Rattle.cml_journal.specs.declared.fault.Unread.TheVariants as unread
+use Rattle.cml_journal.specs.declared.stop.Halt.{Halt}
+use Rattle.cml_journal.specs.declared.stop.Halt.TheVariants as halt
+use Rattle.cml_journal.specs.declared.stop.Stop.{Stop}
+use Rattle.cml_journal.specs.declared.stop.Stop.TheVariants as stop
+use Rattle.cml_journal.specs.Lines.{line_of}
+use Rattle.cml_journal.specs.Feeding.{State, waiting_at, end_of, reading}
+
+-- how far a journal is read, what its checker shows, whether the check has stopped, and the entry that was read last
+pub record Progress (M : Type 0) : Type 0 where
+  pub state : State
+  pub checker : Found M
+  pub halt : Option Halt
+  pub last : Option (Entry M)
+
+-- what a check keeps of what a reader met on this line
+abbrev pub halt_of : Unread → ℕ → Halt
+halt_of unread.Memory line = halt.NoMemory
+halt_of (unread.Fault what) line = halt.Fault line what
+
+module _ {M : Type 0} (text : M → List ℕ) where
+  -- an entry's line, if there is one
+  abbrev pub line_of_last : Option (Entry M) → List ℕ
+  line_of_last None = []
+  line_of_last (Some entry) = line_of text entry
+
+  -- what a check that halted so may say: there may be no memory for an entry's line
+  abbrev pub IsTold : Option (Entry M) → Halt → Stop → Type 0
+  IsTold last (halt.Unlawful at) (stop.Unlawful position line) = (position ≡ at) × (string_bytes line ≡ line_of_last last)
+  IsTold last (halt.Unlawful at) stop.NoMemory = ⊤
+  IsTold last (halt.Fault line what) (stop.Fault number fault) = (number ≡ line) × (fault ≡ what)
+  IsTold last halt.NoMemory stop.NoMemory = ⊤
+  IsTold last halted told = ⊥
+
+  -- it has halted, and says so from then on
+  abbrev pub SaysFrom : Option (Entry M) → Option Halt → Stop → Type 0
+  SaysFrom last None told = ⊥
+  SaysFrom last (Some halted) told = IsTold last halted told
+
+  abbrev pub IsSpent : Progress M → Stop → Type 0
+  IsSpent progress told = SaysFrom progress.last progress.halt told
+
+-- an entry behind this history halts a check only where it is unlawful, or for want of memory
+abbrev pub MayHaltAt : {M : Type 0} → Found M → Entry M → Progress M → Halt → Type 0
+MayHaltAt checker entry new (halt.Unlawful at) =
+    IfOk checker (λ history. Shows history (entry ∷ []) new.checker at × StopsAt history (entry ∷ []) at) × (new.last ≡ Some entry)
+MayHaltAt checker entry new halt.NoMemory = ⊤
+MayHaltAt checker entry new (halt.Fault line what) = ⊥
+
+-- the last piece has its end, the check has not stopped, and a line was read
+abbrev pub is_whole : {M : Type 0} → Progress M → Bool
+is_whole progress = is_some (end_of progress.state) && (is_none progress.halt && not (progress.state.lines == 0))
+
+module _ {M : Type 0} (version : ℕ) (meaning : List ℕ → Option M) where
+  -- these bytes were read from position 0 on, and all entries in them are lawful
+  pub record IsSoFar (bytes : List ℕ) (progress : Progress M) : Type 0 where
+    pub entries : List (Entry M)
+    pub read : reading version meaning (waiting_at 0) bytes ≡ Ok (progress.state, entries)
+    pub checked : progress.checker ≡ Ok (reverse entries)
+    pub lawful : Lawful (reverse entries)
+    pub running : progress.halt ≡ None
+
+  -- the first entry that is unlawful is at this position, on the last line of some front of the bytes, and this becomes of its
+  -- call behind the entries before it
+  pub record IsUnlawfulJournal (bytes : List ℕ) (at : ℕ) (entry : Entry M) (expected : Expected M) : Type 0 where
+    pub front : List ℕ
+    pub rest : List ℕ
+    pub whole : bytes ≡ front ++ rest
+    pub state : State
+    pub entries : List (Entry M)
+    pub read : reading version meaning (waiting_at 0) front ≡ Ok (state, entries)
+    pub first : IsFirstUnlawful entries at
+    pub stands : slice_get entries at ≡ Some entry
+    pub expects : Expects (before entries at) entry expected
+
+  -- what a check that halted shows of such an entry
+  pub record ShowsUnlawful (bytes : List ℕ) (at : ℕ) (new : Progress M) : Type 0 where
+    pub entry : Entry M
+    pub expected : Expected M
+    pub is : IsUnlawfulJournal bytes at entry expected
+    pub last : new.last ≡ Some entry
+    pub shown : new.checker ≡ Err (record { at = at; expected = expected })
+
+  -- what a halt says of the bytes of a journal
+  abbrev pub HaltTells : List ℕ → Progress M → Halt → Type 0
+  HaltTells bytes new (halt.Unlawful at) = ShowsUnlawful bytes at new
+  HaltTells bytes new (halt.Fault line what) = reading version meaning (waiting_at 0) bytes ≡ Err what
+  HaltTells bytes new halt.NoMemory = ⊤
+
+  -- the same of a stop, which has the entry's line
+  abbrev pub StopTells : (M → List ℕ) → List ℕ → Progress M → Stop → Type 0
+  StopTells text bytes new (stop.Unlawful at line) = (shows : ShowsUnlawful bytes at new) × (string_bytes line ≡ line_of text shows.entry)
+  StopTells text bytes new (stop.Fault line what) = reading version meaning (waiting_at 0) bytes ≡ Err what
+  StopTells text bytes new stop.NoMemory = ⊤
+
+  -- these bytes were read behind any others, and all entries in them are lawful there
+  abbrev pub Goes : Progress M → List ℕ → Progress M → Type 0
+  Goes old bytes new = (before : List ℕ) → IsSoFar before old → IsSoFar (before ++ bytes) new
+
+  -- a check halts in these bytes, behind any others
+  abbrev pub HaltsIn : Progress M → List ℕ → Progress M → Halt → Type 0
+  HaltsIn old bytes new halted = (before : List ℕ) → IsSoFar before old → HaltTells (before ++ bytes) new halted
+
+  -- the same of a stop
+  abbrev pub StopsIn : (M → List ℕ) → Progress M → List ℕ → Progress M → Stop → Type 0
+  StopsIn text old bytes new told = (before : List ℕ) → IsSoFar before old → StopTells text (before ++ bytes) new told
+
+  -- the bytes are a whole journal of so many entries, and all are lawful
+  pub record IsLawfulJournal (bytes : List ℕ) (count : ℕ) : Type 0 where
+    pub state : State
+    pub entries : List (Entry M)
+    pub read : reading version meaning (waiting_at 0) bytes ≡ Ok (state, entries)
+    pub whole : state.lines ≢ 0
+    pub ended : end_of state ≡ Some count
+    pub counted : count ≡ length entries
+    pub lawful : Lawful (reverse entries)
+
+  -- a board has made the calls of the whole entries in these bytes and cut its journal then, and these are their makers
+  pub record IsRestored (bytes : List ℕ) (limit : ℕ) (restored : RestoredShown M) : Type 0 where
+    pub state : State
+    pub entries : List (Entry M)
+    pub read : reading version meaning (waiting_at 0) bytes ≡ Ok (state, entries)
+    pub lawful : Lawful (reverse entries)
+    pub made : HasMade (reverse entries) limit restored.board
+    pub makers : AreMakers (reverse entries) restored.makers

@@ -1,0 +1,227 @@
+//! A journal is read and checked as it comes, in memory for the objects, what waits in them, and one line.
+ghost use Rattle.std.specs.Prelude.{◌≡◌, ◌≤◌, ◌-◌, ◌^◌, ◌∷◌, ◌++◌, ℕ, List, [], Ok, None, Some, length, IfOk, IfErr, IfSome, IsNone, OnOk, OnErr, OnSome, IsErr, IsTrue, is_none, not, ◌&&◌, ◌==◌, option_map, string_bytes};
+ghost use Rattle.cml_board.specs.Checking.{Feeds, count_of, expected_of};
+ghost use Rattle.cml_journal.specs.declared.stop.Halt.{Halt};
+ghost use Rattle.cml_journal.specs.Feeding.{State, end_of};
+ghost use Rattle.cml_journal.specs.Checks.{IsSoFar, Goes, HaltsIn, StopsIn, MayHaltAt, IsTold, IsSpent, is_whole, line_of_last, IsLawfulJournal, IsRestored};
+
+use crate::reader::Reader;
+use crate::stop::{Halt, Stop};
+use crate::writing::write_entry;
+use crate::written::Written;
+use cml_board::{BoardLog, Checker, Entry, Expected, Message, Restored};
+use std::alloc::{AllocError, Global};
+use std::marker::Model;
+
+/// A journal's text, from its first entry on, that is read and checked as it comes.
+#[derive(Drop)]
+pub struct Check<M: Message> {
+    alloc: Global,
+    reader: Reader,
+    // In a box, since a drop of a check in a box gets no proof where it has the checker in place.
+    checker: Box<Checker<M>>,
+    halt: Option<Halt>,
+    // The entry that was read last, alone. It is kept so that its memory is used again.
+    entry: Vec<Entry<M>>,
+}
+
+impl<M: Message> Model for Check<M> {
+    ghost use Rattle.std.specs.Prelude.{slice_get};
+    ghost use Rattle.cml_journal.specs.Checks.{Progress};
+
+    ghost Value = { Progress M };
+
+    ghost view = { λ check. record { state = check.reader; checker = check.checker.value; halt = check.halt; last = slice_get check.entry.items 0 } };
+}
+
+impl<M: Message + Written> Check<M> {
+    pub fn new(alloc: Global) -> Result<Check<M>, AllocError>
+        ensures { IfOk result (λ check. IsSoFar M.VERSION M.meaning [] check) }
+    {
+        Ok(Check {
+            alloc,
+            reader: Reader::from(alloc, 0),
+            checker: Box::new(alloc, Checker::new(alloc)?)?,
+            halt: None,
+            entry: Vec::new(alloc),
+        })
+    }
+
+    /// Reads the stream's next bytes, cut anywhere, and checks the entries in them.
+    ///
+    /// Errors: the first entry that isn't lawful, or the first fault, whichever comes first; `NoMemory` if an allocation fails.
+    /// A check that failed is spent: it fails the same way from then on, or with `NoMemory` if there is no memory for an
+    /// entry's line.
+    pub fn take(&mut self, bytes: &[u8]) -> Result<(), Stop>
+        ensures taken { OnOk result (Goes M.VERSION M.meaning self.old bytes.now self.new) }
+        ensures stopped { IfErr result (λ stop. StopsIn M.VERSION M.meaning M.text self.old bytes.now self.new stop) }
+        ensures spent { IfErr result (λ stop. IsSpent M.text self.new stop) }
+        ensures again { (halt : Halt) → self.old.halt ≡ Some halt → (self.new ≡ self.old) × IsErr result }
+    {
+        match self.advance(bytes) {
+            Ok(()) => Ok(()),
+            Err(halt) => Err(self.told(halt)),
+        }
+    }
+
+    /// Does what `take` does, and returns no line of an entry. So it needs no memory to say why it stopped, and fails the same way
+    /// from then on.
+    pub fn advance(&mut self, bytes: &[u8]) -> Result<(), Halt>
+        ensures taken { OnOk result (Goes M.VERSION M.meaning self.old bytes.now self.new) }
+        ensures halted { IfErr result (λ halt. HaltsIn M.VERSION M.meaning self.old bytes.now self.new halt) }
+        ensures running { OnOk result (self.new.halt ≡ None) }
+        ensures spent { IfErr result (λ halt. self.new.halt ≡ Some halt) }
+        ensures again { (halt : Halt) → self.old.halt ≡ Some halt → (self.new ≡ self.old) × IsErr result }
+    {
+        if let Some(halt) = self.halt {
+            return Err(halt);
+        }
+        let taken = self.take_lines(bytes);
+        if let Err(halt) = taken {
+            self.halt = Some(halt);
+        }
+        taken
+    }
+
+    fn take_lines(&mut self, bytes: &[u8]) -> Result<(), Halt>
+        ensures taken { OnOk result (Goes M.VERSION M.meaning self.old bytes.now self.new) }
+        ensures halted { IfErr result (λ halt. HaltsIn M.VERSION M.meaning self.old bytes.now self.new halt) }
+        ensures halt { OnOk result (self.new.halt ≡ self.old.halt) }
+    {
+        let mut rest = bytes;
+        while !rest.is_empty() {
+            rest = self.take_line(rest)?;
+        }
+        Ok(())
+    }
+
+    /// Reads up to a line end, and gives the bytes behind it.
+    fn take_line<'a>(&mut self, bytes: &'a [u8]) -> Result<&'a [u8], Halt>
+        ensures taken { IfOk result (λ rest. (taken : List ℕ) × (bytes.now ≡ taken ++ rest.now) × Goes M.VERSION M.meaning self.old taken self.new) }
+        ensures halted { IfErr result (λ halt. HaltsIn M.VERSION M.meaning self.old bytes.now self.new halt) }
+        ensures halt { OnOk result (self.new.halt ≡ self.old.halt) }
+        ensures shorter { IfOk result (λ rest. length rest.now ≤ length bytes.now - 1) }
+    {
+        let (found, rest) = match self.reader.next(self.alloc, bytes) {
+            Ok(read) => read,
+            Err(unread) => {
+                let line = self.reader.lines().wrapping_add(1);
+                return Err(Halt::of_unread(unread, line));
+            }
+        };
+        let Some(entry) = found else {
+            return Ok(rest);
+        };
+        self.feed(entry)?;
+        Ok(rest)
+    }
+
+    fn feed(&mut self, entry: Entry<M>) -> Result<(), Halt>
+        ensures fed { OnOk result (Feeds self.old.checker (entry ∷ []) self.new.checker (Ok tt)) }
+        ensures state { OnOk result (self.new.state ≡ self.old.state) }
+        ensures halt { OnOk result (self.new.halt ≡ self.old.halt) }
+        ensures halted { IfErr result (λ halt. MayHaltAt self.old.checker entry self.new halt) }
+    {
+        self.entry.clear();
+        self.entry.push(entry)?;
+        if self.checker.entries() == u64::MAX {
+            return Err(Halt::NoMemory);
+        }
+        match self.checker.feed(&self.entry)? {
+            Ok(()) => Ok(()),
+            Err(at) => Err(Halt::Unlawful(at)),
+        }
+    }
+
+    /// What it says that it stopped so.
+    fn told(&self, halt: Halt) -> Stop
+        ensures { IsTold M.text self.now.last halt result }
+    {
+        match halt {
+            Halt::Unlawful(at) => match self.line() {
+                Ok(line) => Stop::Unlawful(at, line),
+                Err(AllocError) => Stop::NoMemory,
+            },
+            Halt::Fault(line, what) => Stop::Fault(line, what),
+            Halt::NoMemory => Stop::NoMemory,
+        }
+    }
+
+    /// The line of the entry that was read last, if there is one.
+    fn line(&self) -> Result<String, AllocError>
+        ensures { IfOk result (λ line. string_bytes line ≡ line_of_last M.text self.now.last) }
+    {
+        let mut line = String::new(self.alloc);
+        if let Some(entry) = self.entry.first() {
+            write_entry(&mut line, entry)?;
+        }
+        Ok(line)
+    }
+
+    /// Whether the bytes so far are a whole journal: there is one line at least, and the last piece has its end.
+    pub fn end(&self) -> bool
+        ensures same { result ≡ is_whole self.now }
+        ensures whole { (bytes : List ℕ) → IsSoFar M.VERSION M.meaning bytes self.now → IsTrue result
+            → IsLawfulJournal M.VERSION M.meaning bytes (count_of self.now.checker) }
+    {
+        match self.reader.end() {
+            Some(_) => self.is_running(),
+            None => false,
+        }
+    }
+
+    /// Whether it has not stopped, and a line was read.
+    fn is_running(&self) -> bool
+        ensures { result ≡ (is_none self.now.halt && not (self.now.state.lines == 0)) }
+    {
+        self.halt.is_none() && self.reader.lines() != 0
+    }
+
+    /// What becomes of the call of the first unlawful entry, on a board with the history before it. `None` if no entry is
+    /// unlawful.
+    pub fn expected(&self) -> Option<&Expected<M>>
+        ensures { option_map (λ expected. expected.now) result ≡ expected_of self.now.checker }
+    {
+        self.checker.expected()
+    }
+
+    /// A board with the history that the whole entries so far give, as if it had made each call itself, and had cut its journal
+    /// then; and who made these entries. Its journal takes `limit` entries until it is cut again. The check is then as a new one.
+    /// Ask `end` before, if a journal that was torn isn't to be taken. `None` if the check has stopped: then it stays as it is.
+    pub fn restore(&mut self, limit: u64) -> Option<Restored<M, BoardLog<M>>>
+        requires least { 1 ≤ limit }
+        requires most { limit ≤ 2 ^ 32 }
+        ensures restored { IfSome result (λ restored. (bytes : List ℕ) → IsSoFar M.VERSION M.meaning bytes self.old
+            → IsRestored M.VERSION M.meaning bytes limit restored) }
+        ensures anew { OnSome result (IsSoFar M.VERSION M.meaning [] self.new) }
+        ensures stopped { IsNone result → (self.new ≡ self.old) × ((bytes : List ℕ) → ¬ (IsSoFar M.VERSION M.meaning bytes self.old)) }
+    {
+        if self.halt.is_some() {
+            return None;
+        }
+        let restored = self.checker.restore(limit)?;
+        self.reader = Reader::from(self.alloc, 0);
+        Some(restored)
+    }
+
+    /// Why it stopped, if it has stopped.
+    pub fn halt(&self) -> Option<Halt>
+        ensures { result ≡ self.now.halt }
+    {
+        self.halt
+    }
+
+    /// How many entries it found lawful.
+    pub fn entries(&self) -> u64
+        ensures { result ≡ count_of self.now.checker }
+    {
+        self.checker.entries()
+    }
+
+    /// How many lines have ended, modulo 2^64.
+    pub fn lines(&self) -> u64
+        ensures { result ≡ self.now.state.lines }
+    {
+        self.reader.lines()
+    }
+}
