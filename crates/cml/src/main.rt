@@ -1,8 +1,12 @@
-//! `cml`: replays or runs the script on standard input, and writes its report to standard output.
+//! `cml`: replays or runs the script on standard input, or checks the journal there, and writes to standard output what came of it.
 #![tactic(auto)]
 
-use cml_script::{Ending, OpenGate, Order, order, replay, run};
+mod ending;
+
+use cml_check::check;
+use cml_script::{Form, OpenGate, Order, order, replay, replay_journal, run, run_journal};
 use cml_shell::{NoOrder, end, words};
+use ending::Ending;
 use std::process::ExitCode;
 use std::sync::Wait;
 use std::thread::Threads;
@@ -17,8 +21,19 @@ fn obey<R: Threads + Wait + Sync>(rt: &HostRuntime, system: &R) -> Result<Ending
     let alloc = rt.alloc();
     let words = words(rt)?;
     let (input, output) = (&mut rt.stdin(), &mut rt.stdout());
-    match order(alloc, words.as_slice())? {
-        Order::Replay(limit) => Ok(replay(alloc, input, output, limit)),
-        Order::Run(limit) => Ok(run(system, alloc, input, output, limit, &OpenGate)),
-    }
+    Ok(match order(alloc, words.as_slice())? {
+        Order::Replay(limit, Form::Report) => {
+            Ending::Performed(replay(alloc, input, output, limit))
+        }
+        Order::Replay(limit, Form::Journal) => {
+            Ending::Performed(replay_journal(alloc, input, output, limit))
+        }
+        Order::Run(limit, Form::Report) => {
+            Ending::Performed(run(system, alloc, input, output, limit, &OpenGate))
+        }
+        Order::Run(limit, Form::Journal) => {
+            Ending::Performed(run_journal(system, alloc, input, output, limit, &OpenGate))
+        }
+        Order::Check(state) => Ending::Checked(check(system, alloc, input, output, state)),
+    })
 }

@@ -1,4 +1,4 @@
--- What lanes and feeds move is asked by nobody.
+-- What lanes and feeds move, no seat asks for.
 use Rattle.std.proofs.Common.{◌≡◌, ℕ, List, [], ◌∷◌, length, Some, refl, ap, ◌∙◌, arith}
 use Rattle.std.proofs.lemmas.List.{length_push}
 use Rattle.cml_board.specs.declared.call.Name.{Name}

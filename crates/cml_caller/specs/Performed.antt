@@ -5,7 +5,7 @@ use Rattle.cml_script.specs.Working.{Made, Declares, Works}
 use Rattle.cml_caller.specs.declared.performing.Performed.{Performed}
 use Rattle.cml_caller.specs.declared.performing.Performed.TheVariants.{Undeclared, Stopped}
 
--- the declared objects were made, but for those behind one that was refused; or all of them, and then the first thread's steps
+-- the declared objects up to one that was refused were made; or all of them were made, and then the first thread's steps
 -- behind just these
 abbrev pub IsPerformed : Lines → Performed → Type 0
 IsPerformed script (Undeclared teller refusal) = Declares script teller (Err refusal)

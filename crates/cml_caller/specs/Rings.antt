@@ -20,7 +20,7 @@ is_asked_by who call = false
 abbrev pub is_asked : Entry (List ℕ) → Bool
 is_asked entry = is_asked_by entry.who entry.call
 
--- what a journal has but for what lanes and feeds moved
+-- the entries of a journal without those that lanes and feeds moved
 abbrev pub asked : History → History
 asked history = filter is_asked history
 

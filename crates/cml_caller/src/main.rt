@@ -21,13 +21,13 @@ struct Case {
     limit: u64,
 }
 
-/// A thread that sends more by a lane than that has room for, and receives one message; and that polls a feed with room for
-/// one, before it is owed anything and for each of two. And another's step, which nobody performs.
+/// A thread that sends more by a lane than the lane has room for, and receives one message. It also polls a feed with room
+/// for one, before it is owed anything and for each of two. And another thread's step, which is not performed.
 const NUMBERS: &str = "cml 1\nmailbox m\nchannel c\nthread A\nthread B\nfeed A f c 1\nlane A m 2\n\
     A send m 5\nA send m 6\nA send m 7\nA recv m\n\
     A poll f\nA multicast c 8\nA multicast c 9\nA poll f\nA poll f\nB send m 1\n";
 
-/// The same of words: a thread with a lane and a variable that holds something from the beginning.
+/// The same with words: a thread with a lane and a variable that holds a message from the beginning.
 const WORDS: &str = "cml 2\nmailbox m\nmvar v 05\nthread A\nlane A m 1\n\
     A send m =\nA send m done\nA swap v A\nA recv m\nA get v\n";
 
@@ -84,7 +84,7 @@ fn performed_of(alloc: Global, script: &str, limit: u64) -> Option<Performed>
     perform(alloc, &script, limit).ok()
 }
 
-/// Shows how it ended, and where all was done its journal.
+/// Shows how it ended, and its journal if all was done.
 fn show_performed<R: Print>(rt: &R, performed: &Performed) -> io::Result<()> {
     match performed {
         Performed::Undeclared(_, refusal) => println!(rt; "undeclared: {refusal:?}"),

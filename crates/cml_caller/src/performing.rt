@@ -18,7 +18,7 @@ pub enum Performed {
     Stopped(Teller, Result<Stop, AllocError>),
 }
 
-/// Makes a script's declared objects on a floor of its own, and performs its first thread's steps.
+/// Makes a script's declared objects on a new floor, and performs its first thread's steps.
 pub fn perform(alloc: Global, script: &Script, limit: u64) -> Result<Performed, AllocError>
     requires least { 1 ≤ limit }
     requires most { limit ≤ 2 ^ 32 }
@@ -32,7 +32,7 @@ pub fn perform(alloc: Global, script: &Script, limit: u64) -> Result<Performed, 
     }
 }
 
-/// Performs the first thread's steps, where the declared objects are made.
+/// Performs the first thread's steps, once the declared objects are made.
 fn perform_first(alloc: Global, plan: &Plan<'_>, teller: Teller) -> Performed
     requires { Declares plan.now teller (Ok tt) }
     ensures { IsPerformed plan.now result }

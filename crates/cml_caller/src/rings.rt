@@ -1,4 +1,4 @@
-//! A floor of one's own, and the ends of its rings that threads would have.
+//! A floor of one caller, and the ends of its rings that threads would have.
 ghost use Rattle.std.specs.Prelude.{◌≡◌, ◌^◌, ◌<◌, ◌≤◌, true, [], length, OnOk, OnErr, IfOk, IfSome};
 ghost use Rattle.cml_caller.specs.Rings.{asked, with_call, with_feed, IsUnasked};
 ghost use Rattle.cml_threads.specs.Telling.{suits};
@@ -16,8 +16,8 @@ struct OpenLane {
     lane: Lane<Text>,
 }
 
-/// A floor, the lanes that are open on it, and its feeds, by their numbers. Nobody else is there: a call that would wait is
-/// stalled.
+/// A floor, the lanes that are open on it, and its feeds, by their numbers. No other caller is there: a call that would wait
+/// is stalled.
 #[derive(Drop)]
 pub struct Rings {
     floor: Floor<Text, BoardLog<Text>>,
@@ -79,7 +79,7 @@ impl Rings {
         }
     }
 
-    /// Opens a feed from a channel, and tells its port. Its number is how many were opened before.
+    /// Opens a feed from a channel, and returns its port. Its number is how many were opened before.
     pub fn open_feed(&mut self, channel: Name, capacity: usize) -> Result<Name, Refusal>
         requires { IsCapacity capacity }
         ensures opened { IfOk result (λ port. self.new ≡ with_feed channel port self.old) }
@@ -94,8 +94,8 @@ impl Rings {
         Ok(port)
     }
 
-    /// Sends a message by the lane to this object, which is opened where none is open. A lane that has no room for it is
-    /// drained; where it has none then, it is closed, and another is opened.
+    /// Sends a message by the lane to this object, and opens one if none is open. If the lane has no room, drains it. If it
+    /// has no room then, closes it, and opens another.
     pub fn send(&mut self, target: Name, capacity: usize, message: Text) -> Result<(), Refusal>
         requires { IsCapacity capacity }
         ensures same { self.new ≡ record self.old { lanes = self.new.lanes } }
@@ -111,8 +111,8 @@ impl Rings {
         }
     }
 
-    /// Sends a message on an open lane, or gives it back where it has no room for it. Where it has none though it was drained,
-    /// it is closed.
+    /// Sends a message on an open lane, or returns the message if the lane has no room for it. If it has none even after a
+    /// drain, closes it.
     fn send_on(&mut self, at: usize, message: Text) -> Result<Option<Text>, Refusal>
         requires { at < self.old.lanes }
         ensures same { self.new ≡ record self.old { lanes = self.new.lanes } }
@@ -148,7 +148,7 @@ impl Rings {
         Ok(())
     }
 
-    /// Takes the next message of a feed. Where its ring has none, what the feed is owed is pumped once.
+    /// Takes the next message of a feed. If its ring has none, pumps what the feed is owed once.
     pub fn poll(&mut self, feed: usize) -> Result<(), Refusal>
         ensures { self.new ≡ self.old }
     {
@@ -163,7 +163,7 @@ impl Rings {
         Ok(())
     }
 
-    /// Closes all lanes. Where one is refused the others stay open.
+    /// Closes all lanes. If one cannot be closed, the others stay open.
     pub fn close_lanes(&mut self) -> Result<(), Refusal>
         ensures closed { OnOk result (self.new.lanes ≡ 0) }
         ensures refused { OnErr result (self.new.lanes ≤ self.old.lanes) }
@@ -185,7 +185,7 @@ impl Rings {
     }
 }
 
-/// Lets go of a call that is not answered, and tells why.
+/// Drops a call that is not answered, and returns why.
 fn give_up(_call: Call<Text>, refusal: Refusal) -> Refusal
     ensures { result ≡ refusal }
 {
@@ -206,7 +206,7 @@ fn pump(floor: &mut Floor<Text, BoardLog<Text>>, feed: u64) -> Result<usize, Ref
     floor.pump(feed)
 }
 
-/// Closes a lane. Where that is refused it is abandoned: what it has left in its ring is lost.
+/// Closes a lane. If that fails, abandons it: the messages left in its ring are lost.
 fn close(floor: &mut Floor<Text, BoardLog<Text>>, lane: Lane<Text>) -> Result<(), Refusal>
     ensures { IsUnasked floor.old floor.new }
 {
@@ -218,7 +218,7 @@ fn close(floor: &mut Floor<Text, BoardLog<Text>>, lane: Lane<Text>) -> Result<()
     told
 }
 
-/// Finishes a lane, and closes it where all that was sent on it is moved.
+/// Finishes a lane, and closes it if all that was sent on it is moved.
 fn finish(floor: &mut Floor<Text, BoardLog<Text>>, lane: Lane<Text>) -> Result<(), Refusal>
     ensures { IsUnasked floor.old floor.new }
 {

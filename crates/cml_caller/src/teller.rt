@@ -1,4 +1,4 @@
-//! A caller on a floor of its own.
+//! A caller alone on a floor.
 ghost use Rattle.std.specs.Prelude.{◌≡◌, ◌≤◌, ◌^◌, true, Some, IfOk};
 ghost use Rattle.cml_caller.specs.Rings.{asked};
 ghost use Rattle.cml_caller.specs.Telling.{unmade, EndsWith};
@@ -9,7 +9,7 @@ use cml_script::Caller;
 use std::alloc::{AllocError, Global};
 use std::marker::Model;
 
-/// A message that was sent by a lane, to which object, and how many that has room for.
+/// A message that was sent by a lane, the object that it went to, and how many messages the lane has room for.
 #[derive(Drop)]
 pub struct Sent {
     pub target: Name,
@@ -25,10 +25,10 @@ pub enum Went {
     Polled(usize),
 }
 
-/// Who makes the calls of one seat after the other, alone on a floor, and tells what the present one made: what it was
-/// answered, which feeds it opened, and what it sent by lanes and polled of feeds. Since nobody else is there, what it was
-/// answered are the journal's newest entries but for what lanes and feeds moved, so it only counts them: a copy of an answer
-/// could be refused when the call is made already.
+/// A caller that makes the calls of one seat after the other, alone on a floor. It says of the present seat which calls were
+/// answered, which feeds it opened, and what it sent by lanes and polled of feeds. Since it is alone, those answers are the
+/// journal's newest entries, without those of lanes and feeds. So it only counts them: copying an answer could fail after
+/// the call is made.
 #[derive(Drop)]
 pub struct Teller {
     alloc: Global,
@@ -67,7 +67,7 @@ impl Teller {
         Ok(Teller::seated(alloc, rings, 0))
     }
 
-    /// Another seat of the floor, where this one is done. What this one left in its lanes is lost.
+    /// Goes on at another seat of the floor, when this one is done. What this one left in its lanes is lost.
     pub fn at_seat(self, seat: u64) -> Teller
         ensures { result ≡ unmade seat }
     {
@@ -92,14 +92,14 @@ impl Teller {
         }
     }
 
-    /// The board. But for what lanes and feeds moved its journal ends with what this seat made.
+    /// The board. Without what lanes and feeds moved, its journal ends with what this seat made.
     pub fn board(&self) -> &Board<Text, BoardLog<Text>>
         ensures { EndsWith self.now.entries (asked result.now.history) }
     {
         self.rings.board()
     }
 
-    /// Keeps what refused it something.
+    /// Keeps the refusal of a call that failed.
     fn refuse(&mut self, refusal: Refusal) -> Refusal
         ensures refusal { result ≡ refusal }
         ensures told { self.new ≡ record self.old { refused = Some refusal } }

@@ -1,179 +1,84 @@
--- What was read and checked so far, and what an ending says of it.
-use Rattle.std.proofs.Common.{◌≡◌, ℕ, Bool, true, false, ◌+◌, zero, suc, List, [], ◌∷◌, ◌++◌, length, reverse, take, slice_get, Option, Some, Result, Ok, refl, sym, ap, subst, ◌∙◌, arith, append_assoc}
-use Rattle.std.specs.Option.{option_to_list}
-use Rattle.std.proofs.lemmas.List.{append-nil, reverse-append, length-reverse}
+-- What an ending says of what was read and checked.
+use Rattle.std.proofs.Common.{◌≡◌, ℕ, ◌+◌, add-one, Bool, true, false, List, [], ◌++◌, reverse, Option, Some, None, Result, Ok, refl, sym, ap, ◌∙◌, subst, append_assoc}
+use Rattle.std.proofs.lemmas.List.{append-nil}
 use Rattle.std.proofs.KnownBytes.{Consumes-nil, Consumes-trans}
-use Rattle.std.specs.Io.KnownBytes.{Consumes, IsAtEnd}
-use Rattle.std.proofs.lemmas.Option.{none-some, same_Some}
+use Rattle.std.specs.Io.KnownBytes.{Appends, Consumes, IsAtEnd}
+use Rattle.cml_journal.specs.declared.stop.Stop.{Stop}
+use Rattle.cml_journal.specs.declared.stop.Stop.TheVariants as stop
 use Rattle.cml_board.specs.declared.entry.Entry.{Entry}
-use Rattle.cml_board.specs.History.{Lawful}
-use Rattle.cml_board.specs.Positions.{before}
-use Rattle.cml_board.specs.Checking.{IsFirstUnlawful, IsLawfulNext, Feeds, followed_by}
-use Rattle.cml_journal.specs.declared.fault.Unread.{Unread}
-use Rattle.cml_journal.specs.declared.fault.Unread.TheVariants as unread
-use Rattle.cml_journal.specs.Reading.{Fails}
-use Rattle.cml_journal.specs.Feeding.{State, fresh, behind, reading}
-use Rattle.cml_journal.proofs.FeedLaws.{on, placed, reading-append}
+use Rattle.cml_board.specs.declared.expected.Expected.{Expected}
+use Rattle.cml_board.specs.Checking.{expected_of}
+use Rattle.cml_board.specs.Makers.{RestoredShown}
+use Rattle.cml_journal.specs.Lines.{line_of}
+use Rattle.cml_journal.specs.Feeding.{State, Read}
+use Rattle.cml_journal.specs.Checks.{Progress, IsSoFar, Goes, StopsIn, ShowsUnlawful, IsLawfulJournal, IsRestored}
+use Rattle.std.specs.Fmt.{decimal}
+use Rattle.std.specs.Global.{Global}
+use Rattle.std.specs.Prelude.{String, string_bytes}
 use Rattle.cml_check.specs.declared.ending.Ending.{Ending}
 use Rattle.cml_check.specs.declared.ending.Ending.TheVariants.{Lawful as lawful, Unlawful, Fault, Torn, BehindCut, ReadFault, WriteFault, NoMemory}
 use Rattle.cml_journal.specs.Numbers.{number_of}
-use Rattle.cml_check.specs.Checking.{IsSilent, IsRead, IsVerdict, TellsAs, ConcludesAs, ConcludesBy, is_of_bytes, Progress, IsSoFar, Tells, Goes, EndsIn, IsEarly, IsHeardOut, MayEndAt, Concludes, ending_of_unread}
+use Rattle.cml_check.specs.Lines.{Writes, answer_text, lines_for, object_line, object_lines, state_lines, told_state}
+use Rattle.cml_check.specs.Checking.{IsSilent, IsRead, IsVerdict, TellsAs, ConcludesAs, ConcludesBy, is_of_bytes, Tells, EndsAs, EndsIn, IsEarly, IsHeardOut, IsStateOf, IsToldLawful, IsToldUnlawful, Concludes}
 
-pub lists_found : {M : Type 0} (state : State) {found other : Option (Entry M)} → found ≡ other → placed state (option_to_list found) ≡ placed state (option_to_list other)
-lists_found {M} state same = ap (λ (f : Option (Entry M)). placed state (option_to_list f)) same
+module _ {M : Type 0} (version : ℕ) (meaning : List ℕ → Option M) (text : M → List ℕ) where
+  -- ---- a stop
+  told_unlawful : (bytes : List ℕ) (at position : ℕ) (line entry answer : String Global) (new : Progress M)
+      → (shows : ShowsUnlawful version meaning bytes at new) → string_bytes line ≡ line_of text shows.entry
+      → (position ≡ at) × (entry ≡ line) × ((expected : Expected M) → expected_of new.checker ≡ Some expected → string_bytes answer ≡ answer_text text expected)
+      → IsToldUnlawful version meaning text bytes position (string_bytes entry) (string_bytes answer)
+  told_unlawful bytes at position line entry answer new shows is ends =
+      subst (λ (k : ℕ). IsToldUnlawful version meaning text bytes k (string_bytes entry) (string_bytes answer)) (sym ends.0) (record {
+        entry = shows.entry;
+        expected = shows.expected;
+        is = shows.is;
+        told = ap (λ (s : String Global). string_bytes s) ends.1 ∙ is;
+        answered = ends.2 shows.expected (ap expected_of shows.shown);
+      })
 
-module _ {M : Type 0} (version : ℕ) (meaning : List ℕ → Option M) where
-  pub nothing_so_far : (progress : Progress M) → progress.state ≡ fresh → progress.checker ≡ Ok [] → IsSoFar version meaning [] progress
-  unfolding reading
-  nothing_so_far progress state checker = record {
-    entries = [];
-    read = ap (λ s. Ok (s, [])) (sym state);
-    checked = checker;
-    lawful = tt;
+  pub ends_as_stopped : (old new : Progress M) (bytes : List ℕ) (told : Stop) (ending : Ending) → EndsAs text new told ending
+      → StopsIn version meaning text old bytes new told → EndsIn version meaning text old bytes ending
+  ends_as_stopped old new bytes (stop.Unlawful at line) (Unlawful position entry answer) ends stops =
+      (tt, λ asked before so. let tells = stops before so in told_unlawful (before ++ bytes) at position line entry answer new tells.0 tells.1 ends)
+  ends_as_stopped old new bytes (stop.Unlawful at line) NoMemory ends stops = (tt, λ asked before so. tt)
+  ends_as_stopped old new bytes (stop.Unlawful at line) (lawful count state) ends stops = absurd ends
+  ends_as_stopped old new bytes (stop.Unlawful at line) (Fault number what) ends stops = absurd ends
+  ends_as_stopped old new bytes (stop.Unlawful at line) (Torn number) ends stops = absurd ends
+  ends_as_stopped old new bytes (stop.Unlawful at line) BehindCut ends stops = absurd ends
+  ends_as_stopped old new bytes (stop.Unlawful at line) ReadFault ends stops = absurd ends
+  ends_as_stopped old new bytes (stop.Unlawful at line) WriteFault ends stops = absurd ends
+  ends_as_stopped old new bytes (stop.Fault line what) ending ends stops =
+      subst (λ (e : Ending). EndsIn version meaning text old bytes e) (sym ends) (tt, λ asked before so. stops before so)
+  ends_as_stopped old new bytes stop.NoMemory ending ends stops =
+      subst (λ (e : Ending). EndsIn version meaning text old bytes e) (sym ends) (tt, λ asked before so. tt)
+
+  -- ---- the end
+  pub told_lawful : (asked : Bool) (bytes : List ℕ) (progress : Progress M) (count : ℕ) (state : String Global) → IsLawfulJournal version meaning bytes count
+      → IsStateOf version meaning text asked bytes progress (string_bytes state) → IsSoFar version meaning bytes progress → IsToldLawful version meaning text asked bytes count (string_bytes state)
+  told_lawful asked bytes progress count state is told so = record {
+    is = is;
+    told = told so ∙ ap (λ (es : List (Entry M)). told_state text asked (reverse es)) (same_entries (so.read) is.read);
   }
+    where
+      same_entries : {a b : State} {xs ys : List (Entry M)} {read : Read M} → read ≡ Ok (a, xs) → read ≡ Ok (b, ys) → xs ≡ ys
+      same_entries {a} {b} {xs} {ys} one other = let both : (a, xs) ≡ (b, ys) = cc in ap (λ (p : State × List (Entry M)). p.1) both
 
-  -- ---- one step after another
-  pub goes_nowhere : (old : Progress M) → Goes version meaning old [] old
-  goes_nowhere old bytes so = subst (λ (b : List ℕ). IsSoFar version meaning b old) (sym (append-nil bytes)) so
-
-  pub goes_on : (old mid new : Progress M) (front rest : List ℕ) → Goes version meaning old front mid → Goes version meaning mid rest new
-      → Goes version meaning old (front ++ rest) new
-  goes_on old mid new front rest first second bytes so =
-      subst (λ (b : List ℕ). IsSoFar version meaning b new) (append_assoc bytes front rest) (second (bytes ++ front) (first bytes so))
-
-  pub ends_later : (old mid : Progress M) (all front rest : List ℕ) (ending : Ending) → all ≡ front ++ rest → Goes version meaning old front mid
-      → EndsIn version meaning mid rest ending → EndsIn version meaning old all ending
-  ends_later old mid all front rest ending cut first second = (
-    second.0,
-    λ bytes so.
-        subst (λ (b : List ℕ). Tells version meaning b ending) (append_assoc bytes front rest ∙ ap (λ (b : List ℕ). bytes ++ b) (sym cut)) (second.1 (bytes ++ front) (first bytes so)),
-  )
-
-  -- ---- a line
-  -- what is read behind the bytes so far
-  read_on : (bytes taken : List ℕ) (old : Progress M) (next : State) (found : List (Entry M)) (so : IsSoFar version meaning bytes old)
-      → reading version meaning old.state taken ≡ Ok (next, found) → reading version meaning fresh (bytes ++ taken) ≡ Ok (next, so.entries ++ found)
-  read_on bytes taken old next found so read =
-      reading-append version meaning fresh bytes taken ∙ ap (on version meaning taken) so.read ∙ ap (behind so.entries) read
-
-  pub goes_past_line : (old new : Progress M) (taken : List ℕ) → reading version meaning old.state taken ≡ Ok (new.state, []) → new.checker ≡ old.checker
-      → Goes version meaning old taken new
-  goes_past_line old new taken read same bytes so = record {
-    entries = so.entries;
-    read = read_on bytes taken old new.state [] so read ∙ ap (λ (es : List (Entry M)). Ok (new.state, es)) (append-nil so.entries);
-    checked = same ∙ so.checked;
-    lawful = so.lawful;
-  }
-
-  one_more : (entries : List (Entry M)) (entry : Entry M) → reverse (entries ++ entry ∷ []) ≡ entry ∷ reverse entries
-  one_more entries entry = reverse-append entries (entry ∷ [])
-
-  pub goes_past_entry : (old new : Progress M) (taken : List ℕ) (entry : Entry M) → reading version meaning old.state taken ≡ Ok (new.state, entry ∷ [])
-      → Feeds old.checker (entry ∷ []) new.checker (Ok tt) → Goes version meaning old taken new
-  goes_past_entry old new taken entry read feeds bytes so =
-      let fed = subst (λ (c : Result (List (Entry M)) ℕ). Feeds c (entry ∷ []) new.checker (Ok tt)) so.checked feeds in
-      let more = sym (one_more so.entries entry) in record {
-        entries = so.entries ++ entry ∷ [];
-        read = read_on bytes taken old new.state (entry ∷ []) so read;
-        checked = fed.0 ∙ ap (λ (h : List (Entry M)). Ok h) more;
-        lawful = subst Lawful more fed.1;
-      }
-
-  pub goes_past_entry_to : (old : Progress M) (next : State) (new : Progress M) (taken : List ℕ) (entry : Entry M) → reading version meaning old.state taken ≡ Ok (next, entry ∷ [])
-      → new.state ≡ next → Feeds old.checker (entry ∷ []) new.checker (Ok tt) → Goes version meaning old taken new
-  goes_past_entry_to old next new taken entry read same feeds =
-      goes_past_entry old new taken entry (read ∙ ap (λ (s : State). Ok (s, entry ∷ [])) (sym same)) feeds
-
-  ends_by_unread : (old : Progress M) (bytes : List ℕ) (line : ℕ) (e : Unread) → Fails e (reading version meaning old.state bytes)
-      → EndsIn version meaning old bytes (ending_of_unread e line)
-  ends_by_unread old bytes line unread.Memory fails = (tt, λ front so. tt)
-  ends_by_unread old bytes line (unread.Fault what) fails = (
-    tt,
-    λ front so.
-        reading-append version meaning fresh front bytes ∙ ap (on version meaning bytes) so.read ∙ ap (behind so.entries) fails,
-  )
-
-  pub ends_at_fault : (line : ℕ) (old : Progress M) (bytes : List ℕ) (e : Unread) (ending : Ending) → ending ≡ ending_of_unread e line
-      → Fails e (reading version meaning old.state bytes) → EndsIn version meaning old bytes ending
-  ends_at_fault line old bytes e ending is fails =
-      subst (λ (x : Ending). EndsIn version meaning old bytes x) (sym is) (ends_by_unread old bytes line e fails)
-
-  -- ---- an entry that is unlawful
-  take_front : (xs ys : List (Entry M)) → take (length xs) (xs ++ ys) ≡ xs
-  take_front [] [] = refl
-  take_front [] (y ∷ ys) = refl
-  take_front (x ∷ xs) ys = ap (λ (zs : List (Entry M)). x ∷ zs) (take_front xs ys)
-
-  get_behind : (xs : List (Entry M)) (y : Entry M) → slice_get (xs ++ y ∷ []) (length xs) ≡ Some y
-  get_behind [] y = refl
-  get_behind (x ∷ xs) y = get_behind xs y
-
-  before_last : (entries : List (Entry M)) (entry : Entry M) → before (entries ++ entry ∷ []) (length entries) ≡ reverse entries
-  before_last entries entry = ap reverse (take_front entries (entry ∷ []))
-
-  first_at_last : (entries : List (Entry M)) (entry : Entry M) → Lawful (reverse entries) → (IsLawfulNext (reverse entries) entry → ⊥)
-      → IsFirstUnlawful (entries ++ entry ∷ []) (length entries)
-  first_at_last entries entry fine unlawful =
-      let same = before_last entries entry in record {
-        entry = entry;
-        stands = get_behind entries entry;
-        lawful = subst Lawful (sym same) fine;
-        unlawful = λ at. unlawful (subst (λ (h : List (Entry M)). IsLawfulNext h entry) same (at.fits, at.answered));
-      }
-
-  first_of_stop : (entries : List (Entry M)) (entry other : Entry M) (at k : ℕ) → slice_get (entry ∷ []) k ≡ Some other → at ≡ length (reverse entries) + k
-      → Lawful (reverse entries) → (IsLawfulNext (followed_by (reverse entries) (entry ∷ []) k) other → ⊥)
-      → IsFirstUnlawful (entries ++ entry ∷ []) at
-  first_of_stop entries entry other at zero stands position fine unlawful =
-      subst (IsFirstUnlawful (entries ++ entry ∷ [])) (omega (arith, position, length-reverse entries))
-      (first_at_last entries entry fine (subst (λ (e : Entry M). IsLawfulNext (reverse entries) e → ⊥) (sym (same_Some entry other stands)) unlawful))
-  first_of_stop entries entry other at (suc k) stands position fine unlawful = absurd (none-some other stands)
-
-  early : (checker : Result (List (Entry M)) ℕ) (entry : Entry M) (ending : Ending) → MayEndAt checker entry ending → IsEarly ending
-  early checker entry (Unlawful at line) may = tt
-  early checker entry NoMemory may = tt
-  early checker entry (lawful count) may = absurd may
-  early checker entry (Fault line what) may = absurd may
-  early checker entry (Torn line) may = absurd may
-  early checker entry BehindCut may = absurd may
-  early checker entry ReadFault may = absurd may
-  early checker entry WriteFault may = absurd may
-
-  tells_at_entry : (old : Progress M) (next : State) (bytes taken rest : List ℕ) (entry : Entry M)
-      → reading version meaning old.state taken ≡ Ok (next, entry ∷ []) → (so : IsSoFar version meaning bytes old) → (ending : Ending) → MayEndAt (Ok (reverse so.entries)) entry ending
-      → Tells version meaning (bytes ++ (taken ++ rest)) ending
-  tells_at_entry old next bytes taken rest entry read so (Unlawful at line) stops = record {
-    front = bytes ++ taken;
-    rest = rest;
-    whole = sym (append_assoc bytes taken rest);
-    state = next;
-    entries = so.entries ++ entry ∷ [];
-    read = read_on bytes taken old next (entry ∷ []) so read;
-    first = first_of_stop so.entries entry stops.entry at stops.k stops.stands stops.position so.lawful stops.unlawful;
-  }
-  tells_at_entry old next bytes taken rest entry read so NoMemory stops = tt
-  tells_at_entry old next bytes taken rest entry read so (lawful count) stops = absurd stops
-  tells_at_entry old next bytes taken rest entry read so (Fault line what) stops = absurd stops
-  tells_at_entry old next bytes taken rest entry read so (Torn line) stops = absurd stops
-  tells_at_entry old next bytes taken rest entry read so BehindCut stops = absurd stops
-  tells_at_entry old next bytes taken rest entry read so ReadFault stops = absurd stops
-  tells_at_entry old next bytes taken rest entry read so WriteFault stops = absurd stops
-
-  pub ends_at_entry : (old : Progress M) (next : State) (bytes taken rest : List ℕ) (entry : Entry M) (ending : Ending)
-      → bytes ≡ taken ++ rest → reading version meaning old.state taken ≡ Ok (next, entry ∷ []) → MayEndAt old.checker entry ending
-      → EndsIn version meaning old bytes ending
-  ends_at_entry old next all taken rest entry ending cut read may = (
-    early old.checker entry ending may,
-    λ bytes so.
-        subst (λ (b : List ℕ). Tells version meaning (bytes ++ b) ending) (sym cut)
-        (tells_at_entry old next bytes taken rest entry read so ending (subst (λ (c : Result (List (Entry M)) ℕ). MayEndAt c entry ending) so.checked may)),
-  )
+  -- the lines of a board that has made what was read so far
+  pub state_restored : (bytes : List ℕ) (progress : Progress M) (restored : RestoredShown M) (lines : List ℕ)
+      → (IsSoFar version meaning bytes progress → IsRestored version meaning bytes 1 restored) → lines ≡ state_lines text restored.board.history
+      → IsStateOf version meaning text true bytes progress lines
+  state_restored bytes progress restored lines restores is so =
+      let of = restores so in
+      is ∙ ap (state_lines text) of.made.history ∙ ap (λ (es : List (Entry M)). state_lines text (reverse es)) (same_entries of.read so.read)
+    where
+      same_entries : {a b : State} {xs ys : List (Entry M)} {read : Read M} → read ≡ Ok (a, xs) → read ≡ Ok (b, ys) → xs ≡ ys
+      same_entries {a} {b} {xs} {ys} one other = let both : (a, xs) ≡ (b, ys) = cc in ap (λ (p : State × List (Entry M)). p.1) both
 
   -- ---- a reader
   heard_early : (ending : Ending) (new : Option (List ℕ)) → IsEarly ending → IsHeardOut ending new
-  heard_early (lawful count) new is = absurd is
+  heard_early (lawful count state) new is = absurd is
   heard_early (Torn line) new is = absurd is
-  heard_early (Unlawful at line) new is = tt
+  heard_early (Unlawful at line answer) new is = tt
   heard_early (Fault line what) new is = tt
   heard_early NoMemory new is = tt
   heard_early BehindCut new is = tt
@@ -181,9 +86,9 @@ module _ {M : Type 0} (version : ℕ) (meaning : List ℕ → Option M) where
   heard_early WriteFault new is = tt
 
   heard_at_end : (ending : Ending) (new : Option (List ℕ)) → IsAtEnd new → IsHeardOut ending new
-  heard_at_end (lawful count) new end = end
+  heard_at_end (lawful count state) new end = end
   heard_at_end (Torn line) new end = end
-  heard_at_end (Unlawful at line) new end = tt
+  heard_at_end (Unlawful at line answer) new end = tt
   heard_at_end (Fault line what) new end = tt
   heard_at_end NoMemory new end = tt
   heard_at_end BehindCut new end = tt
@@ -191,32 +96,32 @@ module _ {M : Type 0} (version : ℕ) (meaning : List ℕ → Option M) where
   heard_at_end WriteFault new end = tt
 
   -- it was not asked yet
-  pub concludes_in_front : (check : Progress M) (front : List ℕ) (old : Option (List ℕ)) (ending : Ending) → IsSoFar version meaning [] check → EndsIn version meaning check front ending
-      → Concludes version meaning front old old ending
-  concludes_in_front check front old ending so ends = record {
+  pub concludes_in_front : (asked : Bool) (check : Progress M) (front : List ℕ) (old : Option (List ℕ)) (ending : Ending) → IsSoFar version meaning [] check → EndsIn version meaning text check front ending
+      → Concludes version meaning text asked front old old ending
+  concludes_in_front asked check front old ending so ends = record {
     bytes = [];
     given = Consumes-nil old;
     heard = heard_early ending old ends.0;
-    told = subst (λ (b : List ℕ). Tells version meaning b ending) (sym (append-nil front)) (ends.1 [] so);
+    told = subst (λ (b : List ℕ). Tells version meaning text asked b ending) (sym (append-nil front)) (ends.1 asked [] so);
   }
 
-  pub concludes_early : (check : Progress M) (front bytes more : List ℕ) (old mid new : Option (List ℕ)) (ending : Ending) → Consumes old mid bytes → Consumes mid new more
-      → IsSoFar version meaning (front ++ bytes) check → EndsIn version meaning check more ending → Concludes version meaning front old new ending
-  concludes_early check front bytes more old mid new ending first second so ends = record {
+  pub concludes_early : (asked : Bool) (check : Progress M) (front bytes more : List ℕ) (old mid new : Option (List ℕ)) (ending : Ending) → Consumes old mid bytes → Consumes mid new more
+      → IsSoFar version meaning (front ++ bytes) check → EndsIn version meaning text check more ending → Concludes version meaning text asked front old new ending
+  concludes_early asked check front bytes more old mid new ending first second so ends = record {
     bytes = bytes ++ more;
     given = Consumes-trans old mid new bytes more first second;
     heard = heard_early ending new ends.0;
-    told = subst (λ (b : List ℕ). Tells version meaning b ending) (append_assoc front bytes more) (ends.1 (front ++ bytes) so);
+    told = subst (λ (b : List ℕ). Tells version meaning text asked b ending) (append_assoc front bytes more) (ends.1 asked (front ++ bytes) so);
   }
 
   pub so_on : (check later : Progress M) (front bytes more : List ℕ) → IsSoFar version meaning (front ++ bytes) check → Goes version meaning check more later
       → IsSoFar version meaning (front ++ (bytes ++ more)) later
   so_on check later front bytes more so goes = subst (λ (b : List ℕ). IsSoFar version meaning b later) (append_assoc front bytes more) (goes (front ++ bytes) so)
 
-  pub concludes_at_end : (check later : Progress M) (front bytes more : List ℕ) (old mid new : Option (List ℕ)) (ending : Ending) → Consumes old mid bytes → Consumes mid new more
+  pub concludes_at_end : (asked : Bool) (check later : Progress M) (front bytes more : List ℕ) (old mid new : Option (List ℕ)) (ending : Ending) → Consumes old mid bytes → Consumes mid new more
       → IsSoFar version meaning (front ++ bytes) check → Goes version meaning check more later → IsAtEnd new
-      → ((all : List ℕ) → IsSoFar version meaning all later → Tells version meaning all ending) → Concludes version meaning front old new ending
-  concludes_at_end check later front bytes more old mid new ending first second so goes end tells = record {
+      → ((all : List ℕ) → IsSoFar version meaning all later → Tells version meaning text asked all ending) → Concludes version meaning text asked front old new ending
+  concludes_at_end asked check later front bytes more old mid new ending first second so goes end tells = record {
     bytes = bytes ++ more;
     given = Consumes-trans old mid new bytes more first second;
     heard = heard_at_end ending new end;
@@ -224,38 +129,64 @@ module _ {M : Type 0} (version : ℕ) (meaning : List ℕ → Option M) where
   }
 
 -- ---- a front
-silent_told : {M : Type 0} (version : ℕ) (meaning : List ℕ → Option M) (front : List ℕ) (old new : Option (List ℕ)) (ending : Ending) → IsSilent ending → IsRead old new → Concludes version meaning front old new ending
-silent_told version meaning front old new BehindCut silent read = record { bytes = read.0; given = read.1; heard = tt; told = tt }
-silent_told version meaning front old new ReadFault silent read = record { bytes = read.0; given = read.1; heard = tt; told = tt }
-silent_told version meaning front old new WriteFault silent read = record { bytes = read.0; given = read.1; heard = tt; told = tt }
-silent_told version meaning front old new NoMemory silent read = record { bytes = read.0; given = read.1; heard = tt; told = tt }
-silent_told version meaning front old new (lawful count) silent read = absurd silent
-silent_told version meaning front old new (Unlawful at line) silent read = absurd silent
-silent_told version meaning front old new (Fault line what) silent read = absurd silent
-silent_told version meaning front old new (Torn line) silent read = absurd silent
+silent_told : {M : Type 0} (version : ℕ) (meaning : List ℕ → Option M) (text : M → List ℕ) (asked : Bool) (front : List ℕ) (old new : Option (List ℕ)) (ending : Ending) → IsSilent ending → IsRead old new → Concludes version meaning text asked front old new ending
+silent_told version meaning text asked front old new BehindCut silent read = record { bytes = read.0; given = read.1; heard = tt; told = tt }
+silent_told version meaning text asked front old new ReadFault silent read = record { bytes = read.0; given = read.1; heard = tt; told = tt }
+silent_told version meaning text asked front old new WriteFault silent read = record { bytes = read.0; given = read.1; heard = tt; told = tt }
+silent_told version meaning text asked front old new NoMemory silent read = record { bytes = read.0; given = read.1; heard = tt; told = tt }
+silent_told version meaning text asked front old new (lawful count state) silent read = absurd silent
+silent_told version meaning text asked front old new (Unlawful at line answer) silent read = absurd silent
+silent_told version meaning text asked front old new (Fault line what) silent read = absurd silent
+silent_told version meaning text asked front old new (Torn line) silent read = absurd silent
 
-pub verdict_behind : (old mid new : Option (List ℕ)) (front : List ℕ) (ending : Ending) → Consumes old mid front → ConcludesBy front mid new ending → IsVerdict old new ending
-verdict_behind old mid new front ending first concluded = by (is_of_bytes front) refl concluded
+pub verdict_behind : (asked : Bool) (old mid new : Option (List ℕ)) (front : List ℕ) (ending : Ending) → Consumes old mid front → ConcludesBy asked front mid new ending → IsVerdict asked old new ending
+verdict_behind asked old mid new front ending first concluded = by (is_of_bytes front) refl concluded
   where
-    by : (b : Bool) → is_of_bytes front ≡ b → ConcludesAs b front mid new ending → IsVerdict old new ending
+    by : (b : Bool) → is_of_bytes front ≡ b → ConcludesAs b asked front mid new ending → IsVerdict asked old new ending
     by true is ends = record {
       front = front;
       rest = ends.bytes;
       given = Consumes-trans old mid new front ends.bytes first ends.given;
       heard = ends.heard;
-      told = subst (λ (b : Bool). TellsAs b (front ++ ends.bytes) ending) (sym is) ends.told;
+      told = subst (λ (b : Bool). TellsAs b asked (front ++ ends.bytes) ending) (sym is) ends.told;
     }
     by false is ends = record {
       front = front;
       rest = ends.bytes;
       given = Consumes-trans old mid new front ends.bytes first ends.given;
       heard = ends.heard;
-      told = subst (λ (b : Bool). TellsAs b (front ++ ends.bytes) ending) (sym is) ends.told;
+      told = subst (λ (b : Bool). TellsAs b asked (front ++ ends.bytes) ending) (sym is) ends.told;
     }
 
-pub verdict_silent : (old new : Option (List ℕ)) (ending : Ending) → IsSilent ending → IsRead old new → IsVerdict old new ending
-verdict_silent old new ending silent read =
-    verdict_behind old old new [] ending (Consumes-nil old) (silent_told 1 number_of [] old new ending silent read)
+pub verdict_silent : (asked : Bool) (old new : Option (List ℕ)) (ending : Ending) → IsSilent ending → IsRead old new → IsVerdict asked old new ending
+verdict_silent asked old new ending silent read =
+    verdict_behind asked old old new [] ending (Consumes-nil old) (silent_told 1 number_of decimal asked [] old new ending silent read)
 
 pub read_on_from : (old mid new : Option (List ℕ)) (front : List ℕ) → Consumes old mid front → IsRead mid new → IsRead old new
 read_on_from old mid new front first second = (front ++ second.0, Consumes-trans old mid new front second.0 first second.1)
+
+pub verdict_unwritten : (asked : Bool) (old new : Option (List ℕ)) (ending why : Ending) → IsVerdict asked old new ending → IsSilent why → IsVerdict asked old new why
+verdict_unwritten asked old new ending why verdict silent = verdict_silent asked old new why silent (verdict.front ++ verdict.rest, verdict.given)
+
+-- ---- what is written
+pub writes_line : (old new : Option (List ℕ)) (ending : Ending) (line : List ℕ) → line ≡ lines_for ending → Appends old new line → Writes ending old new
+writes_line old new ending line is appends = by ending (subst (Appends old new) is appends)
+  where
+    by : (e : Ending) → Appends old new (lines_for e) → Writes e old new
+    by (lawful count state) h = h
+    by (Unlawful at entry answer) h = h
+    by (Fault number what) h = h
+    by (Torn number) h = h
+    by BehindCut h = h
+    by ReadFault h = h
+    by WriteFault h = tt
+    by NoMemory h = h
+
+pub writes_nothing : (old : Option (List ℕ)) → Appends old old []
+writes_nothing None = tt
+writes_nothing (Some xs) = sym (append-nil xs)
+
+-- one more object
+pub lines_more : {M : Type 0} (text : M → List ℕ) (history : List (Entry M)) (number : ℕ)
+    → object_lines text history number ++ object_line text history number ≡ object_lines text history (number + 1)
+lines_more text history number = rw add-one refl

@@ -4,8 +4,8 @@ use Rattle.cml_check.specs.declared.ending.Ending.{Ending}
 use Rattle.cml_check.specs.declared.ending.Ending.TheVariants.{Lawful, Unlawful, Fault, Torn, BehindCut, ReadFault, WriteFault, NoMemory}
 
 abbrev pub status : Ending → ℕ
-status (Lawful count) = 0
-status (Unlawful at line) = 1
+status (Lawful count state) = 0
+status (Unlawful at line answer) = 7
 status (Fault line what) = 2
 status (Torn line) = 2
 status BehindCut = 2
@@ -14,6 +14,6 @@ status WriteFault = 4
 status NoMemory = 5
 
 abbrev pub is_shown : Ending → Bool
-is_shown (Lawful count) = false
-is_shown (Unlawful at line) = false
+is_shown (Lawful count state) = false
+is_shown (Unlawful at line answer) = false
 is_shown ending = true

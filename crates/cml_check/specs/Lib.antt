@@ -1,2 +1,3 @@
 pub mod Endings
 pub mod Checking
+pub mod Lines

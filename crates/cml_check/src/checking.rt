@@ -1,18 +1,18 @@
-//! A journal is read and checked as it comes, in memory for the objects, what waits in them, and one line.
+//! A journal is read and checked as it comes.
 
-ghost use Rattle.std.specs.Prelude.{◌≡◌, ◌≤◌, ◌-◌, ◌∷◌, ◌++◌, ℕ, List, [], Ok, length, None, ◌<◌, IfOk, IfErr, IfSome, OnOk, IsTrue};
+ghost use Rattle.std.specs.Prelude.{◌≡◌, ◌≤◌, ◌-◌, ◌∷◌, ◌++◌, ℕ, List, [], Ok, length, None, ◌<◌, IfOk, IfErr, IfSome, OnOk, IsTrue, string_bytes};
 ghost use Rattle.std.specs.Io.KnownBytes.{Consumes, Keeps, IsAtEnd};
-ghost use Rattle.cml_board.specs.Checking.{Feeds};
-ghost use Rattle.cml_journal.specs.Feeding.{State};
-ghost use Rattle.cml_check.specs.declared.ending.Ending.TheVariants.{NoMemory, ReadFault, BehindCut};
-ghost use Rattle.cml_check.specs.Checking.{Progress, IsSoFar, Tells, Goes, EndsIn, MayEndAt, Concludes, ConcludesBy, IsVerdict, IsRead, IsSilent, is_of_bytes, ending_of};
+ghost use Rattle.cml_journal.specs.Checks.{IsSoFar, Goes};
+ghost use Rattle.cml_check.specs.declared.ending.Ending.TheVariants.{ReadFault, BehindCut};
+ghost use Rattle.cml_check.specs.Checking.{Tells, EndsIn, Concludes, ConcludesBy, IsVerdict, IsRead, IsSilent, is_of_bytes, ending_of, IsStateOf};
 
+use crate::answer::ending_of;
 use crate::ending::Ending;
-use cml_board::{Bytes, Checker, Entry, Message};
-use cml_journal::{Reader, Written, write_entry};
-use std::alloc::Global;
+use crate::state::state_lines;
+use cml_board::{Bytes, Message};
+use cml_journal::{Check, Written};
+use std::alloc::{AllocError, Global};
 use std::io::{ErrorKind, Read};
-use std::marker::Model;
 use std::sync::Wait;
 
 /// The most bytes that the reader is asked for at once.
@@ -21,33 +21,44 @@ const ROOM: usize = 65_536;
 /// How a journal of bytes begins.
 const BYTES: &[u8] = b"journal 2";
 
-/// What stands in the second line of a piece behind a cut, and where that line begins.
-const BEHIND_CUT: &[u8] = b"from ";
+/// How a journal behind a cut begins.
+const CUT_NUMBERS: &[u8] = b"journal 1\nfrom ";
 
-const SECOND_LINE: usize = 10;
+const CUT_BYTES: &[u8] = b"journal 2\nfrom ";
 
 /// How many bytes tell the type of messages, and whether the journal begins behind a cut.
 const FRONT: usize = 15;
 
 /// Checks the journal that the reader gives, up to its end or to what is wrong with it. It waits for the reader.
 #[tactic(auto, using(crate::proofs::Telling::verdict_behind))]
-pub(crate) fn check_stream<S: Wait, R: Read>(system: &S, alloc: Global, input: &mut R) -> Ending
-    ensures { IsVerdict (R.remaining input.old) (R.remaining input.new) result }
+pub fn check_stream<S: Wait, R: Read>(
+    system: &S,
+    alloc: Global,
+    input: &mut R,
+    state: bool,
+) -> Ending
+    ensures { IsVerdict state (R.remaining input.old) (R.remaining input.new) result }
 {
     match read_front(system, alloc, input) {
-        Ok(front) => check_behind(system, alloc, input, &front),
+        Ok(front) => check_behind(system, alloc, input, &front, state),
         Err(ending) => ending,
     }
 }
 
 /// Checks the journal whose front was read, which tells the type of messages.
-fn check_behind<S: Wait, R: Read>(system: &S, alloc: Global, input: &mut R, front: &[u8]) -> Ending
-    ensures { ConcludesBy front.now (R.remaining input.old) (R.remaining input.new) result }
+fn check_behind<S: Wait, R: Read>(
+    system: &S,
+    alloc: Global,
+    input: &mut R,
+    front: &[u8],
+    state: bool,
+) -> Ending
+    ensures { ConcludesBy state front.now (R.remaining input.old) (R.remaining input.new) result }
 {
     if is_of_bytes(front) {
-        return check_rest::<Bytes, S, R>(system, alloc, input, front);
+        return check_rest::<Bytes, S, R>(system, alloc, input, front, state);
     }
-    check_rest::<u64, S, R>(system, alloc, input, front)
+    check_rest::<u64, S, R>(system, alloc, input, front, state)
 }
 
 /// Whether a front is that of a journal of bytes.
@@ -81,7 +92,7 @@ fn uncut(front: Vec<u8>) -> Result<Vec<u8>, Ending>
     ensures same { IfOk result (λ same. same.items ≡ front.items) }
     ensures cut { IfErr result (λ ending. ending ≡ BehindCut) }
 {
-    if front.len() >= FRONT && front[SECOND_LINE..].starts_with(BEHIND_CUT) {
+    if front.starts_with(CUT_NUMBERS) || front.starts_with(CUT_BYTES) {
         return Err(Ending::BehindCut);
     }
     Ok(front)
@@ -124,11 +135,12 @@ fn check_rest<M: Message + Written, S: Wait, R: Read>(
     alloc: Global,
     input: &mut R,
     front: &[u8],
+    state: bool,
 ) -> Ending
-    ensures { Concludes M.VERSION M.meaning front.now (R.remaining input.old) (R.remaining input.new) result }
+    ensures { Concludes M.VERSION M.meaning M.text state front.now (R.remaining input.old) (R.remaining input.new) result }
 {
-    match check_all::<M, S, R>(system, alloc, input, front) {
-        Ok(count) => Ending::Lawful(count),
+    match check_all::<M, S, R>(system, alloc, input, front, state) {
+        Ok((count, objects)) => Ending::Lawful(count, objects),
         Err(ending) => ending,
     }
 }
@@ -139,15 +151,16 @@ fn check_all<M: Message + Written, S: Wait, R: Read>(
     alloc: Global,
     input: &mut R,
     front: &[u8],
-) -> Result<u64, Ending>
-    ensures { Concludes M.VERSION M.meaning front.now (R.remaining input.old) (R.remaining input.new) (ending_of result) }
+    state: bool,
+) -> Result<(u64, String), Ending>
+    ensures { Concludes M.VERSION M.meaning M.text state front.now (R.remaining input.old) (R.remaining input.new) (ending_of result) }
 {
     let mut check = Check::<M>::new(alloc)?;
-    check.take(front)?;
+    go_on(alloc, &mut check, front)?;
     let mut room = [0; ROOM];
     for _ in system.forever() {
-        if take_some(&mut check, input, &mut room)? {
-            return check.end();
+        if take_some(alloc, &mut check, input, &mut room)? {
+            return end_of(alloc, &mut check, state);
         }
     }
     unreachable!()
@@ -155,6 +168,7 @@ fn check_all<M: Message + Written, S: Wait, R: Read>(
 
 /// Asks the reader once, checks what it gave, and answers whether it was at its end.
 fn take_some<M: Message + Written, R: Read>(
+    alloc: Global,
     check: &mut Check<M>,
     input: &mut R,
     room: &mut [u8],
@@ -164,114 +178,62 @@ fn take_some<M: Message + Written, R: Read>(
         × Goes M.VERSION M.meaning check.old bytes check.new) }
     ensures end { IfOk result (λ at_end. IsTrue at_end → IsAtEnd (R.remaining input.new)) }
     ensures ended { IfErr result (λ ending. (bytes : List ℕ) × Consumes (R.remaining input.old) (R.remaining input.new) bytes
-        × EndsIn M.VERSION M.meaning check.old bytes ending) }
+        × EndsIn M.VERSION M.meaning M.text check.old bytes ending) }
     ensures same { length room.new ≡ length room.old }
 {
     match read_some(input, room)? {
         Some(bytes) => {
-            check.take(bytes)?;
+            go_on(alloc, check, bytes)?;
             Ok(bytes.is_empty())
         }
         None => Ok(false),
     }
 }
 
-/// A journal that is read and checked so far.
-#[derive(Drop)]
-struct Check<M: Message> {
+/// Checks the next bytes.
+fn go_on<M: Message + Written>(
     alloc: Global,
-    reader: Reader,
-    checker: Checker<M>,
-    // The entry that was read last, alone. It is kept so that its memory is used again.
-    entry: Vec<Entry<M>>,
-}
-
-impl<M: Message> Model for Check<M> {
-    ghost use Rattle.cml_check.specs.Checking.{Progress};
-
-    ghost Value = { Progress M };
-
-    ghost view = { λ check. record { state = check.reader; checker = check.checker } };
-}
-
-impl<M: Message + Written> Check<M> {
-    fn new(alloc: Global) -> Result<Check<M>, Ending>
-        ensures new { IfOk result (λ check. IsSoFar M.VERSION M.meaning [] check) }
-        ensures none { IfErr result (λ ending. ending ≡ NoMemory) }
-    {
-        Ok(Check {
-            alloc,
-            reader: Reader::new(alloc),
-            checker: Checker::new(alloc)?,
-            entry: Vec::new(alloc),
-        })
-    }
-
-    /// Reads these bytes, and checks the entries in them.
-    fn take(&mut self, bytes: &[u8]) -> Result<(), Ending>
-        ensures taken { OnOk result (Goes M.VERSION M.meaning self.old bytes.now self.new) }
-        ensures ended { IfErr result (λ ending. EndsIn M.VERSION M.meaning self.old bytes.now ending) }
-    {
-        let mut rest = bytes;
-        while !rest.is_empty() {
-            rest = self.take_line(rest)?;
-        }
-        Ok(())
-    }
-
-    /// Reads up to a line end, and gives the bytes behind it.
-    fn take_line<'a>(&mut self, bytes: &'a [u8]) -> Result<&'a [u8], Ending>
-        ensures taken { IfOk result (λ rest. (taken : List ℕ) × (bytes.now ≡ taken ++ rest.now) × Goes M.VERSION M.meaning self.old taken self.new) }
-        ensures ended { IfErr result (λ ending. EndsIn M.VERSION M.meaning self.old bytes.now ending) }
-        ensures shorter { IfOk result (λ rest. length rest.now ≤ length bytes.now - 1) }
-    {
-        let (found, rest) = match self.reader.next(self.alloc, bytes) {
-            Ok(read) => read,
-            Err(unread) => {
-                let line = self.reader.lines().wrapping_add(1);
-                return Err(Ending::of_unread(unread, line));
-            }
-        };
-        let Some(entry) = found else {
-            return Ok(rest);
-        };
-        self.feed(entry)?;
-        Ok(rest)
-    }
-
-    fn feed(&mut self, entry: Entry<M>) -> Result<(), Ending>
-        ensures fed { OnOk result (Feeds self.old.checker (entry ∷ []) self.new.checker (Ok tt)) }
-        ensures same { OnOk result (self.new.state ≡ self.old.state) }
-        ensures ended { IfErr result (λ ending. MayEndAt self.old.checker entry ending) }
-    {
-        self.entry.clear();
-        self.entry.push(entry)?;
-        if self.checker.entries() == u64::MAX {
-            return Err(Ending::NoMemory);
-        }
-        match self.checker.feed(&self.entry)? {
-            Ok(()) => Ok(()),
-            Err(at) => Err(Ending::Unlawful(at, lines_of(self.alloc, &self.entry)?)),
-        }
-    }
-
-    /// How many entries there were, if the last piece has its end.
-    fn end(&self) -> Result<u64, Ending>
-        ensures { (bytes : List ℕ) → IsSoFar M.VERSION M.meaning bytes self.now → Tells M.VERSION M.meaning bytes (ending_of result) }
-    {
-        match self.reader.end() {
-            Some(_) => Ok(self.checker.entries()),
-            None => Err(Ending::Torn(self.reader.lines())),
-        }
-    }
-}
-
-fn lines_of<M: Written>(alloc: Global, entries: &[Entry<M>]) -> Result<String, Ending>
-    ensures { IfErr result (λ ending. ending ≡ NoMemory) }
+    check: &mut Check<M>,
+    bytes: &[u8],
+) -> Result<(), Ending>
+    ensures taken { OnOk result (Goes M.VERSION M.meaning check.old bytes.now check.new) }
+    ensures ended { IfErr result (λ ending. EndsIn M.VERSION M.meaning M.text check.old bytes.now ending) }
 {
-    let mut lines = String::new(alloc);
-    for entry in entries {
-        write_entry(&mut lines, entry)?;
+    match check.take(bytes) {
+        Ok(()) => Ok(()),
+        Err(stop) => Err(ending_of(alloc, check, stop)),
     }
-    Ok(lines)
+}
+
+/// How many entries there were, and the lines of the objects if they are asked for, if the last piece has its end.
+fn end_of<M: Message + Written>(
+    alloc: Global,
+    check: &mut Check<M>,
+    state: bool,
+) -> Result<(u64, String), Ending>
+    ensures { (bytes : List ℕ) → IsSoFar M.VERSION M.meaning bytes check.old → Tells M.VERSION M.meaning M.text state bytes (ending_of result) }
+{
+    if !check.end() {
+        return Err(Ending::Torn(check.lines()));
+    }
+    let count = check.entries();
+    let objects = state_of(alloc, check, state)?;
+    Ok((count, objects))
+}
+
+/// The lines of the objects, if they are asked for.
+fn state_of<M: Message + Written>(
+    alloc: Global,
+    check: &mut Check<M>,
+    state: bool,
+) -> Result<String, AllocError>
+    ensures { IfOk result (λ objects. (bytes : List ℕ) → IsStateOf M.VERSION M.meaning M.text state bytes check.old (string_bytes objects)) }
+{
+    if !state {
+        return Ok(String::new(alloc));
+    }
+    match check.restore(1) {
+        Some(restored) => state_lines(alloc, restored.board()),
+        None => Ok(String::new(alloc)),
+    }
 }

@@ -2,46 +2,39 @@
 
 ghost use Rattle.std.specs.Prelude.{◌≡◌};
 ghost use Rattle.cml_check.specs.declared.ending.Ending.TheVariants.{NoMemory};
-ghost use Rattle.cml_check.specs.Checking.{ending_of_unread};
 
-use cml_journal::{Unread, What};
+use cml_journal::What;
 use std::alloc::{AllocError, AllocFailed};
 use thiserror::Error;
 
-/// How a check ends. It shows as the line for standard error.
+/// How the check of a journal ends. It shows as the line for standard error. Of a lawful or an unlawful journal standard output
+/// says that.
 #[derive(Debug, Drop, Error)]
-pub(crate) enum Ending {
-    /// All entries are lawful: so many.
-    #[error("cml_check: lawful {0}")]
-    Lawful(u64),
-    /// The entry at this position is the first that isn't. Its line stands behind.
-    #[error("cml_check: unlawful at {0}: {1}")]
-    Unlawful(u64, String),
+pub enum Ending {
+    /// All entries are lawful. The number says how many they are. The lines of the objects are behind, if they are asked for.
+    #[error("cml: lawful {0}")]
+    Lawful(u64, String),
+    /// The entry at this position is the first unlawful one. Behind it are its line, and the right answer to its call.
+    #[error("cml: unlawful at {0}: {1}")]
+    Unlawful(u64, String, String),
+    /// This line has a fault.
     #[error("journal: line {0}: {1}")]
     Fault(u64, What),
-    /// The last piece has no end.
+    /// The last piece has no end. So many lines have ended.
     #[error("journal: torn behind line {0}")]
     Torn(u64),
+    /// The journal begins behind a cut.
     #[error("journal: begins behind a cut")]
     BehindCut,
-    #[error("cml_check: read failed")]
+    /// The journal could not be read.
+    #[error("cml: read failed")]
     ReadFault,
-    #[error("cml_check: write failed")]
+    /// The verdict could not be written.
+    #[error("cml: write failed")]
     WriteFault,
-    #[error("cml_check: no memory")]
+    /// There was no memory.
+    #[error("cml: no memory")]
     NoMemory,
-}
-
-impl Ending {
-    /// The ending by what a reader met on this line.
-    pub(crate) fn of_unread(unread: Unread, line: u64) -> Ending
-        ensures { result ≡ ending_of_unread unread line }
-    {
-        match unread {
-            Unread::Memory => Ending::NoMemory,
-            Unread::Fault(what) => Ending::Fault(line, what),
-        }
-    }
 }
 
 impl From<AllocError> for Ending {
@@ -77,8 +70,8 @@ impl cml_shell::Ending for Ending {
 
     fn status(&self) -> u8 {
         match self {
-            Ending::Lawful(_) => 0,
-            Ending::Unlawful(_, _) => 1,
+            Ending::Lawful(_, _) => 0,
+            Ending::Unlawful(_, _, _) => 7,
             Ending::Fault(_, _) | Ending::Torn(_) | Ending::BehindCut => 2,
             Ending::ReadFault | Ending::WriteFault => 4,
             Ending::NoMemory => 5,
@@ -86,6 +79,6 @@ impl cml_shell::Ending for Ending {
     }
 
     fn is_shown(&self) -> bool {
-        !matches!(self, Ending::Lawful(_) | Ending::Unlawful(_, _))
+        !matches!(self, Ending::Lawful(_, _) | Ending::Unlawful(_, _, _))
     }
 }

@@ -181,7 +181,7 @@ module _ (script : Lines) (asks : AsksForPorts script) (seats : HasSeats script)
   pub bound_more : (before : History) (entry : Entry (List ℕ)) (at : ℕ) (g : Option ℕ) → giver script before entry.who ≡ g → binding_of script (entry ∷ before) at ≡ cond (option_map_or (λ n. eqb n at) g false) (bound_by entry.call entry.reply) (binding_of script before at)
   bound_more before entry at g e = ap (λ t. cond t (bound_by entry.call entry.reply) (binding_of script before at)) (gives_as script before entry.who at g e)
 
-  -- a name that a step gave stands for a port
+  -- the object of a name that a step gave is a port
   pub bound_port : (history : History) (at n : ℕ) → IsOfScript script history → Lawful history → port_bound (binding_of script history at) ≡ Some n → kind_of history n ≡ Some kind.Port
   bound_port [] at n own lawful bound = absurd (none-some n bound)
   bound_port (entry ∷ before) at n own lawful bound = by_gives (gives_next script before entry.who at) refl bound (bound_port before at n own.1 lawful.2)

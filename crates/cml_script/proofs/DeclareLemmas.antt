@@ -79,7 +79,7 @@ next_making play (makes.Port channel) asked e next = subst (IsNextObject play) (
 next_making play (makes.Feed feed) asked e next = subst (IsNextObject play) (same_Some _ _ e) (next_port play feed.channel next)
 next_making play m asked e next = subst (IsNextObject play) (same_Some _ _ e) next
 
--- what it makes is an object, but for a thread
+-- what it makes is an object, unless it is a thread
 made_one : (script : Lines) (m : Makes) (asked : Call (List ℕ)) → making script m ≡ Some asked → makes_object m ≡ true
 made_one script makes.Thread asked e = absurd (none-some asked e)
 made_one script m asked e = refl

@@ -1,4 +1,4 @@
--- Names that stand for an object of a kind, and the calls that it takes.
+-- Names of objects of a kind, and the calls that these take.
 use Rattle.std.proofs.Common.{◌≡◌, ℕ, Bool, true, false, List, Option, Some, None, refl, ap, ◌∙◌}
 use Rattle.std.specs.Option.{option_map, option_map_or}
 use Rattle.std.proofs.lemmas.Bool.{false≢true}

@@ -1,4 +1,4 @@
--- What stands before a position of a journal.
+-- The entries before a position of a journal.
 use Rattle.std.proofs.Common.{◌≡◌, ℕ, ◌+◌, ◌≤◌, List, [], ◌∷◌, length, reverse, take, slice_get, Some, ap, ◌∙◌}
 use Rattle.std.proofs.lemmas.List.{length-reverse, length-take-le, reverse-append}
 use Rattle.cml_board.specs.declared.entry.Entry.{Entry}

@@ -153,13 +153,13 @@ object_kind (Some m) k e = refl
 pub kind_object : (script : Lines) (line : SourceLine) (k : Kind) → kind_declared script line ≡ Some k → is_object script line ≡ true
 kind_object script line k e = object_kind (makes_of (names_of script) line.words) k e
 
--- an object that was made stands for its name
+-- an object that was made is its name's object
 pub object_made : (script : Lines) (history : History) (at : ℕ) → how_many (is_object script) (take at script.declarations) < length history → declared_object script history at ≡ Some (how_many (is_object script) (take at script.declarations))
 object_made script history at lt =
     let test : ltb (how_many (is_object script) (take at script.declarations)) (length history) ≡ true = lt-ltb _ _ lt in
     rw test refl
 
--- once all declared objects are made, each name stands for its object
+-- once all declared objects are made, each name has its object
 pub declared_made : (script : Lines) (history : History) (at : ℕ) (line : SourceLine) (k : Kind) → declared_count script ≤ length history → slice_get script.declarations at ≡ Some line → kind_declared script line ≡ Some k
     → how_many (is_object script) (take at script.declarations) < length history
 declared_made script history at line k declared found kinded =

@@ -13,6 +13,8 @@ pub mod LimitTexts
 pub mod LimitLemmas
 pub mod LimitWalks
 pub mod LimitTaken
+pub mod StateLevel
+pub mod SubcommandLemmas
 pub mod CommandLineLemmas
 pub mod FitLemmas
 pub mod UseLemmas
@@ -26,6 +28,7 @@ pub mod StallingLemmas
 pub mod WaitingLemmas
 pub mod LeftLemmas
 pub mod ReplayLemmas
+pub mod KeepingLemmas
 pub mod GoingOnLemmas
 pub mod SendLemmas
 pub mod WorkLemmas

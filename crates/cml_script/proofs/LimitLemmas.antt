@@ -1,18 +1,16 @@
--- Which words the level of a subcommand understands: the same below `replay` and below `run`.
+-- Which words the level of a subcommand that performs a script understands: the same below `replay` and below `run`.
 use Rattle.std.proofs.Common.{◌≡◌, ◌∙◌, ap, ap₂, subst, refl, ℕ, Bool, true, false, List, [], ◌∷◌, Option, Some, None, codes}
 use Rattle.std.specs.Prelude.{fold, slice_get, slice_index_or, ◌==◌}
 use Rattle.std.specs.Str.{bytes_eq, chars}
-use Rattle.clap.specs.Walk.{Held, Row, Text, Waiting, Walk, arg_by_long, bundle_met, idle, long_or_other, option, positional, short_or_plain, walked}
-use Rattle.clap.specs.Simple.{Shape, built}
+use Rattle.clap.specs.Walk.{Held, Row, Rule, Text, Waiting, Walk, arg_by_long, bundle_met, idle, long_or_other, option, positional, short_or_plain, used, walked}
+use Rattle.clap.specs.Simple.{Shape, built, new_rule}
 use Rattle.clap.specs.Kinds.{Kinds, or_else}
 use Rattle.clap.specs.Lexer.{long_of, short_of}
 use Rattle.clap.specs.Faults.{bundle_fault, flag_word_fault, flags_fault, long_fault, settle_fault, step_fault, turn_fault, walk_fault}
-use Rattle.clap.specs.declared.builder.value_parser.Reading.TheVariants as reading
-use Rattle.clap.specs.declared.parser.matches.ValueSource.TheVariants.{CommandLine}
 use Rattle.cml_script.specs.CommandLine.{usage}
 use Rattle.cml_script.proofs.RefusalLemmas.{or_else-nil, or_else-refuses, or_else-refuses_next, refused_is_some, refuses, same_text}
 
--- the level of words of `replay`, and but for its name that of `run`
+-- the level of words of `replay`, which differs from that of `run` only in its name
 abbrev pub below : Shape
 below = slice_index_or (built usage).subs 0 (built usage).top
 
@@ -57,27 +55,27 @@ dashes_end waiting h word rest t none =
     trails (option id) = rw t refl
     trails positional = rw t refl
 
--- ---- a word that is neither `--` nor the option's
+-- ---- a word that is neither `--` nor an option's
 
--- the word names the option
-abbrev pub names_limit : Option (Text × Option Text) → Bool
-names_limit None = false
-names_limit (Some p) = bytes_eq (codes "limit") p.0
+-- the word names this option
+abbrev pub names : Text → Option (Text × Option Text) → Bool
+names flag None = false
+names flag (Some p) = bytes_eq flag p.0
 
 abbrev refusal : Held → Option (Text × Option Text) → Text → Kinds
 refusal h long word = or_else (flag_word_fault below.rules false long word h)
     (step_fault below 1 (long_or_other below.rules idle word long h).0 (long_or_other below.rules idle word long h).1)
 
-other_flag_is_refused : (h : Held) (name : Text) (value : Option Text) → bytes_eq (codes "limit") name ≡ false
+other_flag_is_refused : (h : Held) (name : Text) (value : Option Text) → bytes_eq (codes "limit") name ≡ false → bytes_eq (codes "journal") name ≡ false
     → refuses (long_fault below.rules false (arg_by_long below.rules name) value h) ≡ true
-other_flag_is_refused h name value other = go (bytes_eq (codes "help") name) refl value
+other_flag_is_refused h name value other another = go (bytes_eq (codes "help") name) refl value
   where
     go : (t : Bool) → bytes_eq (codes "help") name ≡ t → (v : Option Text) → refuses (long_fault below.rules false (arg_by_long below.rules name) v h) ≡ true
-    go true t None = rw (other, t) (or_else-refuses_next (settle_fault below.rules false h) _ refl)
-    go true t (Some x) = rw (other, t) refl
-    go false t v = rw (other, t) refl
+    go true t None = rw (other, another, t) (or_else-refuses_next (settle_fault below.rules false h) _ refl)
+    go true t (Some x) = rw (other, another, t) refl
+    go false t v = rw (other, another, t) refl
 
--- what a word of short flags comes to
+-- the result of a word of short flags
 abbrev bundle_refusal : Held → Text → Text → Kinds
 bundle_refusal h flags word = or_else (bundle_fault below.rules false flags h)
     (step_fault below 1 (short_or_plain below.rules idle word (Some flags) h).0 (short_or_plain below.rules idle word (Some flags) h).1)
@@ -96,38 +94,46 @@ bundle_is_refused rows pending (f ∷ fs) word = go (slice_get (chars (f ∷ fs)
     go None e = rw e refl
     go (Some x) e = with_first x e (104 == x) refl
 
-other_word_is_refused : (rows : List Row) (pending : Option (Text × List Text)) (word : Text) → names_limit (long_of word) ≡ false
+other_word_is_refused : (rows : List Row) (pending : Option (Text × List Text)) (word : Text) → names (codes "limit") (long_of word) ≡ false → names (codes "journal") (long_of word) ≡ false
     → refuses (refusal (holding rows pending) (long_of word) word) ≡ true
-other_word_is_refused rows pending word other = go (long_of word) refl
+other_word_is_refused rows pending word other another = go (long_of word) refl
   where
     short : (o : Option Text) → short_of word ≡ o → refuses (refusal (holding rows pending) None word) ≡ true
     short None e = rw e refl
     short (Some flags) e = rw e (bundle_is_refused rows pending flags word)
 
     go : (o : Option (Text × Option Text)) → long_of word ≡ o → refuses (refusal (holding rows pending) (long_of word) word) ≡ true
-    go (Some p) e = rw e (or_else-refuses _ _ (other_flag_is_refused (holding rows pending) p.0 p.1 (rw e at other)))
+    go (Some p) e = rw e (or_else-refuses _ _ (other_flag_is_refused (holding rows pending) p.0 p.1 (rw e at other) (rw e at another)))
     go None e = rw e (short (short_of word) refl)
 
-pub idle_refuses : (rows : List Row) (pending : Option (Text × List Text)) (word : Text) → bytes_eq word (codes "--") ≡ false → names_limit (long_of word) ≡ false
-    → refuses (turn_fault below [] (standing idle false (holding rows pending)) word) ≡ true
-idle_refuses rows pending word dashes other = let h = other_word_is_refused rows pending word other in rw dashes h
+pub idle_refuses : (rows : List Row) (pending : Option (Text × List Text)) (word : Text) → bytes_eq word (codes "--") ≡ false → names (codes "limit") (long_of word) ≡ false
+    → names (codes "journal") (long_of word) ≡ false → refuses (turn_fault below [] (standing idle false (holding rows pending)) word) ≡ true
+idle_refuses rows pending word dashes other another = let h = other_word_is_refused rows pending word other another in rw dashes h
 
--- ---- the option's word
+-- ---- the options' words
 
-abbrev pub waits : List Row → Walk
-waits rows = standing (option (codes "limit")) false (holding rows (Some (codes "limit", [])))
+-- the options' rules, as the level has them
+abbrev pub limit_used : Rule
+limit_used = slice_index_or below.rules 0 (new_rule [])
 
+abbrev pub journal_used : Rule
+journal_used = slice_index_or below.rules 1 (new_rule [])
+
+-- the rows behind one more use
+abbrev pub and_limit : Text → List Row → List Row
+and_limit text rows = used limit_used (text ∷ []) rows
+
+abbrev pub and_journal : List Row → List Row
+and_journal rows = used journal_used [] rows
+
+-- between two words: these options were used
+abbrev pub past : List Row → Walk
+past rows = standing idle false (holding rows None)
+
+-- and this text is the limit's
 abbrev pub pushed : List Row → Text → Walk
 pushed rows text = standing idle false (holding rows (Some (codes "limit", text ∷ [])))
 
-abbrev pub limit_row : Text → List Row
-limit_row text = record {
-  id = codes "limit";
-  values = text ∷ [];
-  count = None;
-  source = Some CommandLine;
-  reading = reading.AsWritten;
-} ∷ []
-
-abbrev pub used_limit : Text → Walk
-used_limit text = standing idle false (holding (limit_row text) None)
+-- the limit's text is to come
+abbrev pub waits : List Row → Walk
+waits rows = standing (option (codes "limit")) false (holding rows (Some (codes "limit", [])))

@@ -103,7 +103,7 @@ giving_called script i seat line asks found gives seated =
     by_action None e = ap (λ o. is_by_ring (option_map_or (route_of script seat_of) o route.Seat)) e
     by_action (Some a) e = ap (λ o. is_by_ring (option_map_or (route_of script seat_of) o route.Seat)) e ∙ not_apart a (asks i line a found e ∙ gives)
 
--- an element stands at each place of a list
+-- there is an element at each place of a list
 pub stands : {X : Type 0} (xs : List X) (i : ℕ) → i < length xs → (x : X) × (slice_get xs i ≡ Some x)
 stands [] i lt = absurd (omega arith)
 stands (x ∷ xs) zero lt = (x, refl)

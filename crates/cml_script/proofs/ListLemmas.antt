@@ -44,7 +44,7 @@ module _ {X : Type 0} where
   taken_count p (y ∷ ys) (suc i) (suc j) le =
       let ih = taken_count p ys i j (omega arith) in omega (arith, ih)
 
-  -- what passes stands among all that pass behind those that passed before it
+  -- an item that passes is, among all that pass, behind those that passed before it
   pub filter_at : (p : X → Bool) (xs : List X) (i : ℕ) (x : X) → slice_get xs i ≡ Some x → p x ≡ true → slice_get (filter p xs) (how_many p (take i xs)) ≡ Some x
   filter_at p [] i x found passes = absurd (none-some x found)
   filter_at p (y ∷ ys) zero x found passes =

@@ -36,7 +36,7 @@ no_lines : (lines : List SourceLine) → slice_get lines 0 ≡ None → lines �
 no_lines [] e = refl
 no_lines (line ∷ lines) e = absurd (none-some line (sym e))
 
--- what isn't found stands nowhere
+-- what is not found is nowhere
 none_found : (p : SourceLine → Bool) (lines : List SourceLine) → find p lines ≡ None → (i : ℕ) (line : SourceLine) → slice_get lines i ≡ Some line → p line ≡ false
 none_found p [] none i line found = absurd (none-some line found)
 none_found p (first ∷ lines) none i line found = by_test (p first) refl none i found (none_found p lines)

@@ -43,7 +43,7 @@ module _ (test : SourceLine → Bool) where
       by_test true ih = omega (arith, ih)
       by_test false ih = omega (arith, ih)
 
-  -- what stands at a place of the list: a line that passes, behind as many that do
+  -- the item at a place of the list: a line that passes, behind as many that do
   pub record StandsThere (k : ℕ) (lines : List SourceLine) (n i : ℕ) : Type 0 where
     pub place : ℕ
     pub line : SourceLine
@@ -80,7 +80,7 @@ module _ (test : SourceLine → Bool) where
   by_first k first lines n i true e found ih = at_first k first lines n i e found ih
   by_first k first lines n i false e found ih = rw (← zero-add n) (later k first lines n i false e (ih n found))
 
-  -- a position of the list is that of a line that passes, and as many that do stand before it
+  -- a position of the list is that of a line that passes, and as many that do are before it
   pub position_is : (k : ℕ) (lines : List SourceLine) (n i : ℕ) → slice_get (positions_where test k lines) n ≡ Some i → StandsThere k lines n i
   position_is k [] n i found = absurd (none-some i found)
   position_is k (first ∷ lines) n i found =

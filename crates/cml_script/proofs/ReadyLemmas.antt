@@ -13,7 +13,7 @@ use Rattle.cml_script.proofs.LineLemmas.{called_seated}
 use Rattle.cml_script.proofs.QueueLemmas.{position_is, position_of_step}
 
 module _ (script : Lines) (history : History) where
-  -- what stands in a thread's queue behind the steps that it performed is its next step, and the only one that may be ready
+  -- the item of a thread's queue behind the steps that it performed is its next step, and the only one that may be ready
   pub ready_is : (seat i j : ℕ) (asked : Call (List ℕ)) → slice_get (positions_from script seat 0 script.steps) (performed history seat) ≡ Some i → IsReady script history j seat asked → j ≡ i
   ready_is seat i j asked at ready =
       let there = position_of_step (is_called script seat) 0 script.steps j ready.line ready.found ready.seated in

@@ -26,7 +26,7 @@ unplayed text script line ended says first is = subst (EndsUnplayedText text) (s
 }))
 
 -- no script is so long that more of it is left
-at_end : (old new : Option (List ℕ)) (text : List ℕ) (script : Lines) → IsRead old new text → IsScript text script → IsAtEnd new
+pub at_end : (old new : Option (List ℕ)) (text : List ℕ) (script : Lines) → IsRead old new text → IsScript text script → IsAtEnd new
 at_end old new text script read says = elim read.1 [ inl end ↦ end | inr long ↦ absurd (omega (arith, long, says.short)) ]
 
 for_run : (old new : Option (List ℕ)) (text : List ℕ) (fault : Fault) → IsRead old new text → IsTextForRun text fault → IsForRun old new fault

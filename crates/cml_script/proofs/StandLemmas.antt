@@ -65,7 +65,7 @@ count_at history counts thread n counted lt read =
     let within : thread < length counts = omega (arith, counted.seats) in
     same_Some _ _ (sym (slice_get_read counts (length counts) thread n refl within read) ∙ counted.each thread lt)
 
--- a declared name that stands for an object stands for the one of its number
+-- if a declared name has an object, it is the one of the name's number
 pub declared_is : (script : Lines) (history : History) (at n : ℕ) → n ≡ how_many (is_object script) (take at script.declarations) → IsSome (declared_object script history at) → declared_object script history at ≡ Some n
 declared_is script history at n number made = by_test (ltb (how_many (is_object script) (take at script.declarations)) (length history)) made
   where
@@ -81,14 +81,14 @@ below object made n e = elim (cases_lt object made) [
 ]
 
 module _ (script : Lines) (history : History) (named : NamesObjects script) where
-  -- the object that a declared name stands for is of its kind
+  -- the object of a declared name is of the name's kind
   pub declared_kind : (at n : ℕ) (k : Kind) → IsOfScript script history → Lawful history → at < length script.declarations → declared_object script history at ≡ Some n → IsObjectAt (names_of script) at k → kind_of history n ≡ Some k
   declared_kind at n k own lawful within e is =
       let here = below (how_many (is_object script) (take at script.declarations)) (length history) n e in
       let d = named at k within is in
       ap (kind_of history) (sym here.1) ∙ object_kind_is script history at d.0 k own lawful here.0 d.1 d.2
 
-  -- once all are made, each declared name stands for its object
+  -- once all are made, each declared name has its object
   pub declared_stands : (at : ℕ) → declared_count script ≤ length history → at < length script.declarations → IsObject (names_of script) at → (n : ℕ) × (declared_object script history at ≡ Some n)
   declared_stands at declared within object =
       let d = named at object.0 within object.1 in (

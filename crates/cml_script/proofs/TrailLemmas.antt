@@ -189,7 +189,7 @@ module _ (script : Lines) where
         maker_is script at there.line line (feed_object script there.line there.seated) ∙ ap (λ t. cond t (Feed (how_many (is_feed script) (take at script.declarations))) (Seat 0)) there.seated ∙ ap Feed count,
       )
 
-  -- what stands there is made by that feed
+  -- the declaration there is made by that feed
   made_by : (k feed : ℕ) → maker script k ≡ Feed feed → (line : SourceLine) × (slice_get (objects_of script) k ≡ Some line) × (is_feed script line ≡ true) × (how_many (is_feed script) (take k (objects_of script)) ≡ feed)
   made_by k feed made = by_line (slice_get (objects_of script) k) refl made
     where

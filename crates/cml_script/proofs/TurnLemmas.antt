@@ -16,7 +16,7 @@ use Rattle.cml_script.proofs.LineLemmas.{stands, called_seated}
 use Rattle.cml_script.proofs.QueueLemmas.{positions_count, position_is}
 use Rattle.cml_script.proofs.WorkLemmas.{turn_within}
 
--- of what stands between two places, no more pass the narrower test
+-- of the items between two places, no more pass the narrower test
 narrower : {X : Type 0} (p q : X → Bool) (xs : List X) (a b : ℕ) → ((x : X) → q x ≡ true → p x ≡ true) → a ≤ b → how_many q (take b xs) + how_many p (take a xs) ≤ how_many p (take b xs) + how_many q (take a xs)
 narrower p q [] zero zero implied le = omega arith
 narrower p q [] zero (suc b) implied le = omega arith
@@ -40,7 +40,7 @@ apart_seated script seat line goes = by_test (is_seated script seat line) (is_ap
     by_test true a e = refl
     by_test false a e = absurd (false≢true e)
 
--- between two places with no turn between them nothing of the thread stands
+-- between two places with no turn between them there is nothing of the thread
 none_between : (script : Lines) (seat : ℕ) (q : SourceLine → Bool) (a b : ℕ) → ((line : SourceLine) → q line ≡ true → is_seated script seat line ≡ true)
     → how_many (is_seated script seat) (take a script.steps) ≡ how_many (is_seated script seat) (take b script.steps) → how_many q (take a script.steps) ≡ how_many q (take b script.steps)
 none_between script seat q a b implied same = elim (cases_lt a b) [

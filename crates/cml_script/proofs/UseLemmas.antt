@@ -1,4 +1,4 @@
--- The name that a thread's next step uses stands for an object of its kind.
+-- The name that a thread's next step uses has an object of its kind.
 use Rattle.std.proofs.Common.{◌≡◌, ℕ, ◌<◌, ◌≤◌, true, false, eqb, List, length, map, get_or, slice_get, Option, Some, None, IsSome, IfSome, MatchOption, refl, sym, ap, subst, ◌∙◌, arith, inl, inr}
 use Rattle.std.specs.Prelude.{All}
 use Rattle.std.specs.Option.{option_map, option_map_or}
@@ -57,7 +57,7 @@ module _ (script : Lines) (history : History) (known : IsKnown script) where
       let object = the_some (port_bound (binding_of script history at)) (subst (λ n. IsSome (port_bound (binding_of script history n))) (sym same) bound) in
       (object.0, object_given script history at ge ∙ object.1)
 
-  -- the name that a thread's next step uses stands for an object
+  -- the name that a thread's next step uses has an object
   pub used_stands_for : (items : List Step) (i seat : ℕ) (s : Step) → AreSteps script history → map (λ x. source_of x.line) items ≡ script.steps → All (ReadsStep (names_of script)) items → UsesEarlier script items → slice_get items i ≡ Some s → next_position script history (Seat seat) ≡ Some i → declared_count script ≤ length history
       → (n : ℕ) × (object_of script history (used_by s.action) ≡ Some n)
   used_stands_for items i seat s steps lines reads uses_earlier item next declared = elim (cases_lt (used_by s.action) (length script.declarations)) [
@@ -101,14 +101,14 @@ module _ (script : Lines) (history : History) (known : IsKnown script) where
         ap (λ (g : Given). kind_named g.1) (same_Some _ _ (sym port.4 ∙ ap (slice_get (names_of script)) (sym given.4) ∙ is.2)) ∙ is.3
   ]
 
-  -- the object that a name stands for is of the name's kind
+  -- a name's object is of the name's kind
   pub object_kind_at : (at n : ℕ) (k : Kind) → IsOfScript script history → Lawful history → object_of script history at ≡ Some n → IsObjectAt (names_of script) at k → kind_of history n ≡ Some k
   object_kind_at at n k own lawful object named = elim (cases_lt at (length script.declarations)) [
     | inl lt ↦ declared_kind script history known.named at n k own lawful lt (sym (object_declared script history at lt) ∙ object) named
     | inr ge ↦ bound_port script known.asks known.seats history at n own lawful (sym (object_given script history at ge) ∙ object) ∙ given_port at k ge named
   ]
 
-  -- what was made for a name is what it stands for
+  -- what was made for a name is its object
   made_stands : (at n : ℕ) → made_of script history at ≡ Some n → object_of script history at ≡ Some n
   made_stands at n made = elim (cases_lt at (length script.declarations)) [
     | inl lt ↦ object_declared script history at lt ∙ sym (made_declared script history at lt) ∙ made
@@ -153,7 +153,7 @@ used_stands p old counts bindings view stands items i d lines reads uses_earlier
 pub declared_length : (items : List Declaration) (script other : Lines) → map (λ d. source_of d.line) items ≡ script.declarations → script ≡ other → length items ≡ length other.declarations
 declared_length items script other lines same = sym (length-map items (λ (d : Declaration). source_of d.line)) ∙ ap length lines ∙ ap (λ (s : Lines). length s.declarations) same
 
--- what is looked up for a name that stands for an object
+-- what is looked up for a name that has an object
 pub bound_is : (p old : Play) (counts : List ℕ) (bindings slice : List Binding) (at made : ℕ) (r : Option Name) → p ≡ old → Stands p counts bindings → (bound : IsBound old at) → length p.history ≡ made → slice ≡ bindings
     → ((history : History) → length history ≡ made → AreBindings p.script history slice → r ≡ option_map (λ o. record { 0 = o }) (object_of p.script history at)) → r ≡ Some (record { 0 = bound.object })
 bound_is p old counts bindings slice at made r view stands bound long same told =

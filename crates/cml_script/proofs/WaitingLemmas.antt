@@ -1,4 +1,4 @@
--- Where a script's history ends stalled, and where nobody could go on, some thread has steps left.
+-- If a script's history ends stalled, or no thread could go on, some thread has steps left.
 use Rattle.std.proofs.Common.{◌≡◌, ℕ, zero, suc, ◌+◌, ◌-◌, ◌<◌, ◌≤◌, ◌⊎◌, Bool, true, false, eqb, List, [], ◌∷◌, length, map, slice_get, Option, Some, None, refl, sym, ap, subst, ◌∙◌, arith, inl, inr}
 use Rattle.std.specs.Prelude.{All}
 use Rattle.std.proofs.lemmas.List.{length-map}
@@ -25,7 +25,7 @@ use Rattle.cml_script.proofs.StallingLemmas.{passed_is}
 use Rattle.cml_script.proofs.BindingLemmas.{none_seated, maker_is_none}
 use Rattle.cml_script.proofs.ScheduleLemmas.{declares, steps}
 
--- what the seats from 1 to n come to
+-- the total of the seats from 1 to n
 abbrev total : (ℕ → ℕ) → ℕ → ℕ
 total f zero = 0
 total f (suc n) = total f n + f (suc n)

@@ -1,4 +1,4 @@
--- A board whose journal nobody cut.
+-- A board whose journal was never cut.
 use Rattle.std.proofs.Common.{◌≡◌, ◌+◌, ◌<◌, ◌≤◌, List, [], ◌++◌, reverse, sym, ap, ◌∙◌, arith}
 use Rattle.std.proofs.Math.Nat.{min-le_left}
 use Rattle.std.proofs.lemmas.List.{append-nil, reverse-reverse}

@@ -187,7 +187,7 @@ module _ (script : Lines) (seat i : ℕ) (turn : IsTurn script seat i) where
   pub turn_called : (t : Bool) → is_by_ring (route_of_line script turn.line) ≡ t → is_called script seat turn.line ≡ not t
   turn_called t is = ap₂ (λ s a. s && not a) turn.seated is
 
-  -- how many steps of its kinds stand behind it
+  -- how many steps of its kinds there are up to and with it
   pub called_more : (t : Bool) → is_called script seat turn.line ≡ t → earlier script seat (i + 1) ≡ earlier script seat i + one_if t
   called_more t is = count_taken (is_called script seat) script.steps i turn.line turn.found ∙ ap (λ u. earlier script seat i + one_if u) is
 
@@ -203,7 +203,7 @@ under_way_few script seat place under =
 
 -- How it goes on.
 
--- what is told goes on so
+-- what the caller says goes on like this
 told_more : (told : Made) (adds : Made → Made) (made later : Option Made) → IfSome made (λ tells. tells ≡ told) → later ≡ option_map adds made → IfSome later (λ tells. tells ≡ adds told)
 told_more told adds made later is more = subst (λ (o : Option Made). IfSome o (λ tells. tells ≡ adds told)) (sym more) (by_made made is)
   where
@@ -327,7 +327,7 @@ more_gone script seat i {course} {made} under turn done next later by_ring does 
 
 -- How it ends.
 
--- what is told then
+-- what the caller says then
 pub ends_with : (script : Lines) (seat : ℕ) → 1 ≤ seat → (place : ℕ) {course : Course} {made : Option Made} (under : IsUnderWay script seat place course made) (stop : Result Stop AllocError) (sending : Bool) (refused : Option Refusal) (now : Option Made)
     → IfSome now (λ tells. tells ≡ record { seat = seat; entries = under.entries; opened = []; apart = under.apart; is_sending = sending; refused = refused }) → IsStop script seat place sending refused stop → (first : History) → IsOpening script first → IfSome now (λ m. Works script seat m stop first)
 ends_with script seat low place under stop sending refused now told stops first opening = by_made now told

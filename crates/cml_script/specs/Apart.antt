@@ -24,7 +24,7 @@ is_by_lane (by_feed feed) = false
 abbrev pub goes_apart : Lines → ℕ → SourceLine → Bool
 goes_apart script seat line = is_seated script seat line && is_apart script line
 
--- how many such steps of that thread stand before the i-th step of the script
+-- how many such steps of that thread are before the i-th step of the script
 abbrev pub earlier_apart : Lines → ℕ → ℕ → ℕ
 earlier_apart script seat i = how_many (goes_apart script seat) (take i script.steps)
 

@@ -1,9 +1,12 @@
 -- What the words of the command line ask for.
-use Rattle.std.specs.Prelude.{◌≡◌, ◌⊎◌, ◌≤◌, ◌^◌, ℕ, List, [], ◌∷◌, ◌++◌, Option, Some, drop, codes, option_and_then, option_map, true}
+use Rattle.std.specs.Prelude.{◌≡◌, ◌⊎◌, ◌≤◌, ◌^◌, ℕ, Bool, true, false, List, [], ◌∷◌, ◌++◌, Option, Some, None, drop, codes}
 use Rattle.std.specs.Str.Parse.{IsNumeral, digits_value, without_leading_plus}
 use Rattle.clap.specs.Words.{App, Kinds, Row, Rule, Shape, Text, fault_of, new_app, new_rule, one_of, with_rule, with_subcommand}
 use Rattle.clap.specs.Simple.{on_top}
 use Rattle.clap.specs.declared.builder.value_parser.ValueParser.TheVariants as parser
+use Rattle.clap.specs.declared.builder.action.ArgAction.TheVariants.{SetTrue}
+use Rattle.cml_script.specs.declared.asked.Form.{Form}
+use Rattle.cml_script.specs.declared.asked.Form.TheVariants.{Report, Journal}
 use Rattle.cml_script.specs.declared.asked.Order.{Order}
 use Rattle.cml_script.specs.declared.asked.Order.TheVariants as order
 
@@ -26,31 +29,63 @@ abbrev pub GivesLimit : List Text → ℕ → Type 0
 GivesLimit options limit = ((options ≡ []) × (limit ≡ 65536))
     ⊎ ((text : Text) × IsLimitOption options text × ReadsAs text limit × (1 ≤ limit) × (limit ≤ 2 ^ 32))
 
+-- the options give this form: the report where there is none
+abbrev pub GivesForm : List Text → Form → Type 0
+GivesForm options Report = options ≡ []
+GivesForm options Journal = options ≡ codes "--journal" ∷ []
+
+-- the option is there or isn't
+abbrev pub GivesState : List Text → Bool → Type 0
+GivesState options false = options ≡ []
+GivesState options true = options ≡ codes "--state" ∷ []
+
+-- the `--` that ends the options, or nothing
+abbrev pub IsEnd : List Text → Type 0
+IsEnd end = (end ≡ []) ⊎ (end ≡ codes "--" ∷ [])
+
+-- the words of one option, and then those of the other, in any order
+abbrev pub AreBoth : List Text → List Text → List Text → Type 0
+AreBoth options one other = (options ≡ one ++ other) ⊎ (options ≡ other ++ one)
+
 -- this subcommand with its options, with or without the `--` that ends them
-pub record Asks (subcommand : Text) (words : List Text) (limit : ℕ) : Type 0 where
+pub record Asks (subcommand : Text) (words : List Text) (limit : ℕ) (form : Form) : Type 0 where
+  pub limits : List Text
+  pub forms : List Text
   pub options : List Text
   pub end : List Text
-  pub gives : GivesLimit options limit
-  pub ends : (end ≡ []) ⊎ (end ≡ codes "--" ∷ [])
+  pub gives : GivesLimit limits limit
+  pub writes : GivesForm forms form
+  pub both : AreBoth options limits forms
+  pub ends : IsEnd end
   pub are : asked_of words ≡ subcommand ∷ (options ++ end)
 
 -- the words ask to replay
-abbrev pub AsksReplay : List Text → ℕ → Type 0
-AsksReplay words limit = Asks (codes "replay") words limit
+abbrev pub AsksReplay : List Text → ℕ → Form → Type 0
+AsksReplay words limit form = Asks (codes "replay") words limit form
 
 -- the words ask to run
-abbrev pub AsksRun : List Text → ℕ → Type 0
-AsksRun words limit = Asks (codes "run") words limit
+abbrev pub AsksRun : List Text → ℕ → Form → Type 0
+AsksRun words limit form = Asks (codes "run") words limit form
+
+-- the words ask to check a journal
+pub record AsksCheck (words : List Text) (state : Bool) : Type 0 where
+  pub options : List Text
+  pub end : List Text
+  pub gives : GivesState options state
+  pub ends : IsEnd end
+  pub are : asked_of words ≡ codes "check" ∷ (options ++ end)
 
 -- the words ask for this order
 abbrev pub AsksFor : List Text → Order → Type 0
-AsksFor words (order.Replay limit) = AsksReplay words limit
-AsksFor words (order.Run limit) = AsksRun words limit
+AsksFor words (order.Replay limit form) = AsksReplay words limit form
+AsksFor words (order.Run limit form) = AsksRun words limit form
+AsksFor words (order.Check state) = AsksCheck words state
 
--- how many entries the journal of an order takes
-abbrev pub limit_in : Order → ℕ
-limit_in (order.Replay limit) = limit
-limit_in (order.Run limit) = limit
+-- how many entries the journal of an order takes, where it makes one
+abbrev pub limit_of : Order → Option ℕ
+limit_of (order.Replay limit form) = Some limit
+limit_of (order.Run limit form) = Some limit
+limit_of (order.Check state) = None
 
 -- the long or the short word for help
 abbrev pub IsHelp : Text → Type 0
@@ -61,7 +96,8 @@ abbrev pub AsksHelp : List Text → Type 0
 AsksHelp words = (help : Text) × IsHelp help
     × ((asked_of words ≡ help ∷ [])
     ⊎ ((asked_of words ≡ codes "replay" ∷ help ∷ [])
-    ⊎ (asked_of words ≡ codes "run" ∷ help ∷ [])))
+    ⊎ ((asked_of words ≡ codes "run" ∷ help ∷ [])
+    ⊎ (asked_of words ≡ codes "check" ∷ help ∷ []))))
 
 -- `--limit`, a number from 1 to 2^32, and 65,536 where the words have none
 abbrev pub limit_rule : Rule
@@ -72,32 +108,57 @@ limit_rule = record (new_rule (codes "limit")) {
   defaults = codes "65536" ∷ [];
 }
 
--- the subcommand of this name, whose one option is the limit
-abbrev pub limited : Text → Shape
-limited name = (with_rule (new_app name) limit_rule).top
+-- an option of this name without a value
+abbrev pub flag_rule : Text → Rule
+flag_rule name = record (new_rule name) { long = Some name; action = Some SetTrue }
 
--- the program, one of whose two subcommands is required
+-- the subcommand of this name, whose options are the limit and `--journal`
+abbrev pub performing : Text → Shape
+performing name = (with_rule (with_rule (new_app name) limit_rule) (flag_rule (codes "journal"))).top
+
+-- the subcommand whose one option is `--state`
+abbrev pub checking : Shape
+checking = (with_rule (new_app (codes "check")) (flag_rule (codes "state"))).top
+
+-- the program, one of whose subcommands is required
 abbrev pub usage : App
 usage = with_subcommand
     (with_subcommand
+    (with_subcommand
     (on_top (λ top. record top { subcommand_required = true; arg_required_else_help = true })
     (new_app (codes "cml")))
-    (limited (codes "replay")))
-    (limited (codes "run"))
+    (performing (codes "replay")))
+    (performing (codes "run")))
+    checking
 
--- a parse that entered this subcommand, with these rows, found this limit
-abbrev pub HasLimit : Option (Text × List Row) → ℕ → Type 0
-HasLimit entered limit = (text : Text) × ReadsAs text limit × (limit ≤ 2 ^ 32)
-    × (option_and_then (λ found. one_of (codes "limit") found.1) entered ≡ Some text)
+-- the rows give this limit
+abbrev pub FindsLimit : List Row → ℕ → Type 0
+FindsLimit rows limit = (text : Text) × ReadsAs text limit × (limit ≤ 2 ^ 32) × (one_of (codes "limit") rows ≡ Some text)
 
--- the parse entered the subcommand of this name
-abbrev pub Enters : Option (Text × List Row) → Text → Type 0
-Enters entered name = option_map (λ found. found.0) entered ≡ Some name
+-- a flag was found as set, or as unset
+abbrev pub FindsFlag : Text → List Row → Bool → Type 0
+FindsFlag name rows true = one_of name rows ≡ Some (codes "true")
+FindsFlag name rows false = one_of name rows ≡ Some (codes "false")
+
+-- the rows ask for this form
+abbrev pub FindsForm : List Row → Form → Type 0
+FindsForm rows Report = FindsFlag (codes "journal") rows false
+FindsForm rows Journal = FindsFlag (codes "journal") rows true
+
+-- the parse entered the subcommand of this name, and found rows there of which this holds
+abbrev pub Enters : Option (Text × List Row) → Text → (List Row → Type 0) → Type 0
+Enters None name holds = ⊥
+Enters (Some found) name holds = (found.0 ≡ name) × holds found.1
+
+-- the rows give this limit and form
+abbrev pub FindsOptions : List Row → ℕ → Form → Type 0
+FindsOptions rows limit form = FindsLimit rows limit × FindsForm rows form
 
 -- the parse found this order
 abbrev pub HasOrder : Option (Text × List Row) → Order → Type 0
-HasOrder entered (order.Replay limit) = Enters entered (codes "replay") × HasLimit entered limit
-HasOrder entered (order.Run limit) = Enters entered (codes "run") × HasLimit entered limit
+HasOrder entered (order.Replay limit form) = Enters entered (codes "replay") (λ rows. FindsOptions rows limit form)
+HasOrder entered (order.Run limit form) = Enters entered (codes "run") (λ rows. FindsOptions rows limit form)
+HasOrder entered (order.Check state) = Enters entered (codes "check") (λ rows. FindsFlag (codes "state") rows state)
 
 -- the kinds of error that the words may give; none where they are understood
 abbrev pub faults_of : List Text → Kinds

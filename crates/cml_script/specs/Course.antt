@@ -40,7 +40,7 @@ pub record IsUnderWay (script : Lines) (seat place : ℕ) (course : Course) (mad
   pub does : AreNextApart script seat apart
   pub bound : (first : History) → IsOpening script first → AreBindings script (entries ++ first) course.bindings.items
 
--- as many steps of the thread stand before this place as were taken, and it is under way there
+-- as many steps of the thread are before this place as were taken, and it is under way there
 pub record HasTaken (script : Lines) (seat taken : ℕ) (course : Course) (made : Option Made) : Type 0 where
   pub place : ℕ
   pub behind : how_many (is_seated script seat) (take place script.steps) ≡ taken

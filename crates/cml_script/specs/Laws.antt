@@ -1,4 +1,4 @@
--- What the definitions come to.
+-- Laws of the definitions.
 use Rattle.std.specs.Prelude.{ℕ, ◌≡◌, ◌<◌, List, None}
 use Rattle.cml_grammar.specs.Script.{Lines, IsScript}
 use Rattle.cml_grammar.specs.Rings.{first_ring}
@@ -38,7 +38,7 @@ SomeThreadWaits =
     (text : List ℕ) (script : Lines) (limit : ℕ) (history : History)
     → IsScript text script → Schedule script limit history Stalled → (seat : ℕ) × WaitsAtNext script history seat
 
--- where nobody could go on and a step is left, there is such a thread too
+-- if no thread could go on and a step is left, there is such a thread too
 abbrev pub SomeThreadIsStuck : Type 0
 SomeThreadIsStuck =
     (text : List ℕ) (script : Lines) (limit : ℕ) (history : History) (tally : Tallied)

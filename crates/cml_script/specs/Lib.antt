@@ -27,5 +27,6 @@ pub mod Course
 pub mod Endings
 pub mod Replay
 pub mod Running
+pub mod Journals
 pub mod CommandLine
 pub mod Laws

@@ -100,7 +100,7 @@ pub record IsPlanned (script : Lines) (names : ℕ) (numbers feeds : List ℕ) (
 abbrev pub items_of : List (Vec ℕ Global) → List (List ℕ)
 items_of queues = map (λ queue. queue.items) queues
 
--- the object that a declared name stands for, where so many objects are made
+-- a declared name's object, if `made` objects are made
 abbrev pub object_among : Lines → ℕ → ℕ → Option ℕ
 object_among script made at =
     let object = number_of script at in

@@ -41,7 +41,7 @@ line_end = 10 ∷ []
 
 -- First part: a line for each entry behind the declarations.
 
--- what stands before a message in reports of scripts of this version
+-- the mark before a message in reports of scripts of this version
 abbrev pub message_mark : ℕ → List ℕ
 message_mark version = if version == 2 then codes "=" else []
 
@@ -56,7 +56,7 @@ reply_word version reply.Nothing = codes "none"
 reply_word version reply.Put = codes "put"
 reply_word version reply.Closed = codes "closed"
 
--- the step's line as it stands in the script
+-- the step's line as in the script
 abbrev pub line_text : SourceLine → List ℕ
 line_text line = join_with_byte 32 line.words
 
@@ -68,13 +68,13 @@ next_step script history who = option_and_then (slice_get script.steps) (next_po
 abbrev pub given_word : Option SourceLine → List ℕ
 given_word line = option_map_or (λ word. word) (option_and_then (λ (l : SourceLine). declared_word l.words) line) []
 
--- what a lane made: its object is told by its declared name
+-- what a lane made: its object is written by its declared name
 abbrev pub sent_text : Lines → Call (List ℕ) → List ℕ
 sent_text script (call.Send name message) = codes " send " ++ given_word (slice_get (objects_of script) name.0) ++ codes " " ++ message_word script.version message
 sent_text script (call.Cast name message) = codes " multicast " ++ given_word (slice_get (objects_of script) name.0) ++ codes " " ++ message_word script.version message
 sent_text script _ = []
 
--- what its caller made: a step is told as it stands in the script
+-- what its caller made: a step is written as in the script
 abbrev pub made_text : Lines → History → Call (List ℕ) → Who → List ℕ
 made_text script before asked (who.Seat seat) = option_map_or line_text (next_step script before (who.Seat seat)) []
 made_text script before asked (who.Lane lane) = codes "lane " ++ decimal lane ++ sent_text script asked

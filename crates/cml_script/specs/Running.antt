@@ -16,8 +16,8 @@ use Rattle.cml_script.specs.Stalling.{NobodyGoesOn}
 use Rattle.cml_script.specs.Replay.{IsFaulty}
 use Rattle.cml_board.specs.Checking.{IsFirstUnlawful}
 
--- what is left where a run ends so: no step where it is done, and one at least where it is stalled or held; where it is stalled
--- nobody could go on; where it is full the journal is at its limit, and something is left
+-- what is left if a run ends like this. If it is done, no step is left. If it is stalled or held, at least one step is left; if
+-- stalled, no thread could go on. If it is full, the journal is at its limit, and something is left
 abbrev pub Leaves : Lines → ℕ → History → Tallied → Stop → Type 0
 Leaves script limit history tally stop.Done = unperformed script history tally ≡ 0
 Leaves script limit history tally stop.Stalled = (0 < unperformed script history tally) × NobodyGoesOn script limit history tally
@@ -72,7 +72,7 @@ Runs limit old new held holds ending.NoMemory = Keeps held holds
 Runs limit old new held holds (ending.NotLawful at) = Keeps held holds
 Runs limit old new held holds ending.WriteFault = ⊤
 
--- how it ends where nothing is told
+-- how it ends if nothing is written
 abbrev pub EndsUntold : Option (List ℕ) → Option (List ℕ) → Ending → Type 0
 EndsUntold old new (ending.Fault fault) = IsFaulty old new fault
 EndsUntold old new ending.ReadFault = ⊤

@@ -30,7 +30,7 @@ use Rattle.cml_script.specs.declared.route.Route.TheVariants as route
 use Rattle.cml_script.specs.declared.stop.Stop.{Stop}
 use Rattle.cml_script.specs.declared.stop.Stop.TheVariants.{Done, Stalled, Full, Held}
 
--- a script's history is the whole journal of a board since it was made: behind its oldest entry stands nothing
+-- a script's history is the whole journal of a board since it was made: nothing is behind its oldest entry
 abbrev pub History : Type 0
 History = List (Entry (List ℕ))
 
@@ -68,13 +68,13 @@ maker script k =
 abbrev pub number_of : Lines → ℕ → ℕ
 number_of script at = how_many (is_object script) (take at script.declarations)
 
--- the object that a declaration's name stands for, by the name's position, once it is made
+-- the object of a declaration's name, by the name's position, once it is made
 abbrev pub declared_object : Lines → History → ℕ → Option ℕ
 declared_object script history at =
     let object = number_of script at in
     if nat_lt object (entries_in history) then Some object else None
 
--- the call that makes what a declaration makes, of the objects that its names stand for
+-- the call that makes what a declaration makes, of its names' objects
 abbrev pub making_call : (ℕ → Option ℕ) → Makes → Option (Call (List ℕ))
 making_call object makes.Thread = None
 making_call object makes.Mailbox = Some call.NewMailbox
@@ -136,7 +136,7 @@ apart_count script = how_many (is_apart script) script.steps
 abbrev pub is_called : Lines → ℕ → SourceLine → Bool
 is_called script seat line = is_seated script seat line && not (is_apart script line)
 
--- how many such steps of that thread stand before the i-th step of the script
+-- how many such steps of that thread are before the i-th step of the script
 abbrev pub earlier : Lines → ℕ → ℕ → ℕ
 earlier script seat i = how_many (is_called script seat) (take i script.steps)
 
@@ -168,7 +168,7 @@ next_position script history (Seat seat) = slice_get (positions_from script seat
 next_position script history (Lane l) = None
 next_position script history (Feed f) = None
 
--- What names stand for.
+-- The objects of names.
 
 -- the position of the name that a step gives, if it gives one
 abbrev pub given_by : Lines → ℕ → Option ℕ
@@ -196,7 +196,7 @@ binding_of script [] at = binding.Unbound
 binding_of script (entry ∷ before) at =
     if gives_next script before entry.who at then bound_by entry.call entry.reply else binding_of script before at
 
--- the port that a binding stands for, and the one that was made for it
+-- the port of a binding, and the one that was made for it
 abbrev pub port_bound : Binding → Option ℕ
 port_bound binding.Unbound = None
 port_bound (binding.Made name) = Some name.0
@@ -207,7 +207,7 @@ port_made binding.Unbound = None
 port_made (binding.Made name) = Some name.0
 port_made (binding.Closed name) = None
 
--- the object that a name stands for, by the name's position among the script's
+-- a name's object, by the name's position among the script's
 abbrev pub object_of : Lines → History → ℕ → Option ℕ
 object_of script history at =
     if nat_lt at (length script.declarations) then declared_object script history at else port_bound (binding_of script history at)
@@ -224,7 +224,7 @@ abbrev pub call_on : Action → Name → Call (List ℕ)
 call_on (action.Give give at message) name = given_call give name message
 call_on (action.Ask ask at) name = asked_call ask name
 
--- and of the one that its name stands for
+-- and of its name's object
 abbrev pub call_of : (ℕ → Option ℕ) → Action → Option (Call (List ℕ))
 call_of object asked = option_map (λ o. call_on asked (record { 0 = o })) (object (used_by asked))
 

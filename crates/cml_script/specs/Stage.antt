@@ -86,7 +86,7 @@ WaitsIf history made test = (asked : Call (List ℕ)) × (made ≡ Some asked) �
 abbrev pub IsNextStep : Play → ℕ → Type 0
 IsNextStep play i = (seat : ℕ) × (next_position play.script play.history (Seat seat) ≡ Some i)
 
--- the name is an object's, and stands for one of its kind
+-- the name is an object's, and has an object of its kind
 pub record IsBound (play : Play) (at : ℕ) : Type 0 where
   pub named : IsObject (names_of play.script) at
   pub object : ℕ

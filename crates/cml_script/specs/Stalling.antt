@@ -1,4 +1,4 @@
--- When nobody could go on with a script.
+-- When no thread could go on with a script.
 use Rattle.std.specs.Prelude.{ℕ, ◌≡◌, ◌<◌, ◌≤◌, Bool, true, false, nat_lt, List, slice_get, Option, Some, None}
 use Rattle.std.specs.Option.{option_map_or}
 use Rattle.cml_board.specs.declared.call.Call.{Call}
@@ -24,7 +24,7 @@ pub record WaitsAtNext (script : Lines) (history : History) (seat : ℕ) : Type 
 abbrev pub WaitsOrIsDone : Lines → History → ℕ → Type 0
 WaitsOrIsDone script history seat = (step : ℕ) → next_position script history (Seat seat) ≡ Some step → WaitsAtNext script history seat
 
--- the step at this position stands before the next of those that its thread's seat performs, or that seat has none left
+-- the step at this position is before the next of those that its thread's seat performs, or that seat has none left
 abbrev pub is_before : ℕ → Option ℕ → Bool
 is_before i None = true
 is_before i (Some next) = nat_lt i next
@@ -33,16 +33,16 @@ abbrev pub is_passed : Lines → History → ℕ → Bool
 is_passed script history i =
     option_map_or (λ (line : SourceLine). option_map_or (λ seat. is_before i (next_position script history (Seat seat))) (seat_of_step (names_of script) line.words) false) (slice_get script.steps i) false
 
--- how many of the steps that pass a test stand so
+-- how many of the steps that pass a test are passed in this way
 abbrev pub passed_count : (SourceLine → Bool) → Lines → History → ℕ
 passed_count test script history = how_many (is_passed script history) (positions_where test 0 script.steps)
 
--- as many steps went by lanes and feeds as stand so, and lanes moved as many messages as those of them sent
+-- as many steps went by lanes and feeds as are passed in this way, and lanes moved as many messages as those of them sent
 pub record IsAllMoved (script : Lines) (history : History) (tally : Tallied) : Type 0 where
   pub apart : tally.apart ≡ passed_count (is_apart script) script history
   pub moved : how_many is_moved history ≡ passed_count (is_laid script) script history
 
--- nobody could go on: the declared objects are made, the journal has room, each thread whose seat has steps left would wait
+-- no thread could go on: the declared objects are made, the journal has room, each thread whose seat has steps left would wait
 -- at the next of them, and what goes by lanes and feeds before that is done
 pub record NobodyGoesOn (script : Lines) (limit : ℕ) (history : History) (tally : Tallied) : Type 0 where
   pub made : declared_count script ≤ entries_in history

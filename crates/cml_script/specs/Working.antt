@@ -1,4 +1,4 @@
--- What one thread performs of a script, whoever makes its calls.
+-- What one thread performs of a script, whatever caller makes its calls.
 use Rattle.std.specs.Prelude.{ℕ, ◌≡◌, ◌≢◌, ◌<◌, ◌≤◌, ◌⊎◌, ◌||◌, Bool, true, false, List, [], ◌∷◌, ◌++◌, length, filter, slice_get, Option, Some, None, Result, Ok, Err, IfSome, OnOk, ⊤}
 use Rattle.std.specs.Option.{option_and_then}
 use Rattle.std.specs.Result.{result_err}
@@ -158,7 +158,7 @@ first_of (Ok one) (Ok other) = Ok (first_stop one other)
 abbrev pub IsUnheld : Result Stop AllocError → Type 0
 IsUnheld stop = stop ≢ Ok Held
 
--- how a thread ends that would end so but for a lane that this refusal kept from closing
+-- how a thread ends that would stop like this if this refusal had not kept a lane from closing
 abbrev pub ending_with : Stop → Refusal → Result Stop AllocError
 ending_with stop refusal = first_of (Ok stop) (stop_of refusal)
 
@@ -179,7 +179,7 @@ IsStop script seat place sending (Some refusal) stop =
     ⊎ ((sending ≡ true) × ((whole : Stop) × IsUnrefused script seat place (Ok whole) × (stop ≡ ending_with whole refusal)))
 
 -- whatever made the declared objects: the entries of the thread with this seat are the steps that its seat performs, each on
--- the objects that its names stand for, and what went by its lanes and feeds are its other steps, from the first one on, in
+-- its names' objects, and what went by its lanes and feeds are its other steps, from the first one on, in
 -- order; all of both before a place of the text, and none from there on; it opens no feed; and this is why it stopped
 pub record Works (script : Lines) (seat : ℕ) (made : Made) (stop : Result Stop AllocError) (first : History) : Type 0 where
   pub by : AreBySeat seat made.entries

@@ -1,4 +1,4 @@
-//! A journal that someone made, against the rules of boards and against a script.
+//! How a given journal is judged, by the rules of boards and by a script.
 ghost use Rattle.std.specs.Prelude.{◌≤◌, ◌^◌, length, reverse, IfOk, MatchOption};
 ghost use Rattle.cml_script.specs.Audit.{IsOfScript, IsFirstForeign, Judges};
 
@@ -8,9 +8,9 @@ use cml_board::{Entry, Text, check};
 use cml_grammar::Script;
 use std::alloc::{AllocError, Global};
 
-/// Whether a journal is lawful and a script's: the declared objects first, and then the steps of its threads, each
-/// thread's in order. Else where it first isn't. A journal that breaks off is judged as far as it goes. It takes memory
-/// in proportion to the script and the journal, and as much time as making the journal's calls again.
+/// Says whether a journal is lawful and a script's, or where it first is not. A script's journal has the declared objects
+/// first, and then the steps of its threads, each thread's in order. A journal that breaks off is judged as far as it goes.
+/// It takes memory in proportion to the script and the journal, and as much time as making the journal's calls again.
 pub fn audit(alloc: Global, script: &Script, entries: &[Entry<Text>]) -> Result<Verdict, AllocError>
     requires { length entries.now ≤ 2 ^ 32 }
     ensures { IfOk result (λ verdict. Judges script.now entries.now verdict) }
@@ -25,7 +25,7 @@ pub fn audit(alloc: Global, script: &Script, entries: &[Entry<Text>]) -> Result<
     Ok(verdict)
 }
 
-/// The first entry that isn't the script's, if there is one.
+/// The position of the first entry that is not the script's, if there is one.
 fn first_foreign(
     alloc: Global,
     script: &Script,

@@ -1,4 +1,4 @@
-//! What the names that steps give stand for.
+//! The objects of the names that steps give.
 ghost use Rattle.std.specs.Prelude.{◌≡◌, ◌<◌, length, IfSome};
 ghost use Rattle.std.specs.Option.{option_map};
 ghost use Rattle.cml_script.specs.Schedule.{bound_by, closed_by, port_bound, port_made};
@@ -6,7 +6,7 @@ ghost use Rattle.cml_script.specs.Bindings.{with_binding};
 
 use cml_board::{Call, Name, Reply, Text};
 
-/// What a name that a step gives stands for.
+/// The object of a name that a step gives.
 #[derive(Clone, Copy, Debug, PartialEq, Eq)]
 pub enum Binding {
     /// Nothing yet: its step was not performed.
@@ -18,7 +18,7 @@ pub enum Binding {
 }
 
 impl Binding {
-    /// What its step's call and the reply give the name.
+    /// The binding that its step's call and the reply give the name.
     fn by(call: &Call<Text>, reply: &Reply<Text>) -> Binding
         ensures { result ≡ bound_by call.now reply.now }
     {
@@ -29,7 +29,7 @@ impl Binding {
         }
     }
 
-    /// The port that the name stands for.
+    /// Returns the name's port.
     pub fn port(self) -> Option<Name>
         ensures { result ≡ option_map (λ o. record { 0 = o }) (port_bound self) }
     {
@@ -39,7 +39,7 @@ impl Binding {
         }
     }
 
-    /// The port that was made for the name.
+    /// Returns the port that was made for the name.
     pub fn made(self) -> Option<Name>
         ensures { result ≡ option_map (λ o. record { 0 = o }) (port_made self) }
     {

@@ -18,8 +18,7 @@ pub fn used_by(action: &Action) -> usize
     }
 }
 
-/// The call that a step makes on the object that its name stands for, with a message of its own. Only want of memory refuses
-/// it.
+/// Makes the call of a step on its name's object, with a copy of its message. Fails only for want of memory.
 pub fn call_on(action: &Action, object: Name) -> Result<Call<Text>, AllocError>
     ensures { IfOk result (λ call. call ≡ call_on action.now object) }
 {
@@ -29,7 +28,7 @@ pub fn call_on(action: &Action, object: Name) -> Result<Call<Text>, AllocError>
     }
 }
 
-/// What that call waits for where it has to wait.
+/// Returns what that call waits for, if it blocks.
 pub fn want_on(action: &Action, object: Name) -> Option<Want>
     ensures { result ≡ want_in (call_on action.now object) }
 {
@@ -40,7 +39,7 @@ pub fn want_on(action: &Action, object: Name) -> Option<Want>
     }
 }
 
-/// Whether that call fits the object, and would wait.
+/// Says whether that call fits the object, and would block.
 pub fn would_wait(board: &Board<Text, BoardLog<Text>>, action: &Action, object: Name) -> bool
     ensures { IsTrue result ↔ (Fits board.now.history (call_on action.now object) × (answer board.now.history (call_on action.now object) ≡ None)) }
 {
@@ -52,7 +51,7 @@ pub fn would_wait(board: &Board<Text, BoardLog<Text>>, action: &Action, object: 
     }
 }
 
-/// Whether a call is the one that a step makes on this object.
+/// Says whether a call is the one that a step makes on this object.
 pub fn is_call_on(action: &Action, object: Name, call: &Call<Text>) -> bool
     ensures { IsTrue result ↔ (call_on action.now object ≡ call.now) }
 {

@@ -1,12 +1,12 @@
 //! The words of the command line, by `clap`, which also writes the help.
-ghost use Rattle.std.specs.Prelude.{◌≡◌, ◌⊎◌, ◌≤◌, ◌^◌, ℕ, IfOk, IfErr, IsErrAnd, Some, false, map};
-ghost use Rattle.clap.specs.Words.{app_of, FailsBy, kind_of, rule_of, subcommand_of, subcommand_rows_of, with_subcommand};
+ghost use Rattle.std.specs.Prelude.{◌≡◌, ◌⊎◌, ◌≤◌, ◌^◌, ℕ, Bool, IfOk, IfErr, IfSome, IsErrAnd, Some, false, map};
+ghost use Rattle.clap.specs.Words.{app_of, found_of, FailsBy, kind_of, rows_of, rule_of, subcommand_of, subcommand_rows_of, with_subcommand};
 ghost use Rattle.cml_shell.specs.Statuses.{error_status};
-ghost use Rattle.cml_script.specs.CommandLine.{usage, faults_of, limit_in, limit_rule, limited, AsksFor, AsksReplay, AsksRun, AsksHelp, HasOrder};
+ghost use Rattle.cml_script.specs.CommandLine.{usage, faults_of, limit_of, limit_rule, flag_rule, performing, checking, AsksFor, AsksReplay, AsksRun, AsksCheck, AsksHelp, FindsFlag, FindsForm, FindsLimit, FindsOptions, HasOrder};
 
-use crate::asked::Order;
+use crate::asked::{Form, Order};
 use clap::error::ErrorKind;
-use clap::{Arg, ArgMatches, Command, Error, value_parser};
+use clap::{Arg, ArgAction, ArgMatches, Command, Error, value_parser};
 use std::alloc::{AllocError, Global};
 use std::convert::AsStr;
 
@@ -51,6 +51,24 @@ the order of the report's lines differs from run to run.
 
 Before anything is written the journal is audited against the script.";
 
+const CHECK_ABOUT: &str =
+    "Checks whether the journal on standard input is a lawful history of one thread";
+
+const CHECK_LONG_ABOUT: &str =
+    "Checks whether the journal on standard input is a lawful history of one thread.
+
+A journal is the text that cml replay --journal and cml run --journal write. It is read as it comes,
+in memory for the objects, for what waits in them, and for one line.
+
+It writes lawful N if all N entries are lawful. Otherwise it writes unlawful at K: and the first
+entry that isn't, where K counts the entries before it, and answer: with the right answer to its
+call.";
+
+const JOURNAL_HELP: &str = "Writes the journal as text in place of the report";
+
+const STATE_HELP: &str =
+    "Writes the lines of the objects too, as a report has them, with numbers for names";
+
 const AFTER_HELP: &str = "Example, hello.cml:
   cml 1
   mailbox letters
@@ -70,36 +88,57 @@ Its report, by cml replay < hello.cml:
 Exit status:
   0  done: every step was performed (also for help)
   1  stalled: steps are left, and each of their threads waits
-  2  the script has a fault, which standard error names
+  2  the script or the journal has a fault, which standard error names
   3  the words of the command line are not understood
   4  standard input can't be read, or standard output can't be written
   5  no memory
   6  the journal is full
-  7  the journal is not lawful (this would be a bug)";
+  7  the journal is not lawful (of a script this would be a bug)";
+
+const CHECK_AFTER_HELP: &str = "Example, letters.journal:
+  journal 1
+  seat 0 mailbox: made 0
+  seat 1 send 0 5: done
+  seat 0 recv 0: 6
+  end 3
+
+By cml check < letters.journal:
+  unlawful at 2: seat 0 recv 0: 6
+  answer: 5
+
+Exit status:
+  0  the journal is lawful (also for help)
+  2  the input is no journal, or it begins behind a cut: standard error names the line
+  3  the words of the command line are not understood
+  4  standard input can't be read, or standard output can't be written
+  5  no memory
+  7  the journal is not lawful";
 
 /// What the program's words ask for. The first word is the program's own name.
 #[tactic(auto, using(crate::proofs::CommandLineLemmas::help_is_no_order))]
 pub fn order<S: AsStr>(alloc: Global, words: &[S]) -> Result<Order, Error>
     // Just these words are understood, each as the order that it asks for.
     ensures understood { IfOk result (λ order. AsksFor (map S.text words.now) order) }
-    ensures replay { (limit : ℕ) → AsksReplay (map S.text words.now) limit
-        → IfOk result (λ order. order ≡ Order.Replay limit) }
-    ensures run { (limit : ℕ) → AsksRun (map S.text words.now) limit
-        → IfOk result (λ order. order ≡ Order.Run limit) }
+    ensures replay { (limit : ℕ) (form : Form) → AsksReplay (map S.text words.now) limit form
+        → IfOk result (λ order. order ≡ Order.Replay limit form) }
+    ensures run { (limit : ℕ) (form : Form) → AsksRun (map S.text words.now) limit form
+        → IfOk result (λ order. order ≡ Order.Run limit form) }
+    ensures check { (state : Bool) → AsksCheck (map S.text words.now) state
+        → IfOk result (λ order. order ≡ Order.Check state) }
     ensures asked { (order : Order) → AsksFor (map S.text words.now) order
         → IfErr result (λ error. kind_of error ≡ ErrorKind.OutOfMemory) }
-    ensures range { IfOk result (λ order. (1 ≤ limit_in order) × (limit_in order ≤ 2 ^ 32)) }
+    ensures range { IfOk result (λ order. IfSome (limit_of order) (λ limit. (1 ≤ limit) × (limit ≤ 2 ^ 32))) }
 
     ensures help { AsksHelp (map S.text words.now) → IsErrAnd result (λ error.
         (kind_of error ≡ ErrorKind.DisplayHelp) ⊎ (kind_of error ≡ ErrorKind.OutOfMemory)) }
     ensures kinds { FailsBy (faults_of (map S.text words.now)) result }
 
-    // All other words are a usage fault, but for those that ask for help.
+    // All other words are a usage fault, unless they ask for help.
     ensures others { ((order : Order) → ¬ (AsksFor (map S.text words.now) order)) → IsErrAnd result (λ error.
         (error_status (kind_of error) ≡ 3)
         ⊎ ((kind_of error ≡ ErrorKind.DisplayHelp) ⊎ (kind_of error ≡ ErrorKind.OutOfMemory))) }
 {
-    // One of the two subcommands is required, and their option has a default.
+    // One of the subcommands is required, and their options have defaults.
     let matches = matches(alloc, words)?;
     match order_in(&matches) {
         Some(order) => Ok(order),
@@ -115,17 +154,63 @@ fn matches<'a, S: AsStr>(alloc: Global, words: &'a [S]) -> Result<ArgMatches<'a>
     command(alloc)?.try_get_matches_from(words)
 }
 
-/// The subcommand, with the number of its `--limit`.
+/// The subcommand, with its options.
 fn order_in(matches: &ArgMatches<'_>) -> Option<Order>
     ensures { (order : Order) → HasOrder (subcommand_rows_of matches.now) order → result ≡ Some order }
 {
     let (name, found) = matches.subcommand()?;
-    let limit = found.get_one::<u64>("limit")?;
+    order_of(name, found)
+}
+
+/// The order that the subcommand of this name gives, by its options.
+fn order_of(name: &str, found: &ArgMatches<'_>) -> Option<Order>
+    ensures { (order : Order) → HasOrder (Some (name.now, rows_of (found_of found.now))) order → result ≡ Some order }
+{
     match name {
-        "replay" => Some(Order::Replay(limit)),
-        "run" => Some(Order::Run(limit)),
+        "replay" => {
+            let (limit, form) = options_in(found)?;
+            Some(Order::Replay(limit, form))
+        }
+        "run" => {
+            let (limit, form) = options_in(found)?;
+            Some(Order::Run(limit, form))
+        }
+        "check" => Some(Order::Check(is_set(found, "state"))),
         _ => None,
     }
+}
+
+/// The limit and the form.
+fn options_in(found: &ArgMatches<'_>) -> Option<(u64, Form)>
+    ensures { (limit : ℕ) (form : Form) → FindsOptions (rows_of (found_of found.now)) limit form → result ≡ Some (limit, form) }
+{
+    let limit = limit_in(found)?;
+    Some((limit, form_in(found)))
+}
+
+/// The number of `--limit`.
+fn limit_in(found: &ArgMatches<'_>) -> Option<u64>
+    ensures { (limit : ℕ) → FindsLimit (rows_of (found_of found.now)) limit → result ≡ Some limit }
+{
+    found.get_one::<u64>("limit")
+}
+
+/// The journal, if `--journal` is there.
+fn form_in(found: &ArgMatches<'_>) -> Form
+    ensures { (form : Form) → FindsForm (rows_of (found_of found.now)) form → result ≡ form }
+{
+    if is_set(found, "journal") {
+        Form::Journal
+    } else {
+        Form::Report
+    }
+}
+
+/// Whether an option without a value is there.
+fn is_set(found: &ArgMatches<'_>, name: &str) -> bool
+    ensures { (set : Bool) → FindsFlag name.now (rows_of (found_of found.now)) set → result ≡ set }
+{
+    found.get_flag(name)
 }
 
 fn command<'a>(alloc: Global) -> Result<Command<'a>, AllocError>
@@ -139,10 +224,11 @@ fn command<'a>(alloc: Global) -> Result<Command<'a>, AllocError>
         .arg_required_else_help(true)
         .bin_name("cml")?;
     let program = add_subcommand(alloc, program, "replay", REPLAY_ABOUT, REPLAY_LONG_ABOUT)?;
-    add_subcommand(alloc, program, "run", RUN_ABOUT, RUN_LONG_ABOUT)
+    let program = add_subcommand(alloc, program, "run", RUN_ABOUT, RUN_LONG_ABOUT)?;
+    add_check(alloc, program)
 }
 
-/// Adds a subcommand whose one option is `--limit`.
+/// Adds a subcommand whose options are `--limit` and `--journal`.
 fn add_subcommand<'a>(
     alloc: Global,
     program: Command<'a>,
@@ -150,14 +236,37 @@ fn add_subcommand<'a>(
     about: &'a str,
     long_about: &'a str,
 ) -> Result<Command<'a>, AllocError>
-    ensures { IfOk result (λ command. app_of command ≡ with_subcommand (app_of program.entry) (limited name.now)) }
+    ensures { IfOk result (λ command. app_of command ≡ with_subcommand (app_of program.entry) (performing name.now)) }
 {
     let subcommand = Command::new(alloc, name)
         .about(about)
         .long_about(long_about)
         .after_help(AFTER_HELP)
-        .arg(limit(alloc))?;
+        .arg(limit(alloc))?
+        .arg(flag(alloc, "journal", JOURNAL_HELP))?;
     program.subcommand(subcommand)
+}
+
+/// Adds the subcommand whose one option is `--state`.
+fn add_check<'a>(alloc: Global, program: Command<'a>) -> Result<Command<'a>, AllocError>
+    ensures { IfOk result (λ command. app_of command ≡ with_subcommand (app_of program.entry) checking) }
+{
+    let subcommand = Command::new(alloc, "check")
+        .about(CHECK_ABOUT)
+        .long_about(CHECK_LONG_ABOUT)
+        .after_help(CHECK_AFTER_HELP)
+        .arg(flag(alloc, "state", STATE_HELP))?;
+    program.subcommand(subcommand)
+}
+
+/// An option without a value.
+fn flag<'a>(alloc: Global, name: &'a str, help: &'a str) -> Arg<'a>
+    ensures { (rule_of result ≡ flag_rule name.now) × (result.global ≡ false) }
+{
+    Arg::new(alloc, name)
+        .long(name)
+        .action(ArgAction::SetTrue)
+        .help(help)
 }
 
 fn limit<'a>(alloc: Global) -> Arg<'a>

@@ -8,8 +8,8 @@ use cml_grammar::{Fault, Unread, What};
 use std::alloc::AllocError;
 use thiserror::Error;
 
-/// How a run of a script ends. It shows as the line for standard error; of a run that is done,
-/// stalled, full or held the report tells that.
+/// How a run of a script ends. Its `Display` is the line for standard error. If a run is done,
+/// stalled, full or held, its report says so.
 #[derive(Clone, Copy, Debug, PartialEq, Eq, Error)]
 pub enum Ending {
     /// Every step was performed.
@@ -21,7 +21,7 @@ pub enum Ending {
     /// The script has a fault.
     #[error("{0}")]
     Fault(Fault),
-    /// The script could not be read, or its reader was asked too often.
+    /// The script could not be read, or it took too many reads.
     #[error("cml: read failed")]
     ReadFault,
     /// The report could not be written.
@@ -30,7 +30,7 @@ pub enum Ending {
     /// There was no memory, and nothing was written.
     #[error("cml: no memory")]
     NoMemory,
-    /// The journal met its limit.
+    /// The journal reached its limit.
     #[error("cml: full")]
     Full,
     /// The journal's entry at this position breaks the law.
@@ -109,7 +109,7 @@ impl cml_shell::Ending for Ending {
     }
 }
 
-/// The exit status of a program that ends so.
+/// Returns the exit status of a program that ends like this.
 pub fn status_of(ending: &Ending) -> u8
     ensures { result ≡ status ending.now }
 {

@@ -7,6 +7,7 @@ mod binding;
 mod calls;
 mod command_line;
 mod ending;
+mod journaling;
 mod laws;
 mod objects;
 mod perform;
@@ -25,11 +26,12 @@ mod verdict;
 mod whole;
 mod writing;
 
-pub use asked::Order;
+pub use asked::{Form, Order};
 pub use auditing::audit;
 pub use cml_grammar::{Fault, Script, What, read_script};
 pub use command_line::order;
 pub use ending::{Ending, status_of};
+pub use journaling::replay_journal;
 pub use laws::{
     reports_tell_what_is_left, schedules_are_one, scripts_have_a_schedule, stalled_threads_wait,
 };
@@ -38,7 +40,8 @@ pub use plan::Plan;
 pub use replaying::{replay, replay_text};
 pub use route::Route;
 pub use running::{
-    Caller, Ended, Gate, OpenGate, Seated, conclude, declare, perform_in_threads, run, work,
+    Caller, Ended, Gate, OpenGate, Seated, conclude, declare, perform_in_threads, run, run_journal,
+    work,
 };
 pub use stop::Stop;
 pub use tally::Tally;

@@ -12,14 +12,14 @@ use crate::tally::Tally;
 use cml_grammar::Script;
 use std::alloc::{AllocError, Global};
 
-/// A script's report, and how it ended.
+/// What is written of a script, its report or its journal, and how it ended.
 #[derive(Debug, Drop)]
 pub struct Played {
     pub report: String,
     pub stop: Stop,
 }
 
-/// Performs a script without rings and reports it.
+/// Performs a script without lanes and feeds, and reports it.
 pub fn play(alloc: Global, script: &Script, limit: u64) -> Result<Played, AllocError>
     requires least { 1 ≤ limit }
     requires most { limit ≤ 2 ^ 32 }
@@ -34,7 +34,7 @@ pub fn play(alloc: Global, script: &Script, limit: u64) -> Result<Played, AllocE
 }
 
 /// Makes the declared objects, and then performs the steps.
-fn perform(stage: &mut Stage<'_>) -> Result<Stop, AllocError>
+pub(crate) fn perform(stage: &mut Stage<'_>) -> Result<Stop, AllocError>
     requires { stage.old.history ≡ no_entries }
     ensures script { stage.new.script ≡ stage.old.script }
     ensures limit { stage.new.limit ≡ stage.old.limit }

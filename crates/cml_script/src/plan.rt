@@ -22,7 +22,7 @@ use std::marker::Model;
 /// How many threads a script may have.
 pub const THREADS: usize = 64;
 
-/// A script, and where each of its parts stands in it.
+/// A script, and where each of its parts is in it.
 #[derive(Drop)]
 pub struct Plan<'a> {
     script: &'a Script,
@@ -52,7 +52,7 @@ impl<'a> Model for Plan<'a> {
 }
 
 impl<'a> Plan<'a> {
-    /// What is known of this script.
+    /// Finds out what is known of this script.
     pub fn new(alloc: Global, script: &'a Script) -> Result<Plan<'a>, AllocError>
         ensures script { IfOk result (λ plan. plan ≡ script.now) }
         ensures known { IfOk result (λ plan. IsKnown plan) }
@@ -147,7 +147,7 @@ impl<'a> Plan<'a> {
         self.givings[step]
     }
 
-    /// The object that a declared name stands for, once it is made.
+    /// The object of a declared name, once it is made.
     pub fn number(&self, at: usize) -> Name
         requires { at < length self.now.declarations }
         ensures { result.0 ≡ number_of self.now at }
@@ -155,7 +155,7 @@ impl<'a> Plan<'a> {
         Name(self.numbers[at])
     }
 
-    /// The object that a declared name stands for, where so many objects are made.
+    /// The object of a declared name, if `made` objects are made.
     pub fn declared_object(&self, at: usize, made: u64) -> Option<Name>
         requires { at < length self.now.declarations }
         ensures { result ≡ option_map (λ o. record { 0 = o }) (object_among self.now made at) }
@@ -164,7 +164,7 @@ impl<'a> Plan<'a> {
         (object.0 < made).then_some(object)
     }
 
-    /// The object that a name stands for, where so many objects are made and steps gave their names this.
+    /// A name's object, if `made` objects are made and steps gave their names these bindings.
     pub fn object(&self, at: usize, made: u64, bindings: &[Binding]) -> Option<Name>
         requires { at < length bindings.now }
         ensures { (history : History) → entries_in history ≡ made → AreBindings self.now history bindings.now
@@ -252,7 +252,7 @@ fn number_feeds(alloc: Global, script: &Script) -> Result<Vec<usize>, AllocError
     Ok(numbers)
 }
 
-/// The number of the feed that the name at this position is, where by name so many feeds are declared before it.
+/// The number of the feed that the name at this position is. `feeds` has, by name, how many feeds are declared before it.
 fn feed_at(script: &Script, feeds: &[usize], at: usize) -> Option<usize>
     requires { AreFeedNumbers script.now feeds.now }
     ensures { result ≡ feed_at script.now at }
@@ -261,7 +261,7 @@ fn feed_at(script: &Script, feeds: &[usize], at: usize) -> Option<usize>
     makes_feed(&declaration.makes).then_some(feeds[at])
 }
 
-/// How a step of the script goes, where by name so many feeds are declared before it.
+/// How a step of the script goes. `feeds` has, by name, how many feeds are declared before it.
 fn route_of(script: &Script, feeds: &[usize], step: &Step) -> Route
     requires { AreFeedNumbers script.now feeds.now }
     ensures route { result ≡ route_of script.now (Some step.now.seat) step.now.action }
@@ -276,7 +276,7 @@ fn route_of(script: &Script, feeds: &[usize], step: &Step) -> Route
     }
 }
 
-/// How many steps go by lanes and feeds, where by name so many feeds are declared before it.
+/// How many steps go by lanes and feeds. `feeds` has, by name, how many feeds are declared before it.
 fn count_apart(script: &Script, feeds: &[usize]) -> usize
     requires { AreFeedNumbers script.now feeds.now }
     ensures { result ≡ apart_count script.now }
@@ -288,7 +288,7 @@ fn count_apart(script: &Script, feeds: &[usize]) -> usize
     apart
 }
 
-/// How many steps send by lanes, where by name so many feeds are declared before it.
+/// How many steps send by lanes. `feeds` has, by name, how many feeds are declared before it.
 fn count_laid(script: &Script, feeds: &[usize]) -> usize
     requires { AreFeedNumbers script.now feeds.now }
     ensures { result ≡ laid_count script.now }

@@ -9,10 +9,10 @@ use std::io::Read;
 /// A script has fewer bytes than this, so that no more is read.
 const MOST_BYTES: usize = 1_048_577;
 
-/// How often a reader is asked, so that one that never ends is given up.
+/// The most reads, so that a reader that never ends does not keep the program.
 const MOST_CALLS: usize = 2_097_152;
 
-/// Reads all bytes, or the first 1,048,577 where there are more.
+/// Reads all bytes, or the first 1,048,577 if there are more.
 pub(crate) fn read_all<R: Read>(alloc: Global, reader: &mut R) -> Result<Vec<u8>, Unread>
     ensures { IfOk result (λ bytes. IsRead (R.remaining reader.old) (R.remaining reader.new) bytes.items) }
 {

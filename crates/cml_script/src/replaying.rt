@@ -12,9 +12,9 @@ use cml_grammar::{Fault, What, read_script};
 use std::alloc::{AllocError, Global};
 use std::io::{Read, Write};
 
-/// Replays a script on one thread: it reads the whole script, performs it, always the first step in
-/// text order that is its thread's next and wouldn't wait, and then writes the report. Lanes and feeds need threads, so a
-/// script that has one is not performed.
+/// Replays a script on one thread: it reads the whole script, performs it, and then writes the report. It always performs
+/// the first step in text order that is its thread's next and would not wait. Lanes and feeds need threads, so it does not
+/// perform a script that has one.
 pub fn replay<R: Read, W: Write>(
     alloc: Global,
     reader: &mut R,
@@ -31,7 +31,7 @@ pub fn replay<R: Read, W: Write>(
     }
 }
 
-/// How it ends where a script has a lane or a feed, the first on this line.
+/// How a replay ends of a script with a lane or a feed, the first on this line.
 pub fn needs_run(line: u64) -> Ending
     ensures { result ≡ Ending.Fault (at_line line NeedsRun) }
 {

@@ -19,8 +19,8 @@ use cml_board::{Board, BoardLog, Call, Entry, Name, Reply, Text, Who};
 use cml_grammar::{Named, Script};
 use std::alloc::{AllocError, Global};
 
-/// What a report says of a script, its board, what went by lanes and feeds, and how it ended: a line for each entry behind the
-/// declared objects, in the journal's order, a line for each object, and the end.
+/// Writes the report of a script: a line for each entry behind the declared objects, in the journal's order, a line for each
+/// object, and the end. The board has the journal, and the tally what went by lanes and feeds.
 pub fn report(
     alloc: Global,
     script: &Script,
@@ -108,7 +108,7 @@ fn write_sent(
     }
 }
 
-/// What stands before messages in reports: in version 2, so that no message is taken for another reply.
+/// The mark before messages in reports: `=` in version 2, so that no message looks like another reply.
 fn message_mark(version: u64) -> &'static str
     ensures { result.now ≡ message_mark version }
 {

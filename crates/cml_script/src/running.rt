@@ -7,6 +7,7 @@ mod concluding;
 mod crew;
 mod declaring;
 mod gate;
+mod keeping;
 mod rings;
 mod stalling;
 mod worker;
@@ -26,6 +27,7 @@ use concluding::conclude_under;
 pub use crew::{Ended, perform_in_threads};
 pub use declaring::declare;
 pub use gate::{Gate, OpenGate};
+pub use keeping::run_journal;
 use std::alloc::{AllocError, Global};
 use std::io::{Read, Write};
 use std::marker::Brand;
@@ -34,8 +36,8 @@ use std::sync::ledger::{Blank, Ledger};
 use std::thread::Threads;
 pub use worker::work;
 
-/// Runs a script: it reads the whole script, performs each of its threads on a thread of the operating system's, all on one
-/// switchboard, audits the journal, and then writes the report. The threads' order is theirs, and so differs from run to run.
+/// Runs a script: it reads the whole script, and performs each of its threads on an operating-system thread, all on one
+/// switchboard. Then it audits the journal and writes the report. The order of the threads differs from run to run.
 pub fn run<I: Read, W: Write, R: Threads + Wait + Sync, G: Gate + Sync>(
     rt: &R,
     alloc: Global,
@@ -85,7 +87,7 @@ struct Ran {
     stop: Stop,
 }
 
-/// Performs a script on a switchboard of its own, and settles that.
+/// Performs a script on a new switchboard, and settles that.
 fn settle_script<Led: Ledger + Send + Sync, R: Threads + Wait + Sync, G: Gate + Sync>(
     rt: &R,
     alloc: Global,
@@ -114,7 +116,7 @@ fn settle_script<Led: Ledger + Send + Sync, R: Threads + Wait + Sync, G: Gate + 
     }
 }
 
-/// How many entries there are where not all answers are accounted for: what is not lawful comes behind them.
+/// How many entries there are if not all answers are accounted for: what is not lawful comes behind them.
 fn entries_of<Led: Ledger>(switchboard: Switchboard<Text, BoardLog<Text>, Led>) -> usize {
     switchboard.into_hall().board().journal().len()
 }

@@ -1,4 +1,4 @@
-//! What a report tells of.
+//! What a report is about.
 ghost use Rattle.std.specs.Prelude.{◌≡◌, Some, None, reverse, MatchOption, IfSome};
 ghost use Rattle.cml_calls.specs.declared.kind.Kind.{Kind};
 ghost use Rattle.cml_board.specs.History.{no_entries, Lawful, kind_of};
@@ -50,7 +50,7 @@ impl<'a> Scene<'a> {
         ensures history { result.history ≡ board.now.history }
         ensures tally { result.tally ≡ tally.now }
     {
-        // That the history is lawful is what the journal's reader tells.
+        // The contract of the board's `journal` says that the history is lawful.
         let _journal = journal(board);
         Scene {
             trail,
@@ -72,7 +72,7 @@ impl<'a> Scene<'a> {
         self.trail.script()
     }
 
-    /// How many lines the first part has: how many entries stand behind those of the declared objects.
+    /// How many lines the first part has: how many entries are behind those of the declared objects.
     pub fn performed(&self) -> usize
         ensures { result ≡ performed_count self.now.script self.now.history }
     {
@@ -105,7 +105,7 @@ impl<'a> Scene<'a> {
     }
 }
 
-/// How many steps were not performed, by what a board's journal and a tally tell.
+/// Counts the steps that were not performed, by a board's journal and a tally.
 pub fn unperformed(script: &Script, board: &Board<Text, BoardLog<Text>>, tally: &Tally) -> usize
     requires { board.now.past ≡ no_entries }
     ensures { result ≡ unperformed script.now board.now.history tally.now }

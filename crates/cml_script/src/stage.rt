@@ -89,7 +89,7 @@ impl<'a> Stage<'a> {
         self.board.is_full()
     }
 
-    /// Makes the declared objects in text order, and answers false where the journal was full before all were made.
+    /// Makes the declared objects in text order. Returns false if the journal was full before all were made.
     pub fn declare(&mut self) -> Result<bool, AllocError>
         requires { self.old.history ≡ no_entries }
         ensures script { self.new.script ≡ self.old.script }
@@ -107,7 +107,7 @@ impl<'a> Stage<'a> {
         Ok(true)
     }
 
-    /// Makes what the next declaration makes, and answers false where the journal is full.
+    /// Makes what the next declaration makes. Returns false if the journal is full.
     fn declare_next(&mut self, makes: &Makes) -> Result<bool, AllocError>
         requires next { IsNext self.old makes.now }
         requires plain { makes_feed makes.now ≡ false }
@@ -130,7 +130,7 @@ impl<'a> Stage<'a> {
         }
     }
 
-    /// Makes the next declared object, and answers false where the journal is full.
+    /// Makes the next declared object. Returns false if the journal is full.
     fn make(&mut self, call: Call<Text>) -> Result<bool, AllocError>
         requires next { IsNextObject self.old call }
         requires fits { Fits self.old.history call }
@@ -159,7 +159,7 @@ impl<'a> Stage<'a> {
         least
     }
 
-    /// The thread's next step, where it wouldn't wait.
+    /// The thread's next step, if it would not wait.
     fn candidate(&self, thread: usize) -> Option<usize>
         requires thread { thread < 64 }
         requires declared { declared_count self.now.script ≤ entries_in self.now.history }
@@ -225,7 +225,7 @@ impl<'a> Stage<'a> {
         Ok(call)
     }
 
-    /// The object that this name stands for.
+    /// This name's object.
     fn bound_object(&self, at: usize) -> Name
         requires { IsBound self.now at }
         ensures object { object_of self.now.script self.now.history at ≡ Some result.0 }

@@ -5,7 +5,7 @@ ghost use Rattle.cml_script.specs.Report.{no_rings, taken_from};
 use std::alloc::{AllocError, Global};
 use std::marker::Model;
 
-/// What went by lanes and feeds, which no journal tells.
+/// What went by lanes and feeds, which the journal does not show.
 #[derive(Drop)]
 pub struct Tally {
     /// How many steps went by lanes and feeds.
@@ -23,7 +23,7 @@ impl Model for Tally {
 }
 
 impl Tally {
-    /// The tally of a script without lanes and feeds.
+    /// Makes the tally of a script without lanes and feeds.
     pub fn no_rings(alloc: Global) -> Tally
         ensures { result ≡ no_rings }
     {
@@ -33,7 +33,7 @@ impl Tally {
         }
     }
 
-    /// The tally of a script with so many feeds, of which nothing is known yet.
+    /// Makes the tally of a script with `feeds` feeds, of which nothing is known yet.
     pub fn new(alloc: Global, feeds: usize) -> Result<Tally, AllocError>
         ensures apart { IfOk result (λ tally. tally.apart ≡ 0) }
         ensures taken { IfOk result (λ tally. tally.taken ≡ replicate feeds 0) }
@@ -44,7 +44,7 @@ impl Tally {
         })
     }
 
-    /// How many messages were taken of the feed of this number, and none of no feed.
+    /// How many messages were taken from the feed of this number. For no feed it is 0.
     pub(crate) fn taken_from(&self, feed: Option<usize>) -> u64
         ensures { result ≡ taken_from self.now feed }
     {
@@ -61,7 +61,7 @@ impl Tally {
         self.apart = self.apart.saturating_add(steps);
     }
 
-    /// Tells how many messages were taken from the feed of this number.
+    /// Sets how many messages were taken from the feed of this number.
     pub fn set_taken(&mut self, feed: u64, taken: u64)
         ensures { self.new ≡ record self.old { taken = slice_set self.old.taken feed taken } }
     {

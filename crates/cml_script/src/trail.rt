@@ -80,7 +80,7 @@ impl<'a> Trail<'a> {
         self.followed >= self.objects.places.len()
     }
 
-    /// The line of the step that the caller's next entry performs, or nothing where no step is left.
+    /// The line of the step that the caller's next entry performs, or nothing if no step is left.
     pub fn next_text(&self, who: Who) -> &'a str
         ensures { result.now ≡ next_text self.now.script (history_of self.now) who }
     {
@@ -90,14 +90,14 @@ impl<'a> Trail<'a> {
         }
     }
 
-    /// The name of a declared object, or nothing where none has this number.
+    /// The name of a declared object, or nothing if none has this number.
     pub fn object_name(&self, object: Name) -> &'a str
         ensures { result.now ≡ given_word (slice_get (objects_of self.now.script) object.0) }
     {
         declared_name(self.plan.script(), self.objects.place(object.0))
     }
 
-    /// The name of a feed, or nothing where none has this number.
+    /// The name of a feed, or nothing if none has this number.
     pub fn feed_name(&self, feed: u64) -> &'a str
         ensures { result.now ≡ given_word (slice_get (filter (is_feed self.now.script) self.now.script.declarations) feed) }
     {
@@ -250,7 +250,7 @@ impl<'a> Trail<'a> {
         self.plan.route(i).is_by_lane() && self.is_passed(i)
     }
 
-    /// Whether the step at this position stands before the next of those that its thread's seat performs, or that seat has
+    /// Whether the step at this position is before the next of those that its thread's seat performs, or that seat has
     /// none left.
     fn is_passed(&self, i: usize) -> bool
         requires { i < length self.now.script.steps }
@@ -301,7 +301,7 @@ impl<'a> Trail<'a> {
         }
     }
 
-    /// Whether a declared name stands for this object.
+    /// Whether this is a declared name's object.
     fn is_object(&self, at: usize, object: Name) -> bool
         requires { at < length self.now.script.declarations }
         ensures { IsTrue result ↔ (declared_object self.now.script (history_of self.now) at ≡ Some object.0) }
@@ -339,7 +339,7 @@ impl<'a> Trail<'a> {
         plan.step(thread, counts[thread])
     }
 
-    /// The object that a name stands for.
+    /// A name's object.
     fn object(&self, at: usize) -> Option<Name>
         requires { at < length (names_of self.now.script) }
         ensures { result ≡ option_map (λ o. record { 0 = o }) (object_of self.now.script (history_of self.now) at) }
@@ -347,7 +347,7 @@ impl<'a> Trail<'a> {
         self.plan.object(at, self.followed as u64, &self.bindings)
     }
 
-    /// The object that a declared name stands for.
+    /// A declared name's object.
     fn declared_object(&self, at: usize) -> Option<Name>
         requires { at < length self.now.script.declarations }
         ensures { result ≡ option_map (λ o. record { 0 = o }) (declared_object self.now.script (history_of self.now) at) }

@@ -1,4 +1,4 @@
-//! The journal of a board that nobody cut: all of its entries. No step of a script cuts one.
+//! The journal of a board that was never cut: all of its entries. No step of a script cuts one.
 ghost use Rattle.std.specs.Prelude.{◌≡◌, ◌≤◌, reverse};
 ghost use Rattle.cml_board.specs.History.{no_entries, entries_in, Lawful};
 

@@ -7,7 +7,7 @@ use crate::perform::Played;
 use cml_grammar::write_whole;
 use std::io::Write;
 
-/// Writes a report whole, and tells how it ended.
+/// Writes a whole report, and returns how the run ended.
 pub fn write_report<W: Write>(writer: &mut W, played: &Played) -> Ending
     ensures { WritesReport (W.contents writer.old) (W.contents writer.new) played.now.stop (string_bytes played.now.report) result }
 {

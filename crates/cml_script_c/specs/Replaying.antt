@@ -1,4 +1,4 @@
--- What a caller in C is told of a replay.
+-- What a replay returns to a caller in C.
 use Rattle.std.specs.Prelude.{ℕ, ◌≡◌, ◌≤◌, ◌<◌, List, [], ◌++◌, length, drop}
 use Rattle.cml_script.specs.declared.ending.Ending.{Ending}
 use Rattle.cml_script.specs.declared.ending.Ending.TheVariants as ending
@@ -11,14 +11,14 @@ abbrev pub line_of : Ending → ℕ
 line_of (ending.Fault fault) = fault.line
 line_of _ = 0
 
--- this report came of the script, and it ended so: what was not played has none
+-- this is the script's report, and it ended like this: what was not played has no report
 abbrev pub IsReplay : ℕ → List ℕ → List ℕ → Ending → Type 0
 IsReplay limit script report ending.Done = IsPlayedText limit script stop.Done report
 IsReplay limit script report ending.Stalled = IsPlayedText limit script stop.Stalled report
 IsReplay limit script report ending.Full = IsPlayedText limit script stop.Full report
 IsReplay limit script report unplayed = EndsUnplayedText script unplayed × (report ≡ [])
 
--- this report came of the script, and this is told of how it ended
+-- this is the script's report, and this says how it ended
 pub record Comes (limit : ℕ) (script report : List ℕ) (end : SeryugoEnd) : Type 0 where
   pub ending : Ending
   pub replay : IsReplay limit script report ending
@@ -26,7 +26,7 @@ pub record Comes (limit : ℕ) (script report : List ℕ) (end : SeryugoEnd) : T
   pub line : end.line ≡ line_of ending
   pub length : end.length ≡ length report
 
--- the report stands at the buffer's front, and what is behind it is as it was
+-- the report is at the buffer's front, and what is behind it is as it was
 abbrev pub Fills : ℕ → List ℕ → List ℕ → List ℕ → SeryugoEnd → Type 0
 Fills limit script old new end =
     (report : List ℕ) × Comes limit script report end × (length report ≤ length old) × (new ≡ report ++ drop (length report) old)

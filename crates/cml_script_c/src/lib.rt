@@ -7,7 +7,7 @@ ghost use Rattle.cml_script_c.specs.Replaying.{Fills, HasNoRoom, IsReplay, line_
 use cml_script::{Ending, replay_text, status_of};
 use std::alloc::Global;
 
-/// The report, or nothing, stands in the buffer.
+/// The report, or nothing, is in the buffer.
 const DONE: u32 = 0;
 
 /// The buffer is too small for the report.
@@ -25,14 +25,14 @@ const MOST: u64 = 4_294_967_296;
 pub struct SeryugoEnd {
     /// The exit status that the program `cml` would have.
     pub status: u32,
-    /// The line of the script's fault, from 1, or 0 where it has none.
+    /// The line of the script's fault, from 1, or 0 if it has none.
     pub line: u64,
     /// How many bytes the report has.
     pub length: usize,
 }
 
-/// Replays a script, and writes its report to the front of a buffer, if it has room there. Else the buffer is as it was,
-/// and `end` tells how much room is wanted. Where the limit is bad, nothing is done at all.
+/// Replays a script, and writes its report to the front of a buffer, if it has room there. Otherwise the buffer is unchanged,
+/// and `end` says how much room is needed. If the limit is out of bounds, nothing is done.
 #[unsafe(no_mangle)]
 pub extern "C" fn seryugo_replay(
     alloc: Global,
@@ -58,7 +58,7 @@ pub extern "C" fn seryugo_replay(
     fill(report, text.as_bytes())
 }
 
-/// The report of a script, or an empty one where it has none, and how the replay ended.
+/// The report of a script, or an empty one if it has none, and how the replay ended.
 #[tactic(auto, using(crate::proofs::ReplayLemmas::played, crate::proofs::ReplayLemmas::unplayed))]
 fn replayed(alloc: Global, script: &[u8], limit: u64) -> (String, Ending)
     requires least { 1 ≤ limit }
@@ -71,7 +71,7 @@ fn replayed(alloc: Global, script: &[u8], limit: u64) -> (String, Ending)
     }
 }
 
-/// Copies these bytes to the front of a buffer, where it has room for them.
+/// Copies these bytes to the front of a buffer, if it has room for them.
 fn fill(buffer: &mut [u8], bytes: &[u8]) -> u32
     ensures done { result ≡ DONE → (length bytes.now ≤ length buffer.old) × (buffer.new ≡ bytes.now ++ drop (length bytes.now) buffer.old) }
     ensures room { result ≡ NO_ROOM → (length buffer.old < length bytes.now) × (buffer.new ≡ buffer.old) }

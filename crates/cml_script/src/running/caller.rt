@@ -1,4 +1,4 @@
-//! Who makes a thread's calls.
+//! The callers that make a thread's calls.
 ghost use Rattle.std.specs.Prelude.{◌≡◌, Bool, true, Option, Some, None, IfOk, IfErr, OnOk};
 ghost use Rattle.std.specs.Option.{option_map};
 ghost use Rattle.cml_threads.specs.Telling.{suits};
@@ -13,13 +13,13 @@ use std::alloc::{AllocError, Global};
 use std::sync::Wait;
 use std::sync::ledger::Ledger;
 
-/// Who makes the calls of one thread, and is asked no more once one was refused.
+/// A caller makes the calls of one thread. Once a call fails, it makes no more.
 pub trait Caller {
-    /// Its seat, the entries that it made in the journal, and what went by its lanes and feeds, newest first, whether a lane
-    /// may be open, and what refused it something, where it tells them. What lanes and feeds move is no entry of its own.
+    /// What it says of itself, if it does: its seat, its entries in the journal and what went by its lanes and feeds, both
+    /// newest first, whether a lane may be open, and the refusal of a failed call. Its entries are without those of rings.
     ghost made: { Self → Option Made };
 
-    /// Whether nothing was refused.
+    /// Whether no call has failed.
     ghost goes_on: { Self → Bool };
 
     /// Makes a call of its seat.
@@ -32,7 +32,7 @@ pub trait Caller {
         ensures made { IfOk result (λ answer. made self.new ≡ option_map (with_call call answer.reply) (made self.old)) }
         ensures refused { IfErr result (λ refusal. made self.new ≡ option_map (with_refused refusal) (made self.old)) };
 
-    /// Opens a feed from a channel, and tells its port.
+    /// Opens a feed from a channel, and returns its port.
     fn open_feed(&mut self, channel: Name, capacity: usize) -> Result<Name, Refusal>
         requires goes_on { goes_on self.old ≡ true }
         requires capacity { IsCapacity capacity }
@@ -40,7 +40,7 @@ pub trait Caller {
         ensures made { IfOk result (λ port. made self.new ≡ option_map (with_feed channel capacity port) (made self.old)) }
         ensures refused { IfErr result (λ refusal. made self.new ≡ option_map (with_refused refusal) (made self.old)) };
 
-    /// Sends a message by a lane to this object, which has room for so many.
+    /// Sends a message by a lane to this object, which has room for `capacity` messages.
     fn send_apart(&mut self, target: Name, capacity: usize, message: Text) -> Result<(), Refusal>
         requires goes_on { goes_on self.old ≡ true }
         requires capacity { IsCapacity capacity }
@@ -55,7 +55,7 @@ pub trait Caller {
         ensures made { OnOk result (made self.new ≡ option_map (with_apart (by_feed feed)) (made self.old)) }
         ensures refused { IfErr result (λ refusal. made self.new ≡ option_map (with_refused refusal) (made self.old)) };
 
-    /// Tells it that there was no memory for what it was to be asked, as if it had been asked and refused that.
+    /// Records that there was no memory for its next call, as if the call had been made and had failed.
     fn lack_memory(&mut self) -> Refusal
         requires { goes_on self.old ≡ true }
         ensures refusal { result ≡ Refusal.NoMemory }
@@ -69,7 +69,7 @@ pub trait Caller {
         ensures refused { IfErr result (λ refusal. made self.new ≡ option_map (with_refused refusal) (made self.old)) };
 }
 
-/// A thread of a switchboard, with its lanes and feeds: what it was answered stands in the journal, and only there.
+/// A thread of a switchboard, with its lanes and feeds. Only the journal keeps the answers that it got.
 #[derive(Drop)]
 pub struct Seated<'a, Led: Ledger, R: Wait> {
     rt: &'a R,
@@ -79,7 +79,7 @@ pub struct Seated<'a, Led: Ledger, R: Wait> {
 }
 
 impl<'a, Led: Ledger, R: Wait> Seated<'a, Led, R> {
-    /// A caller from this seat, which has no lane and no feed yet.
+    /// Makes a caller of this seat, with no lane and no feed yet.
     pub fn new(
         alloc: Global,
         rt: &'a R,
@@ -94,8 +94,8 @@ impl<'a, Led: Ledger, R: Wait> Seated<'a, Led, R> {
         }
     }
 
-    /// Leaves the seat, so that nobody waits for it. Before that its lanes that are open are abandoned and its feeds ended:
-    /// what is left in the feeds' rings it takes.
+    /// Leaves the seat, so that no thread waits for it. Before that it abandons its open lanes, ends its feeds, and takes what
+    /// is left in the feeds' rings.
     pub fn leave(self) -> (Left<Led>, Rings)
         ensures { result.0 ≡ self.entry.seat }
     {
@@ -109,12 +109,12 @@ impl<'a, Led: Ledger, R: Wait> Seated<'a, Led, R> {
         (switchboard.leave(rt, seat), rings)
     }
 
-    /// Hands out the feeds that it opened, in that order.
+    /// Returns the feeds that it opened, in the order in which it did.
     pub(super) fn hand_feeds(&mut self, alloc: Global) -> Vec<Subscription> {
         self.rings.hand_feeds(alloc)
     }
 
-    /// Takes over a feed that another opened.
+    /// Takes a feed that another caller opened.
     pub(super) fn take_feed(&mut self, feed: Subscription) -> Result<(), AllocError> {
         self.rings.take_feed(feed)
     }

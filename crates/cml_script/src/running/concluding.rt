@@ -1,8 +1,9 @@
 //! What a run told, before it is reported.
-ghost use Rattle.std.specs.Prelude.{◌≡◌, ◌↔◌, ◌<◌, ℕ, length, IsTrue, IfOk, IfErr, string_bytes};
+ghost use Rattle.std.specs.Prelude.{◌≡◌, ◌↔◌, ◌<◌, ℕ, length, IsTrue, IfOk, OnOk, IfErr, string_bytes};
 ghost use Rattle.cml_board.specs.History.{no_entries};
 ghost use Rattle.cml_script.specs.Audit.{IsOfScript};
 ghost use Rattle.cml_script.specs.Left.{HasLeft};
+ghost use Rattle.cml_script.specs.Report.{report};
 ghost use Rattle.cml_script.specs.Stalling.{NobodyGoesOn};
 ghost use Rattle.cml_script.specs.Running.{IsReportOf, IsRefused, IsUnsettled, IsTakenAt, Leaves, MayEnd};
 
@@ -21,7 +22,7 @@ use cml_board::{Board, BoardLog, Text};
 use cml_grammar::Script;
 use std::alloc::{AllocError, Global};
 
-/// The report of a script's journal that nobody cut, once it is audited, and where it may end so with this tally.
+/// Audits a script's journal that was never cut, and writes its report if it may end like this with this tally.
 pub fn conclude(
     alloc: Global,
     script: &Script,
@@ -34,10 +35,27 @@ pub fn conclude(
     ensures report { IfOk result (λ played. IsReportOf script.now board.now.limit board.now.history tally.now stop (string_bytes played.report)) }
     ensures refused { IfErr result (λ ending. IsRefused script.now board.now.limit board.now.history tally.now stop ending) }
 {
+    accept(alloc, script, board, tally, stop)?;
+    let report = report(alloc, script, board, tally, stop)?;
+    Ok(Played { report, stop })
+}
+
+/// Audits a script's journal that was never cut. Fails if it may not end like this with this tally.
+pub(super) fn accept(
+    alloc: Global,
+    script: &Script,
+    board: &Board<Text, BoardLog<Text>>,
+    tally: &Tally,
+    stop: Stop,
+) -> Result<(), Ending>
+    requires { board.now.past ≡ no_entries }
+    ensures told { OnOk result (IsReportOf script.now board.now.limit board.now.history tally.now stop (report script.now board.now.history tally.now stop)) }
+    ensures refused { IfErr result (λ ending. IsRefused script.now board.now.limit board.now.history tally.now stop ending) }
+{
     // That no journal has more entries than an audit takes is what the limit's reader tells.
     let _limit = board.limit();
     match audit(alloc, script, journal(board))? {
-        Verdict::Lawful => tell(alloc, script, board, tally, stop),
+        Verdict::Lawful => accept_own(alloc, script, board, tally, stop),
         Verdict::Unlawful(k) | Verdict::Foreign(k) => Err(Ending::NotLawful(k)),
     }
 }
@@ -61,18 +79,17 @@ pub(super) fn conclude_under(
     conclude(alloc, script, board, tally, stop)
 }
 
-/// The report of a script's own journal, where it may end so.
-fn tell(
+/// Fails if a script's journal may not end like this.
+fn accept_own(
     alloc: Global,
     script: &Script,
     board: &Board<Text, BoardLog<Text>>,
     tally: &Tally,
     stop: Stop,
-) -> Result<Played, Ending>
+) -> Result<(), Ending>
     requires own { IsOfScript script.now board.now.history }
     requires whole { board.now.past ≡ no_entries }
-    ensures stop { IfOk result (λ played. played.stop ≡ stop) }
-    ensures report { IfOk result (λ played. IsReportOf script.now board.now.limit board.now.history tally.now stop (string_bytes played.report)) }
+    ensures told { OnOk result (IsReportOf script.now board.now.limit board.now.history tally.now stop (report script.now board.now.history tally.now stop)) }
     ensures refused { IfErr result (λ ending. IsRefused script.now board.now.limit board.now.history tally.now stop ending) }
 {
     // That the history is lawful and within the limit is what the journal's reader tells.
@@ -81,8 +98,7 @@ fn tell(
     if !may_end(alloc, &plan, board, tally, stop)? {
         return Err(Ending::NotLawful(entries));
     }
-    let report = report(alloc, script, board, tally, stop)?;
-    Ok(Played { report, stop })
+    Ok(())
 }
 
 /// Whether a run may end so with this journal and this tally.
@@ -108,7 +124,7 @@ fn may_end(
     Ok(takes_what_was_got(plan, board, tally))
 }
 
-/// Whether so much is left, and where it is stalled nobody could go on.
+/// Whether as much is left as after this stop. If it is stalled, no thread could go on.
 fn leaves(
     alloc: Global,
     plan: &Plan<'_>,
@@ -128,7 +144,7 @@ fn leaves(
     }
 }
 
-/// Whether a step is left, and nobody could go on.
+/// Whether a step is left, and no thread could go on.
 fn stalls(
     alloc: Global,
     script: &Script,

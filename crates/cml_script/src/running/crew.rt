@@ -21,7 +21,7 @@ use std::sync::ledger::Ledger;
 use std::thread;
 use std::thread::{JoinHandle, Threads};
 
-/// What is left of the threads of a script: what `settle` needs, what went by their lanes and feeds, and how they ended.
+/// What is left of the threads of a script: the lefts for `settle`, what went by their lanes and feeds, and how they ended.
 #[derive(Drop)]
 pub struct Ended<Led: Ledger> {
     /// Of the seat that made the declared objects, and of each thread's.
@@ -40,9 +40,9 @@ struct Worked<Led: Ledger, P: Passage> {
     ghost unheld: { P.opens ≡ true → IsUnheld stop },
 }
 
-/// Performs a script on a switchboard that has no objects and no seats: one operating-system thread for each of the
-/// script's, and a seat for each. All are joined. Where threads end differently the first of no memory, full, held, stalled,
-/// done counts. A thread that can't be started counts as want of memory, and nobody waits for it.
+/// Performs a script on a switchboard that has no objects and no seats, with an operating-system thread and a seat for each
+/// of the script's threads. Joins them all. If threads end differently, the first of no memory, full, held, stalled, done
+/// counts. A thread that cannot be started counts as want of memory, and no thread waits for it.
 pub fn perform_in_threads<Led: Ledger + Send + Sync, R: Threads + Wait + Sync, G: Gate + Sync>(
     rt: &R,
     alloc: Global,

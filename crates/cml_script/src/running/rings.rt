@@ -65,7 +65,7 @@ impl Rings {
         }
     }
 
-    /// Opens a feed from a channel, and tells its port.
+    /// Opens a feed from a channel, and returns its port.
     pub fn open_feed<Led: Ledger, R: Wait>(
         &mut self,
         rt: &R,
@@ -85,8 +85,8 @@ impl Rings {
         Ok(port)
     }
 
-    /// Sends a message by the lane to this object, which is opened where none is open. A lane that has no room for it is
-    /// drained; where it has none then, it is closed, and another is opened.
+    /// Sends a message by the lane to this object, and opens one if none is open. If the lane has no room, drains it. If it
+    /// has no room then, closes it, and opens another.
     pub fn send<Led: Ledger, R: Wait>(
         &mut self,
         rt: &R,
@@ -109,8 +109,8 @@ impl Rings {
         Ok(())
     }
 
-    /// Sends a message on an open lane, or gives it back where it has no room for it. Where it has none though it was drained,
-    /// it is closed.
+    /// Sends a message on an open lane, or returns the message if the lane has no room for it. If it has none even after a
+    /// drain, closes it.
     fn send_on<Led: Ledger, R: Wait>(
         &mut self,
         rt: &R,
@@ -155,7 +155,7 @@ impl Rings {
         Ok(())
     }
 
-    /// Polls a feed: where its ring has no message, what the feed is owed is pumped once.
+    /// Polls a feed. If its ring has no message, pumps what the feed is owed once.
     pub fn poll<Led: Ledger, R: Wait>(
         &mut self,
         rt: &R,
@@ -175,7 +175,7 @@ impl Rings {
         Err(Refusal::NoSuch)
     }
 
-    /// Closes all lanes. Where one is refused the others stay open.
+    /// Closes all lanes. If one cannot be closed, the others stay open.
     pub fn close_lanes<Led: Ledger, R: Wait>(
         &mut self,
         rt: &R,
@@ -187,7 +187,7 @@ impl Rings {
         Ok(())
     }
 
-    /// Ends what is left at a thread's end: lanes that are open are abandoned, and feeds ended.
+    /// Ends what is left at a thread's end: abandons open lanes, and ends feeds.
     pub fn end<Led: Ledger, R: Wait>(mut self, rt: &R, switchboard: &Texts<Led>) -> Rings {
         self.abandon_lanes(rt, switchboard);
         self.end_feeds(rt, switchboard);
@@ -209,12 +209,12 @@ impl Rings {
         }
     }
 
-    /// Hands out all feeds, in the order in which they were opened.
+    /// Returns all feeds, in the order in which they were opened.
     pub fn hand_feeds(&mut self, alloc: Global) -> Vec<Subscription> {
         mem::replace(&mut self.feeds, Vec::new(alloc))
     }
 
-    /// Takes over a feed that another opened.
+    /// Takes a feed that another thread opened.
     pub fn take_feed(&mut self, feed: Subscription) -> Result<(), AllocError> {
         self.feeds.push(feed)?;
         Ok(())
@@ -229,7 +229,7 @@ impl Rings {
     }
 }
 
-/// Closes a lane. Where that is refused it is abandoned: what it has left in its ring is lost.
+/// Closes a lane. If that fails, abandons it: the messages left in its ring are lost.
 fn close<Led: Ledger, R: Wait>(
     rt: &R,
     switchboard: &Texts<Led>,
@@ -260,7 +260,7 @@ fn finish<Led: Ledger, R: Wait>(
     }
 }
 
-/// Closes a lane without its end. Each turn but the last moves what it can.
+/// Closes a lane without its end. Each turn except the last moves what it can.
 fn drop_lane<Led: Ledger, R: Wait>(
     rt: &R,
     switchboard: &Texts<Led>,

@@ -1,4 +1,4 @@
-//! Whether nobody could go on where a run ends.
+//! Whether no thread could go on when a run ends.
 ghost use Rattle.std.specs.Prelude.{◌≡◌, ◌↔◌, reverse, IsTrue, IfOk};
 ghost use Rattle.cml_board.specs.History.{no_entries};
 ghost use Rattle.cml_script.specs.Stalling.{IsAllMoved, NobodyGoesOn};
@@ -12,8 +12,8 @@ use cml_board::{Board, BoardLog, Entry, Text};
 use cml_grammar::Script;
 use std::alloc::{AllocError, Global};
 
-/// Whether nobody could go on behind a board's journal that nobody cut, and this tally. It takes time and memory in
-/// proportion to the script and the journal.
+/// Says whether no thread could go on after a board's journal that was never cut, and this tally. It takes time and memory
+/// in proportion to the script and the journal.
 pub fn nobody_goes_on(
     alloc: Global,
     script: &Script,

@@ -31,9 +31,9 @@ struct Course {
     is_sending: bool,
 }
 
-/// Performs the steps of a thread, in order, once the declared objects are made. It stops at the first that is refused, or
-/// where the gate says no. It closes its lanes before a step that may wait, and where it ends; after a refusal they are left
-/// to its caller.
+/// Performs the steps of a thread, in order, once the declared objects are made. It stops at the first that fails, or when
+/// the gate says no. It closes its lanes before a step that may block, and when it ends. After a failure it leaves them to
+/// its caller.
 pub fn work<C: Caller, G: Gate>(
     alloc: Global,
     plan: &Plan<'_>,
@@ -68,7 +68,7 @@ pub fn work<C: Caller, G: Gate>(
     close(&course, caller, Stop::Done)
 }
 
-/// Closes what lanes are open where a thread ends. A refusal may make that another end.
+/// Closes the lanes that are open when a thread ends. A failure may make that another ending.
 fn close<C: Caller>(course: &Course, caller: &mut C, stop: Stop) -> Result<Stop, AllocError>
     requires { C.goes_on caller.old ≡ true }
     ensures held { IsUnheld (Ok stop) → IsUnheld result }
@@ -158,7 +158,7 @@ fn close_before<C: Caller>(
     Ok(())
 }
 
-/// Whether a call waits where it can't be answered.
+/// Whether a call blocks if it cannot be answered.
 fn may_wait(call: &Call<Text>) -> bool
     ensures { result ≡ waits call.now }
 {
@@ -197,7 +197,7 @@ fn send_apart<C: Caller>(
     }
 }
 
-/// The call of a step that the thread's seat performs next, with a message of its own.
+/// The call of a step that the thread's seat performs next, with a copy of its message.
 fn call_of(
     plan: &Plan<'_>,
     thread: usize,
@@ -217,14 +217,14 @@ fn call_of(
     Ok(call)
 }
 
-/// What a refusal stops a thread with.
+/// Returns how a thread stops after this refusal.
 pub fn stop_of(refusal: Refusal) -> Result<Stop, AllocError>
     ensures { result ≡ stop_of refusal }
 {
     match refusal {
         Refusal::JournalFull => Ok(Stop::Full),
         Refusal::NoMemory => Err(AllocError),
-        // Nobody could let it go on.
+        // No thread could let it go on.
         Refusal::Stalled
         | Refusal::Gone
         | Refusal::Busy
@@ -234,7 +234,7 @@ pub fn stop_of(refusal: Refusal) -> Result<Stop, AllocError>
     }
 }
 
-/// How two threads ended that ended differently.
+/// Returns the ending that counts, of the endings of two threads.
 pub fn first_of(
     one: Result<Stop, AllocError>,
     other: Result<Stop, AllocError>,

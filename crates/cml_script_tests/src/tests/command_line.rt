@@ -1,5 +1,5 @@
 //! The words of the command line.
-use cml_script::{Order, order};
+use cml_script::{Form, Order, order};
 use cml_shell::status_of_error;
 use std::alloc::{AllocError, Global};
 use std::process::Abort;
@@ -47,6 +47,57 @@ const RUN_LIMITS: &[(&str, &str, u64)] = &[
         4,
     ),
     ("the most", "cml run --limit 4294967296", 4_294_967_296),
+];
+
+/// Words with the other options, and what they ask for.
+const OPTIONS: &[(&str, &str, &str)] = &[
+    (
+        "the journal of a replay",
+        "cml replay --journal",
+        "replays with 65536, for the journal",
+    ),
+    (
+        "the journal of a run",
+        "cml run --journal",
+        "runs with 65536, for the journal",
+    ),
+    (
+        "the journal, and the end of options",
+        "cml run --journal --",
+        "runs with 65536, for the journal",
+    ),
+    (
+        "the journal before the limit",
+        "cml replay --journal --limit 4",
+        "replays with 4, for the journal",
+    ),
+    (
+        "the journal behind the limit",
+        "cml replay --limit 4 --journal",
+        "replays with 4, for the journal",
+    ),
+    (
+        "the journal before the limit in one word",
+        "cml run --journal --limit=4 --",
+        "runs with 4, for the journal",
+    ),
+    (
+        "the journal behind the limit in one word",
+        "cml run --limit=4 --journal --",
+        "runs with 4, for the journal",
+    ),
+    ("a check", "cml check", "checks"),
+    ("a check, and the end of options", "cml check --", "checks"),
+    (
+        "a check for the state",
+        "cml check --state",
+        "checks, for the state",
+    ),
+    (
+        "a check for the state, and the end of options",
+        "cml check --state --",
+        "checks, for the state",
+    ),
 ];
 
 /// Words with what is no limit.
@@ -100,6 +151,30 @@ const OTHERS: &[(&str, &str)] = &[
         "cml replay --threads 4",
     ),
     ("a file's name", "cml replay hello.cml"),
+    ("a journal's name", "cml check letters.journal"),
+    ("a check with a limit", "cml check --limit 4"),
+    ("a check for the journal", "cml check --journal"),
+    ("a replay for the state", "cml replay --state"),
+    ("the journal twice", "cml run --journal --journal"),
+    ("the state twice", "cml check --state --state"),
+    ("the journal with a value", "cml run --journal=true"),
+    ("the journal with an empty value", "cml run --journal="),
+    ("the state with a value", "cml check --state=false"),
+    (
+        "a limit with no value before the journal",
+        "cml run --limit --journal",
+    ),
+    (
+        "two limits about the journal",
+        "cml run --limit 4 --journal --limit 4",
+    ),
+    (
+        "the journal after the end of options",
+        "cml run -- --journal",
+    ),
+    ("the beginning of an option", "cml run --jour"),
+    ("an option in short", "cml check -s"),
+    ("the option before its subcommand", "cml --state check"),
     ("no version is shown", "cml --version"),
 ];
 
@@ -114,13 +189,26 @@ const HELP: &[(&str, &str)] = &[
     ("the other subcommand's", "cml run --help"),
     ("the other subcommand's, in short", "cml run -h"),
     ("the other subcommand's, as a subcommand", "cml help run"),
+    ("the check's", "cml check --help"),
+    ("the check's, in short", "cml check -h"),
+    ("the check's, as a subcommand", "cml help check"),
 ];
 
-/// What becomes of words: the limit to replay or to run with, or the exit status and where the message is shown.
+/// What becomes of words: what they ask for, or the exit status and where the message is shown.
 fn told(alloc: Global, words: &[&str]) -> Result<String, AllocError> {
     match order(alloc, words) {
-        Ok(Order::Replay(limit)) => format!(in alloc; "replays with {limit}"),
-        Ok(Order::Run(limit)) => format!(in alloc; "runs with {limit}"),
+        Ok(Order::Replay(limit, form)) => {
+            let end = form_told(form);
+            format!(in alloc; "replays with {limit}{end}")
+        }
+        Ok(Order::Run(limit, form)) => {
+            let end = form_told(form);
+            format!(in alloc; "runs with {limit}{end}")
+        }
+        Ok(Order::Check(state)) => {
+            let end = if state { ", for the state" } else { "" };
+            format!(in alloc; "checks{end}")
+        }
         Err(error) => {
             let status = status_of_error(&error);
             let stream = if error.use_stderr() {
@@ -130,6 +218,13 @@ fn told(alloc: Global, words: &[&str]) -> Result<String, AllocError> {
             };
             format!(in alloc; "status {status} on standard {stream}")
         }
+    }
+}
+
+fn form_told(form: Form) -> &'static str {
+    match form {
+        Form::Report => "",
+        Form::Journal => ", for the journal",
     }
 }
 
@@ -174,6 +269,14 @@ fn runs_with_the_limit_that_is_given_or_stands_for_none(rt: HostRuntime) -> Resu
     for (case, words, limit) in RUN_LIMITS.iter() {
         let expected = format!(in rt.alloc(); "runs with {limit}")?;
         expect(&rt, case, words, expected.as_str())?;
+    }
+    Ok(())
+}
+
+#[test]
+fn takes_the_other_options_in_any_order(rt: HostRuntime) -> Result<(), Fail> {
+    for (case, words, expected) in OPTIONS.iter() {
+        expect(&rt, case, words, expected)?;
     }
     Ok(())
 }
@@ -233,7 +336,7 @@ const HELP_SAYS: &[&str] = &[
     "end: done 3",
     "0  done",
     "1  stalled",
-    "2  the script has a fault",
+    "2  the script or the journal has a fault",
     "3  ",
     "4  ",
     "5  no memory",
@@ -245,6 +348,26 @@ const HELP_SAYS: &[&str] = &[
 fn help_says_what_is_read_and_written(rt: HostRuntime) -> Result<(), Fail> {
     let shown = message(&rt, &["cml", "replay", "--help"])?;
     for phrase in HELP_SAYS.iter() {
+        says(&rt, shown.as_str(), phrase);
+    }
+    Ok(())
+}
+
+const CHECK_HELP_SAYS: &[&str] = &[
+    "Usage: cml check [OPTIONS]",
+    "--state",
+    "lawful N",
+    "unlawful at 2: seat 0 recv 0: 6",
+    "answer: 5",
+    "0  the journal is lawful",
+    "2  the input is no journal",
+    "7  the journal is not lawful",
+];
+
+#[test]
+fn help_says_what_a_check_writes(rt: HostRuntime) -> Result<(), Fail> {
+    let shown = message(&rt, &["cml", "check", "--help"])?;
+    for phrase in CHECK_HELP_SAYS.iter() {
         says(&rt, shown.as_str(), phrase);
     }
     Ok(())

@@ -30,7 +30,7 @@ pub enum Scene {
     GoesOn,
 }
 
-/// What the scene comes to.
+/// Plays the scene, and returns its result.
 pub fn played<R: Threads + Wait + Sync>(rt: &R, alloc: Global, scene: Scene) -> &'static str {
     played_in::<Brand, R>(rt, alloc, scene, Blank::new(PARTS)).unwrap_or("trouble")
 }

@@ -1,14 +1,15 @@
 use Rattle.std.proofs.Common.{rules, ◌++◌, [], ℕ, List, sym, subst, append-nil}
 use Rattle.std.proofs.lemmas.Result.{err_from_is_err_and}
 use Rattle.std.proofs.KnownBytes.{Consumes-nil, Consumes-trans}
-use Rattle.cml_check.specs.Checking.{IsSoFar, ending_of}
+use Rattle.cml_journal.specs.Checks.{IsSoFar}
+use Rattle.cml_check.specs.Checking.{ending_of}
 use Rattle.cml_check.proofs.Telling.{concludes_in_front, concludes_early, concludes_at_end, so_on}
 use Rattle.cml_check.proofs.checking.check_all.Goals as goal
 
-pub returns-in_err-take : goal.returns-in_err-take
-returns-in_err-take g c =
-    let p = err_from_is_err_and c.from_residual-in_err-take.result c.from_residual-in_err-take.ensures.1 in
-    rw (p.1, p.2) (concludes_in_front g.M.Written.VERSION g.M.Written.meaning c.in_ok-check.check c.args.front.now (g.R.Read.remaining c.args.input.now) c.in_err-take.field-0.0 c.in_ok-check.ensures.new c.in_err-take.ensures.ended)
+pub returns-in_err-go_on : goal.returns-in_err-go_on
+returns-in_err-go_on g c =
+    let p = err_from_is_err_and c.from_residual-in_err-go_on.result c.from_residual-in_err-go_on.ensures.1 in
+    rw (p.1, p.2) (concludes_in_front g.M.Written.VERSION g.M.Written.meaning g.M.Written.text c.args.state c.in_ok-check.check c.args.front.now (g.R.Read.remaining c.args.input.now) c.in_err-go_on.field-0.0 c.in_ok-check.ensures c.in_err-go_on.ensures.ended)
 
 pub loop-init : goal.loop-init
 loop-init g c = record {
@@ -17,23 +18,23 @@ loop-init g c = record {
   room = search rules;
   bytes = [];
   given = Consumes-nil (g.R.Read.remaining c.args.input.now);
-  so = subst (λ (b : List ℕ). IsSoFar g.M.Written.VERSION g.M.Written.meaning b c.take.new.self) (sym (append-nil c.args.front.now)) (c.in_ok-take.ensures.taken [] c.in_ok-check.ensures.new);
+  so = subst (λ (b : List ℕ). IsSoFar g.M.Written.VERSION g.M.Written.meaning b c.go_on.new.check) (sym (append-nil c.args.front.now)) (c.in_ok-go_on.ensures.taken [] c.in_ok-check.ensures);
 }
 
 pub returns-in_err-take_some : goal.returns-in_err-take_some
 returns-in_err-take_some g c =
     let p = err_from_is_err_and c.from_residual-in_err-take_some.result c.from_residual-in_err-take_some.ensures.1 in
     let (more, given, ends) = c.in_err-take_some.ensures.ended in
-    rw (p.1, p.2) (concludes_early g.M.Written.VERSION g.M.Written.meaning c.loop.check c.args.front.now c.loop.invariant.bytes more
+    rw (p.1, p.2) (concludes_early g.M.Written.VERSION g.M.Written.meaning g.M.Written.text c.args.state c.loop.check c.args.front.now c.loop.invariant.bytes more
     (g.R.Read.remaining c.args.input.now) (g.R.Read.remaining c.loop.input) (g.R.Read.remaining c.take_some.new.input) c.in_err-take_some.field-0.0
     c.loop.invariant.given given c.loop.invariant.so ends)
 
 pub returns-then-branch : goal.returns-then-branch
 returns-then-branch g c =
     let (more, given, goes) = c.in_ok-take_some.ensures.taken in
-    concludes_at_end g.M.Written.VERSION g.M.Written.meaning c.loop.check c.take_some.new.check c.args.front.now c.loop.invariant.bytes more
-    (g.R.Read.remaining c.args.input.now) (g.R.Read.remaining c.loop.input) (g.R.Read.remaining c.take_some.new.input) (ending_of c.end.result)
-    c.loop.invariant.given given c.loop.invariant.so goes (c.in_ok-take_some.ensures.end c.if-branch.true) c.end.ensures
+    concludes_at_end g.M.Written.VERSION g.M.Written.meaning g.M.Written.text c.args.state c.loop.check c.take_some.new.check c.args.front.now c.loop.invariant.bytes more
+    (g.R.Read.remaining c.args.input.now) (g.R.Read.remaining c.loop.input) (g.R.Read.remaining c.take_some.new.input) (ending_of c.end_of.result)
+    c.loop.invariant.given given c.loop.invariant.so goes (c.in_ok-take_some.ensures.end c.if-branch.true) c.end_of.ensures
 
 pub loop-preserved : goal.loop-preserved
 loop-preserved g c =
@@ -43,5 +44,5 @@ loop-preserved g c =
       room = search rules;
       bytes = c.loop.invariant.bytes ++ more;
       given = Consumes-trans (g.R.Read.remaining c.args.input.now) (g.R.Read.remaining c.loop.input) (g.R.Read.remaining c.take_some.new.input) c.loop.invariant.bytes more c.loop.invariant.given given;
-      so = so_on g.M.Written.VERSION g.M.Written.meaning c.loop.check c.take_some.new.check c.args.front.now c.loop.invariant.bytes more c.loop.invariant.so goes;
+      so = so_on g.M.Written.VERSION g.M.Written.meaning g.M.Written.text c.loop.check c.take_some.new.check c.args.front.now c.loop.invariant.bytes more c.loop.invariant.so goes;
     }
