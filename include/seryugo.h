@@ -10,7 +10,7 @@
  *
  * - Make one call at a time on a handle. Order each after the one before by a lock, or by the start or the join of a thread. If
  *   several threads use a room, put a lock round it. No call here blocks.
- * - A lane and a feed have handles of their own. One thread may use such a handle without the room's lock while others use the
+ * - A lane and a feed have separate handles. One thread may use such a handle without the room's lock while others use the
  *   room.
  * - Use a handle after it was opened and until it is closed. Don't use it or a copy of it after that.
  * - Pass good pointers that don't overlap.
@@ -22,6 +22,9 @@
 #include <stdbool.h>
 #include <stddef.h>
 #include <stdint.h>
+
+/* The version of this header, and of the library that is installed with it. */
+#define SERYUGO_VERSION "0.1.0"
 
 #ifdef __cplusplus
 extern "C" {
@@ -67,11 +70,15 @@ enum seryugo_code {
      * a null pointer has a length, or a kind in an entry is none. */
     SERYUGO_OUT_OF_BOUNDS = 16,
     /* A checked journal is unlawful. */
-    SERYUGO_UNLAWFUL = 17
+    SERYUGO_UNLAWFUL = 17,
+    /* The text of a journal has a fault, or begins behind a cut. */
+    SERYUGO_FAULT = 18,
+    /* The text of a journal ends before its last piece does. */
+    SERYUGO_TORN = 19
 };
 
-/* A handle to a room, a lane, a feed, a checker or a journal that was taken. A call that opens it writes it, and seryugo_close
- * closes it. */
+/* A handle to a room, a lane, a feed, a checker, a reading or a journal that was taken. A call that opens it writes it, and
+ * seryugo_close closes it. */
 struct seryugo {
     void *at;
 };
@@ -85,17 +92,23 @@ uint32_t seryugo_room_open(uint64_t limit, struct seryugo *room);
 /* Opens a room of bytes. It differs from one of numbers only in the calls that have a message. */
 uint32_t seryugo_bytes_room_open(uint64_t limit, struct seryugo *room);
 
-/* Closes a room, a lane, a feed, a checker or a taken journal, and frees its memory. A room doesn't close its lanes, its feeds
- * and its taken journals. Close each of these handles too, before the room or after it. */
+/* Closes a room, a lane, a feed, a checker, a reading or a taken journal, and frees its memory. A room doesn't close its lanes,
+ * its feeds and its taken journals. Close each of these handles too, before the room or after it. */
 void seryugo_close(struct seryugo handle);
 
-/* Makes a free seat, and writes its number: how many seats were made before. The only refusal is SERYUGO_NO_MEMORY. While a seat
- * is free, no call fails with SERYUGO_STALLED. So make all seats before the first one blocks, and let each leave at its end. */
+/* Makes a free seat, and writes its number: how many seats were made before. In a restored room those of its journal count too.
+ * The only refusal is SERYUGO_NO_MEMORY. While a seat is free, no call fails with SERYUGO_STALLED. So make all seats before the
+ * first one blocks, and let each leave at its end. */
 uint32_t seryugo_new_seat(struct seryugo *room, uint64_t *seat);
 
 /* A free seat leaves: it makes no more calls. SERYUGO_GONE if it may make none. Then call seryugo_next_due, because parked seats
  * may be stalled now. */
 uint32_t seryugo_leave(struct seryugo *room, uint64_t seat);
+
+/* Withdraws a parked seat's call, for a thread that waits no longer, as at a time limit. The seat is free then, and the call has done
+ * nothing. SERYUGO_GONE: the seat isn't parked, and nothing is changed. Then call seryugo_next_due: if what the seat waited for is
+ * there, another seat that waits for the same may be due. */
+uint32_t seryugo_withdraw(struct seryugo *room, uint64_t seat);
 
 /*
  * ---- a seat's calls ----
@@ -256,7 +269,7 @@ static inline uint32_t seryugo_bytes_swap(struct seryugo *room, uint64_t seat, u
  *
  * Call seryugo_next_due before you release the lock after one of these:
  *
- * - a seat's call, whether it was answered, refused or parked, and seryugo_leave;
+ * - a seat's call, whether it was answered, refused or parked, seryugo_withdraw and seryugo_leave;
  * - seryugo_lane_close, seryugo_lane_drain, seryugo_lane_drop and seryugo_lane_abandon;
  * - seryugo_feed_open and seryugo_feed_pump.
  *
@@ -265,9 +278,9 @@ static inline uint32_t seryugo_bytes_swap(struct seryugo *room, uint64_t seat, u
  * each of these calls is enough: a woken thread wakes the next. You may also call it until it returns SERYUGO_NOTHING, and wake
  * all these threads.
  *
- * Keep two rules, or a thread sleeps for ever. Each seat that was written asks again. A wake that comes before the sleep isn't
- * lost: keep a flag for each seat, or call seryugo_is_due under the lock before each sleep. A thread that nobody woke may sleep
- * on, or ask again at once.
+ * Keep two rules, or a thread sleeps for ever. Each seat that was written asks again, or withdraws its call. A wake that comes
+ * before the sleep isn't lost: keep a flag for each seat, or call seryugo_is_due under the lock before each sleep. An unwoken
+ * thread may sleep on, or ask again at once.
  */
 
 /* Writes the next due seat that wasn't written since it last asked. The seat that has been due the longest comes first.
@@ -460,6 +473,23 @@ uint32_t seryugo_taken_entry(struct seryugo *journal, uint64_t place, struct ser
 uint32_t seryugo_bytes_taken_entry(struct seryugo *journal, uint64_t place, struct seryugo_bytes_entry *entry);
 
 /*
+ * Hands over the entries of a taken journal, of numbers or of bytes, as text: one piece, whose first entry is at position `from`.
+ * Pass what seryugo_cut_at wrote before seryugo_take_journal, under the same lock. Such a piece is behind that of the cut
+ * before. So a server that appends each text to a file has its whole history there, and a later process goes on from it
+ * (seryugo_room_restore). docs/FORMATS.md, "Journals", has the lines.
+ *
+ * The journal stays as it was. The text has no null byte at its end. You own it until you free it by seryugo_bytes_free, and it may
+ * outlive the journal and the room.
+ *
+ * The call writes nothing if it returns one of these. SERYUGO_NO_MEMORY: there is no memory for the text, or it would have more
+ * than 2^32 - 1 bytes. SERYUGO_OUT_OF_BOUNDS: the position behind the last entry would be 2^64 or more.
+ *
+ * A line of more than 1,114,112 bytes is written, but no reading takes it. In a message, each byte outside 0x21 to 0x7E, and each
+ * `%`, takes three bytes of the line.
+ */
+uint32_t seryugo_journal_text(struct seryugo *journal, uint64_t from, struct seryugo_bytes *text);
+
+/*
  * ---- checked journals ----
  *
  * A checker says how far a journal is a lawful history of one thread, wherever the journal comes from. Feed it the entries in
@@ -501,6 +531,62 @@ static inline uint32_t seryugo_bytes_checker_feed(struct seryugo *checker, const
 
 /* Writes how many entries were found lawful. SERYUGO_UNLAWFUL: the entry at that position is not. */
 uint32_t seryugo_checker_verdict(struct seryugo *checker, uint64_t *count);
+
+/*
+ * ---- a journal that is read back ----
+ *
+ * A reading reads the text of a journal, and checks the entries as it comes. It keeps what the objects need, what waits in them,
+ * and one line. Give it the text from the journal's first piece on, in order, in parts of any size. A part may end anywhere.
+ *
+ * A reading stops at the first fault, at the first unlawful entry, or if there is no memory for what it reads. From then on
+ * seryugo_reading_take and seryugo_reading_end return the code by which it stopped, and nothing more is read.
+ */
+
+/* Opens a reading of a journal of numbers, or of bytes. SERYUGO_NO_MEMORY: *reading is as it was. */
+uint32_t seryugo_reading_open(struct seryugo *reading);
+uint32_t seryugo_bytes_reading_open(struct seryugo *reading);
+
+/* What the library exports to read a part. It doesn't test the pointer: unless the length is 0, it has to be good. From C, call
+ * the next function. */
+uint32_t seryugo_reading_take_from(struct seryugo *reading, const void *at, size_t length);
+
+/* Reads the next part of the text. The buffer stays yours.
+ *
+ * SERYUGO_DONE: there is no fault so far, and all entries are lawful. SERYUGO_FAULT: the text has a fault. It is on the line behind
+ * those that seryugo_reading_lines counts. SERYUGO_UNLAWFUL: the entry at the position that seryugo_reading_entries writes is
+ * unlawful. SERYUGO_NO_MEMORY: the reading has stopped too. Open another, and read the text again. SERYUGO_OUT_OF_BOUNDS: the
+ * pointer is null and the length isn't 0. Then nothing is changed. */
+static inline uint32_t seryugo_reading_take(struct seryugo *reading, const void *at, size_t length)
+{
+    return seryugo_is_astray(at, length) ? (uint32_t)SERYUGO_OUT_OF_BOUNDS : seryugo_reading_take_from(reading, at, length);
+}
+
+/* Writes how many entries were read and are lawful. */
+uint32_t seryugo_reading_entries(struct seryugo *reading, uint64_t *count);
+
+/* Writes how many lines were read to their ends, modulo 2^64. */
+uint32_t seryugo_reading_lines(struct seryugo *reading, uint64_t *lines);
+
+/* Ask this once the text is at its end. It changes nothing. SERYUGO_DONE: the last piece has its end. SERYUGO_TORN: it has none,
+ * or the text is empty. */
+uint32_t seryugo_reading_end(struct seryugo *reading);
+
+/* Opens a room on what was read, and writes a handle to it. The room is as if it had answered all these calls, and had cut its
+ * journal then. So its objects, and what waits in them, are those behind the last entry. seryugo_entries and seryugo_cut_at write
+ * what seryugo_reading_entries wrote, and names and positions go on from there. The journal takes `limit` entries between two
+ * cuts. The messages are those of the reading: numbers or bytes.
+ *
+ * The seats, lanes and feeds of the journal are gone. A call of such a seat fails with SERYUGO_GONE, and the port of such a feed
+ * is a port like any other. The first seat that you make has the number behind the highest seat of the journal. The first lane
+ * and the first feed have such numbers too. The room needs memory for each number of a seat that the journal may have had.
+ *
+ * The call spends the reading: its handle leads to nothing then, and takes no call but seryugo_close. Close it. If the text was
+ * torn, the room has the entries whose lines were whole. The call doesn't say so: call seryugo_reading_end before it.
+ *
+ * SERYUGO_OUT_OF_BOUNDS: the limit isn't from 1 to 2^32. SERYUGO_FAULT or SERYUGO_UNLAWFUL: the reading has stopped by this. After
+ * these three the reading and *room are as they were. SERYUGO_NO_MEMORY: *room is as it was, and the reading is spent. Open
+ * another, and read the text again. */
+uint32_t seryugo_room_restore(struct seryugo *reading, uint64_t limit, struct seryugo *room);
 
 /*
  * ---- readers ----

@@ -17,7 +17,7 @@ extern "C" {
 
 /* What seryugo_replay answers. */
 enum seryugo_replay_code {
-    /* The script was replayed, or has a fault; `end` tells how it ended, and the report stands at the buffer's front. */
+    /* The script was replayed, or has a fault. `end` says how it ended, and the report is at the buffer's front. */
     SERYUGO_REPLAY_DONE = 0,
     /* The same, but the report is longer than the buffer, which is as it was. `end->length` tells how much room is wanted. */
     SERYUGO_REPLAY_NO_ROOM = 1,

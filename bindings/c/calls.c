@@ -35,7 +35,7 @@ static void close_all(void)
     }
 }
 
-/* The call is told this, or there was no memory for it. */
+/* The call returns this, or there was no memory for it. */
 static void told(uint32_t code, uint32_t expected, int line)
 {
     if (code == SERYUGO_NO_MEMORY && expected != SERYUGO_NO_MEMORY) {
@@ -366,6 +366,6 @@ int main(void)
     TOLD(GONE, seryugo_leave(&room, two));
     try_a_checker();
     close_all();
-    puts("each call is told as it should be");
+    puts("each call returns what it should");
     return 0;
 }

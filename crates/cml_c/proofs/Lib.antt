@@ -1,1 +1,3 @@
 mod HandleBox
+mod GoingOn
+mod Taking

@@ -1,4 +1,4 @@
--- What C is told of a seat's call.
+-- What a seat's call returns to C.
 use Rattle.std.specs.Prelude.{ℕ, ◌≡◌, Bool, true, false}
 use Rattle.cml_log.specs.PlainLog.{chunk_of}
 use Rattle.cml_board.specs.declared.call.Call.{Call}
@@ -85,7 +85,7 @@ abbrev pub Gives : {M : Type 0} → Bool → ℕ → Call M → ℕ → ℕ → 
 Gives sure seat call before after same code old new =
     OnRoom (Makes sure false seat call code (λ becomes. after ≡ named_outcome before becomes)) same code old new
 
--- such a call in whichever room a handle leads to, with what stood and then stands where a name is written
+-- such a call in whichever room a handle leads to, with the content before and after of the place where a name is written
 abbrev pub Names : ℕ → Bare → Kept → Kept → ℕ → ℕ → ℕ → Type 0
 Names seat call old new code before after = OnEither (λ M sure. Gives sure seat (bare_call call) before after) (after ≡ before) code old new
 
@@ -93,7 +93,7 @@ Names seat call old new code before after = OnEither (λ M sure. Gives sure seat
 abbrev pub NamesNothing : ℕ → Bare → Kept → Kept → ℕ → Type 0
 NamesNothing seat call old new code = (after : ℕ) × Names seat call old new code 0 after
 
--- a call in a room of numbers, with what stood and then stands where a number is written
+-- a call in a room of numbers, with the content before and after of the place where a number is written
 abbrev pub Calls : Bool → ℕ → Call ℕ → Kept → Kept → ℕ → ℕ → ℕ → Type 0
 Calls again seat call old new code before after =
     OnNumbers (OnRoom (Makes true again seat call code (λ becomes. after ≡ written_outcome before becomes))) (after ≡ before) code old new

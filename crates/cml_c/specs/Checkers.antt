@@ -1,4 +1,4 @@
--- What C is told of a journal that is checked.
+-- What the check of a journal returns to C.
 use Rattle.std.specs.Prelude.{ℕ, ◌==◌, if◌then◌else◌, ◌≡◌, ◌+◌, ◌<◌, ◌≤◌, ◌^◌, ◌⊎◌, List, [], ◌∷◌, length, drop, slice_get, Option, Some, None, Result, Ok, Err, ⊤}
 use Rattle.std.specs.Option.{option_map, option_or}
 use Rattle.cml_calls.specs.Table.{filled, make_at, give_at, ask_at}

@@ -1,4 +1,4 @@
--- What C is told of a call, and by which number.
+-- What a call returns to C, and by which number.
 use Rattle.std.specs.Prelude.{ℕ, Result, Ok, Err, ⊤}
 use Rattle.cml_board.specs.declared.outcome.Refusal.{Refusal}
 use Rattle.cml_board.specs.declared.outcome.Refusal.TheVariants as refusal
@@ -24,8 +24,10 @@ number code.StillOpen = 14
 number code.WrongHandle = 15
 number code.OutOfBounds = 16
 number code.Unlawful = 17
+number code.Fault = 18
+number code.Torn = 19
 
--- a refusal is told by its own name
+-- a refusal has the code of the same name
 abbrev pub of_refusal : Refusal → Code
 of_refusal refusal.Gone = code.Gone
 of_refusal refusal.Busy = code.Busy
@@ -36,12 +38,12 @@ of_refusal refusal.Stalled = code.Stalled
 of_refusal refusal.NoMemory = code.NoMemory
 of_refusal refusal.Unseen = code.Unseen
 
--- what is told of a call that gives nothing
+-- the code of a call that gives nothing
 abbrev pub told_outcome : Result ⊤ Refusal → Code
 told_outcome (Ok done) = code.Done
 told_outcome (Err refusal) = of_refusal refusal
 
--- what is told of a call that gives a count, and what stands then where that is written
+-- the code of a call that gives a count, and the content then of the place where that is written
 abbrev pub told_count : Result ℕ Refusal → Code
 told_count (Ok count) = code.Done
 told_count (Err refusal) = of_refusal refusal

@@ -1,4 +1,4 @@
--- What C is told of the calls on feeds.
+-- What the calls on feeds return to C.
 use Rattle.std.specs.Prelude.{ℕ, ◌≡◌, ◌⊎◌, [], ◌∷◌, ◌++◌, List, Option, Result, Ok, Err, Bool}
 use Rattle.cml_board.specs.declared.call.Name.{Name}
 use Rattle.cml_board.specs.declared.outcome.Refusal.{Refusal}
@@ -44,7 +44,7 @@ TakesBytes told from to old new =
 abbrev pub TellsPort : {M : Type 0} → ℕ → ℕ → FeedShown M → FeedShown M → Type 0
 TellsPort told after old new = (told ≡ number Done) × (after ≡ old.port.0) × (new ≡ old)
 
--- what is told of the end of a feed
+-- the code of the end of a feed
 abbrev pub told_ended : {M : Type 0} → Result (Option (Ended M)) Refusal → Code
 told_ended (Ok end) = Done
 told_ended (Err refusal) = of_refusal refusal

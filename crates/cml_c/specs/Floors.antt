@@ -1,4 +1,4 @@
--- What C is told of the calls on a room's floor: those of lanes and feeds, reservations and cuts.
+-- What the calls on a room's floor return to C: those of lanes and feeds, reservations and cuts.
 use Rattle.std.specs.Prelude.{ℕ, ◌≡◌, Result, ⊤}
 use Rattle.cml_board.specs.declared.outcome.Refusal.{Refusal}
 use Rattle.cml_lanes.specs.Floor.{FloorShown}
@@ -12,7 +12,7 @@ pub record Does {M : Type 0} (becomes : FloorShown M → FloorShown M → Result
   pub seats : new.seats ≡ old.seats
   pub told : code ≡ number (told_outcome outcome)
 
--- the same of a call that gives a count, with what stood and then stands where that is written
+-- the same of a call that gives a count, with the content before and after of the place where that is written
 pub record Counts {M : Type 0} (becomes : FloorShown M → FloorShown M → Result ℕ Refusal → Type 0) (code before after : ℕ) (old new : RoomShown M) : Type 0 where
   pub outcome : Result ℕ Refusal
   pub floor : becomes (floor_of old) (floor_of new) outcome

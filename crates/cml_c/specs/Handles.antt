@@ -1,19 +1,21 @@
 -- What becomes of what a handle leads to.
-use Rattle.std.specs.Prelude.{ℕ, ◌≡◌, Bool, true, false, List, Result, Box}
+use Rattle.std.specs.Prelude.{ℕ, ◌≡◌, Bool, true, false, List, Box}
 use Rattle.std.specs.declared.alloc.Global.{Global}
 use Rattle.cml_board.specs.declared.entry.Entry.{Entry}
+use Rattle.cml_board.specs.Checking.{Found}
 use Rattle.cml_lanes.specs.Ends.{LaneShown, FeedShown}
+use Rattle.cml_journal.specs.Checks.{Progress}
 use Rattle.cml_room.specs.Room.{RoomShown}
 use Rattle.cml_c.specs.declared.code.Code.TheVariants.{WrongHandle}
 use Rattle.cml_c.specs.declared.kept.Kept.{Kept}
 use Rattle.cml_c.specs.declared.kept.Kept.TheVariants.{Numbers, Bytes}
 use Rattle.cml_c.specs.declared.kept.Resource.{Resource}
-use Rattle.cml_c.specs.declared.kept.Resource.TheVariants.{Room, Lane, Feed, Journal, Checker}
+use Rattle.cml_c.specs.declared.kept.Resource.TheVariants.{Room, Lane, Feed, Journal, Checker, Reading}
 use Rattle.cml_c.specs.Codes.{number}
 
--- what a checker shows: the history that it found lawful, or the first position that isn't
+-- what a checker shows: the history that it found lawful, or the first entry that isn't
 abbrev pub Seen : Type 0 → Type 0
-Seen M = Result (List (Entry M)) ℕ
+Seen M = Found M
 
 -- the handle leads to what takes no such call: nothing is changed, also of what is written
 pub record IsWrong {X : Type 0} (same : Type 0) (code : ℕ) (old new : X) : Type 0 where
@@ -47,7 +49,7 @@ OnBoth becomes code (Bytes old) new (Bytes from) to =
     (left : Resource (List ℕ)) × (new ≡ Bytes left) × (other : Resource (List ℕ)) × (to ≡ Bytes other) × becomes (List ℕ) false code old left from other
 OnBoth becomes code old new from to = IsWrong (to ≡ from) code old new
 
--- it is a room, a lane, a feed or a checker, and this becomes of that; else the call is wrong
+-- it is a room, a lane, a feed, a checker or a reading, and this becomes of that; else the call is wrong
 abbrev pub OnRoom : {M : Type 0} → (RoomShown M → RoomShown M → Type 0) → Type 0 → ℕ → Resource M → Resource M → Type 0
 OnRoom {M} becomes same code (Room old) new = (room : Box (RoomShown M) Global) × (new ≡ Room room) × becomes old.value room.value
 OnRoom becomes same code other new = IsWrong same code other new
@@ -63,6 +65,10 @@ OnFeed becomes same code other new = IsWrong same code other new
 abbrev pub OnChecker : {M : Type 0} → (Seen M → Seen M → Type 0) → Type 0 → ℕ → Resource M → Resource M → Type 0
 OnChecker {M} becomes same code (Checker old) new = (checker : Box (Seen M) Global) × (new ≡ Checker checker) × becomes old.value checker.value
 OnChecker becomes same code other new = IsWrong same code other new
+
+abbrev pub OnReading : {M : Type 0} → (Progress M → Progress M → Type 0) → Type 0 → ℕ → Resource M → Resource M → Type 0
+OnReading {M} becomes same code (Reading old) new = (reading : Box (Progress M) Global) × (new ≡ Reading reading) × becomes old.value reading.value
+OnReading becomes same code other new = IsWrong same code other new
 
 -- it is a journal that was taken, which stays, and this is so of its entries; else the call is wrong
 abbrev pub OnJournal : {M : Type 0} → (List (Entry M) → Type 0) → Type 0 → ℕ → Resource M → Resource M → Type 0

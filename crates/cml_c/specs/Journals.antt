@@ -1,4 +1,4 @@
--- What C is told of a journal that is taken.
+-- What C gets of a journal that is taken.
 use Rattle.std.specs.Prelude.{ℕ, ◌≡◌, ◌⊎◌, Some, Vec, length}
 use Rattle.std.specs.declared.alloc.Global.{Global}
 use Rattle.cml_board.specs.declared.entry.Entry.{Entry}

@@ -1,4 +1,4 @@
--- What C is told of the calls on lanes.
+-- What the calls on lanes return to C.
 use Rattle.std.specs.Prelude.{ℕ, ◌≡◌, ◌≤◌, ◌⊎◌, Bool, true, false, List, Some, [], ◌∷◌, ◌++◌, length, Result, Ok, Err, ⊤}
 use Rattle.cml_board.specs.declared.call.Name.{Name}
 use Rattle.cml_board.specs.declared.outcome.Refusal.{Refusal}
@@ -21,7 +21,7 @@ use Rattle.cml_c.specs.Messages.{CopiesNone}
 abbrev pub IsCapacity : ℕ → Type 0
 IsCapacity capacity = (1 ≤ capacity) × (capacity ≤ 1024)
 
--- what is told of what was opened, with its number
+-- the code of an opening, and the number that is written
 abbrev pub told_opened : {X : Type 0} → Result (X × ℕ) Refusal → Code
 told_opened (Ok opened) = Done
 told_opened (Err refusal) = of_refusal refusal
@@ -60,7 +60,7 @@ OpensIn wrap becomes capacity from to code before after old new =
 abbrev pub OpensLane : {M : Type 0} → (Resource M → Kept) → Name → ℕ → Slot → Slot → ℕ → ℕ → ℕ → RoomShown M → RoomShown M → Type 0
 OpensLane wrap target capacity = OpensIn (λ lane. wrap (Lane lane)) (λ old new outcome. OpensALane old new target capacity outcome) capacity
 
--- what is told of a message that is sent
+-- the code of a message that is sent
 abbrev pub told_sent : {X : Type 0} → Result ⊤ X → Code
 told_sent (Ok done) = Done
 told_sent (Err back) = Full
@@ -92,7 +92,7 @@ abbrev pub Finishes : {M : Type 0} → Type 0 → ℕ → Resource M → Resourc
 Finishes same told (Lane lane) new = FinishesLane lane new told
 Finishes same told other new = IsWrong same told other new
 
--- what is told of a lane that is closed by count, and what its handle leads to then
+-- the code of a lane that is closed by count, and what its handle leads to then
 abbrev pub told_closed : {M : Type 0} → Result ⊤ (Ended M × Refusal) → Code
 told_closed (Ok done) = Done
 told_closed (Err back) = of_refusal back.1
@@ -115,7 +115,7 @@ ClosesLane sure other lane told old new = IsWrong (new ≡ old) told other lane
 abbrev pub Closes : {M : Type 0} → Bool → ℕ → Resource M → Resource M → Resource M → Resource M → Type 0
 Closes sure told old new from to = OnRoom (ClosesLane sure from to told) (to ≡ from) told old new
 
--- what is told of the drop of a lane, and what stands then where the count is written
+-- the code of the drop of a lane, and the content then of the place where the count is written
 abbrev pub told_dropped : Result (ℕ × Bool) Refusal → Code
 told_dropped (Ok dropped) = elim dropped.1 [ true ↦ Done | false ↦ StillOpen ]
 told_dropped (Err refusal) = of_refusal refusal

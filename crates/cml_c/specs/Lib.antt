@@ -15,3 +15,6 @@ pub mod Reading
 pub mod Entries
 pub mod Journals
 pub mod Checkers
+pub mod Texts
+pub mod ReadJournals
+pub mod Restoring

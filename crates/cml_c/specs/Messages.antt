@@ -1,4 +1,4 @@
--- What C is told of a call in a room of bytes, and the messages that it is handed.
+-- What a call in a room of bytes returns to C, and the messages that it hands over.
 use Rattle.std.specs.Prelude.{ℕ, ◌≡◌, ◌⊎◌, Bool, false, List, length, Option, Some, None, ⊤}
 use Rattle.cml_bytes.specs.Sizes.{IsLong, IsTooLong}
 use Rattle.cml_board.specs.declared.call.Call.{Call}
@@ -50,11 +50,11 @@ pub record HasNoMemory (from to : SeryugoBytes) (code : ℕ) (old new : RoomShow
 pub record MakesBytes (again : Bool) (seat : ℕ) (call : Call (List ℕ)) (code : ℕ) (from to : SeryugoBytes) (old new : RoomShown (List ℕ)) : Type 0 where
   pub becomes : Makes false again seat call code (HandsOutcome from to) old new ⊎ HasNoMemory from to code old new
 
--- a call in a room of bytes, with what stood and then stands where a message is handed over
+-- a call in a room of bytes, with the content before and after of the place where a message is handed over
 abbrev pub CallsBytes : Bool → ℕ → Call (List ℕ) → Kept → Kept → ℕ → SeryugoBytes → SeryugoBytes → Type 0
 CallsBytes again seat call old new code from to = OnBytes (OnRoom (MakesBytes again seat call code from to)) (to ≡ from) code old new
 
--- a call that gives no message, with what stood and then stands where a name is written
+-- a call that gives no message, with the content before and after of the place where a name is written
 abbrev pub NamesBytes : ℕ → Call (List ℕ) → Kept → Kept → ℕ → ℕ → ℕ → Type 0
 NamesBytes seat call old new code before after = OnBytes (Gives false seat call before after) (after ≡ before) code old new
 

@@ -14,7 +14,7 @@ use Rattle.cml_c.specs.Codes.{number}
 abbrev pub IsLimit : ℕ → Type 0
 IsLimit limit = (1 ≤ limit) × (limit ≤ 2 ^ 32)
 
--- nothing was done in the room, nobody has a seat, and no lane and no feed is open
+-- nothing was done in the room, it has no seat, and no lane and no feed is open
 pub record IsNew {M : Type 0} (limit : ℕ) (room : RoomShown M) : Type 0 where
   pub history : room.board.history ≡ no_entries
   pub past : room.board.past ≡ no_entries

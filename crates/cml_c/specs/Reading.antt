@@ -1,4 +1,4 @@
--- What C is told of what a room has.
+-- What C reads of a room.
 use Rattle.std.specs.Prelude.{ℕ, ◌≡◌, ◌⊎◌, Bool, true, false, List, Option, Some, None, option_map}
 use Rattle.cml_calls.specs.declared.kind.Kind.{Kind}
 use Rattle.cml_calls.specs.declared.kind.Kind.TheVariants as kind
@@ -19,7 +19,7 @@ use Rattle.cml_c.specs.declared.messages.SeryugoBytes.{SeryugoBytes}
 use Rattle.cml_c.specs.Messages.{HandsHeld}
 use Rattle.cml_c.specs.Asking.{chunk}
 
--- a number that was found, or that there is none, with what stood and then stands where it is written
+-- the code of a number that was found, or of none, with the content before and after of the place where it is written
 abbrev pub told_found : Option ℕ → Code
 told_found (Some found) = Done
 told_found None = NoSuch

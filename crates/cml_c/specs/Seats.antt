@@ -1,7 +1,9 @@
--- What C is told of a new seat, and of one that leaves.
-use Rattle.std.specs.Prelude.{ℕ, ◌≡◌, ◌⊎◌, [], ◌∷◌, ◌++◌, length}
-use Rattle.cml_room.specs.Room.{RoomShown, MayAsk, with_state, floor_of}
-use Rattle.cml_room.specs.declared.state.State.TheVariants.{Free, Left}
+-- What C gets of a new seat, of one that leaves, and of one that withdraws its call.
+use Rattle.std.specs.Prelude.{ℕ, ◌≡◌, ◌≢◌, ◌⊎◌, [], ◌∷◌, ◌++◌, length, Some, None}
+use Rattle.cml_board.specs.declared.want.Want.{Want}
+use Rattle.cml_room.specs.Rising.{MakesFewDue, WantOf}
+use Rattle.cml_room.specs.Room.{RoomShown, MayAsk, state_of, with_state, floor_of}
+use Rattle.cml_room.specs.declared.state.State.TheVariants.{Free, Left, Parked}
 use Rattle.cml_c.specs.declared.code.Code.TheVariants.{Done, Gone, NoMemory}
 use Rattle.cml_c.specs.Codes.{number}
 
@@ -35,3 +37,21 @@ pub record SeatMayNot {M : Type 0} (seat code : ℕ) (old new : RoomShown M) : T
 
 abbrev pub Leaves : {M : Type 0} → ℕ → ℕ → RoomShown M → RoomShown M → Type 0
 Leaves seat code old new = SeatLeaves seat code old new ⊎ SeatMayNot seat code old new
+
+-- a parked seat is free, and nothing else is changed; only one that waits for the same may become due; else the seat isn't parked,
+-- and nothing is changed
+pub record CallIsWithdrawn {M : Type 0} (seat code : ℕ) (old new : RoomShown M) : Type 0 where
+  pub told : code ≡ number Done
+  pub on : Want
+  pub parked : state_of old seat ≡ Some (Parked on)
+  pub seats : new.seats ≡ with_state old seat Free
+  pub floor : floor_of new ≡ floor_of old
+  pub few : MakesFewDue old new (WantOf old seat) None
+
+pub record NoCallIsWithdrawn {M : Type 0} (seat code : ℕ) (old new : RoomShown M) : Type 0 where
+  pub told : code ≡ number Gone
+  pub not_parked : (on : Want) → state_of old seat ≢ Some (Parked on)
+  pub room : new ≡ old
+
+abbrev pub Withdraws : {M : Type 0} → ℕ → ℕ → RoomShown M → RoomShown M → Type 0
+Withdraws seat code old new = CallIsWithdrawn seat code old new ⊎ NoCallIsWithdrawn seat code old new

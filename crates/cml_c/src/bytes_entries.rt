@@ -13,7 +13,7 @@ use cml_board::{Bytes, Call, Entry, Message, Reply};
 use std::alloc::{AllocError, Global};
 use std::ptr;
 
-/// Where a message's bytes are, and how many they are. Both are 0 where there is no message.
+/// Where a message's bytes are, and how many they are. Both are 0 if there is no message.
 #[repr(C)]
 #[derive(Drop)]
 pub struct SeryugoPlace {

@@ -30,7 +30,7 @@ pub extern "C" fn seryugo_new_port(
     make_bare_call(room, seat, Bare::NewPort(Name(channel)), port)
 }
 
-/// Makes a port that stands where this one does, and writes its name.
+/// Makes a port at this port's place, and writes its name.
 #[unsafe(no_mangle)]
 pub extern "C" fn seryugo_copy_port(room: &mut Handle, seat: u64, port: u64, copy: &mut u64) -> u32
     ensures { Names seat (CopyPort (record { 0 = port })) room.old.kept room.new.kept result copy.old copy.new }

@@ -3,10 +3,10 @@ ghost use Rattle.cml_c.specs.Codes.{number, of_refusal};
 
 use cml_board::Refusal;
 
-/// What C is told of a call. The header has each by name, with its number.
+/// What a call returns to C. The header has each code by name, with its number.
 #[derive(Clone, Copy, Debug, PartialEq, Eq)]
 pub enum Code {
-    /// It was done; what it gives, if it gives anything, is written.
+    /// It was done. What it gives, if anything, is written.
     Done,
     /// A poll found nothing, or no seat is due.
     Nothing,
@@ -26,14 +26,18 @@ pub enum Code {
     Unseen,
     /// The lane has no free slot.
     Full,
-    /// The lane is still open, since one of its messages was refused.
+    /// The lane is still open, since one of its messages could not be moved.
     StillOpen,
-    /// What the handle leads to takes no such call.
+    /// What the handle leads to does not take this call.
     WrongHandle,
     /// A limit, a capacity, a message's length, or an entry's kind is out of its bounds.
     OutOfBounds,
     /// An entry is unlawful.
     Unlawful,
+    /// A journal's text has a fault.
+    Fault,
+    /// A journal's text ends before its last piece does.
+    Torn,
 }
 
 impl Code {
@@ -59,6 +63,8 @@ impl Code {
             Code::WrongHandle => 15,
             Code::OutOfBounds => 16,
             Code::Unlawful => 17,
+            Code::Fault => 18,
+            Code::Torn => 19,
         }
     }
 

@@ -1,4 +1,4 @@
-//! Who is due, of those that wait.
+//! Which of the waiting seats are due.
 ghost use Rattle.std.specs.Prelude.{◌≡◌, ⊤};
 ghost use Rattle.cml_c.specs.Due.{GivesNext, TellsDue};
 ghost use Rattle.cml_c.specs.Handles.{OnEither, OnRoom};
@@ -8,8 +8,8 @@ use crate::handle::Handle;
 use crate::kept::{Resource, RoomOf, for_both};
 use cml_board::Message;
 
-/// Writes the next seat that is due and wasn't given before since it last asked: its thread is to be woken, and asks again.
-/// Gives `Nothing` where each seat that is due was given.
+/// Writes the next seat that is due and was not given since it last asked. Wake its thread, and let it ask again. Returns
+/// `Nothing` if each seat that is due was given.
 #[unsafe(no_mangle)]
 pub extern "C" fn seryugo_next_due(room: &mut Handle, seat: &mut u64) -> u32
     ensures { OnEither (λ M sure. OnRoom (GivesNext result seat.old seat.new)) (seat.new ≡ seat.old) result room.old.kept room.new.kept }
@@ -32,7 +32,7 @@ fn give_next<M: Message>(resource: &mut Resource<M>, seat: &mut u64) -> u32
     }
 }
 
-/// Whether a seat is due: `Done` where it is, and else `Nothing`.
+/// Returns `Done` if a seat is due, and else `Nothing`.
 #[unsafe(no_mangle)]
 pub extern "C" fn seryugo_is_due(room: &mut Handle, seat: u64) -> u32
     ensures { OnEither (λ M sure. OnRoom (TellsDue seat result)) ⊤ result room.old.kept room.new.kept }

@@ -16,7 +16,7 @@ pub struct SeryugoMaker {
     pub number: u64,
 }
 
-/// A call: which one it is, and its object and message, each 0 where the call has none.
+/// A call: which one it is, and its object and message, each 0 if the call has none.
 #[repr(C)]
 #[derive(Clone, Copy)]
 pub struct SeryugoCall {

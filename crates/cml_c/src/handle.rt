@@ -51,21 +51,21 @@ impl Handle {
     ghost use Rattle.std.specs.Borrow.{sem};
     ghost use Rattle.cml_c.specs.Lending.{handle_follows};
 
-    /// A handle to this. Only want of memory refuses it, and then it is dropped.
+    /// Makes a handle to this. Fails only for want of memory, and then drops it.
     pub(crate) fn new(alloc: Global, kept: Kept) -> Result<Handle, AllocError>
         ensures { IfOk result (λ handle. handle.kept ≡ kept) }
     {
         Ok(Handle::of(Loose::of(Box::new(alloc, kept)?)))
     }
 
-    /// What it leads to; the handle's own memory is given back.
+    /// Returns what it leads to, and frees the handle's memory.
     pub(crate) fn into_kept(self) -> Kept
         ensures { result ≡ self.kept }
     {
         Box::into_inner(self.into_box())
     }
 
-    /// Gives the handle into C's care: whoever writes this into C's memory writes a handle there.
+    /// Hands the handle to C: the slot, written into C's memory, is a handle there.
     pub(crate) fn into_slot(self) -> Slot
         ensures { result.kept ≡ Some self.kept }
     {

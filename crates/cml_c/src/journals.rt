@@ -1,4 +1,4 @@
-//! The journal: memory that is taken for it in advance, and its cuts.
+//! The journal: memory that is reserved for it, and its cuts.
 ghost use Rattle.std.specs.Prelude.{◌≡◌, slice_get, ⊤};
 ghost use Rattle.cml_c.specs.Entries.{Finds, FindsBytes};
 ghost use Rattle.cml_c.specs.Floors.{Does};
@@ -15,7 +15,7 @@ use crate::rooms::code_of;
 use cml_board::Message;
 use std::alloc::Global;
 
-/// Takes memory for `entries` more entries.
+/// Reserves memory for `entries` more entries.
 #[unsafe(no_mangle)]
 pub extern "C" fn seryugo_reserve(room: &mut Handle, entries: usize) -> u32
     ensures { OnEither (λ M sure. OnRoom (Does (ReservesSome entries) result)) ⊤ result room.old.kept room.new.kept }
@@ -32,7 +32,7 @@ fn reserve<M: Message>(resource: &mut Resource<M>, entries: usize) -> u32
     }
 }
 
-/// Cuts the journal: what it has is dropped, and it has room for as many entries again. Nothing of what was reserved is lost.
+/// Cuts the journal: drops its entries, so that it takes as many again. Keeps the reserved memory.
 #[unsafe(no_mangle)]
 pub extern "C" fn seryugo_cut(room: &mut Handle) -> u32
     ensures { OnEither (λ M sure. OnRoom (Does CutsReserved result)) ⊤ result room.old.kept room.new.kept }
@@ -49,7 +49,7 @@ fn cut<M: Message>(resource: &mut Resource<M>) -> u32
     }
 }
 
-/// Cuts the journal, and writes a handle to the entries that it had and how many they are. What was reserved goes with them.
+/// Cuts the journal, and writes a handle to the entries that it had, and how many they are. The reserved memory goes with them.
 #[unsafe(no_mangle)]
 pub extern "C" fn seryugo_take_journal(
     alloc: Global,

@@ -6,6 +6,7 @@ ghost use Rattle.cml_c.specs.declared.kept.Resource.{Resource};
 ghost use Rattle.cml_c.specs.declared.kept.Resource.TheVariants as resource;
 
 use cml_board::{BoardLog, Bytes, Checker, Entry, Message};
+use cml_journal::Check;
 use cml_lanes::{Feed, Lane, LaneEnd};
 use cml_room::Room;
 
@@ -30,11 +31,13 @@ pub enum Resource<M: Message> {
     /// Entries that were taken out of a room's journal, oldest first.
     Journal(Vec<Entry<M>>),
     Checker(Box<Checker<M>>),
+    /// A journal's text that is read back.
+    Reading(Box<Check<M>>),
     /// A message that C has.
     Message(M),
     /// An entry that C has, with its messages.
     Entry(Box<Entry<M>>),
-    /// Nothing: a lane that was closed.
+    /// Nothing: a lane that was closed, or a reading that was restored.
     Spent,
 }
 
@@ -55,6 +58,9 @@ pub trait Sort: Message {
     /// What a handle to such a resource leads to.
     ghost KEPT: { Resource Self → Kept };
 
+    fn keep_room(room: Box<RoomOf<Self>>) -> Kept
+        ensures { result ≡ KEPT (resource.Room room) };
+
     fn keep_lane(lane: Lane<Self>) -> Kept
         ensures { result ≡ KEPT (resource.Lane lane) };
 
@@ -67,6 +73,12 @@ pub trait Sort: Message {
 
 impl Sort for u64 {
     ghost KEPT = { kept.Numbers };
+
+    fn keep_room(room: Box<RoomOf<u64>>) -> Kept
+        ensures { result ≡ kept.Numbers (resource.Room room) }
+    {
+        Kept::Numbers(Resource::Room(room))
+    }
 
     fn keep_lane(lane: Lane<u64>) -> Kept
         ensures { result ≡ kept.Numbers (resource.Lane lane) }
@@ -89,6 +101,12 @@ impl Sort for u64 {
 
 impl Sort for Bytes {
     ghost KEPT = { kept.Bytes };
+
+    fn keep_room(room: Box<RoomOf<Bytes>>) -> Kept
+        ensures { result ≡ kept.Bytes (resource.Room room) }
+    {
+        Kept::Bytes(Resource::Room(room))
+    }
 
     fn keep_lane(lane: Lane<Bytes>) -> Kept
         ensures { result ≡ kept.Bytes (resource.Lane lane) }

@@ -114,7 +114,7 @@ fn send<M: Message>(resource: &mut Resource<M>, message: M) -> u32
     }
 }
 
-/// Ends a lane: nothing more is sent on it. Fails with `Gone` if its room has let go of it before.
+/// Ends a lane: nothing more is sent on it. Fails with `Gone` if its room has dropped it before.
 #[unsafe(no_mangle)]
 pub extern "C" fn seryugo_lane_finish(lane: &mut Handle) -> u32
     ensures { OnEither (λ M sure. Finishes) ⊤ result lane.old.kept lane.new.kept }
@@ -136,8 +136,8 @@ fn finish<M: Message>(resource: &mut Resource<M>) -> u32
     code.number()
 }
 
-/// Moves what is seen of a lane that has finished, and closes it where then as many of its messages stand in the journal
-/// as were sent on it. Else its handle is as it was.
+/// Moves the messages that it sees on a finished lane, and closes the lane if the journal then has as many of its messages
+/// as were sent on it. Otherwise its handle is as it was.
 #[unsafe(no_mangle)]
 pub extern "C" fn seryugo_lane_close(room: &mut Handle, lane: &mut Handle) -> u32
     ensures { OnBoth (λ M sure. Closes sure) result room.old.kept room.new.kept lane.old.kept lane.new.kept }
@@ -174,7 +174,7 @@ fn close_in<M: Message>(room: &mut RoomOf<M>, lane: &mut Resource<M>) -> u32
     code.number()
 }
 
-/// What a finished lane's handle leads to then, and the code that tells it.
+/// What a finished lane's handle leads to then, and the code that says so.
 fn close_end<M: Message>(room: &mut RoomOf<M>, end: LaneEnd<M>) -> (Resource<M>, Code)
     ensures { ClosesEnd M.SURE end result.0 (number result.1) room.old room.new }
 {
@@ -184,7 +184,7 @@ fn close_end<M: Message>(room: &mut RoomOf<M>, end: LaneEnd<M>) -> (Resource<M>,
     }
 }
 
-/// Moves what is seen of an open lane into the journal, and writes how many messages.
+/// Moves the messages that it sees on an open lane into the journal, and writes how many.
 #[unsafe(no_mangle)]
 pub extern "C" fn seryugo_lane_drain(room: &mut Handle, lane_number: u64, count: &mut u64) -> u32
     ensures { OnEither (λ M sure. OnRoom (Counts (Drains chunk sure lane_number) result count.old count.new)) (count.new ≡ count.old) result room.old.kept room.new.kept }
@@ -201,8 +201,8 @@ fn drain<M: Message>(resource: &mut Resource<M>, lane: u64, count: &mut u64) -> 
     }
 }
 
-/// Moves what is seen of an open lane, writes how many messages, and closes it if none was refused. Fails with `StillOpen` if one
-/// was, but not the first.
+/// Moves the messages that it sees on an open lane, writes how many, and closes it if none was refused. Fails with `StillOpen`
+/// if one was, but not the first.
 #[unsafe(no_mangle)]
 pub extern "C" fn seryugo_lane_drop(room: &mut Handle, lane_number: u64, count: &mut u64) -> u32
     ensures { OnEither (λ M sure. OnRoom (DropsLane sure lane_number result count.old count.new)) (count.new ≡ count.old) result room.old.kept room.new.kept }
@@ -229,7 +229,7 @@ fn drop_lane<M: Message>(resource: &mut Resource<M>, lane: u64, count: &mut u64)
     }
 }
 
-/// Closes an open lane at once, and drops what is left on it.
+/// Closes an open lane at once, and drops the messages left on it.
 #[unsafe(no_mangle)]
 pub extern "C" fn seryugo_lane_abandon(room: &mut Handle, lane_number: u64) -> u32
     ensures { OnEither (λ M sure. OnRoom (Does (Abandons lane_number) result)) ⊤ result room.old.kept room.new.kept }

@@ -25,8 +25,8 @@ pub extern "C" fn seryugo_send(room: &mut Handle, seat: u64, mailbox: u64, messa
     make_plain_call(room, seat, false, Call::Send(Name(mailbox), message))
 }
 
-/// Receives the next message of a mailbox or a port, and writes it. Where there is none the seat is parked: then the call
-/// is made again, with `is_again`.
+/// Receives the next message of a mailbox or a port, and writes it. If there is none, the seat is parked: then make the call
+/// again, with `is_again`.
 #[unsafe(no_mangle)]
 pub extern "C" fn seryugo_recv(
     room: &mut Handle,

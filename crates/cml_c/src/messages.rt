@@ -74,13 +74,20 @@ pub(crate) fn hand_over_held(
 fn hand_over_share(alloc: Global, held: &Bytes, message: &mut SeryugoBytes) -> u32
     ensures { HandsShare held.now result message.old message.new }
 {
-    let Ok(share) = held.share(alloc) else {
-        return Code::NoMemory.number();
-    };
+    match held.share(alloc) {
+        Ok(share) => hand_over_new(alloc, share, message),
+        Err(_) => Code::NoMemory.number(),
+    }
+}
+
+/// Hands over a message, unless there is no memory for its handle.
+pub(crate) fn hand_over_new(alloc: Global, given: Bytes, message: &mut SeryugoBytes) -> u32
+    ensures { HandsShare given result message.old message.new }
+{
     let Ok(owner) = Handle::new(alloc, Kept::Bytes(Resource::Spent)) else {
         return Code::NoMemory.number();
     };
-    *message = hand_over(owner, share);
+    *message = hand_over(owner, given);
     Code::Done.number()
 }
 

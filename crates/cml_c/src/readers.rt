@@ -1,4 +1,4 @@
-//! What a room has, told without changing it.
+//! Calls that read a room without changing it.
 ghost use Rattle.std.specs.Prelude.{◌≡◌, option_map, ⊤};
 ghost use Rattle.cml_c.specs.declared.readers.Reading.TheVariants as reading;
 ghost use Rattle.cml_c.specs.Handles.{OnEither, OnNumbers, OnBytes, OnRoom};
@@ -85,8 +85,8 @@ pub extern "C" fn seryugo_channel_of(room: &mut Handle, port: u64, channel: &mut
     read(room, Reading::Channel(Name(port)), channel)
 }
 
-/// How many messages had been multicast on a port's channel before the first that the port is to receive. Fails with `NoSuch`
-/// if no port has the name.
+/// How many messages were multicast on a port's channel before the first that the port receives. Fails with `NoSuch` if no
+/// port has the name.
 #[unsafe(no_mangle)]
 pub extern "C" fn seryugo_start_of(room: &mut Handle, port: u64, start: &mut u64) -> u32
     ensures { ReadsOn (reading.Start (record { 0 = port })) room.old.kept room.new.kept result start.old start.new }
@@ -102,7 +102,7 @@ pub extern "C" fn seryugo_entries(room: &mut Handle, count: &mut u64) -> u32
     read(room, Reading::Entries, count)
 }
 
-/// How many of them were cut away: the position of the journal's first entry.
+/// How many entries were cut away, which is the position of the journal's first entry.
 #[unsafe(no_mangle)]
 pub extern "C" fn seryugo_cut_at(room: &mut Handle, count: &mut u64) -> u32
     ensures { ReadsOn reading.CutAt room.old.kept room.new.kept result count.old count.new }
@@ -207,7 +207,7 @@ pub extern "C" fn seryugo_bytes_held(
     }
 }
 
-/// Whether a port is open: `Done` if it is, `Closed` if it was closed, `NoSuch` if no port has the name.
+/// Returns `Done` if a port is open, `Closed` if it was closed, and `NoSuch` if no port has the name.
 #[unsafe(no_mangle)]
 pub extern "C" fn seryugo_is_open(room: &mut Handle, port: u64) -> u32
     ensures { OnEither (λ M sure. OnRoom (TellsOpen port result)) ⊤ result room.old.kept room.new.kept }
@@ -230,7 +230,7 @@ fn tell_open_port<M: Message>(room: &mut RoomOf<M>, port: u64) -> u32
     tell_open(room.board().is_open(Name(port)))
 }
 
-/// Whether the journal takes more entries: `Done` if it does, and else `JournalFull`.
+/// Returns `Done` if the journal takes more entries, and else `JournalFull`.
 #[unsafe(no_mangle)]
 pub extern "C" fn seryugo_is_full(room: &mut Handle) -> u32
     ensures { OnEither (λ M sure. OnRoom (TellsFull result)) ⊤ result room.old.kept room.new.kept }

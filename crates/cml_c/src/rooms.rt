@@ -1,9 +1,9 @@
-//! Rooms are opened and closed, and seats are made and leave.
+//! The calls that open and close rooms, make seats and leave them.
 ghost use Rattle.std.specs.Prelude.{◌≡◌, ◌⊎◌, IfOk, IfErr, ⊤};
 ghost use Rattle.cml_c.specs.declared.code.Code.TheVariants.{NoMemory, OutOfBounds};
 ghost use Rattle.cml_c.specs.declared.kept.Kept.TheVariants as kept;
 ghost use Rattle.cml_c.specs.Codes.{number, told_outcome};
-ghost use Rattle.cml_c.specs.Seats.{MakesSeat, Leaves};
+ghost use Rattle.cml_c.specs.Seats.{MakesSeat, Leaves, Withdraws};
 ghost use Rattle.cml_c.specs.Handles.{OnEither, OnRoom};
 ghost use Rattle.cml_c.specs.Opening.{IsLimit, IsNew, OpensARoom, Writes};
 
@@ -15,7 +15,7 @@ use cml_room::Room;
 use std::alloc::Global;
 
 /// The largest limit that a journal may have: 2^32.
-const MOST: u64 = 4_294_967_296;
+pub(crate) const MOST: u64 = 4_294_967_296;
 
 /// Opens a room of numbers whose journal takes `limit` entries between two cuts, and writes a handle to it.
 #[unsafe(no_mangle)]
@@ -97,7 +97,7 @@ fn new_seat<M: Message>(resource: &mut Resource<M>, seat: &mut u64) -> u32
     }
 }
 
-/// A seat leaves: it makes no more calls.
+/// Makes a seat leave: it makes no more calls.
 #[unsafe(no_mangle)]
 pub extern "C" fn seryugo_leave(room: &mut Handle, seat: u64) -> u32
     ensures { OnEither (λ M sure. OnRoom (Leaves seat result)) ⊤ result room.old.kept room.new.kept }
@@ -110,6 +110,23 @@ fn leave<M: Message>(resource: &mut Resource<M>, seat: u64) -> u32
 {
     match resource {
         Resource::Room(room) => code_of(room.leave(seat)),
+        _ => Code::WrongHandle.number(),
+    }
+}
+
+/// Withdraws a parked seat's call. Fails with `Gone` if the seat isn't parked.
+#[unsafe(no_mangle)]
+pub extern "C" fn seryugo_withdraw(room: &mut Handle, seat: u64) -> u32
+    ensures { OnEither (λ M sure. OnRoom (Withdraws seat result)) ⊤ result room.old.kept room.new.kept }
+{
+    for_both!(room.as_mut(), resource => withdraw(resource, seat))
+}
+
+fn withdraw<M: Message>(resource: &mut Resource<M>, seat: u64) -> u32
+    ensures { OnRoom (Withdraws seat result) ⊤ result resource.old resource.new }
+{
+    match resource {
+        Resource::Room(room) => code_of(room.withdraw(seat)),
         _ => Code::WrongHandle.number(),
     }
 }

@@ -1,4 +1,4 @@
-//! What was found, told by its code.
+//! The codes of what was found.
 ghost use Rattle.std.specs.Prelude.{◌≡◌, MatchBool, option_map, option_copied};
 ghost use Rattle.cml_c.specs.declared.code.Code.TheVariants.{Done, JournalFull};
 ghost use Rattle.cml_c.specs.Codes.{number};

@@ -46,7 +46,7 @@ pub extern "C" fn seryugo_put(room: &mut Handle, seat: u64, variable: u64, messa
     make_plain_call(room, seat, false, Call::Put(Name(variable), message))
 }
 
-/// Reads a variable, which keeps what it holds. Where it is empty the seat is parked.
+/// Reads a variable, which keeps what it holds. If it is empty, the seat is parked.
 #[unsafe(no_mangle)]
 pub extern "C" fn seryugo_get(
     room: &mut Handle,
@@ -73,7 +73,7 @@ pub extern "C" fn seryugo_get_poll(
     make_call(room, seat, false, Call::GetPoll(Name(variable)), message)
 }
 
-/// Reads and empties an m-variable. Where it is empty the seat is parked.
+/// Reads and empties an m-variable. If it is empty, the seat is parked.
 #[unsafe(no_mangle)]
 pub extern "C" fn seryugo_take(
     room: &mut Handle,
@@ -100,7 +100,7 @@ pub extern "C" fn seryugo_take_poll(
     make_call(room, seat, false, Call::TakePoll(Name(variable)), message)
 }
 
-/// Stores this in an m-variable, and writes what it held. Where it is empty the seat is parked.
+/// Stores this in an m-variable, and writes what it held. If it is empty, the seat is parked.
 #[unsafe(no_mangle)]
 pub extern "C" fn seryugo_swap(
     room: &mut Handle,

@@ -1,0 +1,78 @@
+-- What C gets of a journal whose text is read back.
+use Rattle.std.specs.Prelude.{ℕ, ◌≡◌, ◌⊎◌, Bool, true, false, List, [], ◌++◌, Option, Some, None, ⊤}
+use Rattle.cml_board.specs.Checking.{count_of}
+use Rattle.cml_journal.specs.declared.stop.Halt.{Halt}
+use Rattle.cml_journal.specs.declared.stop.Halt.TheVariants as halt
+use Rattle.cml_journal.specs.Checks.{Progress, IsSoFar, HaltTells, is_whole}
+use Rattle.cml_journal.specs.Escapes.{message_of_word}
+use Rattle.cml_journal.specs.Numbers.{number_of}
+use Rattle.cml_c.specs.declared.code.Code.{Code}
+use Rattle.cml_c.specs.declared.code.Code.TheVariants.{Done, NoMemory, Unlawful, Fault, Torn}
+use Rattle.cml_c.specs.declared.handle.Slot.{Slot}
+use Rattle.cml_c.specs.declared.kept.Kept.{Kept}
+use Rattle.cml_c.specs.declared.kept.Kept.TheVariants.{Numbers, Bytes}
+use Rattle.cml_c.specs.declared.kept.Resource.{Resource}
+use Rattle.cml_c.specs.declared.kept.Resource.TheVariants.{Reading}
+use Rattle.cml_c.specs.Codes.{number}
+use Rattle.cml_c.specs.Handles.{OnReading}
+use Rattle.cml_c.specs.Opening.{WritesNew}
+
+-- the code of what a reading stopped by
+abbrev pub told_halt : Halt → Code
+told_halt (halt.Unlawful at) = Unlawful
+told_halt (halt.Fault line what) = Fault
+told_halt halt.NoMemory = NoMemory
+
+-- a handle to a reading of nothing is written; or there is no memory, and the slot is as it was
+abbrev pub OpensAReading : {M : Type 0} → ℕ → (List ℕ → Option M) → (Resource M → Kept) → ℕ → Slot → Slot → Type 0
+OpensAReading version meaning wrap told old new =
+    WritesNew (IsSoFar version meaning []) (λ reading. wrap (Reading reading)) told new ⊎ ((told ≡ number NoMemory) × (new ≡ old))
+
+abbrev pub OpensNumbers : ℕ → Slot → Slot → Type 0
+OpensNumbers = OpensAReading 1 number_of Numbers
+
+abbrev pub OpensBytes : ℕ → Slot → Slot → Type 0
+OpensBytes = OpensAReading 2 message_of_word Bytes
+
+-- the code of a reading that goes on, or has stopped
+abbrev pub told_so_far : Option Halt → Code
+told_so_far None = Done
+told_so_far (Some halted) = told_halt halted
+
+-- what is known of the bytes that a reading took: all entries in them are lawful, or what it stopped by says which fault they have
+abbrev pub IsReadTo : {M : Type 0} → ℕ → (List ℕ → Option M) → List ℕ → Progress M → Option Halt → Type 0
+IsReadTo version meaning bytes progress None = IsSoFar version meaning bytes progress
+IsReadTo version meaning bytes progress (Some halted) = HaltTells version meaning bytes progress halted
+
+-- these bytes are read behind any others; a reading that had stopped stays as it was
+pub record Takes {M : Type 0} (version : ℕ) (meaning : List ℕ → Option M) (bytes : List ℕ) (code : ℕ) (old new : Progress M) : Type 0 where
+  pub told : code ≡ number (told_so_far new.halt)
+  pub read : (before : List ℕ) → IsSoFar version meaning before old → IsReadTo version meaning (before ++ bytes) new new.halt
+  pub spent : (halted : Halt) → old.halt ≡ Some halted → new ≡ old
+
+-- the same of whichever reading a handle leads to
+abbrev pub TakesPart : List ℕ → ℕ → Kept → Kept → Type 0
+TakesPart bytes code (Numbers old) new = (left : Resource ℕ) × (new ≡ Numbers left) × OnReading (Takes 1 number_of bytes code) ⊤ code old left
+TakesPart bytes code (Bytes old) new = (left : Resource (List ℕ)) × (new ≡ Bytes left) × OnReading (Takes 2 message_of_word bytes code) ⊤ code old left
+
+-- how many entries are lawful, and how many lines have ended
+abbrev pub entries_read : {M : Type 0} → Progress M → ℕ
+entries_read progress = count_of progress.checker
+
+abbrev pub lines_read : {M : Type 0} → Progress M → ℕ
+lines_read progress = progress.state.lines
+
+-- this is written, and the reading is as it was
+pub record Tells {M : Type 0} (what : Progress M → ℕ) (code after : ℕ) (old new : Progress M) : Type 0 where
+  pub reading : new ≡ old
+  pub told : code ≡ number Done
+  pub written : after ≡ what old
+
+-- the code of a text that may be whole, by what the reading stopped by, if it has stopped
+abbrev pub told_end : Option Halt → Bool → Code
+told_end (Some halted) whole = told_halt halted
+told_end None true = Done
+told_end None false = Torn
+
+abbrev pub EndsSo : {M : Type 0} → ℕ → Progress M → Progress M → Type 0
+EndsSo code old new = (new ≡ old) × (code ≡ number (told_end old.halt (is_whole old)))

@@ -1,0 +1,30 @@
+-- What C gets of a journal as text.
+use Rattle.std.specs.Prelude.{ℕ, ◌≡◌, ◌+◌, ◌<◌, ◌≤◌, ◌^◌, ◌⊎◌, List, length}
+use Rattle.std.specs.Fmt.{decimal}
+use Rattle.cml_board.specs.declared.entry.Entry.{Entry}
+use Rattle.cml_journal.specs.Escapes.{bytes_text}
+use Rattle.cml_journal.specs.Streams.{text_of, piece_lines}
+use Rattle.cml_c.specs.declared.code.Code.TheVariants.{OutOfBounds}
+use Rattle.cml_c.specs.declared.kept.Kept.{Kept}
+use Rattle.cml_c.specs.declared.kept.Kept.TheVariants.{Numbers, Bytes}
+use Rattle.cml_c.specs.declared.kept.Resource.{Resource}
+use Rattle.cml_c.specs.declared.messages.SeryugoBytes.{SeryugoBytes}
+use Rattle.cml_c.specs.Codes.{number}
+use Rattle.cml_c.specs.Handles.{OnJournal}
+use Rattle.cml_c.specs.Messages.{HandsShare}
+
+-- the text of these entries as one piece, whose first has this position, is handed over, or there is no memory for it; or no
+-- position is behind them
+abbrev pub HandsText : {M : Type 0} → ℕ → (M → List ℕ) → ℕ → ℕ → SeryugoBytes → SeryugoBytes → List (Entry M) → Type 0
+HandsText version text at code from to entries =
+    ((at + length entries < 2 ^ 64) × HandsShare (text_of (piece_lines version text at entries)) code from to)
+    ⊎ ((2 ^ 64 ≤ at + length entries) × (code ≡ number OutOfBounds) × (to ≡ from))
+
+-- the same of the entries of a journal that was taken
+abbrev pub HandsTaken : {M : Type 0} → ℕ → (M → List ℕ) → ℕ → SeryugoBytes → SeryugoBytes → ℕ → Resource M → Resource M → Type 0
+HandsTaken version text at from to code old new = OnJournal (HandsText version text at code from to) (to ≡ from) code old new
+
+-- the same of whichever journal a handle leads to: numbers are written in version 1, as their digits, and bytes in version 2
+abbrev pub HandsJournal : ℕ → SeryugoBytes → SeryugoBytes → ℕ → Kept → Kept → Type 0
+HandsJournal at from to code (Numbers old) new = (left : Resource ℕ) × (new ≡ Numbers left) × HandsTaken 1 decimal at from to code old left
+HandsJournal at from to code (Bytes old) new = (left : Resource (List ℕ)) × (new ≡ Bytes left) × HandsTaken 2 bytes_text at from to code old left

@@ -1,0 +1,78 @@
+//! A journal as text.
+ghost use Rattle.std.specs.Prelude.{◌≡◌, ◌+◌, ◌<◌, ◌^◌, length, IfSome};
+ghost use Rattle.cml_journal.specs.Streams.{text_of, piece_lines};
+ghost use Rattle.cml_c.specs.Texts.{HandsText, HandsTaken, HandsJournal};
+
+use crate::code::Code;
+use crate::handle::Handle;
+use crate::kept::{Kept, Resource, for_both};
+use crate::messages::{SeryugoBytes, hand_over_new};
+use cml_board::{Bytes, Entry, Message};
+use cml_journal::{Written, add_piece};
+use std::alloc::Global;
+
+/// Hands over the entries of a journal that was taken as text: one piece, whose first entry is at position `from`.
+#[unsafe(no_mangle)]
+pub extern "C" fn seryugo_journal_text(
+    alloc: Global,
+    journal: &mut Handle,
+    from: u64,
+    text: &mut SeryugoBytes,
+) -> u32
+    ensures { HandsJournal from text.old text.new result journal.old.kept journal.new.kept }
+{
+    for_both!(journal.as_mut(), resource => hand_over_taken(alloc, resource, from, text))
+}
+
+fn hand_over_taken<M: Message + Written>(
+    alloc: Global,
+    resource: &mut Resource<M>,
+    from: u64,
+    text: &mut SeryugoBytes,
+) -> u32
+    ensures { HandsTaken M.VERSION M.text from text.old text.new result resource.old resource.new }
+{
+    match resource {
+        Resource::Journal(journal) => hand_over_entries(alloc, journal, from, text),
+        _ => Code::WrongHandle.number(),
+    }
+}
+
+fn hand_over_entries<M: Message + Written>(
+    alloc: Global,
+    journal: &mut Vec<Entry<M>>,
+    from: u64,
+    text: &mut SeryugoBytes,
+) -> u32
+    ensures journal { journal.new ≡ journal.old }
+    ensures hands { HandsText M.VERSION M.text from result text.old text.new journal.old.items }
+{
+    hand_over_text(alloc, journal, from, text)
+}
+
+fn hand_over_text<M: Message + Written>(
+    alloc: Global,
+    entries: &[Entry<M>],
+    from: u64,
+    text: &mut SeryugoBytes,
+) -> u32
+    ensures { HandsText M.VERSION M.text from result text.old text.new entries.now }
+{
+    if entries.len() as u64 > u64::MAX - from {
+        return Code::OutOfBounds.number();
+    }
+    match text_of(alloc, from, entries) {
+        Some(piece) => hand_over_new(alloc, piece, text),
+        None => Code::NoMemory.number(),
+    }
+}
+
+/// The text of a piece, unless there is no memory for it, or it would be longer than a message.
+fn text_of<M: Message + Written>(alloc: Global, from: u64, entries: &[Entry<M>]) -> Option<Bytes>
+    requires { from + length entries.now < 2 ^ 64 }
+    ensures { IfSome result (λ piece. piece ≡ text_of (piece_lines M.VERSION M.text from entries.now)) }
+{
+    let mut text = String::new(alloc);
+    add_piece(&mut text, from, entries).ok()?;
+    Bytes::from_vec(alloc, text.into_bytes()).ok()?.ok()
+}
