@@ -1,8 +1,18 @@
 //! Entries of the journal.
 
-use crate::raw::RawEntry;
+use crate::raw::{mismatch, RawEntry};
 
 /// Who made a call, by its number.
+///
+/// ```
+/// use seryugo::Who;
+///
+/// let board = seryugo::Switchboard::new(1_000)?;
+/// let mut seat = board.seat()?;
+/// seat.mailbox()?;
+/// assert_eq!(board.entry(0).map(|entry| entry.who), Some(Who::Seat(seat.number())));
+/// # Ok::<(), seryugo::Error>(())
+/// ```
 #[derive(Clone, Copy, Debug, PartialEq, Eq, Hash)]
 pub enum Who {
     Seat(u64),
@@ -11,6 +21,19 @@ pub enum Who {
 }
 
 /// A call, with the number of its object, and its message.
+///
+/// ```
+/// use seryugo::Call;
+///
+/// let board = seryugo::Switchboard::new(1_000)?;
+/// let mut seat = board.seat()?;
+/// let mailbox = seat.mailbox()?;
+/// seat.send(mailbox, 5)?;
+/// seat.recv(mailbox)?;
+/// let calls: Vec<Call> = (0..3).filter_map(|at| board.entry(at)).map(|entry| entry.call).collect();
+/// assert_eq!(calls, [Call::NewMailbox, Call::Send(0, 5), Call::Recv(0)]);
+/// # Ok::<(), seryugo::Error>(())
+/// ```
 #[derive(Clone, Copy, Debug, PartialEq, Eq, Hash)]
 pub enum Call {
     NewMailbox,
@@ -34,6 +57,19 @@ pub enum Call {
 }
 
 /// What a call was answered.
+///
+/// ```
+/// use seryugo::Reply;
+///
+/// let board = seryugo::Switchboard::new(1_000)?;
+/// let mut seat = board.seat()?;
+/// let variable = seat.mvar_init(5)?;
+/// seat.put(variable, 6)?;
+/// seat.take(variable)?;
+/// let replies: Vec<Reply> = (0..3).filter_map(|at| board.entry(at)).map(|entry| entry.reply).collect();
+/// assert_eq!(replies, [Reply::Made(0), Reply::Put, Reply::Got(5)]);
+/// # Ok::<(), seryugo::Error>(())
+/// ```
 #[derive(Clone, Copy, Debug, PartialEq, Eq, Hash)]
 pub enum Reply {
     Done,
@@ -46,6 +82,20 @@ pub enum Reply {
 }
 
 /// One accepted call.
+///
+/// ```
+/// use seryugo::{Call, Entry, Reply, Who};
+///
+/// let board = seryugo::Switchboard::new(1_000)?;
+/// board.seat()?.mailbox()?;
+/// let entry = Entry {
+///     who: Who::Seat(0),
+///     call: Call::NewMailbox,
+///     reply: Reply::Made(0),
+/// };
+/// assert_eq!(board.entry(0), Some(entry));
+/// # Ok::<(), seryugo::Error>(())
+/// ```
 #[derive(Clone, Copy, Debug, PartialEq, Eq, Hash)]
 pub struct Entry {
     pub who: Who,
@@ -68,7 +118,7 @@ fn who(raw: &RawEntry) -> Who {
         0 => Who::Seat(raw.maker.number),
         1 => Who::Lane(raw.maker.number),
         2 => Who::Feed(raw.maker.number),
-        other => unreachable!("made by {other}"),
+        other => mismatch(other),
     }
 }
 
@@ -93,7 +143,7 @@ fn call(raw: &RawEntry) -> Call {
         15 => Call::Take(object),
         16 => Call::TakePoll(object),
         17 => Call::Swap(object, message),
-        other => unreachable!("called {other}"),
+        other => mismatch(other),
     }
 }
 
@@ -105,6 +155,6 @@ fn reply(raw: &RawEntry) -> Reply {
         3 => Reply::Nothing,
         4 => Reply::Put,
         5 => Reply::Closed,
-        other => unreachable!("replied {other}"),
+        other => mismatch(other),
     }
 }

@@ -1,8 +1,9 @@
 //! A journal that was taken.
 
 use crate::entry::Entry;
-use crate::raw::{self, done, Handle, RawEntry};
+use crate::raw::{self, done, Handle, RawEntry, Text};
 use std::cell::RefCell;
+use std::io::{self, ErrorKind, Write};
 use std::ops::Range;
 
 /// The entries that a switchboard's journal had when it was taken, oldest first. They are their owner's own, and may go to
@@ -33,27 +34,72 @@ use std::ops::Range;
 pub struct Journal {
     // Calls on a handle are one at a time, also those that change nothing.
     handle: RefCell<Handle>,
+    first: u64,
     len: usize,
 }
 
 impl Journal {
-    pub(crate) fn new(handle: Handle, len: usize) -> Journal {
+    pub(crate) fn new(handle: Handle, first: u64, len: usize) -> Journal {
         Journal {
             handle: RefCell::new(handle),
+            first,
             len,
         }
     }
 
+    /// The position of its first entry: how many entries the switchboard had before.
+    ///
+    /// ```
+    /// # fn main() -> Result<(), seryugo::Error> {
+    /// let board = seryugo::Switchboard::new(1_000)?;
+    /// let mut seat = board.seat()?;
+    /// seat.mailbox()?;
+    /// assert_eq!(board.take_journal()?.first(), 0);
+    /// seat.mailbox()?;
+    /// assert_eq!(board.take_journal()?.first(), 1);
+    /// # Ok(())
+    /// # }
+    /// ```
+    pub fn first(&self) -> u64 {
+        self.first
+    }
+
     /// How many entries there are.
+    ///
+    /// ```
+    /// # let board = seryugo::Switchboard::new(1_000)?;
+    /// # let mut seat = board.seat()?;
+    /// seat.mailbox()?;
+    /// let journal = board.take_journal()?;
+    /// assert_eq!(journal.len(), 1);
+    /// # Ok::<(), seryugo::Error>(())
+    /// ```
     pub fn len(&self) -> usize {
         self.len
     }
 
+    /// Whether there is none.
+    ///
+    /// ```
+    /// # let board = seryugo::Switchboard::new(1_000)?;
+    /// assert!(board.take_journal()?.is_empty());
+    /// # Ok::<(), seryugo::Error>(())
+    /// ```
     pub fn is_empty(&self) -> bool {
         self.len == 0
     }
 
     /// The entry of this place, counted from 0 for the oldest.
+    ///
+    /// ```
+    /// # let board = seryugo::Switchboard::new(1_000)?;
+    /// # let mut seat = board.seat()?;
+    /// seat.mailbox()?;
+    /// let journal = board.take_journal()?;
+    /// assert_eq!(journal.entry(0).map(|entry| entry.call), Some(seryugo::Call::NewMailbox));
+    /// assert_eq!(journal.entry(1), None);
+    /// # Ok::<(), seryugo::Error>(())
+    /// ```
     pub fn entry(&self, place: usize) -> Option<Entry> {
         let mut entry = RawEntry::default();
         let code = unsafe { raw::seryugo_taken_entry(&mut *self.handle.borrow_mut(), place as u64, &mut entry) };
@@ -61,7 +107,40 @@ impl Journal {
         Some(Entry::of(&entry))
     }
 
+    /// Writes the entries as text: one piece, as `docs/FORMATS.md` says under "Journals". Write the pieces of a switchboard one
+    /// behind the other, and [`Checker`](crate::Checker) and [`Switchboard::restore`](crate::Switchboard::restore) read them. It
+    /// flushes nothing.
+    ///
+    /// Errors: `OutOfMemory` if there is no memory for the text, or it would have 2^32 bytes or more; and what `to` fails with.
+    ///
+    /// ```
+    /// # fn main() -> Result<(), Box<dyn std::error::Error>> {
+    /// let board = seryugo::Switchboard::new(1_000)?;
+    /// let mut seat = board.seat()?;
+    /// let mailbox = seat.mailbox()?;
+    /// seat.send(mailbox, 5)?;
+    /// let mut file = Vec::new();
+    /// board.take_journal()?.write_to(&mut file)?;
+    /// assert_eq!(file, b"journal 1\nseat 0 mailbox: made 0\nseat 0 send 0 5: done\nend 2\n");
+    /// # Ok(())
+    /// # }
+    /// ```
+    pub fn write_to(&self, to: &mut impl Write) -> io::Result<()> {
+        // No journal has a position of 2^64, so that only memory can be refused.
+        let text = Text::of_journal(&mut self.handle.borrow_mut(), self.first).map_err(|_| ErrorKind::OutOfMemory)?;
+        to.write_all(text.as_bytes())
+    }
+
     /// Each entry, oldest first.
+    ///
+    /// ```
+    /// # let board = seryugo::Switchboard::new(1_000)?;
+    /// # let mut seat = board.seat()?;
+    /// seat.mailbox()?;
+    /// let journal = board.take_journal()?;
+    /// assert!(journal.iter().all(|entry| entry.call == seryugo::Call::NewMailbox));
+    /// # Ok::<(), seryugo::Error>(())
+    /// ```
     pub fn iter(&self) -> Entries<'_> {
         Entries {
             journal: self,
@@ -71,6 +150,17 @@ impl Journal {
 }
 
 /// The entries of a [`Journal`], oldest first.
+///
+/// ```
+/// # let board = seryugo::Switchboard::new(1_000)?;
+/// # let mut seat = board.seat()?;
+/// seat.mailbox()?;
+/// let journal = board.take_journal()?;
+/// let mut entries = journal.iter();
+/// assert_eq!(entries.len(), 1);
+/// assert!(entries.next().is_some() && entries.next().is_none());
+/// # Ok::<(), seryugo::Error>(())
+/// ```
 pub struct Entries<'a> {
     journal: &'a Journal,
     places: Range<usize>,

@@ -2,17 +2,13 @@
 
 use std::hint;
 use std::sync::atomic::{AtomicU32, AtomicU8, Ordering};
-use std::thread;
 
 /// How often a thread doubles the time for which it spins, from once to 64 times.
 const DOUBLINGS: u32 = 6;
 
-/// Behind which look it lets other threads run once, instead. On a busy machine that gives up the whole time slice, and to sleep
-/// is better then, so it does so only once in a wait.
-const YIELDS_AFTER: u32 = 7;
-
-/// A thread looks so often at a state. It spins between two looks. Once it has looked in vain, it doesn't look in its next waits: in one, and then in twice as
-/// many each time. For that thread alone.
+/// A thread looks so often at a state. It spins between two looks. Once it has looked in vain, it doesn't look in its next waits: in
+/// one, and then in twice as many each time. It never yields: on a busy machine a yield gives up the whole time slice. For that
+/// thread alone.
 pub(crate) struct Looks {
     times: u32,
     most_without: u32,
@@ -60,9 +56,6 @@ impl Looks {
 }
 
 fn pause(look: u32) {
-    if look == YIELDS_AFTER {
-        return thread::yield_now();
-    }
     for _ in 0..1 << look.min(DOUBLINGS) {
         hint::spin_loop();
     }

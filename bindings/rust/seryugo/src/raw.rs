@@ -1,9 +1,11 @@
 //! The library's calls, as its header has them, and a handle that is closed when it is dropped.
 
 use crate::error::Error;
+use std::fmt::Debug;
 use std::os::raw::c_void;
 
-/// A handle to a room, a lane, a feed or a journal that was taken. Whoever has it by `&mut` has it alone, which orders its calls.
+/// A handle to a room, a lane, a feed, a reading or a taken journal. A thread that has it by `&mut` has it alone, which orders its
+/// calls.
 #[repr(C)]
 pub struct Handle {
     at: *mut c_void,
@@ -31,12 +33,57 @@ impl Drop for Handle {
 }
 
 /// A handle that is given to the call which closes it.
+#[derive(Clone, Copy)]
 #[repr(C)]
 pub struct Closing {
     at: *mut c_void,
 }
 
-/// What a call is told, where it isn't refused.
+/// Bytes that the library has handed over, to be freed once.
+#[derive(Clone, Copy)]
+#[repr(C)]
+struct RawBytes {
+    at: *const u8,
+    length: usize,
+    owner: Closing,
+}
+
+/// A text that the library has handed over. It is freed when it is dropped.
+pub struct Text {
+    bytes: RawBytes,
+}
+
+impl Text {
+    /// The text of a taken journal, whose first entry is at the position `from`.
+    pub fn of_journal(journal: &mut Handle, from: u64) -> Result<Text, Error> {
+        let owner = Closing {
+            at: std::ptr::null_mut(),
+        };
+        let mut bytes = RawBytes {
+            at: std::ptr::null(),
+            length: 0,
+            owner,
+        };
+        done(unsafe { seryugo_journal_text(journal, from, &mut bytes) })?;
+        Ok(Text { bytes })
+    }
+
+    pub fn as_bytes(&self) -> &[u8] {
+        // The library keeps these bytes until they are freed. The pointer of no bytes may be null.
+        match self.bytes.length {
+            0 => &[],
+            length => unsafe { std::slice::from_raw_parts(self.bytes.at, length) },
+        }
+    }
+}
+
+impl Drop for Text {
+    fn drop(&mut self) {
+        unsafe { seryugo_bytes_free(self.bytes) }
+    }
+}
+
+/// The result of a call that does not fail.
 #[derive(Clone, Copy, Debug, PartialEq, Eq)]
 pub enum Told {
     Done,
@@ -66,8 +113,19 @@ pub fn told(code: u32) -> Result<Told, Error> {
 pub fn done(code: u32) -> Result<(), Error> {
     match told(code)? {
         Told::Done => Ok(()),
-        other => unreachable!("told {other:?}"),
+        _ => mismatch(code),
     }
+}
+
+/// The library returned what the one of this crate's version never returns there.
+#[cold]
+pub fn mismatch(returned: impl Debug) -> ! {
+    panic!("the linked library isn't of this crate's version: a call returned {returned:?}")
+}
+
+/// What a call returned that never fails.
+pub fn sure<T>(returned: Result<T, Error>) -> T {
+    returned.unwrap_or_else(|error| mismatch(error))
 }
 
 /// A number that is written by a call which is only ever done or refused.
@@ -80,10 +138,11 @@ pub fn written(call: impl FnOnce(*mut u64) -> u32) -> Result<u64, Error> {
 /// The same, or nothing.
 pub fn polled(call: impl FnOnce(*mut u64) -> u32) -> Result<Option<u64>, Error> {
     let mut number = 0;
-    match told(call(&mut number))? {
+    let code = call(&mut number);
+    match told(code)? {
         Told::Done => Ok(Some(number)),
         Told::Nothing => Ok(None),
-        other => unreachable!("told {other:?}"),
+        _ => mismatch(code),
     }
 }
 
@@ -119,9 +178,18 @@ pub struct RawReply {
 
 extern "C" {
     fn seryugo_close(handle: Closing);
+    fn seryugo_bytes_free(bytes: RawBytes);
+    fn seryugo_journal_text(journal: *mut Handle, from: u64, text: *mut RawBytes) -> u32;
+    pub fn seryugo_reading_open(reading: *mut Handle) -> u32;
+    pub fn seryugo_reading_take_from(reading: *mut Handle, at: *const c_void, length: usize) -> u32;
+    pub fn seryugo_reading_entries(reading: *mut Handle, count: *mut u64) -> u32;
+    pub fn seryugo_reading_lines(reading: *mut Handle, lines: *mut u64) -> u32;
+    pub fn seryugo_reading_end(reading: *mut Handle) -> u32;
+    pub fn seryugo_room_restore(reading: *mut Handle, limit: u64, room: *mut Handle) -> u32;
     pub fn seryugo_room_open(limit: u64, room: *mut Handle) -> u32;
     pub fn seryugo_new_seat(room: *mut Handle, seat: *mut u64) -> u32;
     pub fn seryugo_leave(room: *mut Handle, seat: u64) -> u32;
+    pub fn seryugo_withdraw(room: *mut Handle, seat: u64) -> u32;
     pub fn seryugo_next_due(room: *mut Handle, seat: *mut u64) -> u32;
     pub fn seryugo_new_mailbox(room: *mut Handle, seat: u64, mailbox: *mut u64) -> u32;
     pub fn seryugo_send(room: *mut Handle, seat: u64, mailbox: u64, message: u64) -> u32;
@@ -146,7 +214,6 @@ extern "C" {
     pub fn seryugo_lane_finish(lane: *mut Handle) -> u32;
     pub fn seryugo_lane_close(room: *mut Handle, lane: *mut Handle) -> u32;
     pub fn seryugo_lane_drain(room: *mut Handle, lane: u64, count: *mut u64) -> u32;
-    pub fn seryugo_lane_drop(room: *mut Handle, lane: u64, count: *mut u64) -> u32;
     pub fn seryugo_lane_abandon(room: *mut Handle, lane: u64) -> u32;
     pub fn seryugo_feed_open(room: *mut Handle, channel: u64, capacity: usize, feed: *mut Handle, number: *mut u64) -> u32;
     pub fn seryugo_feed_pump(room: *mut Handle, feed: u64, count: *mut u64) -> u32;
@@ -158,6 +225,7 @@ extern "C" {
     pub fn seryugo_entry(room: *mut Handle, at: u64, entry: *mut RawEntry) -> u32;
     pub fn seryugo_take_journal(room: *mut Handle, journal: *mut Handle, count: *mut u64) -> u32;
     pub fn seryugo_taken_entry(journal: *mut Handle, place: u64, entry: *mut RawEntry) -> u32;
+    pub fn seryugo_kind(room: *mut Handle, object: u64, kind: *mut u64) -> u32;
     pub fn seryugo_channel_of(room: *mut Handle, port: u64, channel: *mut u64) -> u32;
     pub fn seryugo_start_of(room: *mut Handle, port: u64, start: *mut u64) -> u32;
     pub fn seryugo_sent(room: *mut Handle, object: u64, count: *mut u64) -> u32;

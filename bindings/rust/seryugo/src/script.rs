@@ -1,5 +1,6 @@
 //! Scripts, replayed.
 
+use crate::raw::mismatch;
 use std::error::Error;
 use std::fmt;
 
@@ -103,7 +104,7 @@ impl RawEnd {
             2 => End::Fault(self.line),
             5 => End::NoMemory,
             6 => End::Full,
-            status => unreachable!("no replay has the status {status}"),
+            status => mismatch(status),
         }
     }
 }

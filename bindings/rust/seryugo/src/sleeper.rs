@@ -1,9 +1,10 @@
-//! How the thread of a parked seat waits.
+//! How a parked seat waits: by a thread that sleeps, or by a future's waker.
 
 use crate::looks::Looks;
 use std::sync::atomic::{AtomicBool, AtomicU64, AtomicU8, Ordering};
-use std::sync::{Mutex, PoisonError};
-use std::thread::{self, Thread};
+use std::sync::{Condvar, Mutex, MutexGuard, PoisonError};
+use std::task::Waker;
+use std::time::{Duration, Instant};
 
 /// How often a thread looks before it sleeps, and in how many waits not at all, at the most, once that was in vain.
 const FEW_LOOKS: (u32, u32) = (8, 16);
@@ -11,18 +12,23 @@ const FEW_LOOKS: (u32, u32) = (8, 16);
 /// answer as soon as it runs, and to wake it takes longer than the few looks. So two threads that answer each other don't sleep at
 /// each turn.
 const MANY_LOOKS: (u32, u32) = (50, 512);
+/// How long a thread may look at the most. If less is left until its time limit, it sleeps at once.
+const LONGEST_LOOK: Duration = Duration::from_micros(500);
 
-/// What the thread does, or that it was woken.
+/// What the seat's thread or future does, or that it was woken.
 const AWAKE: u8 = 0;
 const WOKEN: u8 = 1;
 const ASLEEP: u8 = 2;
+const LISTENS: u8 = 3;
 
 /// The number of no seat.
 const NOBODY: u64 = u64::MAX;
 
-/// What the thread of a seat waits by. Between two waits it is woken exactly once: the room returns a parked seat as due only
-/// once, and its thread asks again only when it was woken. Each has lines of memory for itself, so that a thread that looks slows
-/// no other one.
+/// What a seat waits by. It has lines of memory for itself, so that a thread that looks slows no other one.
+///
+/// The room returns a parked seat as due once, until the seat asks again, and each return has a wake. So a wake that is on its way
+/// as its seat withdraws the call comes late: it ends a later wait too early. Then the seat asks again in vain, and waits on. No
+/// wake for the last ask is lost, since the state becomes `AWAKE` only before an ask, and never between the ask and the sleep.
 #[repr(align(128))]
 pub(crate) struct Sleeper {
     /// The seat's number.
@@ -30,8 +36,9 @@ pub(crate) struct Sleeper {
     state: AtomicU8,
     /// The seat whose call woke it last.
     woken_by: AtomicU64,
-    /// The thread that sleeps, or was the last to sleep.
-    thread: Mutex<Option<Thread>>,
+    /// The waker of a future that listens. A thread that sleeps has this lock until it sleeps.
+    waker: Mutex<Option<Waker>>,
+    woken: Condvar,
     // These are for the seat's thread alone.
     is_answer_near: AtomicBool,
     few: Looks,
@@ -44,7 +51,8 @@ impl Sleeper {
             number,
             woken_by: AtomicU64::new(NOBODY),
             state: AtomicU8::new(AWAKE),
-            thread: Mutex::new(None),
+            waker: Mutex::new(None),
+            woken: Condvar::new(),
             is_answer_near: AtomicBool::new(false),
             few: Looks::new(FEW_LOOKS.0, FEW_LOOKS.1),
             many: Looks::new(MANY_LOOKS.0, MANY_LOOKS.1),
@@ -56,8 +64,48 @@ impl Sleeper {
         if !self.is_soon_woken() {
             self.sleep();
         }
-        // It isn't woken again before its seat has asked again.
+        self.forget_wake();
+    }
+
+    /// The same, but at most until then. Returns whether it was woken.
+    pub fn wait_until(&self, deadline: Instant) -> bool {
+        let has_time = deadline.saturating_duration_since(Instant::now()) > LONGEST_LOOK;
+        let is_woken = has_time && self.is_soon_woken() || self.sleep_until(deadline);
+        self.forget_wake();
+        is_woken
+    }
+
+    /// For a future: whether it was woken. If not, this waker is called at the next wake.
+    pub fn poll(&self, waker: &Waker) -> bool {
+        let is_woken = self.state.load(Ordering::Acquire) == WOKEN || !self.listen(waker);
+        if is_woken {
+            self.forget_waker();
+        }
+        is_woken
+    }
+
+    /// Whether this waker is called at the next wake: it was not woken before.
+    fn listen(&self, waker: &Waker) -> bool {
+        if !self.waker().as_ref().is_some_and(|known| known.will_wake(waker)) {
+            // A clone and a drop may run anything, so that the lock isn't held.
+            let new = waker.clone();
+            let old = self.waker().replace(new);
+            drop(old);
+        }
+        let state = self.state.compare_exchange(AWAKE, LISTENS, Ordering::AcqRel, Ordering::Acquire);
+        state != Err(WOKEN)
+    }
+
+    /// The seat waits no longer. A wake that comes for that wait is forgotten if it has come.
+    pub fn forget_wake(&self) {
         self.state.store(AWAKE, Ordering::Relaxed);
+    }
+
+    /// The same for a future, whose waker is dropped.
+    pub fn forget_waker(&self) {
+        self.forget_wake();
+        let waker = self.waker().take();
+        drop(waker);
     }
 
     /// Looks for a while, unless it looked in vain lately.
@@ -73,26 +121,49 @@ impl Sleeper {
     }
 
     fn sleep(&self) {
-        *self.thread.lock().unwrap_or_else(PoisonError::into_inner) = Some(thread::current());
-        let slept = self.state.compare_exchange(AWAKE, ASLEEP, Ordering::AcqRel, Ordering::Acquire);
-        if slept.is_ok() {
-            // Others may unpark this thread too, and an unpark may be left from an earlier wait.
-            while self.state.load(Ordering::Acquire) == ASLEEP {
-                thread::park();
-            }
+        let mut lock = self.waker();
+        self.fall_asleep();
+        while self.state.load(Ordering::Acquire) == ASLEEP {
+            lock = self.woken.wait(lock).unwrap_or_else(PoisonError::into_inner);
         }
     }
 
-    /// Wakes the thread, or has its next wait end at once, for a call of that seat or of none. Whether the thread slept.
-    pub fn wake(&self, by: Option<&Sleeper>) -> bool {
-        self.woken_by.store(by.map_or(NOBODY, |by| by.number), Ordering::Relaxed);
-        if self.state.swap(WOKEN, Ordering::AcqRel) != ASLEEP {
-            return false;
-        }
-        if let Some(thread) = &*self.thread.lock().unwrap_or_else(PoisonError::into_inner) {
-            thread.unpark();
+    fn sleep_until(&self, deadline: Instant) -> bool {
+        let mut lock = self.waker();
+        self.fall_asleep();
+        while self.state.load(Ordering::Acquire) == ASLEEP {
+            let left = deadline.saturating_duration_since(Instant::now());
+            if left.is_zero() {
+                return self.state.swap(AWAKE, Ordering::AcqRel) == WOKEN;
+            }
+            lock = self.woken.wait_timeout(lock, left).unwrap_or_else(PoisonError::into_inner).0;
         }
         true
+    }
+
+    /// From now on it is asleep, unless it was woken before.
+    fn fall_asleep(&self) {
+        let _ = self.state.compare_exchange(AWAKE, ASLEEP, Ordering::AcqRel, Ordering::Acquire);
+    }
+
+    /// Wakes the thread or the future, or has its next wait end at once, for a call of that seat or of none. Whether a thread slept.
+    pub fn wake(&self, by: Option<&Sleeper>) -> bool {
+        self.woken_by.store(by.map_or(NOBODY, |by| by.number), Ordering::Relaxed);
+        match self.state.swap(WOKEN, Ordering::AcqRel) {
+            ASLEEP => {
+                // The thread that has fallen asleep gives the lock back as it waits for the notice.
+                drop(self.waker());
+                self.woken.notify_one();
+                true
+            }
+            LISTENS => {
+                // A waker may run anything, so that the lock isn't held.
+                let waker = self.waker().take();
+                waker.into_iter().for_each(Waker::wake);
+                false
+            }
+            _ => false,
+        }
     }
 
     /// The seat's call has just woken another seat, which slept or not. If that one slept, or had woken this one, it may answer
@@ -101,5 +172,9 @@ impl Sleeper {
         if slept || self.woken_by.load(Ordering::Relaxed) == other.number {
             self.is_answer_near.store(true, Ordering::Relaxed);
         }
+    }
+
+    fn waker(&self) -> MutexGuard<'_, Option<Waker>> {
+        self.waker.lock().unwrap_or_else(PoisonError::into_inner)
     }
 }

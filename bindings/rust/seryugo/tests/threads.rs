@@ -42,7 +42,7 @@ fn send_all(mut lane: Lane<'_>, sender: u64) {
             lane.drain().unwrap();
         }
     }
-    lane.close().map_err(|(_, error)| error).unwrap();
+    lane.close().unwrap();
 }
 
 #[test]

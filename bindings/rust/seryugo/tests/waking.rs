@@ -1,33 +1,12 @@
 //! Threads that wait, each woken by one of the others: where a wake is lost a test here doesn't end.
 
+mod common;
+
+use common::{let_them_wait, seats, within_a_minute, Random};
 use seryugo::{Channel, Error, Feed, Lane, MVar, Mailbox, Port, Seat, Switchboard};
 use std::sync::atomic::{AtomicU64, Ordering};
-use std::sync::mpsc::{self, RecvTimeoutError};
 use std::sync::Barrier;
 use std::thread;
-use std::time::Duration;
-
-/// Fails where the test hasn't ended within a minute.
-fn within_a_minute(test: impl FnOnce() + Send + 'static) {
-    let (ended, ends) = mpsc::channel();
-    let tested = thread::spawn(move || {
-        test();
-        ended.send(())
-    });
-    match ends.recv_timeout(Duration::from_secs(60)) {
-        Err(RecvTimeoutError::Timeout) => panic!("a thread sleeps though its seat is due"),
-        _ => tested.join().unwrap().unwrap(),
-    }
-}
-
-/// Waits until the other threads most likely wait. No test needs that it is so.
-fn let_them_wait() {
-    thread::sleep(Duration::from_micros(200));
-}
-
-fn seats(board: &Switchboard, count: usize) -> Vec<Seat<'_>> {
-    (0..count).map(|_| board.seat().unwrap()).collect()
-}
 
 fn mailboxes(seat: &mut Seat<'_>, count: usize) -> Vec<Mailbox> {
     (0..count).map(|_| seat.mailbox().unwrap()).collect()
@@ -236,7 +215,7 @@ const FILLINGS: [Filling; 5] = [
     },
 ];
 
-/// Whichever call makes the journal full, each that waits is refused. Nobody calls again before all are refused.
+/// Whichever call makes the journal full, each call that waits fails. No seat calls again before all have failed.
 #[test]
 fn all_that_wait_are_refused_where_the_journal_is_full() {
     within_a_minute(|| {
@@ -299,7 +278,7 @@ const MOVINGS: [Moving; 3] = [
         assert_eq!(lane.drain(), Ok(3));
         Some(lane)
     },
-    |lane| lane.close().map_err(|(_, error)| error).map(|()| None).unwrap(),
+    |lane| lane.close().map(|()| None).unwrap(),
     |_| None,
 ];
 
@@ -478,10 +457,9 @@ fn threads_that_call_at_random_end() {
             thread::scope(|scope| {
                 for (at, mut seat) in seats(&shared.board, THREADS).into_iter().enumerate() {
                     scope.spawn(move || {
-                        let mut random = at as u64;
+                        let mut random = Random::new(at as u64);
                         for _ in 0..CALLS {
-                            random = random.wrapping_mul(6_364_136_223_846_793_005).wrapping_add(1_442_695_040_888_963_407);
-                            shared.call(&mut seat, (random >> 33) as usize);
+                            shared.call(&mut seat, random.below(1 << 20) as usize);
                         }
                     });
                 }

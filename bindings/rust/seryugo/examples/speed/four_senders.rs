@@ -94,7 +94,7 @@ fn send_on(mut lane: Lane<'_>, sender: u64, each: u64) {
             lane.drain().unwrap();
         }
     }
-    lane.close().map_err(|(_, error)| error).unwrap();
+    lane.close().unwrap();
 }
 
 fn receive_from(receiver: &mut Seat<'_>, mailbox: Mailbox, each: u64) {

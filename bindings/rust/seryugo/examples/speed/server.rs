@@ -1,4 +1,4 @@
-//! Eight threads serve requests that come to one mailbox. So many clients ask, and each waits at its own mailbox for the answer
+//! Eight threads serve requests that arrive in one mailbox. So many clients ask, and each waits at its mailbox for the answer
 //! before it asks again.
 
 use crate::mailboxes::Mailboxes;

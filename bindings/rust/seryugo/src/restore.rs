@@ -1,0 +1,127 @@
+//! A switchboard that goes on from a journal's text.
+
+use crate::checker::{CheckError, Checker, Kept};
+use crate::error::Error;
+use crate::switchboard::Switchboard;
+use std::fmt;
+use std::io::BufRead;
+
+/// Why no switchboard goes on from a journal.
+///
+/// ```
+/// use seryugo::{RestoreError, Switchboard};
+///
+/// let restored = Switchboard::restore(&b"journal 1\nseat 0 mail"[..], 1_000);
+/// assert!(matches!(restored, Err(RestoreError::Torn(kept)) if kept.entries == 0));
+/// ```
+#[derive(Debug)]
+pub enum RestoreError {
+    /// The journal was read no further.
+    Check(CheckError),
+    /// The text ends in the middle: this is what it has in whole lines. [`Switchboard::restore_torn`] goes on from there.
+    Torn(Kept),
+    /// The limit isn't from 1 to 2^32.
+    OutOfBounds,
+}
+
+impl fmt::Display for RestoreError {
+    fn fmt(&self, f: &mut fmt::Formatter<'_>) -> fmt::Result {
+        match self {
+            RestoreError::Check(error) => error.fmt(f),
+            RestoreError::Torn(kept) => write!(f, "the journal ends in the middle, behind {} entries", kept.entries),
+            RestoreError::OutOfBounds => Error::OutOfBounds.fmt(f),
+        }
+    }
+}
+
+impl std::error::Error for RestoreError {
+    fn source(&self) -> Option<&(dyn std::error::Error + 'static)> {
+        match self {
+            RestoreError::Check(error) => Some(error),
+            _ => None,
+        }
+    }
+}
+
+impl From<CheckError> for RestoreError {
+    fn from(error: CheckError) -> RestoreError {
+        RestoreError::Check(error)
+    }
+}
+
+impl Switchboard {
+    /// Reads a journal to its end, and returns a switchboard that goes on from there: with the objects that the journal made,
+    /// and what they held behind its last entry. Its journal is cut, and takes `limit` entries between two cuts.
+    ///
+    /// Find the objects again by their numbers ([`mailbox`](Switchboard::mailbox) and so on). The seats, lanes and feeds of the
+    /// journal are gone. New ones have numbers that the journal doesn't have.
+    ///
+    /// Errors: the journal isn't lawful, or has a fault, or ends in the middle.
+    ///
+    /// ```
+    /// use seryugo::Switchboard;
+    ///
+    /// # fn main() -> Result<(), Box<dyn std::error::Error>> {
+    /// let mut file = Vec::new();
+    /// let before = Switchboard::new(1_000)?;
+    /// let mut seat = before.seat()?;
+    /// let mailbox = seat.mailbox()?;
+    /// seat.send(mailbox, 5)?;
+    /// before.take_journal()?.write_to(&mut file)?;
+    ///
+    /// let board = Switchboard::restore(&file[..], 1_000)?;
+    /// let mailbox = board.mailbox(0)?;
+    /// let mut seat = board.seat()?;
+    /// assert_eq!(seat.number(), 1);
+    /// assert_eq!(seat.recv(mailbox)?, Some(5));
+    /// board.take_journal()?.write_to(&mut file)?;
+    /// assert!(file.ends_with(b"from 2\nseat 1 recv 0: 5\nend 3\n"));
+    /// # Ok(())
+    /// # }
+    /// ```
+    pub fn restore(journal: impl BufRead, limit: u64) -> Result<Switchboard, RestoreError> {
+        let checker = checked(journal)?;
+        if !checker.is_whole() {
+            return Err(RestoreError::Torn(checker.kept()));
+        }
+        restored(checker, limit)
+    }
+
+    /// The same of a journal that may end in the middle, as after a crash. The switchboard goes on from the last whole line.
+    ///
+    /// Before you write the next piece, cut the text to the bytes that were kept, and write their ending.
+    ///
+    /// ```
+    /// use seryugo::Switchboard;
+    ///
+    /// # fn main() -> Result<(), Box<dyn std::error::Error>> {
+    /// let mut file = b"journal 1\nseat 0 mailbox: made 0\nseat 0 send 0 5: done\nseat 0 recv 0".to_vec();
+    /// let (board, kept) = Switchboard::restore_torn(&file[..], 1_000)?;
+    /// assert_eq!((kept.entries, kept.bytes), (2, 55));
+    /// assert_eq!(board.owed(board.mailbox(0)?)?, 1);
+    /// file.truncate(55);
+    /// file.extend_from_slice(kept.ending.as_bytes());
+    /// assert!(Switchboard::restore(&file[..], 1_000).is_ok());
+    /// # Ok(())
+    /// # }
+    /// ```
+    pub fn restore_torn(journal: impl BufRead, limit: u64) -> Result<(Switchboard, Kept), RestoreError> {
+        let checker = checked(journal)?;
+        let kept = checker.kept();
+        Ok((restored(checker, limit)?, kept))
+    }
+}
+
+fn checked(journal: impl BufRead) -> Result<Checker, CheckError> {
+    let mut checker = Checker::new()?;
+    checker.read(journal)?;
+    Ok(checker)
+}
+
+fn restored(checker: Checker, limit: u64) -> Result<Switchboard, RestoreError> {
+    match checker.into_room(limit) {
+        Ok(room) => Ok(Switchboard::over(room)),
+        Err(Error::OutOfBounds) => Err(RestoreError::OutOfBounds),
+        Err(_) => Err(RestoreError::Check(CheckError::NoMemory)),
+    }
+}

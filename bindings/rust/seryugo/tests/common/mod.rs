@@ -1,0 +1,71 @@
+//! What several tests need.
+
+// Each test is its own crate, and none needs all of it.
+#![allow(dead_code)]
+
+use seryugo::{Seat, Switchboard};
+use std::future::Future;
+use std::pin::pin;
+use std::sync::mpsc::{self, RecvTimeoutError};
+use std::sync::Arc;
+use std::task::{Context, Poll, Wake, Waker};
+use std::thread::{self, Thread};
+use std::time::Duration;
+
+/// Fails where the test hasn't ended within a minute.
+pub fn within_a_minute(test: impl FnOnce() + Send + 'static) {
+    let (ended, ends) = mpsc::channel();
+    let tested = thread::spawn(move || {
+        test();
+        ended.send(())
+    });
+    match ends.recv_timeout(Duration::from_secs(60)) {
+        Err(RecvTimeoutError::Timeout) => panic!("a thread sleeps though its seat is due"),
+        _ => tested.join().unwrap().unwrap(),
+    }
+}
+
+/// Waits until the other threads most likely wait. No test needs that it is so.
+pub fn let_them_wait() {
+    thread::sleep(Duration::from_micros(200));
+}
+
+pub fn seats(board: &Switchboard, count: usize) -> Vec<Seat<'_>> {
+    (0..count).map(|_| board.seat().unwrap()).collect()
+}
+
+/// Numbers that look like random ones, the same in each run.
+pub struct Random(u64);
+
+impl Random {
+    pub fn new(seed: u64) -> Random {
+        Random(seed)
+    }
+
+    /// The next one, less than this.
+    pub fn below(&mut self, most: u64) -> u64 {
+        self.0 = self.0.wrapping_mul(6_364_136_223_846_793_005).wrapping_add(1_442_695_040_888_963_407);
+        (self.0 >> 33) % most
+    }
+}
+
+/// Wakes a thread that runs one future.
+struct Unpark(Thread);
+
+impl Wake for Unpark {
+    fn wake(self: Arc<Self>) {
+        self.0.unpark();
+    }
+}
+
+/// Runs a future on this thread.
+pub fn block_on<T>(future: impl Future<Output = T>) -> T {
+    let waker = Waker::from(Arc::new(Unpark(thread::current())));
+    let mut future = pin!(future);
+    loop {
+        match future.as_mut().poll(&mut Context::from_waker(&waker)) {
+            Poll::Ready(answer) => return answer,
+            Poll::Pending => thread::park(),
+        }
+    }
+}

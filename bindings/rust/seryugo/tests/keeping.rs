@@ -1,0 +1,218 @@
+//! Journals that leave the process: written, checked, and gone on from.
+
+use seryugo::{Call, CheckError, Checker, Error, Reply, RestoreError, Switchboard, Who};
+use std::io::{self, BufReader, Read};
+use std::thread;
+
+const LIMIT: u64 = 1_000;
+
+/// A journal with objects of each kind, in three pieces, of which one has no entry.
+fn three_pieces() -> Vec<u8> {
+    let board = Switchboard::new(LIMIT).unwrap();
+    let (mut ann, mut ben) = (board.seat().unwrap(), board.seat().unwrap());
+    let mailbox = ann.mailbox().unwrap();
+    let channel = ann.channel().unwrap();
+    let port = ben.port(channel).unwrap();
+    let mut text = Vec::new();
+    let mut keep = || board.take_journal().unwrap().write_to(&mut text).unwrap();
+    keep();
+    keep();
+    let ivar = ann.ivar().unwrap();
+    let mvar = ann.mvar_init(9).unwrap();
+    let copy = ben.copy(port).unwrap().unwrap();
+    ann.put(ivar, u64::MAX).unwrap();
+    ben.swap(mvar, 8).unwrap();
+    ann.send(mailbox, 5).unwrap();
+    ann.send(mailbox, 6).unwrap();
+    ben.recv(mailbox).unwrap();
+    ann.multicast(channel, 7).unwrap();
+    ben.recv(port).unwrap();
+    ben.close(copy).unwrap();
+    let mut lane = board.lane(mailbox, 4).unwrap();
+    lane.send(10).unwrap();
+    lane.drain().unwrap();
+    drop(lane);
+    drop(board.feed(channel, 4).unwrap());
+    keep();
+    text
+}
+
+fn checked(text: &[u8]) -> Result<Checker, CheckError> {
+    let mut checker = Checker::new()?;
+    checker.read(text)?;
+    Ok(checker)
+}
+
+#[test]
+fn a_board_goes_on_where_another_ended() {
+    let mut text = three_pieces();
+    let board = Switchboard::restore(&text[..], LIMIT).unwrap();
+    assert_eq!((board.entries(), board.cut_at()), (16, 16));
+    let (mailbox, channel, port) = (board.mailbox(0).unwrap(), board.channel(1).unwrap(), board.port(2).unwrap());
+    let (ivar, mvar, copy) = (board.ivar(3).unwrap(), board.mvar(4).unwrap(), board.port(5).unwrap());
+    assert_eq!((board.sent(mailbox), board.got(mailbox), board.owed(mailbox)), (Ok(3), Ok(1), Ok(2)));
+    assert_eq!((board.sent(channel), board.got(port), board.owed(port)), (Ok(1), Ok(1), Ok(0)));
+    assert_eq!((board.held(ivar), board.held(mvar)), (Ok(Some(u64::MAX)), Ok(Some(8))));
+    assert_eq!((board.is_open(port), board.is_open(copy)), (Ok(true), Ok(false)));
+    assert_eq!(
+        (board.mailbox(1), board.mvar(3), board.ivar(7)),
+        (Err(Error::WrongKind), Err(Error::WrongKind), Err(Error::NoSuch))
+    );
+
+    let mut seat = board.seat().unwrap();
+    let mut lane = board.lane(mailbox, 4).unwrap();
+    let feed = board.feed(channel, 4).unwrap();
+    assert_eq!((seat.number(), lane.number(), feed.number()), (2, 1, 1));
+    lane.send(11).unwrap();
+    lane.drain().unwrap();
+    assert_eq!(
+        (seat.recv(mailbox), seat.recv(mailbox), seat.recv(mailbox)),
+        (Ok(Some(6)), Ok(Some(10)), Ok(Some(11)))
+    );
+    lane.close().unwrap();
+    drop(feed);
+
+    let journal = board.take_journal().unwrap();
+    assert_eq!(journal.first(), 16);
+    let sent = journal.iter().find(|entry| entry.who == Who::Lane(1)).unwrap();
+    assert_eq!((sent.call, sent.reply), (Call::Send(0, 11), Reply::Done));
+    journal.write_to(&mut text).unwrap();
+    let checker = checked(&text).unwrap();
+    assert_eq!((checker.entries(), checker.is_whole()), (16 + journal.len() as u64, true));
+}
+
+/// Each text that ends early is taken up to its last whole line. With its ending behind these it is a whole journal.
+#[test]
+fn a_text_may_end_anywhere() {
+    let text = three_pieces();
+    for end in 0..=text.len() {
+        let torn = &text[..end];
+        // The parts that are read end at other places each time.
+        let (board, kept) = Switchboard::restore_torn(BufReader::with_capacity(1 + end % 40, torn), LIMIT).unwrap();
+        let whole = torn.iter().rposition(|byte| *byte == b'\n').map_or(0, |at| at + 1);
+        assert_eq!(kept.bytes, whole as u64);
+        let lines = torn[..whole].split(|byte| *byte == b'\n');
+        assert_eq!(kept.entries, lines.filter(|line| line.contains(&b':')).count() as u64);
+        assert_eq!((board.entries(), board.cut_at()), (kept.entries, kept.entries));
+
+        let mut mended = torn[..whole].to_vec();
+        mended.extend_from_slice(kept.ending.as_bytes());
+        board.seat().unwrap().mailbox().unwrap();
+        board.take_journal().unwrap().write_to(&mut mended).unwrap();
+        let checker = checked(&mended).unwrap();
+        assert_eq!((checker.entries(), checker.is_whole()), (kept.entries + 1, true), "the first {end} bytes");
+        match Switchboard::restore(torn, LIMIT) {
+            Ok(_) => assert!(kept.ending.is_empty() && whole == end),
+            Err(RestoreError::Torn(told)) => assert_eq!(told, kept),
+            Err(error) => panic!("{error}"),
+        }
+    }
+}
+
+#[test]
+fn what_is_wrong_is_told() {
+    let fault = |text: &str| match checked(text.as_bytes()) {
+        Err(CheckError::Fault(line)) => line,
+        Err(error) => panic!("{error}"),
+        Ok(_) => 0,
+    };
+    assert_eq!(fault("journal 3\n"), 1);
+    assert_eq!(fault("journal 2\n"), 1);
+    assert_eq!(fault("journal 1\nfrom 5\n"), 2);
+    assert_eq!(fault("journal 1\nseat 0 mailbox: made 0\nwhat\n"), 3);
+    assert_eq!(fault("journal 1\nend 0\njournal 1\nfrom 1\n"), 4);
+
+    let mut checker = Checker::new().unwrap();
+    checker.read(&b"journal 1\nseat 0 mailbox: made 0\n"[..]).unwrap();
+    for _ in 0..2 {
+        let read = checker.read(&b"seat 0 recv 0: 5\nend 2\n"[..]);
+        assert!(matches!(read, Err(CheckError::Unlawful(1))), "{read:?}");
+        assert_eq!((checker.entries(), checker.is_whole()), (1, false));
+    }
+    let restored = Switchboard::restore(&b"journal 1\nseat 0 poll 0: none\nend 1\n"[..], LIMIT);
+    assert!(matches!(restored, Err(RestoreError::Check(CheckError::Unlawful(0)))));
+    // A number of which there is none behind it.
+    for who in ["seat", "lane", "feed"] {
+        let text = format!("journal 1\n{who} {} mailbox: made 0\nend 1\n", u64::MAX);
+        let restored = Switchboard::restore(text.as_bytes(), LIMIT);
+        assert!(matches!(restored, Err(RestoreError::Check(CheckError::NoMemory))));
+    }
+    for limit in [0, (1 << 32) + 1] {
+        let restored = Switchboard::restore(&b"journal 1\nend 0\n"[..], limit);
+        assert!(matches!(restored, Err(RestoreError::OutOfBounds)));
+    }
+    assert!(Switchboard::restore(&b"journal 1\nend 0\n"[..], 1 << 32).is_ok());
+}
+
+/// Fails at every other read, and gives little at each.
+struct Fickle<'a> {
+    text: &'a [u8],
+    reads: usize,
+    error: io::ErrorKind,
+}
+
+impl Read for Fickle<'_> {
+    fn read(&mut self, to: &mut [u8]) -> io::Result<usize> {
+        self.reads += 1;
+        if self.reads % 2 == 1 {
+            return Err(self.error.into());
+        }
+        let most = to.len().min(7);
+        self.text.read(&mut to[..most])
+    }
+}
+
+#[test]
+fn readers_and_writers_may_fail() {
+    let text = three_pieces();
+    let fickle = |error| {
+        BufReader::new(Fickle {
+            text: &text,
+            reads: 0,
+            error,
+        })
+    };
+    let mut checker = Checker::new().unwrap();
+    checker.read(fickle(io::ErrorKind::Interrupted)).unwrap();
+    assert_eq!((checker.entries(), checker.is_whole()), (16, true));
+
+    let mut checker = Checker::new().unwrap();
+    let mut reader = fickle(io::ErrorKind::TimedOut);
+    let mut failed = 0;
+    while let Err(CheckError::Io(error)) = checker.read(&mut reader) {
+        assert_eq!(error.kind(), io::ErrorKind::TimedOut);
+        failed += 1;
+    }
+    assert_eq!((checker.entries(), checker.is_whole()), (16, true));
+    assert!(failed > text.len() / 7);
+
+    let board = Switchboard::new(LIMIT).unwrap();
+    let mut room = [0; 5];
+    let written = board.take_journal().unwrap().write_to(&mut room.as_mut_slice());
+    assert_eq!(written.map_err(|error| error.kind()), Err(io::ErrorKind::WriteZero));
+    assert_eq!(&room, b"journ");
+}
+
+/// The threads of a restored board wait and are woken, by the numbers that follow those of the journal.
+#[test]
+fn threads_wait_on_a_restored_board() {
+    let board =
+        Switchboard::restore(&b"journal 1\nseat 40 mailbox: made 0\nseat 7 mailbox: made 1\nend 2\n"[..], 1 << 32).unwrap();
+    let (there, back) = (board.mailbox(0).unwrap(), board.mailbox(1).unwrap());
+    let (mut ann, mut ben) = (board.seat().unwrap(), board.seat().unwrap());
+    assert_eq!((ann.number(), ben.number()), (41, 42));
+    thread::scope(|scope| {
+        scope.spawn(move || {
+            while let Ok(Some(message)) = ben.recv(there) {
+                ben.send(back, message + 1).unwrap();
+            }
+        });
+        for message in 0..1_000 {
+            ann.send(there, message).unwrap();
+            assert_eq!(ann.recv(back), Ok(Some(message + 1)));
+        }
+        // No thread could go on. Once this seat leaves, the other thread's call fails too.
+        assert_eq!(ann.recv(back), Err(Error::Stalled));
+        drop(ann);
+    });
+}

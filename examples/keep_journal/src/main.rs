@@ -1,0 +1,90 @@
+//! Four threads pass messages, and their journal is kept in a file. Kill the process whenever you like: the next one goes on from
+//! the file.
+//!
+//!     keep_journal FOLDER [MESSAGES]
+//!
+//! Thread k sends to mailbox k + 1 and receives from mailbox k. Its n-th message is n. FOLDER/journal has the journal, in pieces of
+//! 10,000 entries. Once a piece is on the disk, a line of FOLDER/kept says so: `kept 20000 entries 538897 bytes`. With MESSAGES
+//! each thread ends behind so many messages. `tests/keep_journal.sh` kills it ten times.
+
+mod file;
+mod pieces;
+
+use file::File;
+use pieces::Pieces;
+use seryugo::{Error, Mailbox, Seat, Switchboard};
+use std::error::Error as AnyError;
+use std::path::PathBuf;
+use std::{env, thread};
+
+const THREADS: u64 = 4;
+
+/// How many messages a thread sends before it receives.
+const AT_ONCE: u64 = 16;
+
+/// How many entries a piece has.
+const PIECE: u64 = 10_000;
+
+fn main() -> Result<(), Box<dyn AnyError>> {
+    let mut words = env::args().skip(1);
+    let folder = PathBuf::from(words.next().ok_or("usage: keep_journal FOLDER [MESSAGES]")?);
+    let messages = words.next().map_or(Ok(u64::MAX), |word| word.parse())?;
+
+    let (mut file, board) = File::open(&folder, PIECE)?;
+    println!("goes on behind {} entries", board.entries());
+    let mailboxes = mailboxes(&board)?;
+    let (pieces, taken) = Pieces::new(&board);
+    let seats = (0..THREADS).map(|_| board.seat()).collect::<Result<Vec<_>, _>>()?;
+    thread::scope(|scope| {
+        let writer = scope.spawn(move || taken.iter().try_for_each(|journal| file.keep(&journal)));
+        let passing: Vec<_> = (0..)
+            .zip(seats)
+            .map(|(k, seat)| {
+                let (pieces, to) = (pieces.clone(), mailboxes[(k + 1) % mailboxes.len()]);
+                let from = mailboxes[k];
+                scope.spawn(move || pass(&pieces, seat, to, from, messages))
+            })
+            .collect();
+        for thread in passing {
+            thread.join().expect("a thread panicked")?;
+        }
+        pieces.take()?;
+        // Without pieces to come the writer ends.
+        drop(pieces);
+        writer.join().expect("the writer panicked")?;
+        Ok(())
+    })
+}
+
+/// The mailboxes, numbered from 0. The first process makes them; if it was killed before it made all, this one makes the others.
+fn mailboxes(board: &Switchboard) -> Result<Vec<Mailbox>, Error> {
+    let mut seat = board.seat()?;
+    (0..THREADS)
+        .map(|number| match board.mailbox(number) {
+            Err(Error::NoSuch) => seat.mailbox(),
+            found => found,
+        })
+        .collect()
+}
+
+/// One thread: it sends some messages, receives as many, and so on.
+fn pass(pieces: &Pieces<'_>, mut seat: Seat<'_>, to: Mailbox, from: Mailbox, messages: u64) -> Result<(), Error> {
+    let board = pieces.board();
+    let mut sent = board.sent(to)?;
+    let mut received = board.got(from)?;
+    let mut left = messages;
+    while left > 0 {
+        let some = left.min(AT_ONCE);
+        for _ in 0..some {
+            pieces.with_room(|| seat.send(to, sent))?;
+            sent += 1;
+        }
+        for _ in 0..some {
+            let message = pieces.with_room(|| seat.recv(from))?;
+            assert_eq!(message, Some(received), "a message is lost or doubled");
+            received += 1;
+        }
+        left -= some;
+    }
+    Ok(())
+}
