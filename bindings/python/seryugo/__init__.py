@@ -1,0 +1,85 @@
+"""Mailboxes, channels and variables for threads, by a library that is proved.
+
+A `Switchboard` has objects with messages of `bytes`, `str` or `int`, and a journal of every
+accepted call. Threads call from seats. A call that can't go on blocks, and lets the interpreter's
+lock go meanwhile.
+
+    import threading
+    from seryugo import Switchboard
+
+    board = Switchboard()
+    ann, ben = board.seat(), board.seat()
+    letters = ben.mailbox(str)
+    with ann, ben:
+        threading.Thread(target=ann.send, args=(letters, "hello")).start()
+        print("Ben received", ben.recv(letters))
+"""
+
+from .errors import (
+    Busy,
+    Closed,
+    Fault,
+    Gone,
+    JournalFull,
+    NoMemory,
+    NoSuch,
+    OutOfBounds,
+    SeryugoError,
+    Stalled,
+    Torn,
+    Unlawful,
+    WrongKind,
+)
+from .journal import (
+    Call,
+    CallKind,
+    Checker,
+    Entry,
+    Journal,
+    Maker,
+    MakerKind,
+    Reply,
+    ReplyKind,
+    check,
+)
+from .objects import Channel, IVar, Mailbox, MVar, Object, Port, Source, Variable
+from .seat import Seat
+from .switchboard import Switchboard
+
+__version__ = "0.1.0"
+
+__all__ = [
+    "Busy",
+    "Call",
+    "CallKind",
+    "Channel",
+    "Checker",
+    "Closed",
+    "Entry",
+    "Fault",
+    "Gone",
+    "IVar",
+    "Journal",
+    "JournalFull",
+    "MVar",
+    "Mailbox",
+    "Maker",
+    "MakerKind",
+    "NoMemory",
+    "NoSuch",
+    "Object",
+    "OutOfBounds",
+    "Port",
+    "Reply",
+    "ReplyKind",
+    "Seat",
+    "SeryugoError",
+    "Source",
+    "Stalled",
+    "Switchboard",
+    "Torn",
+    "Unlawful",
+    "Variable",
+    "WrongKind",
+    "check",
+]

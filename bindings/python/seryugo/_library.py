@@ -1,0 +1,221 @@
+"""The shared library: its functions, structs and codes, as the header `seryugo.h` has them."""
+
+from __future__ import annotations
+
+import ctypes
+import os
+import subprocess
+from ctypes import (
+    POINTER,
+    Structure,
+    c_char,
+    c_char_p,
+    c_size_t,
+    c_uint32,
+    c_uint64,
+    c_void_p,
+)
+from typing import Any, Callable, Optional, cast
+
+# What a call returns if it isn't refused. `errors` has the refusals.
+DONE = 0
+NOTHING = 1
+PUT = 2
+CLOSED = 3
+PARKED = 4
+
+
+class Handle(Structure):
+    """A handle to a room, a taken journal, a checker, a message or an entry."""
+
+    _fields_ = [("at", c_void_p)]
+
+
+class Bytes(Structure):
+    """A message that a call hands over."""
+
+    _fields_ = [("at", POINTER(c_char)), ("length", c_size_t), ("owner", Handle)]
+
+
+class Place(Structure):
+    """The bytes of an entry's message."""
+
+    _fields_ = [("at", POINTER(c_char)), ("length", c_size_t)]
+
+
+class Maker(Structure):
+    """Who made the call of an entry."""
+
+    _fields_ = [("kind", c_uint32), ("number", c_uint64)]
+
+
+class Call(Structure):
+    """The call of an entry."""
+
+    _fields_ = [("kind", c_uint32), ("object", c_uint64), ("message", Place)]
+
+
+class Reply(Structure):
+    """The reply of an entry."""
+
+    _fields_ = [("kind", c_uint32), ("name", c_uint64), ("message", Place)]
+
+
+class Entry(Structure):
+    """An entry that a call hands over."""
+
+    _fields_ = [("maker", Maker), ("call", Call), ("reply", Reply), ("owner", Handle)]
+
+
+def _libdir() -> Optional[str]:
+    """Return the folder of the library, if the program `pkg-config` is there and knows it."""
+    command = [os.environ.get("PKG_CONFIG", "pkg-config"), "--variable=libdir", "seryugo"]
+    try:
+        found = subprocess.run(command, capture_output=True, text=True, check=True)
+    except (OSError, subprocess.CalledProcessError):
+        return None
+    return found.stdout.strip()
+
+
+def _found() -> str:
+    """Return the path of the library, or its name if the loader finds it."""
+    prefix = os.environ.get("SERYUGO_PREFIX")
+    if prefix:
+        return os.path.join(prefix, "lib", "libseryugo.so")
+    name = "libseryugo.so.0"
+    try:
+        ctypes.CDLL(name)
+    except OSError:
+        folder = _libdir()
+        return os.path.join(folder, name) if folder else name
+    return name
+
+
+_PATH = _found()
+
+try:
+    # The first lets the interpreter's lock go during a call, and the second keeps it.
+    _FREE, _HELD = ctypes.CDLL(_PATH), ctypes.PyDLL(_PATH)
+except OSError as error:
+    raise ImportError(
+        f"found no library seryugo ({error}). Run `sh bindings/install.sh PREFIX`, and name the "
+        "folder by SERYUGO_PREFIX"
+    ) from None
+
+
+def _function(library: ctypes.CDLL, name: str) -> Any:
+    try:
+        function = library[f"seryugo_{name}"]
+    except AttributeError:
+        raise ImportError(
+            f"the library {_PATH} lacks seryugo_{name}. Install one of this package's version"
+        ) from None
+    function.restype = c_uint32
+    return function
+
+
+def _quick(name: str) -> Callable[..., int]:
+    """Name a call of a seat. Each argument is an instance of its type in C, or bytes.
+
+    To test arguments and turn them into these types would take longer than most of these calls.
+    """
+    quick: Callable[..., int] = _function(_HELD, name)
+    return quick
+
+
+def _short(name: str, *arguments: Any) -> Callable[..., int]:
+    """Name a call that takes a microsecond. To let the interpreter's lock go would take longer."""
+    short = _function(_HELD, name)
+    short.argtypes = arguments
+    named: Callable[..., int] = short
+    return named
+
+
+def _long(name: str, *arguments: Any) -> Callable[..., int]:
+    """Name a call that may free or check millions of entries. Other threads go on meanwhile."""
+    long = _function(_FREE, name)
+    long.argtypes = arguments
+    named: Callable[..., int] = long
+    return named
+
+
+def _freeing(library: ctypes.CDLL, name: str, argument: Any) -> Callable[[Any], None]:
+    function = _function(library, name)
+    function.argtypes = (argument,)
+    function.restype = None
+    freeing: Callable[[Any], None] = function
+    return freeing
+
+
+_HANDLE = POINTER(Handle)
+_NUMBER = POINTER(c_uint64)
+
+# Rooms, and the seats that wait.
+room_open = _short("bytes_room_open", c_uint64, _HANDLE)
+new_seat = _short("new_seat", _HANDLE, _NUMBER)
+withdraw = _short("withdraw", _HANDLE, c_uint64)
+next_due = _quick("next_due")
+close = _freeing(_FREE, "close", Handle)
+
+# The calls of seats.
+leave = _quick("leave")
+new_mailbox = _quick("new_mailbox")
+new_channel = _quick("new_channel")
+new_port = _quick("new_port")
+copy_port = _quick("copy_port")
+close_port = _quick("close_port")
+new_ivar = _quick("new_ivar")
+new_mvar = _quick("new_mvar")
+mvar_init = _quick("bytes_mvar_init_from")
+send = _quick("bytes_send_from")
+multicast = _quick("bytes_multicast_from")
+put = _quick("bytes_put_from")
+recv = _quick("bytes_recv")
+recv_poll = _quick("bytes_recv_poll")
+get = _quick("bytes_get")
+get_poll = _quick("bytes_get_poll")
+take = _quick("bytes_take")
+take_poll = _quick("bytes_take_poll")
+swap = _quick("bytes_swap_from")
+bytes_free = _freeing(_HELD, "bytes_free", Bytes)
+
+# What an object has.
+sent = _short("sent", _HANDLE, c_uint64, _NUMBER)
+got = _short("got", _HANDLE, c_uint64, _NUMBER)
+owed = _short("owed", _HANDLE, c_uint64, _NUMBER)
+kept = _short("kept", _HANDLE, c_uint64, _NUMBER)
+held = _short("bytes_held", _HANDLE, c_uint64, POINTER(Bytes))
+is_open = _short("is_open", _HANDLE, c_uint64)
+kind = _short("kind", _HANDLE, c_uint64, _NUMBER)
+
+# The journal.
+entries = _short("entries", _HANDLE, _NUMBER)
+cut_at = _short("cut_at", _HANDLE, _NUMBER)
+limit = _short("limit", _HANDLE, _NUMBER)
+is_full = _short("is_full", _HANDLE)
+entry = _short("bytes_entry", _HANDLE, c_uint64, POINTER(Entry))
+reserve = _long("reserve", _HANDLE, c_size_t)
+cut = _long("cut", _HANDLE)
+take_journal = _long("take_journal", _HANDLE, _HANDLE, _NUMBER)
+taken_entry = _short("bytes_taken_entry", _HANDLE, c_uint64, POINTER(Entry))
+entry_free = _freeing(_HELD, "bytes_entry_free", Entry)
+checker_open = _short("bytes_checker_open", _HANDLE)
+checker_feed_journal = _long("checker_feed_journal", _HANDLE, _HANDLE, c_uint64)
+checker_verdict = _short("checker_verdict", _HANDLE, _NUMBER)
+
+# A journal as text.
+journal_text = _long("journal_text", _HANDLE, c_uint64, POINTER(Bytes))
+reading_open = _short("bytes_reading_open", _HANDLE)
+reading_take = _long("reading_take_from", _HANDLE, c_char_p, c_size_t)
+reading_entries = _short("reading_entries", _HANDLE, _NUMBER)
+reading_lines = _short("reading_lines", _HANDLE, _NUMBER)
+reading_end = _short("reading_end", _HANDLE)
+room_restore = _long("room_restore", _HANDLE, c_uint64, _HANDLE)
+
+
+def taken_over(message: Bytes) -> bytes:
+    """Copy a message that the library has handed over, and free it."""
+    try:
+        return cast(bytes, message.at[: message.length])
+    finally:
+        bytes_free(message)

@@ -1,0 +1,208 @@
+"""A room of the library under a lock: who calls, and who is woken."""
+
+from __future__ import annotations
+
+import threading
+import weakref
+from collections import deque
+from ctypes import byref, c_bool, c_uint64
+from typing import Any, Callable, Deque, Dict, Set, Tuple
+
+from . import _library as library
+from . import errors
+from ._library import DONE, PARKED
+from ._messages import Codec
+
+# As a call that may block takes it: whether it is made again.
+FIRST = c_bool(False)
+AGAIN = c_bool(True)
+
+
+class Room:
+    """Calls the library for one room, under a lock, one call at a time.
+
+    After each call of a seat it asks which seat is due, and wakes that seat's thread. The woken
+    thread makes its call again, and so wakes the next. The handler of a signal may raise an
+    exception in the midst of any method, as Ctrl-C does. Then nothing is known of the call that
+    was made, so `recover` wakes all threads that wait: each makes its call again.
+    """
+
+    def __init__(self, room: library.Handle) -> None:
+        # At its end the process frees all memory, and threads may be in a call then.
+        weakref.finalize(self, library.close, room).atexit = False
+        self.handle = byref(room)
+        self.lock = threading.Lock()
+        # The messages' type of each object, by its number.
+        self.codecs: Dict[int, Codec[Any]] = {}
+        # What the thread of each seat waits by: a lock that is free if the thread was woken.
+        self._bells: Dict[int, threading.Lock] = {}
+        # The seats that the library has parked. While there is none, no seat is due.
+        self._parked: Set[int] = set()
+        # Seats that were dropped and haven't left yet.
+        self._dropped: Deque[int] = deque()
+        # Where the library writes a message, and the seat that is due.
+        self._message = library.Bytes()
+        self._at_message = byref(self._message)
+        self._due = c_uint64()
+        self._at_due = byref(self._due)
+
+    def seat(self) -> Tuple[int, threading.Lock]:
+        """Make a seat: its number, and its bell."""
+        number, bell = self.count(library.new_seat), threading.Lock()
+        bell.acquire()
+        self._bells[number] = bell
+        return number, bell
+
+    def do(self, call: Callable[..., int], *arguments: Any) -> int:
+        """Make a call that makes no seat due."""
+        with self.lock:
+            code = call(self.handle, *arguments)
+        if self._dropped:
+            self._let_dropped_leave()
+        return code
+
+    def count(self, call: Callable[..., int], *arguments: Any) -> int:
+        """Make a call that makes no seat due, and return the number that it writes."""
+        number = c_uint64()
+        code = self.do(call, *arguments, byref(number))
+        if code != DONE:
+            raise errors.of_code(code)
+        return number.value
+
+    def call(self, call: Callable[..., int], *arguments: Any) -> int:
+        """Make a seat's call that never blocks and hands no message over."""
+        try:
+            with self.lock:
+                code = call(self.handle, *arguments)
+                if self._parked:
+                    self._wake_next()
+        except BaseException:
+            self.recover()
+            raise
+        if self._dropped:
+            self._let_dropped_leave()
+        return code
+
+    def make(self, codec: Codec[Any], call: Callable[..., int], *arguments: Any) -> int:
+        """Make an object by a seat's call, and return its number."""
+        name = c_uint64()
+        try:
+            with self.lock:
+                code = call(self.handle, *arguments, byref(name))
+                if code == DONE:
+                    self.codecs[name.value] = codec
+                if self._parked:
+                    self._wake_next()
+        except BaseException:
+            self.recover()
+            raise
+        if self._dropped:
+            self._let_dropped_leave()
+        if code != DONE:
+            raise errors.of_code(code)
+        return name.value
+
+    def poll(self, call: Callable[..., int], *arguments: Any) -> Tuple[int, bytes]:
+        """Make a call that never blocks, and if it is done hands a message over."""
+        try:
+            with self.lock:
+                code = call(self.handle, *arguments, self._at_message)
+                data = library.taken_over(self._message) if code == DONE else b""
+                if self._parked:
+                    self._wake_next()
+        except BaseException:
+            self.recover()
+            raise
+        if self._dropped:
+            self._let_dropped_leave()
+        return code, data
+
+    def ask(
+        self, seat: int, is_again: c_bool, call: Callable[..., int], arguments: Tuple[Any, ...]
+    ) -> Tuple[int, bytes]:
+        """Make a call that may block, and if it is done hands a message over.
+
+        After an exception its caller calls `recover`.
+        """
+        with self.lock:
+            code = call(self.handle, *arguments, is_again, self._at_message)
+            data = library.taken_over(self._message) if code == DONE else b""
+            if code == PARKED:
+                self._parked.add(seat)
+            elif is_again is AGAIN:
+                self._end_wait(seat, code)
+            if self._parked:
+                self._wake_next()
+        if self._dropped:
+            self._let_dropped_leave()
+        return code, data
+
+    def give_up(self, seat: int) -> None:
+        """Withdraw a seat's call, and hand on what the seat was woken for."""
+        with self.lock:
+            self._withdraw(seat)
+        if self._dropped:
+            self._let_dropped_leave()
+
+    def recover(self, *seats: int) -> None:
+        """After an exception in a call, withdraw the call of this seat, and wake all that wait."""
+        while True:
+            try:
+                with self.lock:
+                    self._wake_all(seats)
+                if self._dropped:
+                    self._let_dropped_leave()
+                return
+            except KeyboardInterrupt:
+                # The first one goes on, once this is done.
+                continue
+
+    def drop(self, seat: int) -> None:
+        """Let a seat leave, or the next call do so.
+
+        The collector runs in the midst of any method, so this very thread may have the lock.
+        """
+        self._dropped.append(seat)
+        if not self.lock.locked():
+            self._let_dropped_leave()
+
+    def _let_dropped_leave(self) -> None:
+        with self.lock:
+            self._leave_all()
+
+    # There is no loop right below `with self.lock`: in Python 3.13 the lock stays locked if a
+    # signal's handler raises an exception as such a loop begins anew.
+
+    def _leave_all(self) -> None:
+        while self._dropped:
+            # To leave twice changes nothing.
+            library.leave(self.handle, c_uint64(self._dropped[0]))
+            self._wake_next()
+            self._dropped.popleft()
+
+    def _wake_all(self, withdrawn: Tuple[int, ...]) -> None:
+        for seat in withdrawn:
+            self._withdraw(seat)
+        for seat in self._parked:
+            self._ring(seat)
+
+    def _end_wait(self, seat: int, code: int) -> None:
+        if code == errors.NoMemory.code:
+            # The seat may still be parked.
+            self._withdraw(seat)
+        self._parked.discard(seat)
+
+    def _withdraw(self, seat: int) -> None:
+        library.withdraw(self.handle, seat)
+        self._parked.discard(seat)
+        self._bells[seat].acquire(blocking=False)
+        self._wake_next()
+
+    def _wake_next(self) -> None:
+        if library.next_due(self.handle, self._at_due) == DONE:
+            self._ring(self._due.value)
+
+    def _ring(self, seat: int) -> None:
+        bell = self._bells[seat]
+        if bell.locked():
+            bell.release()

@@ -1,0 +1,126 @@
+"""Why a call failed."""
+
+from __future__ import annotations
+
+from typing import Dict, Optional, Type
+
+
+class SeryugoError(Exception):
+    """A call was refused. It has changed nothing."""
+
+    # What the library returns for it.
+    code = 0
+    words = "the call was refused"
+
+    def __init__(self, words: Optional[str] = None) -> None:
+        super().__init__(self.words if words is None else words)
+
+
+class Gone(SeryugoError):
+    """The seat can't make this call: it has left, or another thread is in a call of it."""
+
+    code = 5
+    words = "the seat has left, or another thread is in a call of it"
+
+
+class Busy(SeryugoError):
+    """A lane or a feed is open, so that the journal can't be cut."""
+
+    code = 6
+    words = "a lane or a feed is open"
+
+
+class NoSuch(SeryugoError):
+    """The object is another switchboard's, or the journal has no entry at this position."""
+
+    code = 7
+    words = "there is no such object"
+
+
+class WrongKind(SeryugoError):
+    """The object can't take this call."""
+
+    code = 8
+    words = "the object can't take this call"
+
+
+class JournalFull(SeryugoError):
+    """The journal has as many entries since the last cut as its limit says.
+
+    Cut it or take it, and call again.
+    """
+
+    code = 9
+    words = "the journal is full: cut it or take it"
+
+
+class Stalled(SeryugoError):
+    """The call would block, and all other seats are blocked or have left.
+
+    No thread could answer it.
+    """
+
+    code = 10
+    words = "the call would block for ever: all other seats are blocked or have left"
+
+
+class NoMemory(SeryugoError, MemoryError):
+    """There was no memory for the call."""
+
+    code = 11
+    words = "no memory"
+
+
+class Closed(SeryugoError):
+    """The port is closed."""
+
+    code = 3
+    words = "the port is closed"
+
+
+class OutOfBounds(SeryugoError, ValueError):
+    """A limit isn't from 1 to 2^32, or a message has more than 2^32 - 1 bytes."""
+
+    code = 16
+    words = "a limit isn't from 1 to 2^32, or a message has more than 2^32 - 1 bytes"
+
+
+class Unlawful(SeryugoError):
+    """A checked journal is no lawful history of one thread.
+
+    `position` has the first entry that isn't lawful.
+    """
+
+    code = 17
+
+    def __init__(self, position: int) -> None:
+        super().__init__(f"the entry at position {position} isn't lawful")
+        self.position = position
+
+
+class Fault(SeryugoError):
+    """The text of a journal has a fault. `line` has its line, counted from 1."""
+
+    code = 18
+
+    def __init__(self, line: int) -> None:
+        super().__init__(f"the journal's text has a fault on line {line}")
+        self.line = line
+
+
+class Torn(SeryugoError):
+    """The text of a journal ends before the end of its last piece."""
+
+    code = 19
+    words = "the journal's text ends before the end of its last piece"
+
+
+_KINDS = (Closed, Gone, Busy, NoSuch, WrongKind, JournalFull, Stalled, NoMemory, OutOfBounds)
+
+_BY_CODE: Dict[int, Type[SeryugoError]] = {kind.code: kind for kind in _KINDS}
+
+
+def of_code(code: int) -> SeryugoError:
+    """Return the error for what the library has returned: a refusal, or that a port is closed."""
+    kind = _BY_CODE.get(code)
+    return SeryugoError(f"the library returned {code}") if kind is None else kind()

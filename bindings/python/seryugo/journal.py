@@ -1,0 +1,224 @@
+"""Entries of the journal, a journal that was taken, and its check."""
+
+from __future__ import annotations
+
+import enum
+import threading
+import weakref
+from ctypes import byref, c_uint64
+from dataclasses import dataclass
+from typing import Any, Dict, Iterator, Optional
+
+from . import _library as library
+from . import errors
+from ._library import DONE
+from ._messages import BYTES, Codec, Message
+
+
+class MakerKind(enum.Enum):
+    """What makes calls."""
+
+    SEAT = 0
+    LANE = 1
+    FEED = 2
+
+
+class CallKind(enum.Enum):
+    """The calls that the journal has."""
+
+    NEW_MAILBOX = 0
+    NEW_CHANNEL = 1
+    NEW_PORT = 2
+    COPY_PORT = 3
+    CLOSE_PORT = 4
+    NEW_IVAR = 5
+    NEW_MVAR = 6
+    MVAR_INIT = 7
+    SEND = 8
+    MULTICAST = 9
+    RECV = 10
+    RECV_POLL = 11
+    PUT = 12
+    GET = 13
+    GET_POLL = 14
+    TAKE = 15
+    TAKE_POLL = 16
+    SWAP = 17
+
+
+class ReplyKind(enum.Enum):
+    """What a call returned."""
+
+    DONE = 0
+    MADE = 1
+    GOT = 2
+    NOTHING = 3
+    PUT = 4
+    CLOSED = 5
+
+
+_ON_NO_OBJECT = {
+    CallKind.NEW_MAILBOX,
+    CallKind.NEW_CHANNEL,
+    CallKind.NEW_IVAR,
+    CallKind.NEW_MVAR,
+    CallKind.MVAR_INIT,
+}
+_WITH_MESSAGE = {
+    CallKind.MVAR_INIT,
+    CallKind.SEND,
+    CallKind.MULTICAST,
+    CallKind.PUT,
+    CallKind.SWAP,
+}
+
+
+@dataclass(frozen=True)
+class Maker:
+    """Who made a call: a seat, a lane or a feed, by its number."""
+
+    kind: MakerKind
+    number: int
+
+
+@dataclass(frozen=True)
+class Call:
+    """A call, with the number of its object and the message that it sent, if it has them."""
+
+    kind: CallKind
+    object: Optional[int] = None
+    message: Optional[Message] = None
+
+
+@dataclass(frozen=True)
+class Reply:
+    """What a call returned, with the object's number that it made or the message, if any."""
+
+    kind: ReplyKind
+    made: Optional[int] = None
+    message: Optional[Message] = None
+
+
+@dataclass(frozen=True)
+class Entry:
+    """One accepted call."""
+
+    maker: Maker
+    call: Call
+    reply: Reply
+
+
+def _bytes_at(place: library.Place) -> bytes:
+    data: bytes = place.at[: place.length]
+    return data
+
+
+def entry_of(found: library.Entry, codecs: Dict[int, Codec[Any]]) -> Entry:
+    """Copy an entry that the library has handed over, and free it."""
+    try:
+        call, reply = CallKind(found.call.kind), ReplyKind(found.reply.kind)
+        made = found.reply.name if reply is ReplyKind.MADE else None
+        on = None if call in _ON_NO_OBJECT else found.call.object
+        named = made if call is CallKind.MVAR_INIT else on
+        codec = BYTES if named is None else codecs.get(named, BYTES)
+        sent = codec.decode(_bytes_at(found.call.message)) if call in _WITH_MESSAGE else None
+        got = codec.decode(_bytes_at(found.reply.message)) if reply is ReplyKind.GOT else None
+        maker = Maker(MakerKind(found.maker.kind), found.maker.number)
+        return Entry(maker, Call(call, on, sent), Reply(reply, made, got))
+    finally:
+        library.entry_free(found)
+
+
+class Journal:
+    """The entries that a switchboard's journal had when it was taken, oldest first.
+
+    Any thread may read it. It waits for no call on the switchboard. `start` has the position of
+    its first entry, counted since the switchboard was made.
+    """
+
+    def __init__(
+        self, handle: library.Handle, start: int, count: int, codecs: Dict[int, Codec[Any]]
+    ) -> None:
+        weakref.finalize(self, library.close, handle).atexit = False
+        self.start = start
+        self._handle = byref(handle)
+        self._count = count
+        self._codecs = codecs
+        self._lock = threading.Lock()
+
+    def __len__(self) -> int:
+        return self._count
+
+    def __iter__(self) -> Iterator[Entry]:
+        return (self._entry(place) for place in range(self._count))
+
+    def text(self) -> bytes:
+        """Return the entries as text: one piece of a journal, which `cml check` reads.
+
+        The texts of all journals that were taken, one behind the other, are the switchboard's
+        history. `Switchboard.restore` goes on from it.
+        """
+        text = library.Bytes()
+        with self._lock:
+            code = library.journal_text(self._handle, self.start, byref(text))
+        if code != DONE:
+            raise errors.of_code(code)
+        return library.taken_over(text)
+
+    def _entry(self, place: int) -> Entry:
+        found = library.Entry()
+        with self._lock:
+            code = library.taken_entry(self._handle, place, byref(found))
+        if code != DONE:
+            raise errors.of_code(code)
+        return entry_of(found, self._codecs)
+
+
+class Checker:
+    """Says how far the journals of one switchboard are a lawful history of one thread.
+
+    It keeps no entry.
+    """
+
+    def __init__(self) -> None:
+        handle = library.Handle()
+        code = library.checker_open(byref(handle))
+        if code != DONE:
+            raise errors.of_code(code)
+        weakref.finalize(self, library.close, handle).atexit = False
+        self._handle = byref(handle)
+        self._lock = threading.Lock()
+        # How many entries the journals had that were fed whole.
+        self._whole = 0
+
+    def feed(self, journal: Journal) -> int:
+        """Check the journal that was taken next, and return how many entries are lawful so far.
+
+        Fails with `Unlawful` once an entry isn't lawful, and then each time. If it fails with
+        `NoMemory`, feed the same journal again: the check goes on where it ended.
+        """
+        count = c_uint64()
+        with self._lock, journal._lock:
+            library.checker_verdict(self._handle, byref(count))
+            place = count.value - self._whole
+            code = library.checker_feed_journal(self._handle, journal._handle, place)
+            verdict = library.checker_verdict(self._handle, byref(count))
+            if code == DONE:
+                self._whole = count.value
+        if verdict == errors.Unlawful.code:
+            raise errors.Unlawful(count.value)
+        if code != DONE:
+            raise errors.of_code(code)
+        return count.value
+
+
+def check(*journals: Journal) -> int:
+    """Check all journals that were taken of a switchboard, and return how many entries they have.
+
+    Name them in order, from the first. Fails with `Unlawful` at the first entry that isn't lawful.
+    """
+    checker = Checker()
+    count = 0
+    for journal in journals:
+        count = checker.feed(journal)
+    return count

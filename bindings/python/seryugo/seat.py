@@ -1,0 +1,248 @@
+"""A seat, from which one thread calls."""
+
+from __future__ import annotations
+
+import threading
+import time
+import warnings
+from ctypes import c_size_t, c_uint64
+from types import TracebackType
+from typing import Any, Callable, Optional, Tuple, Type, Union
+
+from . import _library as library
+from . import errors
+from ._library import CLOSED, DONE, NOTHING, PARKED, PUT
+from ._messages import T, codec_of
+from ._room import AGAIN, FIRST, Room
+from .objects import Channel, IVar, Mailbox, MVar, Object, Port, Source, Variable, name_in
+
+# In seconds, of the main thread.
+_LONGEST_SLEEP = 0.5
+
+
+class Seat:
+    """A seat at a switchboard, for one thread at a time. It leaves at the end of a `with` block.
+
+    A call that would block fails with `Stalled` if all other seats are blocked or have left. So
+    leave as soon as the thread has no more to do. A call that may block takes a `timeout` in
+    seconds: after that it is withdrawn, and fails with `TimeoutError`. Ctrl-C withdraws it too.
+    Any call fails with `JournalFull` if the journal is full, and with `Gone` if the seat has left.
+    """
+
+    def __init__(self, room: Room, number: int, bell: threading.Lock) -> None:
+        self.number = number
+        self._has_left = False
+        self._room = room
+        self._seat = c_uint64(number)
+        self._bell = bell
+
+    def __enter__(self) -> Seat:
+        return self
+
+    def __exit__(
+        self,
+        kind: Optional[Type[BaseException]],
+        error: Optional[BaseException],
+        trace: Optional[TracebackType],
+    ) -> None:
+        self.leave()
+
+    def __del__(self) -> None:
+        if not getattr(self, "_has_left", True):
+            warnings.warn(f"{self!r} was dropped and had not left", ResourceWarning, source=self)
+            self._room.drop(self.number)
+
+    def __repr__(self) -> str:
+        return f"<Seat {self.number}>"
+
+    def leave(self) -> None:
+        """Leave: the seat makes no more calls. Does nothing if it has left."""
+        if self._has_left:
+            return
+        try:
+            code = self._room.call(library.leave, self._seat)
+        except BaseException:
+            # Ctrl-C may have come before the seat left.
+            self._has_left = True
+            self._room.drop(self.number)
+            raise
+        if code != DONE:
+            raise errors.of_code(code)
+        self._has_left = True
+
+    # What makes an object. `of` is the type of its messages: bytes, str or int.
+
+    def mailbox(self, of: Type[T]) -> Mailbox[T]:
+        """Make a mailbox."""
+        codec = codec_of(of)
+        return Mailbox(self._room, self._room.make(codec, library.new_mailbox, self._seat), codec)
+
+    def channel(self, of: Type[T]) -> Channel[T]:
+        """Make a channel."""
+        codec = codec_of(of)
+        return Channel(self._room, self._room.make(codec, library.new_channel, self._seat), codec)
+
+    def ivar(self, of: Type[T]) -> IVar[T]:
+        """Make an empty i-variable."""
+        codec = codec_of(of)
+        return IVar(self._room, self._room.make(codec, library.new_ivar, self._seat), codec)
+
+    def mvar(self, of: Type[T], initial: Optional[T] = None) -> MVar[T]:
+        """Make an m-variable that holds `initial`, or an empty one."""
+        codec = codec_of(of)
+        if initial is None:
+            return MVar(self._room, self._room.make(codec, library.new_mvar, self._seat), codec)
+        data = codec.encode(initial)
+        name = self._room.make(codec, library.mvar_init, self._seat, data, c_size_t(len(data)))
+        return MVar(self._room, name, codec)
+
+    def port(self, channel: Channel[T]) -> Port[T]:
+        """Make a port of a channel, which receives what is multicast from now on."""
+        return self._port(library.new_port, channel)
+
+    def copy_port(self, port: Port[T]) -> Port[T]:
+        """Make a port at the place of another. Fails with `Closed` if that one is closed."""
+        return self._port(library.copy_port, port)
+
+    def close_port(self, port: Port[T]) -> bool:
+        """Close a port, and return whether it was open."""
+        code = self._room.call(library.close_port, self._seat, name_in(self._room, port))
+        if code not in (DONE, CLOSED):
+            raise errors.of_code(code)
+        return code == DONE
+
+    # What sends.
+
+    def send(self, mailbox: Mailbox[T], message: T) -> None:
+        """Send a message to a mailbox."""
+        code = self._give(library.send, mailbox, message)
+        if code != DONE:
+            raise errors.of_code(code)
+
+    def multicast(self, channel: Channel[T], message: T) -> None:
+        """Send a message to every port of a channel."""
+        code = self._give(library.multicast, channel, message)
+        if code != DONE:
+            raise errors.of_code(code)
+
+    def put(self, variable: Variable[T], message: T) -> bool:
+        """Fill an empty variable, and return whether it was empty. A full one stays as it was."""
+        code = self._give(library.put, variable, message)
+        if code not in (DONE, PUT):
+            raise errors.of_code(code)
+        return code == DONE
+
+    # What receives.
+
+    def recv(self, source: Source[T], timeout: Optional[float] = None) -> T:
+        """Receive the next message of a mailbox or a port. Blocks while there is none.
+
+        Fails with `Closed` if the port is closed, even if another thread closes it meanwhile.
+        """
+        data = self._obtain(library.recv, (self._seat, name_in(self._room, source)), timeout)
+        return source._decode(data)
+
+    def recv_poll(self, source: Source[T]) -> Optional[T]:
+        """Receive the next message of a mailbox or a port, or return `None` if there is none."""
+        return self._poll(library.recv_poll, source)
+
+    def get(self, variable: Variable[T], timeout: Optional[float] = None) -> T:
+        """Read a variable, which keeps its message. Blocks while it is empty."""
+        data = self._obtain(library.get, (self._seat, name_in(self._room, variable)), timeout)
+        return variable._decode(data)
+
+    def get_poll(self, variable: Variable[T]) -> Optional[T]:
+        """Read a variable, which keeps its message, or return `None` if it is empty."""
+        return self._poll(library.get_poll, variable)
+
+    def take(self, variable: MVar[T], timeout: Optional[float] = None) -> T:
+        """Read and empty an m-variable. Blocks while it is empty."""
+        data = self._obtain(library.take, (self._seat, name_in(self._room, variable)), timeout)
+        return variable._decode(data)
+
+    def take_poll(self, variable: MVar[T]) -> Optional[T]:
+        """Read and empty an m-variable, or return `None` if it is empty."""
+        return self._poll(library.take_poll, variable)
+
+    def swap(self, variable: MVar[T], message: T, timeout: Optional[float] = None) -> T:
+        """Store a message in a full m-variable, and return what it held before.
+
+        Blocks while it is empty.
+        """
+        name, data = name_in(self._room, variable), variable._encode(message)
+        arguments = (self._seat, name, data, c_size_t(len(data)))
+        return variable._decode(self._obtain(library.swap, arguments, timeout))
+
+    def _port(self, call: Callable[..., int], of: Union[Channel[T], Port[T]]) -> Port[T]:
+        name = self._room.make(of._codec, call, self._seat, name_in(self._room, of))
+        return Port(self._room, name, of._codec)
+
+    def _give(self, call: Callable[..., int], target: Object[T], message: T) -> int:
+        name, data = name_in(self._room, target), target._encode(message)
+        return self._room.call(call, self._seat, name, data, c_size_t(len(data)))
+
+    def _poll(self, call: Callable[..., int], source: Object[T]) -> Optional[T]:
+        code, data = self._room.poll(call, self._seat, name_in(self._room, source))
+        if code == NOTHING:
+            return None
+        if code != DONE:
+            raise errors.of_code(code)
+        return source._decode(data)
+
+    def _obtain(
+        self, call: Callable[..., int], arguments: Tuple[Any, ...], timeout: Optional[float]
+    ) -> bytes:
+        """Make a call that may block."""
+        deadline = None if timeout is None else time.monotonic() + _checked(timeout)
+        try:
+            code, data = self._room.ask(self.number, FIRST, call, arguments)
+            if code == PARKED:
+                code, data = self._wait(call, arguments, deadline)
+        except BaseException:
+            self._room.recover(self.number)
+            raise
+        if code != DONE:
+            if code == PARKED:
+                raise TimeoutError("the call was withdrawn at its time limit")
+            raise errors.of_code(code)
+        return data
+
+    def _wait(
+        self, call: Callable[..., int], arguments: Tuple[Any, ...], deadline: Optional[float]
+    ) -> Tuple[int, bytes]:
+        """Make the parked seat's call again when it is woken.
+
+        At the time limit make it once more, since the seat may be due by then, and withdraw it.
+        """
+        while True:
+            is_woken = self._sleep(deadline)
+            code, data = self._room.ask(self.number, AGAIN, call, arguments)
+            if code != PARKED:
+                return code, data
+            if not is_woken:
+                self._room.give_up(self.number)
+                return code, data
+
+    def _sleep(self, deadline: Optional[float]) -> bool:
+        """Sleep until the seat's bell is rung, or until the time limit. Return which it was.
+
+        The interpreter may see a Ctrl-C only as the sleep ends, if it comes just as the sleep
+        begins. So the main thread, to which it comes, never sleeps for long.
+        """
+        longest = _LONGEST_SLEEP if _is_main() else threading.TIMEOUT_MAX
+        while True:
+            left = longest if deadline is None else max(0.0, deadline - time.monotonic())
+            if self._bell.acquire(timeout=min(left, longest)):
+                return True
+            if deadline is not None and left <= longest:
+                return False
+
+
+def _is_main() -> bool:
+    return threading.get_ident() == threading.main_thread().ident
+
+
+def _checked(timeout: float) -> float:
+    if not timeout >= 0:
+        raise ValueError(f"a time limit is 0 seconds or more, and not {timeout}")
+    return timeout

@@ -1,0 +1,205 @@
+"""A switchboard, on which threads call and wait."""
+
+from __future__ import annotations
+
+import operator
+from ctypes import byref, c_uint64
+from typing import Any, Iterable, Optional, Type, Union
+
+from . import _library as library
+from . import errors
+from ._library import CLOSED, DONE, NOTHING
+from ._messages import Codec, T, codec_of
+from ._restoring import restored
+from ._room import Room
+from .journal import Entry, Journal, entry_of
+from .objects import Channel, IVar, Mailbox, MVar, Object, Port, Source, Variable, name_in
+from .seat import Seat
+
+# What the library takes as a number. ctypes drops what a larger one has above its 64 bits.
+_MOST = 2**64 - 1
+
+# The kinds of objects, as the library numbers them.
+_MAILBOX, _CHANNEL, _PORT, _IVAR, _MVAR = range(5)
+
+
+class Switchboard:
+    """Objects, the journal of every accepted call, and the seats from which threads call.
+
+    The journal takes `limit` entries between two cuts, from 1 to 2^32.
+    """
+
+    def __init__(self, limit: int = 65_536) -> None:
+        room = library.Handle()
+        code = library.room_open(_bounded(limit), byref(room))
+        if code != DONE:
+            raise errors.of_code(code)
+        self._room = Room(room)
+
+    @classmethod
+    def restore(
+        cls, parts: Iterable[bytes], limit: int = 65_536, is_torn_fine: bool = False
+    ) -> Switchboard:
+        """Make a switchboard that goes on behind the last entry of a text.
+
+        The text is all that `Journal.text` returned, in order, in parts of any size: a file that
+        is open for reading bytes will do. The switchboard has the objects, and what waits in
+        them, but no seats. Name an object again by its number, as `mailbox(0, str)` does.
+
+        Fails with `Fault`, `Unlawful` or `Torn`. If `is_torn_fine`, a text that ends too early
+        is read up to its last whole line. `entries` says how many these are.
+        """
+        board = cls.__new__(cls)
+        board._room = Room(restored(parts, _bounded(limit), is_torn_fine))
+        return board
+
+    def mailbox(self, number: int, of: Type[T]) -> Mailbox[T]:
+        """Name the mailbox of this number again. `of` is the type that its messages had."""
+        return Mailbox(self._room, number, self._codec(number, _MAILBOX, of))
+
+    def channel(self, number: int, of: Type[T]) -> Channel[T]:
+        """Name the channel of this number again."""
+        return Channel(self._room, number, self._codec(number, _CHANNEL, of))
+
+    def port(self, number: int, of: Type[T]) -> Port[T]:
+        """Name the port of this number again."""
+        return Port(self._room, number, self._codec(number, _PORT, of))
+
+    def ivar(self, number: int, of: Type[T]) -> IVar[T]:
+        """Name the i-variable of this number again."""
+        return IVar(self._room, number, self._codec(number, _IVAR, of))
+
+    def mvar(self, number: int, of: Type[T]) -> MVar[T]:
+        """Name the m-variable of this number again."""
+        return MVar(self._room, number, self._codec(number, _MVAR, of))
+
+    def seat(self) -> Seat:
+        """Make a seat.
+
+        Make all seats before the first thread blocks: while one is free no call fails with
+        `Stalled`.
+        """
+        return Seat(self._room, *self._room.seat())
+
+    def take_journal(self) -> Journal:
+        """Cut the journal, and return the entries that it had."""
+        handle, start, count = library.Handle(), c_uint64(), c_uint64()
+
+        def take(room: Any) -> int:
+            library.cut_at(room, byref(start))
+            return library.take_journal(room, byref(handle), byref(count))
+
+        code = self._room.do(take)
+        if code != DONE:
+            raise errors.of_code(code)
+        return Journal(handle, start.value, count.value, self._room.codecs)
+
+    def cut(self) -> None:
+        """Cut the journal: drop its entries, so that it takes as many again.
+
+        The objects keep what they have.
+        """
+        code = self._room.do(library.cut)
+        if code != DONE:
+            raise errors.of_code(code)
+
+    def reserve(self, entries: int) -> None:
+        """Allocate memory for so many more entries."""
+        entries = operator.index(entries)
+        if not 0 <= entries <= _MOST:
+            raise errors.NoMemory
+        code = self._room.do(library.reserve, entries)
+        if code != DONE:
+            raise errors.of_code(code)
+
+    def entry(self, position: int) -> Entry:
+        """Return the journal's entry at this position.
+
+        It is counted from 0 since the switchboard was made. Fails with `NoSuch` if there is none
+        yet, or if it was cut away.
+        """
+        found = library.Entry()
+        code = errors.NoSuch.code
+        position = operator.index(position)
+        if 0 <= position <= _MOST:
+            code = self._room.do(library.entry, position, byref(found))
+        if code == errors.NoSuch.code:
+            raise errors.NoSuch(f"the journal has no entry at position {position}")
+        if code != DONE:
+            raise errors.of_code(code)
+        return entry_of(found, self._room.codecs)
+
+    @property
+    def entries(self) -> int:
+        """How many calls were accepted since the switchboard was made."""
+        return self._room.count(library.entries)
+
+    @property
+    def cut_at(self) -> int:
+        """How many of these entries were cut away."""
+        return self._room.count(library.cut_at)
+
+    @property
+    def limit(self) -> int:
+        """How many entries the journal takes between two cuts."""
+        return self._room.count(library.limit)
+
+    @property
+    def is_full(self) -> bool:
+        """Whether the journal takes no more entries until it is cut."""
+        return self._room.do(library.is_full) != DONE
+
+    def sent(self, target: Union[Mailbox[T], Channel[T]]) -> int:
+        """Count the messages that were sent to a mailbox, or multicast on a channel."""
+        return self._room.count(library.sent, self._name(target))
+
+    def got(self, source: Source[T]) -> int:
+        """Count the messages that were received from a mailbox or a port."""
+        return self._room.count(library.got, self._name(source))
+
+    def owed(self, source: Source[T]) -> int:
+        """Count the messages that wait in a mailbox, or are owed to an open port."""
+        return self._room.count(library.owed, self._name(source))
+
+    def kept(self, target: Union[Mailbox[T], Channel[T]]) -> int:
+        """Count the messages of a mailbox or a channel that are kept."""
+        return self._room.count(library.kept, self._name(target))
+
+    def held(self, variable: Variable[T]) -> Optional[T]:
+        """Return what a variable holds, or `None` if it is empty."""
+        code, data = self._room.poll(library.held, self._name(variable))
+        if code == NOTHING:
+            return None
+        if code != DONE:
+            raise errors.of_code(code)
+        return variable._decode(data)
+
+    def is_open(self, port: Port[T]) -> bool:
+        """Return whether a port is open."""
+        code = self._room.do(library.is_open, self._name(port))
+        if code not in (DONE, CLOSED):
+            raise errors.of_code(code)
+        return code == DONE
+
+    def _codec(self, number: int, kind: int, of: Type[T]) -> Codec[T]:
+        """Return the codec of an object of this kind."""
+        codec = codec_of(of)
+        if not 0 <= operator.index(number) <= _MOST:
+            raise errors.NoSuch
+        if self._room.count(library.kind, number) != kind:
+            raise errors.WrongKind(f"object {number} is of another kind")
+        known = self._room.codecs.setdefault(number, codec)
+        if known is not codec:
+            raise TypeError(f"the messages of object {number} are {known.type.__name__}")
+        return codec
+
+    def _name(self, named: Object[Any]) -> c_uint64:
+        return name_in(self._room, named)
+
+
+def _bounded(limit: int) -> int:
+    """Return a limit. The library tests it too, but sees 64 bits of it alone."""
+    limit = operator.index(limit)
+    if not 0 < limit <= _MOST:
+        raise errors.OutOfBounds
+    return limit

@@ -1,0 +1,106 @@
+"""Journals as text, and switchboards that go on from them."""
+
+import io
+import unittest
+
+import seryugo
+from seryugo import Switchboard
+
+
+class Texts(unittest.TestCase):
+    def setUp(self):
+        self.board = Switchboard(1_000)
+        self.seat = self.board.seat()
+        self.addCleanup(self.seat.leave)
+
+    def history(self):
+        """Two pieces, behind which a message waits in mailbox 0 and variable 1 holds 5."""
+        mailbox = self.seat.mailbox(str)
+        self.seat.send(mailbox, "hello")
+        self.seat.send(mailbox, "a b")
+        first = self.board.take_journal()
+        self.assertEqual(self.seat.recv(mailbox), "hello")
+        self.seat.mvar(int, 5)
+        second = self.board.take_journal()
+        self.assertEqual((first.start, second.start), (0, 3))
+        return first.text(), second.text()
+
+    def test_text(self):
+        first, second = self.history()
+        self.assertEqual(
+            first,
+            b"journal 2\n"
+            b"seat 0 mailbox: made 0\n"
+            b"seat 0 send 0 =hello: done\n"
+            b"seat 0 send 0 =a%20b: done\n"
+            b"end 3\n",
+        )
+        self.assertEqual(
+            second,
+            b"journal 2\n"
+            b"from 3\n"
+            b"seat 0 recv 0: =hello\n"
+            b"seat 0 mvar =%05: made 1\n"
+            b"end 5\n",
+        )
+
+    def test_restore(self):
+        text = b"".join(self.history())
+        for parts in ([text], io.BytesIO(text), [bytes([byte]) for byte in text]):
+            board = Switchboard.restore(parts, 10)
+            self.assertEqual((board.entries, board.cut_at, board.limit), (5, 5, 10))
+            mailbox, variable = board.mailbox(0, str), board.mvar(1, int)
+            with board.seat() as seat:
+                self.assertEqual(seat.recv(mailbox), "a b")
+                self.assertEqual(seat.swap(variable, 6), 5)
+            third = board.take_journal()
+            self.assertEqual([entry.reply.message for entry in third], ["a b", 5])
+            # The history goes on behind what was read.
+            again = Switchboard.restore([text, third.text()])
+            self.assertEqual(again.held(again.mvar(1, int)), 6)
+
+    def test_names(self):
+        board = Switchboard.restore(self.history())
+        for find in (board.channel, board.port, board.ivar, board.mvar):
+            with self.assertRaises(seryugo.WrongKind):
+                find(0, str)
+        for number in (2, -1, 2**64):
+            with self.assertRaises(seryugo.NoSuch):
+                board.mailbox(number, str)
+        board.mailbox(0, str)
+        with self.assertRaises(TypeError):
+            board.mailbox(0, int)
+        channel = self.seat.channel(int)
+        variable, port = self.seat.ivar(bytes), self.seat.port(channel)
+        self.assertEqual(self.board.channel(channel.number, int).number, channel.number)
+        self.assertEqual(self.board.ivar(variable.number, bytes).number, variable.number)
+        self.assertEqual(self.board.port(port.number, int).number, port.number)
+
+    def test_torn(self):
+        text = b"".join(self.history())[:-6]
+        for torn in (text, b""):
+            with self.assertRaises(seryugo.Torn):
+                Switchboard.restore([torn])
+        board = Switchboard.restore([text[:-4]], is_torn_fine=True)
+        self.assertEqual(board.entries, 4)
+
+    def test_fault(self):
+        first, second = self.history()
+        with self.assertRaises(seryugo.Fault) as told:
+            Switchboard.restore([first, b"journal 2\nwhat\n"])
+        self.assertEqual(told.exception.line, 7)
+
+    def test_unlawful(self):
+        first, second = self.history()
+        with self.assertRaises(seryugo.Unlawful) as told:
+            Switchboard.restore([first, second.replace(b"=hello", b"=hallo")])
+        self.assertEqual(told.exception.position, 3)
+
+    def test_bad_arguments(self):
+        text = self.history()
+        for limit in (0, 2**32 + 1, 2**64 + 1):
+            with self.assertRaises(seryugo.OutOfBounds):
+                Switchboard.restore(text, limit)
+        for parts in ("text", b"text", [bytearray(b"x")]):
+            with self.assertRaises(TypeError):
+                Switchboard.restore(parts)
