@@ -3,7 +3,8 @@
 # skips what it has passed on this machine before. Then the built programs are tried from outside, several steps at once: the
 # tables of calls, also with the journal cut behind each line; the guide's code against the sources; each request for memory
 # refused in turn; logs and journals that are cut, which are not to grow; threads that wait for each other; scripts, faults and
-# charts; journals as text; and the libraries for C, which are built, and used from C and from Rust. The last line is `N passed, M failed`.
+# charts; journals as text; and the libraries for C, which are built, installed, and used from C, Rust and Python, also by a
+# program that is killed and goes on. The last line is `N passed, M failed`.
 cd "$(dirname "$0")/.." || exit 1
 
 # The steps behind `rt ci`, those that take longest first.
@@ -14,16 +15,17 @@ step() {
     bench=crates/cml_bench/out/cml_bench
     cml=crates/cml/out/cml
     chart=crates/cml_chart/out/cml_chart
-    check=crates/cml_check/out/cml_check
     case $1 in
         libraries)
             sh tests/archives.sh &&
-                sh tests/bindings.sh crates/cml_c/out/libcml_c.a crates/cml_script_c/out/libcml_script_c.a
+                sh tests/bindings.sh crates/cml_c/out/libcml_c.a crates/cml_script_c/out/libcml_script_c.a &&
+                sh tests/keep_journal.sh crates/cml_c/out/libcml_c.a "$cml" check &&
+                sh tests/install.sh crates/cml_c/out/libcml_c.a crates/cml_script_c/out/libcml_script_c.a
             ;;
-        refused) sh tests/refused.sh crates/cml_guide/out/cml_guide "$rows" "$cml" "$chart" "$check" ;;
+        refused) sh tests/refused.sh crates/cml_guide/out/cml_guide "$rows" "$cml" "$chart" ;;
         program) sh tests/program.sh "$cml" ;;
         chart) sh tests/chart.sh "$chart" ;;
-        journals) sh tests/journals.sh "$check" ;;
+        journals) sh tests/journals.sh "$cml" ;;
         calls | cuts) sh "tests/$1.sh" "$rows" ;;
         memory) sh tests/memory.sh "$bench" ;;
         waiting) sh tests/waiting.sh "$bench" "$cml" ;;

@@ -10,7 +10,7 @@ kit=$(dirname "$(rt doc)")
 passed=0
 failed=0
 
-# libraries NAME: the words that name those of its line in crates.txt, and where all that they stand on lie.
+# libraries NAME: the words that name those of its line in crates.txt, and the folders of all libraries that they need.
 libraries() {
     for library in std $(sed -n "s/^$1 staticlib: *//p" crates.txt); do
         if [ -d "crates/$library" ]; then

@@ -1,6 +1,6 @@
 #!/bin/sh
 # The libraries for C, from C and from Rust: `sh tests/bindings.sh ROOMS REPLAY`, with the archives of cml_c and cml_script_c.
-# The programs of bindings/c are built with them: one that replays a script is to write the report beside each example, and four
+# The programs of bindings/c are built with them: one that replays a script is to write the report beside each example, and five
 # try rooms, two of them with threads. Then the tests of the crate of bindings/rust run, and its documented examples. Where
 # there is no C compiler, or no cargo, that is said and counts for nothing. The last line is `N passed, M failed`.
 rooms=$(cd "$(dirname "$1")" && pwd)/$(basename "$1")
@@ -94,21 +94,23 @@ sanitized() {
 }
 
 rooms_from_c() {
-    for program in calls messages threads requests; do
+    for program in calls messages keep threads requests; do
         check "a program in C of rooms is built: $program" compile $program "$rooms"
         [ -x "$work/$program" ] && check "rooms from C: $program" timeout 60 "$work/$program"
     done
     check 'requests for memory can be refused' cc -O2 -shared -fPIC -o "$work/refuse.so" tests/refuse.c -ldl
-    [ -x "$work/calls" ] && check 'each request for memory refused' refuse_each calls 'each call is told'
+    [ -x "$work/calls" ] && check 'each request for memory refused' refuse_each calls 'each call returns'
     [ -x "$work/messages" ] && check 'the same with messages of bytes' refuse_each messages 'each call returns'
+    [ -x "$work/keep" ] && check 'the same with journals that are kept' refuse_each keep 'each journal is kept'
     [ -x "$work/requests" ] && check 'the same with threads that try again' refuse_each_again
     if command -v valgrind > /dev/null; then
-        for program in calls messages; do
+        for program in calls messages keep; do
             [ -x "$work/$program" ] && check "without a fault of memory: $program" is_clean "$work/$program"
         done
         [ -x "$work/requests" ] && check 'without a fault of memory: requests' is_clean "$work/requests" 5
     fi
     check 'the sanitizers find nothing: messages' sanitized messages
+    check 'the sanitizers find nothing: keep' sanitized keep
     check 'the sanitizers find nothing: requests' sanitized requests 20
 }
 
@@ -131,6 +133,7 @@ from_rust() {
     check 'the crate in Rust' cargo_does test --all-features
     check 'a mailbox and two threads in Rust' letters_from_rust
     check 'messages are timed in Rust' cargo_does run --release --example speed -- 4000
+    check 'journals are timed in Rust' cargo_does run --release --example journals -- 40001
 }
 
 check 'the archive of rooms is there' [ -s "$rooms" ]

@@ -1,14 +1,14 @@
 #!/bin/sh
 # The tables of calls on a board, a floor and a hall, performed by the built program: `sh tests/calls.sh PROGRAM`. The
-# program writes each line again with what it comes to, so what it writes is to be the table. A case begins with a line
-# `== its name`. Then they are performed with texts for messages, the digits of their numbers, but for the tables on a message
-# that is always refused and on how many messages live: each comes to the same.
+# program writes each line again with its outcome, so its output must be the table. A case begins with a line
+# `== its name`. Then the tables are performed with texts for messages, the digits of their numbers: each outcome must be
+# the same. Left out are the tables on a message whose share always fails and on how many messages live.
 # The last line is `N passed, M failed`.
 program=$(cd "$(dirname "$1")" && pwd)/$(basename "$1")
 cd "$(dirname "$0")" || exit 1
 
-# compare TABLE WORDS..: what the program writes with these words, held against the table case by case. A text is told in
-# quotes.
+# compare TABLE WORDS..: compares the program's output with these words and the table, case by case. The program writes a
+# text in quotes.
 compare() {
     table=$1
     shift

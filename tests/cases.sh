@@ -12,8 +12,8 @@ fail() {
     echo "failed: $*"
 }
 
-# What the program does with standard input: its output, its errors, and its status. One that doesn't end is given up
-# after a minute, with status 124.
+# Runs the program on standard input, and keeps its output, its errors, and its status. A program that does not end is
+# stopped after a minute, with status 124.
 run() {
     timeout 60 "$program" "$@" > "$work/out" 2> "$work/err"
     status=$?

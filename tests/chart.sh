@@ -1,9 +1,9 @@
 #!/bin/sh
 # The built program that draws charts, from outside: `sh tests/chart.sh PROGRAM`. Each example's report gives with its script the
 # chart beside it, and some give the SVG beside them, byte for byte; then rows that are chosen, wrong words, texts that are no
-# reports, or none of the script, scripts with faults, the steps that threads stand at, a long report and one of too many bytes,
-# texts with bytes that XML has a meaning for, and streams that fail. Each SVG is read by a real
-# reader of XML where python3 is there. The last line is `N passed, M failed`.
+# reports, or none of the script, scripts with faults, the next steps of threads, a long report and one of too many bytes,
+# texts with bytes that XML has a meaning for, and streams that fail. If python3 is there, a real XML reader reads each SVG.
+# The last line is `N passed, M failed`.
 LC_ALL=C
 export LC_ALL
 program=$(cd "$(dirname "$1")" && pwd)/$(basename "$1")
@@ -80,7 +80,7 @@ faults() {
     fault "an object with a thread's name" "m send m 5: done / mailbox m: sent 1 got 0 waits 1 / end: done 1" "line 2: name taken"
 }
 
-# stands CASE SCRIPT REPORT LINES: with the script the report's chart has these lines of steps that threads stand at.
+# stands CASE SCRIPT REPORT LINES: with the script the report's chart has these lines of the threads' next steps.
 stands() {
     script "$2" > "$work/script"
     script "$3" > "$work/in"

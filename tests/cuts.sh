@@ -2,8 +2,8 @@
 # sh tests/cuts.sh PROGRAM: a cut of the journal changes no reply, and nothing that readers tell of objects.
 #
 # The built program performs the tables of calls with a cut behind each line, once with the entries dropped (`cut`) and
-# once with them handed over (`take`); while a lane or a feed is open none is made. What it writes is to be the table, but
-# for what is told of the journal itself:
+# once with them taken (`take`). While a lane or a feed is open, no cut is made. The output must be the table, except what
+# it says of the journal itself:
 #
 #   journal full           behind a cut that call is answered: from there on the case's lines are not compared, and on a
 #                          board none of them tells it
@@ -18,7 +18,7 @@
 # The table of how many messages live is left out, since each cut drops some, or keeps some longer.
 #
 # Then tables of random calls (tests/some_calls.awk) are performed with the cuts that are strewn in, without them, and with
-# a cut behind each line: all other lines are to come to the same.
+# a cut behind each line: the outcomes of all other lines must be the same.
 # The last line is `N passed, M failed`.
 program=$(cd "$(dirname "$1")" && pwd)/$(basename "$1")
 cd "$(dirname "$0")" || exit 1

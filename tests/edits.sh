@@ -1,11 +1,11 @@
 #!/bin/sh
-# The wrong edits in crates/*/edits: `sh tests/edits.sh [NAME..]` has the prover refuse each one of the crates that are named,
-# or of all crates. Those in crates/*/must-fail, which guard what the README and docs/PROVED.md promise, `rt ci` tries itself.
-# Who changes a crate tries the others of that crate by this script.
+# The wrong edits in crates/*/edits: `sh tests/edits.sh [NAME..]` checks that the prover refuses each edit of the crates that
+# are named, or of all crates. `rt ci` itself tries those in crates/*/must-fail, which guard what the README and
+# docs/PROVED.md promise. If you change a crate, try the others of that crate by this script.
 #
-# `rt ci` tries them on a copy of the crates, in which they stand in must-fail/. It proves there what it has not passed before,
-# and each crate once more before its first edit. It keeps what each edit came to, and tries it again only if something has
-# changed on which the edit rests. The last line is `N passed, M failed`.
+# `rt ci` tries them on a copy of the crates, in which they are in must-fail/. It proves there what it has not passed before,
+# and each crate once more before its first edit. It keeps the result of each edit, and tries the edit again only if
+# something has changed on which it rests. The last line is `N passed, M failed`.
 cd "$(dirname "$0")/.." || exit 1
 work=$(mktemp -d) || exit 1
 trap 'rm -rf "$work"' EXIT

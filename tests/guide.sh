@@ -1,5 +1,5 @@
 #!/bin/sh
-# Each paragraph of code in docs/GUIDE.md and in the README stands word for word in a source: that in Rattle in
+# Each paragraph of code in docs/GUIDE.md and in the README is word for word in a source: that in Rattle in
 # crates/cml_guide/src, where it is proved, and the README's program in Rust in bindings/rust, where it is run.
 # The last line is `N passed, M failed`.
 cd "$(dirname "$0")/.." || exit 1

@@ -5,12 +5,12 @@
 # the lane whose next message comes, or the feed that gets one. The plain program performs these and prints the report
 # that comes of them. So a report is one that some order gives just where what is printed for it is the same, byte for
 # byte. Of a report that ends full, in a script with lanes or feeds, the number of steps left is taken too, where it can
-# be so many: what a lane accepted and nobody moved has no line.
+# be so many: what a lane accepted and no thread moved has no line.
 #
 # Where the order itself can't be, the last line that is printed says why, as no report's last line does. It can't be
 # where a thread takes a step that waits there, or that the journal has no room for, or has none left; nor where at the
-# end a thread could go on. For once each thread that has steps left waits, nobody ever goes on; and before that
-# nobody is told of a stall. So all that are left wait for what isn't there at the end, whoever was told first.
+# end a thread could go on. For once each thread that has steps left waits, no thread ever goes on; and before that no
+# call fails in a stall. So all that are left wait for what is not there at the end, whichever call failed first.
 # tests/rings.awk says what can't be of lanes and feeds.
 #
 # A script with a fault has no report: then its fault is printed.
@@ -98,7 +98,7 @@ function able(    thread, i) {
     return ""
 }
 
-# How it ends, where it is told so.
+# How it ends, if the report says so.
 function ended_as(end, limit,    thread, i, least, most, word) {
     least = most = 0
     for (thread in queued) {

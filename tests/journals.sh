@@ -1,21 +1,38 @@
 #!/bin/sh
-# The built program that checks journals, from outside: `sh tests/journals.sh PROGRAM`, or `sh tests/journals.sh PROGRAM few`, which
-# leaves out the long journal. Lawful journals of all calls, in both
-# versions and in several pieces; unlawful ones; each fault of the format; each prefix of a journal, each of its lines left out,
-# doubled or exchanged with the next, and each byte made another; a journal of many entries in little memory; other words, and
-# streams that fail. The last line is `N passed, M failed`.
+# `cml check` from outside: `sh tests/journals.sh CML`, or `sh tests/journals.sh CML few`, which leaves out the long journal and most
+# changed ones. Lawful journals of all calls, in both versions and in several pieces; unlawful ones; the lines of the objects; each
+# fault of the format; a journal of many entries in little memory; other words, and streams that are cut anywhere or fail.
+# Then what is nearly a journal: each byte made others, each prefix, and each line and each piece left out, doubled or exchanged with
+# the next. Of these the program has to say just what the plain program journal_judge.awk says. The last line is `N passed, M failed`.
 LC_ALL=C
 export LC_ALL
 program=$(cd "$(dirname "$1")" && pwd)/$(basename "$1")
+few=$2
 cd "$(dirname "$0")/.." || exit 1
 . tests/cases.sh
 
-# told CASE STATUS OUT ERR LINES: what the program says of a journal of these lines, which are parted by ` / `.
+# told CASE STATUS OUT ERR LINES: what the program says of a journal of these lines, which are parted by ` / `. The judge has to
+# say so too.
 told() {
     script "$5" > "$work/in"
-    run < "$work/in"
+    run check < "$work/in"
     expect "$1" "$2" "$3" "$4"
+    cases=$((cases + 1))
+    cp "$work/in" "$work/cases/told.$cases"
 }
+
+# unlike CASE VERDICT ANSWER LINES: a journal that isn't lawful, and the right answer to the call.
+unlike() { told "$1" 7 "$(printf '%s\nanswer: %s' "$2" "$3")" none "$4"; }
+
+# left CASE STATE LINES: a lawful journal, and the lines of its objects; the lines of both are parted by ` / `.
+left() {
+    script "$3" > "$work/in"
+    run check --state < "$work/in"
+    expect "$1" 0 "$(script "$2")" none
+}
+
+mkdir "$work/cases"
+cases=0
 
 # Every call, by a seat, a lane and a feed, with every reply that it may have.
 all='journal 1 / seat 0 mailbox: made 0 / seat 0 channel: made 1 / seat 0 ivar: made 2 / seat 0 mvar: made 3 / seat 0 mvar 9: made 4
@@ -28,6 +45,16 @@ all='journal 1 / seat 0 mailbox: made 0 / seat 0 channel: made 1 / seat 0 ivar: 
 all=$(printf '%s' "$all" | tr -d '\n')
 letters='journal 1 / seat 0 mailbox: made 0 / seat 1 send 0 5: done / seat 0 recv 0: 5 / end 3'
 
+# Calls with messages of bytes, in four pieces, of which one has no entry.
+pieces='journal 2 / seat 0 mailbox: made 0 / seat 0 channel: made 1 / seat 0 ivar: made 2 / seat 0 mvar =x%20y: made 3
+ / seat 1 send 0 =%00%FF: done / lane 0 send 0 =: done / seat 1 port 1: made 4 / end 7 / journal 2 / from 7 / end 7 / journal 2 / from 7
+ / feed 2 port 1: made 5 / lane 1 multicast 1 =done: done / seat 2 recv 0: =%00%FF / seat 1 copy 4: made 6 / seat 1 poll 6: =done
+ / seat 1 poll 6: none / seat 2 poll 0: = / seat 2 close 4: done / end 15 / journal 2 / from 15 / seat 2 recv 4: closed
+ / feed 2 recv 5: =done / seat 1 put 2 =%25: done / seat 1 get 2: =%25 / seat 1 swap 3 =b: =x%20y / seat 1 put 3 =c: put
+ / seat 1 take 3: =b / seat 1 getpoll 3: none / end 23'
+pieces=$(printf '%s' "$pieces" | tr -d '\n')
+cut='journal 1 / from 10 / seat 0 recv 2: 5 / end 11'
+
 lawful() {
     told 'every call' 0 'lawful 33' none "$all"
     told 'no entry' 0 'lawful 0' none 'journal 1 / end 0'
@@ -39,23 +66,58 @@ lawful() {
     told 'bytes that are a reply' 0 'lawful 3' none \
         'journal 2 / seat 0 mailbox: made 0 / seat 1 send 0 =none: done / seat 1 poll 0: =none / end 3'
     for journal in examples/*.journal; do
-        run < "$journal"
+        run check < "$journal"
         expect "$journal" 0 some none
     done
 }
 
 unlawful() {
-    told 'another message' 1 'unlawful at 2: seat 0 recv 0: 6' none "$(echo "$letters" | sed 's/recv 0: 5/recv 0: 6/')"
-    told 'a message that was never sent' 1 'unlawful at 1: seat 0 recv 0: 5' none \
+    unlike 'another message' 'unlawful at 2: seat 0 recv 0: 6' 5 "$(echo "$letters" | sed 's/recv 0: 5/recv 0: 6/')"
+    unlike 'a message that was never sent' 'unlawful at 1: seat 0 recv 0: 5' waits \
         'journal 1 / seat 0 mailbox: made 0 / seat 0 recv 0: 5 / end 2'
-    told 'no object' 1 'unlawful at 0: lane 4 send 0 5: done' none 'journal 1 / lane 4 send 0 5: done / end 1'
-    told 'another kind of object' 1 'unlawful at 1: seat 0 take 0: 5' none \
+    unlike 'no object' 'unlawful at 0: lane 4 send 0 5: done' 'no such object' 'journal 1 / lane 4 send 0 5: done / end 1'
+    unlike 'another kind of object' 'unlawful at 1: seat 0 take 0: 5' 'wrong kind' \
         'journal 1 / seat 0 mailbox: made 0 / seat 0 take 0: 5 / end 2'
-    told 'the number of another object' 1 'unlawful at 0: seat 0 mailbox: made 1' none 'journal 1 / seat 0 mailbox: made 1 / end 1'
-    told 'a poll that finds what is there' 1 'unlawful at 2: seat 0 poll 0: none' none "$(echo "$letters" | sed 's/recv 0: 5/poll 0: none/')"
-    told 'bytes out of order' 1 'unlawful at 3: seat 1 recv 0: =b' none \
-        'journal 2 / seat 0 mailbox: made 0 / seat 1 send 0 =a: done / seat 1 send 0 =b: done / seat 1 recv 0: =b / end 4'
-    told 'what is behind is not read' 1 'unlawful at 0: seat 0 mailbox: made 7' none 'journal 1 / seat 0 mailbox: made 7 / what / end 9'
+    unlike 'the number of another object' 'unlawful at 0: seat 0 mailbox: made 1' 'made 0' 'journal 1 / seat 0 mailbox: made 1 / end 1'
+    unlike 'a poll that finds what is there' 'unlawful at 2: seat 0 poll 0: none' 5 "$(echo "$letters" | sed 's/recv 0: 5/poll 0: none/')"
+    unlike 'a poll that finds nothing' 'unlawful at 1: seat 0 poll 0: 5' none 'journal 1 / seat 0 mailbox: made 0 / seat 0 poll 0: 5 / end 2'
+    unlike 'a variable that is empty' 'unlawful at 1: seat 0 put 0 1: put' 'done' 'journal 1 / seat 0 ivar: made 0 / seat 0 put 0 1: put / end 2'
+    unlike 'a variable that is full' 'unlawful at 2: seat 0 put 0 2: done' put \
+        'journal 1 / seat 0 ivar: made 0 / seat 0 put 0 1: done / seat 0 put 0 2: done / end 3'
+    unlike 'a port that is closed' 'unlawful at 3: seat 0 poll 1: none' closed \
+        'journal 1 / seat 0 channel: made 0 / seat 0 port 0: made 1 / seat 0 close 1: done / seat 0 poll 1: none / end 4'
+    unlike 'bytes out of order' 'unlawful at 3: seat 1 recv 0: =b' =a%20 \
+        'journal 2 / seat 0 mailbox: made 0 / seat 1 send 0 =a%20: done / seat 1 send 0 =b: done / seat 1 recv 0: =b / end 4'
+    unlike 'what is behind is not read' 'unlawful at 0: seat 0 mailbox: made 7' 'made 0' 'journal 1 / seat 0 mailbox: made 7 / what / end 9'
+}
+
+# The lines of the objects, as a report has them.
+states() {
+    left 'no object' 'lawful 0' 'journal 1 / end 0'
+    left 'objects of all kinds' "$(printf '%s' 'lawful 33 / mailbox 0: sent 2 got 2 waits 0 / channel 1: sent 2 kept 2 first 0 / ivar 2: full 1
+ / mvar 3: empty / mvar 4: empty / port 5: start 0 got 1 closed / port 6: start 0 got 1 owed 1 / port 7: start 0 got 1 owed 1' | tr -d '\n')" "$all"
+    left 'bytes' 'lawful 3 / mailbox 0: sent 1 got 0 waits 1 / mvar 1: full =%20' \
+        'journal 2 / seat 0 mailbox: made 0 / seat 0 mvar =%20: made 1 / seat 0 send 0 =x: done / end 3'
+    run check --state < /dev/null
+    expect 'the state of nothing' 2 none 'journal: torn behind line 0'
+    for journal in examples/*.journal; do
+        report=${journal%.journal}.report
+        [ -f "$report" ] || continue
+        run check --state < "$journal"
+        same_state "$journal" "$report"
+    done
+}
+
+# same_state JOURNAL REPORT: the objects' lines are those of the report, except the names. A feed has a port's line and what was
+# taken of it.
+same_state() {
+    sed -n 's/^\(mailbox\|channel\|port\|ivar\|mvar\|feed\) [^ :]*:/\1:/p' "$2" | sed 's/^feed:\(.*\) taken [0-9]*$/port:\1/' | grep -v ': not made$' | sort > "$work/wanted"
+    sed -n '1d; s/^\([a-z]*\) [0-9]*:/\1:/p' "$work/out" | sort > "$work/found"
+    if [ "$status" = 0 ] && cmp -s "$work/wanted" "$work/found"; then
+        pass
+    else
+        fail "the state of $1: $(diff "$work/wanted" "$work/found" | head -n 3)"
+    fi
 }
 
 # faulty FAULT LINE LINES
@@ -81,50 +143,41 @@ faults() {
     faulty 'gap' 5 'journal 1 / seat 0 mailbox: made 0 / end 1 / journal 1 / seat 0 mailbox: made 1 / end 2'
     faulty 'bad bytes' 2 "journal 1 / seat 0$(printf '\t')mailbox: made 0 / end 1"
     told 'behind a cut' 2 none 'journal: begins behind a cut' 'journal 1 / from 1 / end 1'
-    run < /dev/null
+    faulty 'bad bytes' 2 'journal 1 / seat x mailbox: made é / end 1'
+    faulty 'no header' 1 'journal 3 / from 1 / end 1'
+    faulty 'no header' 1 'seat 0 mafrom 1'
+    faulty 'bad number' 2 'journal 1 / thread 00 mailbox: made 0 / end 1'
+    faulty 'too few words' 2 'journal 1 / mailbox / end 1'
+    faulty 'too few words' 2 'journal 1 / end 00'
+    faulty 'no colon' 2 'journal 1 / seat 0 recv x 5 / end 1'
+    faulty 'unknown word' 2 'journal 1 / seat 0 recv 0: a b / end 1'
+    faulty 'bad message' 2 'journal 1 / seat 0 recv 0: made / end 1'
+    faulty 'bad number' 4 'journal 1 / end 0 / journal 1 / from 0 / end 0'
+    told 'a cut line that is torn' 2 none 'journal: torn behind line 1' 'journal 1'
+    printf 'journal 1\nseat 0 mail\000box: made 0\nend 1\n' > "$work/in"
+    run check < "$work/in"
+    expect 'a byte 0' 2 none 'journal: line 2: bad bytes'
+    run check < /dev/null
     expect 'no input' 2 none 'journal: torn behind line 0'
-    { printf 'journal 2\nseat 0 send 0 ='; head -c 2000000 /dev/zero | tr '\0' a; printf ': done\n'; } > "$work/in"
-    run < "$work/in"
-    expect 'a long line' 2 none 'journal: line 2: line too long'
     { printf 'journal 2\nseat 0 mvar ='; head -c 1000000 /dev/zero | tr '\0' a; printf ': made 0\nend 1\n'; } > "$work/in"
-    run < "$work/in"
+    run check < "$work/in"
     expect 'a message of a million bytes' 0 'lawful 1' none
 }
 
-# verdict CASE: the last run said one of the three that it may say.
-verdict() {
-    case $status in
-        0) expect "$1" 0 "lawful ${2:-3}" none ;;
-        1) expect "$1" 1 some none ;;
-        *) expect "$1" 2 none some ;;
-    esac
+# long_line CASE BYTES: a line of so many bytes, of which few are kept.
+long_line() {
+    { printf 'journal 2\nseat 0 mvar ='; head -c "$2" /dev/zero | tr '\0' a; printf ': made 0\nend 1\n'; } > "$work/in"
+    (ulimit -v 65536 && run check < "$work/in" && echo "$status" > "$work/status")
+    status=$(cat "$work/status")
+    expect "$1" 2 none 'journal: line 2: line too long'
 }
 
-# What is nearly a journal: a prefix is torn, and without a line, with one twice, or with `%` for a byte it is never lawful.
-near() {
-    script "$letters" > "$work/whole"
-    bytes=$(wc -c < "$work/whole")
-    at=0
-    while [ "$at" -lt "$bytes" ]; do
-        head -c "$at" "$work/whole" > "$work/in"
-        run < "$work/in"
-        expect "the first $at bytes" 2 none some
-        { cat "$work/in"; printf '%%'; tail -c "+$((at + 2))" "$work/whole"; } > "$work/other"
-        run < "$work/other"
-        expect "another byte at $at" 2 none some
-        at=$((at + 1))
-    done
-    for line in 1 2 3 4 5; do
-        sed "${line}d" "$work/whole" > "$work/in"
-        run < "$work/in"
-        if [ "$status" = 0 ]; then fail "without line $line"; else verdict "without line $line"; fi
-        sed "${line}p" "$work/whole" > "$work/in"
-        run < "$work/in"
-        if [ "$status" = 0 ]; then fail "line $line twice"; else verdict "line $line twice"; fi
-        sed "${line}{h;d;};$((line + 1)){G;}" "$work/whole" > "$work/in"
-        run < "$work/in"
-        if [ "$status" = 0 ]; then fail "line $line behind the next"; else verdict "line $line behind the next"; fi
-    done
+long_lines() {
+    long_line 'a line of one byte too many' $((1114112 - 21 + 1))
+    long_line 'a line of 10 MB' 10000000
+    head -c 10000000 /dev/zero | tr '\0' ' ' > "$work/in"
+    run check < "$work/in"
+    expect '10 MB of spaces' 2 none 'journal: line 1: line too long'
 }
 
 # A journal of 400,001 entries, in memory for what waits: one message.
@@ -134,33 +187,130 @@ many() {
         for (i = 0; i < 200000; i++) print "seat 1 send 0 " i ": done\nseat 0 recv 0: " i
         print "end 400001"
     }' > "$work/in"
-    (ulimit -v 65536 && run < "$work/in" && echo "$status" > "$work/status")
+    (ulimit -v 65536 && run check < "$work/in" && echo "$status" > "$work/status")
     status=$(cat "$work/status")
     expect 'many entries in 64 MB' 0 'lawful 400001' none
 }
 
 streams() {
-    run what < /dev/null
+    run check what < /dev/null
     expect 'other words' 3 none some
-    run --help < /dev/null
+    run check --limit 5 < /dev/null
+    expect 'an option of another subcommand' 3 none some
+    run check --state --state < /dev/null
+    expect 'an option twice' 3 none some
+    run check --state=true < /dev/null
+    expect 'an option with a value' 3 none some
+    run check --help < /dev/null
     expect 'help' 0 some none
-    run < .
-    expect 'a folder for standard input' 4 none 'cml_check: read failed'
+    run check < .
+    expect 'a folder for standard input' 4 none 'cml: read failed'
     script "$letters" > "$work/in"
-    timeout 60 "$program" < "$work/in" > /dev/full 2> "$work/err"
+    timeout 60 "$program" check < "$work/in" > /dev/full 2> "$work/err"
     status=$?
     : > "$work/out"
-    expect 'a full device' 4 none 'cml_check: write failed'
-    (printf 'journal 1\nseat 0 mail'; sleep 0.2; printf 'box: made 0\nend 1\n') | { timeout 60 "$program" > "$work/out" 2> "$work/err"; echo $? > "$work/status"; }
+    expect 'a full device' 4 none 'cml: write failed'
+    (printf 'journal 1\nseat 0 mail'; sleep 0.2; printf 'box: made 0\nend 1\n') |
+        { timeout 60 "$program" check > "$work/out" 2> "$work/err"; echo $? > "$work/status"; }
     status=$(cat "$work/status")
     expect 'a line in two parts' 0 'lawful 1' none
 }
 
+# read_so VARIABLE=VALUE..: checks the journal where reads of standard input are so.
+read_so() {
+    env LD_PRELOAD="$work/reads.so" "$@" timeout 60 "$program" check < "$work/in" > "$work/out" 2> "$work/err"
+    status=$?
+}
+
+# Short reads change nothing. A read that fails ends the check, and one that is interrupted is made again.
+reads() {
+    command -v cc > /dev/null || { echo 'skipped: there is no C compiler to make reads short'; return; }
+    cc -O1 -shared -fPIC -o "$work/reads.so" tests/reads.c -ldl || { fail 'reads.c is built'; return; }
+    script "$pieces" > "$work/in"
+    for most in 1 2 3 5 7 10 14 15 16 17 31 64 602 603; do
+        read_so READ_MOST=$most
+        expect "at most $most bytes at a read" 0 'lawful 23' none
+    done
+    number=1
+    while rm -f "$work/met"; do
+        read_so READ_MOST=16 READ_FAILS=$number READ_ERROR=4 TOLD="$work/met"
+        [ -e "$work/met" ] || break
+        expect "read $number interrupted" 0 'lawful 23' none
+        read_so READ_MOST=16 READ_FAILS=$number READ_ERROR=5
+        expect "read $number failed" 4 none 'cml: read failed'
+        number=$((number + 1))
+    done
+    if [ "$number" -gt 38 ]; then pass; else fail "only $number reads"; fi
+}
+
+# change NAME STEP: all that is nearly the journal on standard input.
+change() { awk -v to="$work/cases/$1" -v step="$2" -f tests/journal_changes.awk; }
+
+# Each changed journal is a file in the folder of cases.
+changed() {
+    step=1
+    [ -z "$few" ] || step=7
+    change requests "$step" < examples/requests.journal
+    script "$all" | change all "$step"
+    script "$pieces" | change pieces "$step"
+    script "$cut" | change cut "$step"
+    for seed in 1 2; do
+        awk -v seed=$seed -v count=60 -f tests/journal_judge.awk -f tests/some_journals.awk > "$work/cases/random$seed"
+        change random$seed $((step * 29)) < "$work/cases/random$seed"
+    done
+}
+
+# What the program says of each case, as journal_judge.awk shows it. This script has a part of the cases.
+says='
+    told=$1
+    program=$2
+    shift 2
+    for file; do
+        output=$(timeout 60 "$program" check --state < "$file" 2> "$told.$$.errors")
+        status=$?
+        errors=
+        read -r errors < "$told.$$.errors"
+        echo "== $file"
+        [ -z "$output" ] || echo "$output"
+        echo "status $status $errors"
+    done > "$told.$$"
+    rm "$told.$$.errors"
+'
+
+# Program and judge say the same of each case, and some cases have each verdict.
+judged() {
+    find "$work/cases" -type f > "$work/files"
+    xargs -P "$(nproc 2> /dev/null || echo 2)" -n 200 sh -c "$says" says "$work/said" "$program" < "$work/files"
+    xargs -n 1000 awk -v state=1 -f tests/journal_judge.awk < "$work/files" > "$work/judged"
+    cat "$work"/said.* | awk '
+        /^== / { name = $2; next }
+        FNR == NR { judged[name] = judged[name] " / " $0; next }
+        { said[name] = said[name] " / " $0 }
+        END {
+            for (name in judged) {
+                if (said[name] == judged[name]) passed++
+                else { failed++; print "failed: " name ": said" said[name] ", judged" judged[name] }
+                sub(/.* \/ status /, "", judged[name])
+                cases[judged[name] + 0]++
+            }
+            if (cases[0] < 20 || cases[7] < 50 || cases[2] < 500) { failed++; print "failed: too few cases with some verdict" }
+            print passed + 0, failed + 0 > "/dev/stderr"
+        }
+    ' "$work/judged" - 2> "$work/sums"
+    read -r more_passed more_failed < "$work/sums"
+    passed=$((passed + more_passed))
+    failed=$((failed + more_failed))
+}
+
 lawful
 unlawful
+states
 faults
-near
-[ "${2:-}" = few ] || many
+long_lines
+[ -n "$few" ] || many
 streams
+reads
+changed
+judged
 echo "$passed passed, $failed failed"
 [ "$failed" -eq 0 ]

@@ -1,10 +1,10 @@
 #!/bin/sh
-# What is read as it is written takes no more memory the longer it is used: `sh tests/memory.sh PROGRAM`. The built
-# cml_bench passes ten million messages through each log, with eight cursors that keep up, in less memory than half of
-# the messages would take; and through a board whose journal is cut, which has two entries for each. The journals of
-# a board that grow are not to fit there: else the limit limits nothing. Threads need address space of their own, so a
-# switchboard's limit is higher: where it is lower still the C library tries in vain for a heap of the thread's own at each
-# request. There two million messages, each with two entries, are not to fit uncut either.
+# A log or a board that is read as it is written takes no more memory the longer it is used: `sh tests/memory.sh PROGRAM`. The
+# built cml_bench passes ten million messages through each log, with eight cursors that keep up, in less memory than half of
+# the messages would take; and through a board whose journal is cut, which has two entries for each. A board whose journal
+# grows must not fit there: else the limit limits nothing. Each thread needs more address space, so a switchboard's limit
+# is higher: with a lower one the C library tries in vain to make a heap for the thread at each request. There two million
+# messages, each with two entries, must not fit uncut either.
 # The last line is `N passed, M failed`.
 program=$(cd "$(dirname "$1")" && pwd)/$(basename "$1")
 passed=0

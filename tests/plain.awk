@@ -95,7 +95,7 @@ function fault_of(line, number,    count, word, form_of, what) {
     return ""
 }
 
-# The faults of a line whose form is known, in the order in which they are told.
+# The faults of a line whose form is known, in the order in which they are tested.
 function fault_in_form(word, from, count, form_of, thread,    places, place, i, w) {
     places = split(form_of, place, " ")
     if (count - from + 1 != places) return "word count"

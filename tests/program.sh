@@ -17,8 +17,20 @@ examples() {
             needs_run "$example" "$example"
         else
             reported "$example" "$example" "${example%.cml}.report" replay
+            journaled "$example" "${example%.cml}"
         fi
     done
+}
+
+# journaled CASE NAME: the journal of the script NAME.cml is NAME.journal, and it ends as its report says.
+journaled() {
+    run replay --journal < "$2.cml"
+    if [ "$status" = "$(meant_by "$2.report")" ] && cmp -s "$2.journal" "$work/out" && [ ! -s "$work/err" ]; then
+        pass
+    else
+        fail "$1, its journal: status $status, errors $(head -c 300 "$work/err")"
+        diff "$2.journal" "$work/out"
+    fi
 }
 
 # written CASE TEXT FAULT: a text as printf writes it.

@@ -20,7 +20,6 @@ steps() {
         basename "$folder"
     done
     echo cml_chart
-    echo cml_check
     echo cml_script_c
     echo cml_guide
     echo cml_caller
@@ -30,9 +29,11 @@ steps() {
 
 step() {
     case $1 in
-        cml) build cml crates/cml/src/main.rt && sh tests/program.sh "$program" ;;
+        cml)
+            build cml crates/cml/src/main.rt || return
+            sh tests/program.sh "$program" && sh tests/journals.sh "$program" few
+            ;;
         cml_chart) build cml_chart crates/cml_chart/src/main.rt && sh tests/chart.sh "$program" ;;
-        cml_check) build cml_check crates/cml_check/src/main.rt && sh tests/journals.sh "$program" few ;;
         cml_rows)
             build cml_rows crates/cml_rows/src/main.rt || return
             prints cml_rows

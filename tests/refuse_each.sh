@@ -3,14 +3,15 @@
 # runs the program on the input once for each request that it makes, with that one refused (`once`) or with it and all later
 # ones (`rest`), until a run makes no more; and looks at each run as its KIND wants it:
 #
-#   table    calls on a board, a floor or a hall: each line comes to what it comes to with memory, and tells where a call was
-#            refused, made again and answered; a run whose own memory was refused ends there with status 1
-#   texts    the same where the messages are texts, each told in quotes
+#   table    calls on a board, a floor or a hall: each line has the outcome that it has with memory, and says where a call was
+#            refused, made again and answered; a run that ran out of memory itself ends there with status 1
+#   texts    the same where the messages are texts, each written in quotes
 #   replay   a script by `cml replay`: its report, or status 5, nothing written and `cml: no memory`
+#   written  a script by `cml replay --journal`: its journal, or the same
 #   run      a script by `cml run`: a report of some order of its threads, or the same
 #   threads  the same where threads are refused, and not memory: with no report
 #   chart    a report by `cml_chart`: its chart, or status 5, nothing written and `cml_chart: no memory`
-#   journal  a journal by `cml_check`: its verdict, or status 5, nothing written and `cml_check: no memory`
+#   journal  a journal by `cml check`: its verdict, or status 5, nothing written and `cml: no memory`
 #
 # The last line is `KIND HOW INPUT: N passed, M failed, K met`: so often a call, or the whole program, told of a refusal.
 work=$1
@@ -22,7 +23,6 @@ room=$(mktemp -d "$work/each.XXXXXX") || exit 1
 case $kind in threads) variable=REFUSE_THREAD ;; *) variable=REFUSE ;; esac
 case $kind in
     chart) lack='cml_chart: no memory' ;;
-    journal) lack='cml_check: no memory' ;;
     *) lack='cml: no memory' ;;
 esac
 case $how in rest) rest=REFUSE_REST=1 ;; *) rest=REFUSED=once ;; esac
@@ -85,7 +85,7 @@ in_order_or_short() {
 # none: so only the last run, in which all were, has one. A chart or a verdict is that of a run without refusals too, with status 0.
 report_stands() {
     case $kind in
-        chart | journal) cmp -s "$room/report" "$1" && [ "$status" = 0 ]; return ;;
+        chart | journal | written) cmp -s "$room/report" "$1" && [ "$status" = 0 ]; return ;;
         replay) cmp -s "$room/report" "$1" ;;
         run) in_order_or_short "$1" ;;
         threads) [ "$number" -eq "$last" ] && in_some_order 65536 "$input" "$1" ;;
@@ -113,7 +113,7 @@ judge_script() {
     echo "$kind $how $input: $passed passed, $failed failed, $met met"
 }
 
-case $kind in replay | chart | journal) "$@" < "$input" > "$room/report" ;; esac
+case $kind in replay | chart | journal | written) "$@" < "$input" > "$room/report" ;; esac
 number=1
 while refuse "$number" "$@" && [ "$number" -lt 100000 ]; do
     number=$((number + 1))

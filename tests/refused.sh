@@ -1,10 +1,10 @@
 #!/bin/sh
-# tests/refused.sh GUIDE ROWS CML CHART CHECK: the built programs are run once for each request for memory that they make, that one
-# refused, and but for the guide once more with all later ones refused too. Whatever is refused each run comes to its end.
+# tests/refused.sh GUIDE ROWS CML CHART: runs the built programs once for each allocation that they make, and lets that
+# one fail. All except the guide run once more with all later ones failing too. Each run must end, whatever fails.
 #
-# The guide prints of each example what it prints with memory, or that memory was refused, or what that came to for another
+# The guide prints of each example what it prints with memory, or that there was no memory, or the result for another
 # thread: a stall, or the same result without that thread's last entries. The tables of calls of tests/board, tests/floors
-# and tests/halls, what `cml` does with scripts, `cml_chart` with their reports and `cml_check` with journals, are looked at by
+# and tests/halls, what `cml` does with scripts and journals, and `cml_chart` with reports, are looked at by
 # tests/refuse_each.sh.
 #
 # It needs a C compiler for what refuses (`cc`, or CC); where there is none it tells that it was left out.
@@ -14,7 +14,6 @@ guide=$(whole "$1")
 rows=$(whole "$2")
 cml=$(whole "$3")
 chart=$(whole "$4")
-check=$(whole "$5")
 cd "$(dirname "$0")/.." || exit 1
 expected=$(pwd)/crates/cml_guide/stdout
 cc=${CC:-cc}
@@ -81,8 +80,11 @@ sweeps() {
             echo "chart $how examples/$name.report $chart --script examples/$name.cml"
         done
         echo "chart $how examples/hello_mailbox.report $chart --text"
-        for journal in examples/*.journal; do
-            echo "journal $how $journal $check"
+        for name in greeting hello_mailbox; do
+            echo "written $how examples/$name.cml $cml replay --journal"
+        done
+        for name in letters requests; do
+            echo "journal $how examples/$name.journal $cml check"
         done
     done
 }

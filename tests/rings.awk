@@ -32,7 +32,7 @@ function forget_rings() {
     to_feeds = 0
 }
 
-# One of these steps is not in the journal yet, and stands before this place in the queue: how many of them.
+# How many of these steps are not in the journal yet, and are before this place in the queue.
 function unmoved(thread, before,    key, part, count) {
     for (key in lane_steps) {
         split(key, part, SUBSEP)

@@ -48,9 +48,18 @@ impossible() {
     fi
 }
 
+# lawful_run SCRIPT: the journal that `run` writes of it is lawful, and ends behind its last line.
+lawful_run() {
+    run run --journal < "$1"
+    cp "$work/out" "$work/journal"
+    run check < "$work/journal"
+    expect "$1, the journal of a run" 0 "lawful $(($(wc -l < "$work/journal") - 2))" none
+}
+
 # The examples in any order of their threads; and the reports beside those that only `run` takes are of some order.
 run_examples() {
     for example in examples/*.cml; do
+        lawful_run "$example"
         if has_rings "$example"; then
             possible "the report beside $example" 65536 "$example" "${example%.cml}.report"
         fi
@@ -162,7 +171,7 @@ run_faults() {
     expect 'a byte too many, by run' 2 none 'script: too long'
 }
 
-# However little memory there is, all steps are performed or none is told of; so also where some threads can't be started.
+# However little memory there is, all steps are performed or none is reported; also if some threads cannot be started.
 little_memory() {
     crowd 10 send recv
     for kilobytes in 16000 32000 64000 128000 256000 512000; do

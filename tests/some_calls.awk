@@ -108,7 +108,7 @@ function end_all(    number) {
     for (number = 0; number < feeds; number++) print "end " number
 }
 
-# The fourth seat leaves and no lane is left; from here on the others only receive, until they are told of a stall.
+# The fourth seat leaves and no lane is left; from here on the others only receive, until their calls fail with `Stalled`.
 function leave() {
     print "3 leave"
     end_all()

@@ -11,7 +11,7 @@ BEGIN {
     wanted["put"] = wanted["get"] = wanted["getpoll"] = "variable"
     wanted["take"] = wanted["takepoll"] = wanted["swap"] = "mvar"
     sends["send"] = sends["multicast"] = sends["put"] = sends["swap"] = 1
-    # What stands elsewhere in a script or a report, what a shell or a format would read, and what looks like a number.
+    # Words from elsewhere in a script or a report, words that a shell or a format would read, and words like numbers.
     odds = split("= == =x =5 : :: a: :a a:b # #x / // /x | || ~ \" ' ` \\ \\n \\\\ % %s %d $x * - -- ! & ; ( [x] {} < > , . _ " \
         "none done put made closed empty full end: end sent got lane feed cml port mvar thread mailbox m0 T1 p0 v0 " \
         "05 00 +5 -5 -0 1.5 1e3 0x10 nan inf 18446744073709551615 18446744073709551616", odd, " ")
@@ -76,8 +76,8 @@ function print_script(    i, count, its_kind, name, threads) {
     printf "\n"
 }
 
-# Lines of lanes and feeds, a feed for each thread at most; now and then a lane that stands already, or a capacity that
-# is none.
+# Lines of lanes and feeds, a feed for each thread at most; now and then a lane that is there already, or a capacity that
+# is out of range.
 function print_rings(threads,    i, count, text) {
     split("", laid); split("", feed_of)
     count = 1 + below(4)

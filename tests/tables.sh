@@ -8,13 +8,13 @@
 #
 #     no such step | cml 1 / thread A / A jump | line 3: unknown step
 #
-# Behind a line like `before: cml 1 / thread A` the script of a case is these lines and then what stands in the case. A
-# name may be left out: then what stands there is the name too. Empty lines, and those that begin with `#`, say nothing.
+# Behind a line like `before: cml 1 / thread A` the script of a case is these lines and then the case's own. A name may be
+# left out: then the case's lines are the name too. Empty lines, and those that begin with `#`, say nothing.
 #
 #     A jump | line 3: unknown step
 #
 # A table of reports has a block for each case: a line with its name; another if the journal is to have a limit; the
-# script; `==`; and the report, at once followed by the next block. What stands before the first block says nothing.
+# script; `==`; and the report, at once followed by the next block. Lines before the first block say nothing.
 #
 #     == a journal of one entry
 #     == limit 1
@@ -58,8 +58,8 @@ told() {
     fi
 }
 
-# report_tables: each report is what `replay` writes, but for scripts with lanes or feeds, which it refuses; and `run` writes
-# it too where no thread could go before another.
+# report_tables: each report is what `replay` writes, except for scripts with lanes or feeds, which it refuses. `run` writes
+# it too if no thread could go before another.
 report_tables() { each_block report_block tests/reports/*.txt; }
 
 # report_block CASE LIMIT SCRIPT REPORT

@@ -1,0 +1,276 @@
+# The judge of journals: what docs/FORMATS.md says under "Journals", and what a lawful history is, written down once more. It
+# shares nothing with the crates, so what both say alike is said twice.
+#
+#     awk -f tests/journal_judge.awk FILE..
+#
+# For each file it prints `== FILE`, then what the program that checks journals writes to standard output, and then `status N`
+# with what the program writes to standard error. With `-v state=1` it prints the lines of the objects too.
+#
+# Numbers have up to 64 bits and awk's have not, so they are compared as texts. A file has no bytes 0 or 1.
+
+BEGIN {
+    RS = "\001"
+    tables()
+    for (i = 1; i < ARGC; i++) {
+        print "== " ARGV[i]
+        judge(text_of(ARGV[i]))
+    }
+}
+
+# What each call's words are behind its own: `#` is an object's number, and `=` a message. Then the replies that it may have.
+function tables() {
+    makes["mailbox"] = makes["channel"] = makes["ivar"] = makes["mvar"] = " made "
+    takes["send"] = takes["multicast"] = takes["put"] = takes["swap"] = "# ="
+    takes["port"] = takes["copy"] = takes["close"] = takes["recv"] = takes["poll"] = "#"
+    takes["get"] = takes["getpoll"] = takes["take"] = takes["takepoll"] = "#"
+    takes["mvar"] = "="
+    replies["send"] = replies["multicast"] = " done "; replies["put"] = " done put "
+    replies["port"] = replies["mvar"] = " made "; replies["copy"] = " made closed "; replies["close"] = " done closed "
+    replies["recv"] = " message closed "; replies["poll"] = " message none closed "
+    replies["get"] = replies["take"] = replies["swap"] = " message "
+    replies["getpoll"] = replies["takepoll"] = " message none "
+    fits["send"] = " mailbox "; fits["multicast"] = fits["port"] = " channel "
+    fits["copy"] = fits["close"] = " port "; fits["recv"] = fits["poll"] = " mailbox port "
+    fits["put"] = fits["get"] = fits["getpoll"] = " ivar mvar "
+    fits["take"] = fits["takepoll"] = fits["swap"] = " mvar "
+    most = "18446744073709551615"
+    longest = 1114112
+}
+
+function text_of(file,    text, part, parts) {
+    while ((getline part < file) > 0) text = text (parts++ ? RS : "") part
+    close(file)
+    return text
+}
+
+# The text's lines one by one, up to the one that ends it all.
+function judge(text,    line, count, k, fault, unended) {
+    forget()
+    count = split(text, line, "\n")
+    unended = count ? line[count] : ""
+    for (k = 1; k < count; k++) {
+        if (k == 2 && line[2] ~ /^from /) return no_journal("journal: begins behind a cut")
+        fault = fault_of(line[k])
+        if (fault != "") return no_journal("journal: line " k ": " fault)
+        if (!is_lawful) return unlike(line[k])
+    }
+    if (count == 2 && unended ~ /^from /) return no_journal("journal: begins behind a cut")
+    if (length(unended) > longest) return no_journal("journal: line " count ": line too long")
+    if (stage != "ended" || unended != "") return no_journal("journal: torn behind line " (count ? count - 1 : 0))
+    print "lawful " entries
+    for (k = 0; state && k < objects; k++) print kind[k] " " k ": " state_of(k)
+    print "status 0 "
+}
+
+function no_journal(why) { print "status 2 " why }
+
+function unlike(entry) {
+    print "unlawful at " (entries - 1) ": " entry
+    print "answer: " answer
+    print "status 7 "
+}
+
+function forget() {
+    split("", kind); split("", message); split("", sent); split("", got)
+    split("", channel_of); split("", start); split("", closed); split("", held); split("", full)
+    stage = "none"
+    version = ""
+    entries = objects = 0
+    is_lawful = 1
+}
+
+# The lines: the first fault of each, or nothing.
+
+function fault_of(line) {
+    if (length(line) > longest) return "line too long"
+    if (line ~ /[^ -~]/) return "bad bytes"
+    if (stage == "none" || stage == "ended") return header(line)
+    if (stage == "headed") {
+        stage = "inside"
+        if (line ~ /^from / && is_number(substr(line, 6))) return from(substr(line, 6))
+        if (entries > 0) return "gap"
+    }
+    if (line ~ /^end / && is_number(substr(line, 5))) {
+        stage = "ended"
+        return same(substr(line, 5), entries) ? "" : "wrong end"
+    }
+    return entry(line)
+}
+
+function header(line) {
+    if (line != "journal 1" && line != "journal 2") return "no header"
+    if (version != "" && line != "journal " version) return "no header"
+    version = substr(line, 9)
+    stage = "headed"
+    return ""
+}
+
+# Only a later piece is read up to here.
+function from(number) {
+    if (same(number, 0)) return "bad number"
+    return same(number, entries) ? "" : "gap"
+}
+
+# The line of an entry: `rest` is what of it was not read yet.
+function entry(line,    fault, who, number, call) {
+    rest = line
+    if (!next_word()) return "too few words"
+    who = word
+    if (!next_word()) return "too few words"
+    if (!is_number(word)) return "bad number"
+    if (who != "seat" && who != "lane" && who != "feed") return "unknown word"
+    if (!next_word()) return "too few words"
+    call = word
+    object = given = ""
+    if (call ~ /:$/) {
+        call = substr(call, 1, length(call) - 1)
+        if (!(call in makes)) return "unknown word"
+    } else {
+        if (!(call in takes)) return "unknown word"
+        fault = operands(takes[call])
+        if (fault != "") return fault
+        if (call == "mvar") call = "mvar with a message"
+    }
+    fault = reply()
+    if (fault != "") return fault
+    if (!index(may_reply(call), " " sort_of_reply " ")) return "wrong reply"
+    entries++
+    answer = answer_of(call)
+    is_lawful = same(answer, rest)
+    return ""
+}
+
+# The words behind the call's own. The last has a colon.
+function operands(form) {
+    if (form == "# =") {
+        if (!next_word()) return "too few words"
+        if (!is_number(word)) return "bad number"
+        object = word
+    }
+    if (!next_word()) return "too few words"
+    if (word !~ /:$/) return "no colon"
+    word = substr(word, 1, length(word) - 1)
+    if (form == "#") {
+        object = word
+        return is_number(word) ? "" : "bad number"
+    }
+    given = word
+    return is_message(word) ? "" : "bad message"
+}
+
+function reply() {
+    sort_of_reply = rest
+    if (rest == "done" || rest == "none" || rest == "put" || rest == "closed") return ""
+    if (rest ~ / /) {
+        sort_of_reply = "made"
+        if (rest !~ /^made /) return "unknown word"
+        return is_number(substr(rest, 6)) ? "" : "bad number"
+    }
+    sort_of_reply = "message"
+    return is_message(rest) ? "" : "bad message"
+}
+
+function may_reply(call) { return call == "mvar with a message" ? replies["mvar"] : call in makes ? makes[call] : replies[call] }
+
+# The word up to the next space goes into `word`. There is none where no space is left.
+function next_word(    space) {
+    space = index(rest, " ")
+    if (!space) return 0
+    word = substr(rest, 1, space - 1)
+    rest = substr(rest, space + 1)
+    return 1
+}
+
+function is_number(text) {
+    if (text !~ /^(0|[1-9][0-9]*)$/) return 0
+    return length(text) < length(most) || (length(text) == length(most) && text "x" <= most "x")
+}
+
+# In bytes each `%` begins the two digits of a byte that isn't written as it is.
+function is_message(text) {
+    if (version == 1) return is_number(text)
+    if (text !~ /^=/) return 0
+    gsub(/%([01][0-9A-F]|20|25|7F|[89A-F][0-9A-F])/, "", text)
+    return text !~ /[% ]/
+}
+
+function same(one, other) { return one "x" == other "x" }
+
+# The calls: the reply that a call has behind the entries before it.
+
+function answer_of(call) {
+    if (call == "mvar with a message") return made("mvar", given)
+    if (call in makes) return made(call, "")
+    if (!(object in kind)) return "no such object"
+    if (!index(fits[call], " " kind[object] " ")) return "wrong kind"
+    if (call == "send" || call == "multicast") {
+        message[object, sent[object]++] = given
+        return "done"
+    }
+    if (call == "port") return port_of(object, sent[object])
+    if (kind[object] == "port" && closed[object]) return "closed"
+    if (call == "copy") return port_of(channel_of[object], got[object])
+    if (call == "close") {
+        closed[object] = 1
+        return "done"
+    }
+    if (call == "recv" || call == "poll") return received(call == "poll")
+    return of_variable(call)
+}
+
+function made(sort, first) {
+    kind[objects] = sort
+    sent[objects] = got[objects] = 0
+    if (first != "") {
+        full[objects] = 1
+        held[objects] = first
+    }
+    return "made " objects++
+}
+
+# A port's place is how many messages of its channel are behind it.
+function port_of(channel, place,    name) {
+    name = made("port", "")
+    channel_of[objects - 1] = channel
+    start[objects - 1] = got[objects - 1] = place
+    return name
+}
+
+function received(may_be_none,    source) {
+    source = kind[object] == "port" ? channel_of[object] : object
+    if (got[object] < sent[source]) return message[source, got[object]++]
+    return may_be_none ? "none" : "waits"
+}
+
+function of_variable(call,    old) {
+    old = held[object]
+    if (call == "put") {
+        if (full[object]) return "put"
+        full[object] = 1
+        held[object] = given
+        return "done"
+    }
+    if (!full[object]) return call ~ /poll$/ ? "none" : "waits"
+    if (call ~ /^take/) full[object] = 0
+    if (call == "swap") held[object] = given
+    return old
+}
+
+# The objects, behind the last entry.
+
+function state_of(which,    first) {
+    if (kind[which] == "mailbox") return "sent " sent[which] " got " got[which] " waits " sent[which] - got[which]
+    if (kind[which] == "channel") {
+        first = first_kept(which)
+        return "sent " sent[which] " kept " sent[which] - first " first " first
+    }
+    if (kind[which] == "port") return "start " start[which] " got " got[which] - start[which] (closed[which] ? " closed" : " owed " sent[channel_of[which]] - got[which])
+    return full[which] ? "full " held[which] : "empty"
+}
+
+# Messages are kept in chunks of four.
+function first_kept(channel,    least, k) {
+    least = sent[channel]
+    for (k = 0; k < objects; k++) if (kind[k] == "port" && channel_of[k] == channel && !closed[k] && got[k] < least) least = got[k]
+    return least - least % 4
+}

@@ -1,0 +1,144 @@
+#!/bin/sh
+# A process that keeps its journal, killed ten times: `sh tests/keep_journal.sh ROOMS CHECK WORD..`, with the archive of cml_c, and
+# the command that checks a journal. The program is examples/keep_journal, in Rust. Each run goes on from the file that the runs
+# before left, and is killed at a random time. In the end the journal is lawful, and has each message that was sent and received
+# once, in order; and what was acknowledged is there, byte for byte, from each run on. The last line is `N passed, M failed`.
+LC_ALL=C
+export LC_ALL
+rooms=$(cd "$(dirname "$1")" && pwd)/$(basename "$1")
+check=$(cd "$(dirname "$2")" && pwd)/$(basename "$2")
+shift 2
+cd "$(dirname "$0")/.." || exit 1
+if ! command -v cargo > /dev/null; then
+    echo 'skipped: there is no cargo'
+    echo '0 passed, 0 failed'
+    exit 0
+fi
+. tests/cases.sh
+kit=$(dirname "$(rt doc)")/c
+folder=$work/kept
+journal=$folder/journal
+mkdir "$folder"
+: > "$folder/kept"
+started=
+trap '[ -z "$started" ] || kill -9 "$started"; exit 1' HUP INT TERM
+
+# A run would end behind so many messages of each thread, if it were not killed.
+most=2000000
+
+# build: the program, from a copy, so that nothing is left beside its sources.
+build() {
+    mkdir "$work/examples"
+    cp -r bindings "$work/bindings"
+    cp -r examples/keep_journal "$work/examples/keep_journal"
+    SERYUGO_ARCHIVES=$(dirname "$rooms") SERYUGO_KIT=$kit CARGO_TARGET_DIR=$work/target \
+        cargo build --release --quiet --offline --manifest-path "$work/examples/keep_journal/Cargo.toml" || return
+    program=$work/target/release/keep_journal
+}
+
+# acknowledged WHAT: how many entries or bytes the last whole line says that are kept.
+acknowledged() {
+    awk -v what="$1" '/^kept [0-9]+ entries [0-9]+ bytes$/ { last = what == "entries" ? $2 : $4 } END { print last + 0 }' "$folder/kept"
+}
+
+# The journal up to what is acknowledged: how many bytes, and their sum.
+front() {
+    bytes=$(acknowledged bytes)
+    echo "$bytes $(head -c "$bytes" "$journal" | cksum)"
+}
+
+# any MOST: a random number below this.
+any() { od -An -N2 -tu2 /dev/urandom | awk -v most="$1" '{ print $1 % most }'; }
+
+# await COMMAND: waits until the command ends well, or the run that was started has ended; at most half a minute.
+await() {
+    polls=0
+    while ! "$1" && [ $polls -lt 3000 ] && kill -0 "$started" 2> /dev/null; do
+        sleep 0.01
+        polls=$((polls + 1))
+    done
+}
+
+goes_on() { [ -s "$work/said" ]; }
+has_more() { [ "$(acknowledged entries)" -gt "$before" ]; }
+
+# killed WHEN: one run, which is killed some time after this holds. It goes on behind all that was acknowledged before.
+killed() {
+    before=$(acknowledged entries)
+    : > "$work/said"
+    "$program" "$folder" "$most" > "$work/said" 2> "$work/errors" &
+    started=$!
+    await "$1"
+    sleep "0.$(printf %03d "$(any 300)")"
+    kill -9 "$started"
+    wait "$started" 2> /dev/null
+    status=$?
+    started=
+    front >> "$work/fronts"
+    [ "$(wc -c < "$journal")" -eq "$(acknowledged bytes)" ] || torn=$((torn + 1))
+    behind=$(sed -n 's/^goes on behind \([0-9]*\) entries$/\1/p' "$work/said")
+    if [ $status -eq 137 ] && [ ! -s "$work/errors" ] && [ "${behind:-0}" -ge "$before" ]; then
+        pass
+    else
+        fail "a run behind $before: status $status, $(cat "$work/said" "$work/errors")"
+    fi
+}
+
+# A piece is begun, of which the disk has only some bytes.
+tear() {
+    end=$(sed -n '$s/^end //p' "$journal")
+    [ "${end:-0}" -eq 0 ] || printf 'journal 1\nfrom %s\nseat 1 send 2 ' "$end" | head -c "$(any 40)" >> "$journal"
+}
+
+# ends MESSAGES: one run that ends.
+ends() {
+    run "$folder" "$1"
+    if [ $status -eq 0 ] && [ ! -s "$work/err" ]; then pass; else fail "a run of $1 messages: status $status, $(cat "$work/err")"; fi
+}
+
+# What was acknowledged behind each run is still there.
+fronts_are_there() {
+    while read -r bytes sum; do
+        if [ "$(head -c "$bytes" "$journal" | cksum)" = "$sum" ]; then pass; else fail "the first $bytes bytes are others"; fi
+    done < "$work/fronts"
+}
+
+# The journal's entries are those of mailboxes whose n-th message is n, each sent once, and received once at the most. Each line
+# of acknowledgements is of the end of a piece.
+each_once() {
+    awk '
+        FNR == NR { if (NF == 5) kept[$2 " " $4]; next }
+        { bytes += length($0) + 1 }
+        $1 == "end" { delete kept[$2 " " bytes] }
+        $3 == "send" { if ($5 != sent[$4]++ ":") { print "failed: " $0; exit } }
+        $3 == "recv" { if ($5 != got[$4]++ "") { print "failed: " $0; exit } }
+        END { for (line in kept) { print "failed: no piece ends where " line " is kept"; exit } }
+    ' "$folder/kept" "$journal" > "$work/out"
+    if [ ! -s "$work/out" ]; then pass; else fail "each message once: $(cat "$work/out")"; fi
+}
+
+if ! build > "$work/told" 2>&1; then
+    tail -n 20 "$work/told"
+    fail 'the program is built'
+    echo "$passed passed, $failed failed"
+    exit 1
+fi
+torn=0
+for _ in 1 2 3 4 5; do
+    killed goes_on
+    tear
+    killed has_more
+done
+echo "killed 10 times, $torn times with a part that was not acknowledged; $(acknowledged entries) entries were"
+ends 0
+tear
+ends 100
+fronts_are_there
+each_once
+entries=$(grep -c : "$journal")
+if [ "$(acknowledged entries)" -eq "$entries" ] && [ "$entries" -gt 1000 ]; then pass; else fail "$entries entries"; fi
+program=$check
+run "$@" < "$journal"
+expect 'the journal is checked' 0 "lawful $entries" none
+echo "$passed passed, $failed failed"
+[ "$failed" -eq 0 ]
