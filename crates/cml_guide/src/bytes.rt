@@ -1,4 +1,4 @@
-//! Requests of bytes: a client sends each to a server's mailbox, and the server answers it to the client's.
+//! Requests of bytes: a client sends each to a server's mailbox, and the server answers to the client's mailbox.
 ghost use Rattle.std.specs.Prelude.{◌≡◌, [], IfOk};
 
 use crate::calls::Trouble;
@@ -12,7 +12,7 @@ impl From<TooLong> for Trouble {
     }
 }
 
-/// On a new board a client sends a request, a server answers it with the same bytes, and the client receives them.
+/// A client sends a request on a new board, a server answers with the same bytes, and the client receives them.
 fn exchange(board: &mut BoardOf<Bytes>, request: Bytes) -> Result<Bytes, Trouble>
     requires { board.old.history ≡ [] }
     ensures { IfOk result (λ answer. answer ≡ request) }

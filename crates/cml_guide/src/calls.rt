@@ -1,4 +1,4 @@
-//! Calls that are to be answered, and what else can become of them.
+//! Calls that must be answered, and the other ways in which they can end.
 ghost use Rattle.std.specs.Prelude.{◌≡◌, true, IfOk, OnErr, None, Some, unwrap_or};
 ghost use Rattle.cml_board.specs.History.{answer, given};
 ghost use Rattle.cml_board.specs.Outcome.{AddsEntry, IsAsBefore, Refuses};
@@ -9,10 +9,10 @@ use std::alloc::AllocError;
 /// A board whose messages are numbers.
 pub type Numbers = Board<u64, BoardLog<u64>>;
 
-/// Who makes the calls here.
+/// The seat that makes the calls here.
 pub const SEAT: Who = Who::Seat(1);
 
-/// Why a call was not answered as its caller needs.
+/// The reason why a call was not answered as its caller needs.
 #[derive(Clone, Copy, Debug, PartialEq, Eq)]
 pub enum Trouble {
     WouldWait,
@@ -33,7 +33,7 @@ impl From<AllocError> for Trouble {
     }
 }
 
-/// Makes a call that is to be answered.
+/// Makes a call that must be answered.
 pub fn ask(board: &mut Numbers, call: Call<u64>) -> Result<Answer<u64>, Trouble>
     ensures answered { IfOk result (λ told. answer board.old.history call ≡ Some told.reply) }
     ensures added { IfOk result (λ told. AddsEntry board.old board.new SEAT call told.reply) }
@@ -49,7 +49,7 @@ pub fn ask(board: &mut Numbers, call: Call<u64>) -> Result<Answer<u64>, Trouble>
     }
 }
 
-/// Makes a call that makes an object, and gives the object's name.
+/// Makes a call that makes an object, and returns the object's name.
 pub fn make(board: &mut Numbers, call: Call<u64>) -> Result<Name, Trouble>
     ensures made { IfOk result (λ name. answer board.old.history call ≡ Some (Reply.Made name)) }
     ensures added { IfOk result (λ name. AddsEntry board.old board.new SEAT call (Reply.Made name)) }
@@ -60,7 +60,7 @@ pub fn make(board: &mut Numbers, call: Call<u64>) -> Result<Name, Trouble>
     }
 }
 
-/// Makes a call that gives a message.
+/// Makes a call that receives a message, and returns the message.
 pub fn fetch(board: &mut Numbers, call: Call<u64>) -> Result<u64, Trouble>
     ensures got { IfOk result (λ message. answer board.old.history call ≡ Some (Reply.Got message)) }
     ensures added { IfOk result (λ message. AddsEntry board.old board.new SEAT call (Reply.Got message)) }
@@ -71,7 +71,7 @@ pub fn fetch(board: &mut Numbers, call: Call<u64>) -> Result<u64, Trouble>
     }
 }
 
-/// Makes a poll, which gives a message, or none where there is none.
+/// Makes a poll, and returns the message, or `None` if there is none.
 pub fn poll(board: &mut Numbers, call: Call<u64>) -> Result<Option<u64>, Trouble>
     ensures found { IfOk result (λ found. answer board.old.history call
         ≡ Some (unwrap_or (given found) Reply.Nothing)) }
@@ -87,7 +87,7 @@ pub fn poll(board: &mut Numbers, call: Call<u64>) -> Result<Option<u64>, Trouble
     }
 }
 
-/// Makes a call that is only to be done, as a send.
+/// Makes a call whose reply is `Done`, as a send.
 pub fn perform(board: &mut Numbers, call: Call<u64>) -> Result<(), Trouble>
     ensures done { IfOk result (λ _. answer board.old.history call ≡ Some Reply.Done) }
     ensures added { IfOk result (λ _. AddsEntry board.old board.new SEAT call Reply.Done) }

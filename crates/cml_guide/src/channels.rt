@@ -21,7 +21,7 @@ pub fn told_to_each_port(alloc: Global) -> Result<([u64; 2], u64), Trouble>
     Ok(([first, second], fetch(&mut board, Call::Recv(late))?))
 }
 
-/// A copy stands where its original stands then, so both receive the same from there on.
+/// A copy is made at its original's place, so both receive the same from there on.
 pub fn copied(alloc: Global) -> Result<(u64, u64), Trouble>
     ensures original { IfOk result (λ found. found.0 ≡ 7) }
     ensures copy { IfOk result (λ found. found.1 ≡ 7) }
@@ -38,7 +38,7 @@ pub fn copied(alloc: Global) -> Result<(u64, u64), Trouble>
     Ok((original_next, copy_next))
 }
 
-/// A port that no one reads any more is closed, so that its messages needn't be kept. Then it answers `Closed`.
+/// Closes a port that no thread reads any more, so that its messages need not be kept. Then its calls reply `Closed`.
 pub fn closed(alloc: Global) -> Result<bool, Trouble>
     ensures { IfOk result IsTrue }
 {

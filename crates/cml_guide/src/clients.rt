@@ -1,4 +1,4 @@
-//! The clients of a server, each in a thread of its own. A request names the mailbox that the answer is to go to.
+//! The clients of a server, each in its own thread. A request names the mailbox to which the answer goes.
 use crate::calls::Trouble;
 use crate::lanes::{close, receive};
 use crate::threads::{Shared, done};
@@ -8,7 +8,7 @@ use std::sync::Wait;
 use std::sync::atomic::{AtomicBool, Ordering};
 use std::sync::ledger::Ledger;
 
-/// How many tickets a client asks for who sends by its seat.
+/// How many tickets a client asks for that sends by its seat.
 const ASKED: usize = 150;
 
 /// How many requests are sent by one lane.
@@ -32,14 +32,14 @@ pub struct Client<Led: Ledger> {
     pub answers: Name,
 }
 
-/// What a client's thread comes to: the sum of its tickets, and its seat.
+/// The result of a client's thread: the sum of its tickets, and its seat.
 #[derive(Drop)]
 pub struct Visit<Led: Ledger> {
     pub tickets: Result<u64, Trouble>,
     pub left: Left<Led>,
 }
 
-/// What a client's thread runs. It leaves, whatever became of its requests, and at once where the server is shut.
+/// The code of a client's thread. It leaves even if its requests fail, and at once if the server is shut.
 pub fn ask_and_leave<Led: Ledger, R: Wait>(
     rt: &R,
     board: &Shared<Led>,
@@ -65,7 +65,7 @@ impl<Led: Ledger> Client<Led> {
         }
     }
 
-    /// Sends a request, and the next once it was answered.
+    /// Sends a request, and the next once the first was answered.
     fn ask_by_seat<R: Wait>(&mut self, rt: &R, board: &Shared<Led>) -> Result<u64, Trouble> {
         let mut sum = 0u64;
         for _ in 0..ASKED {
@@ -85,7 +85,7 @@ impl<Led: Ledger> Client<Led> {
         Ok(sum)
     }
 
-    /// Opens a lane with room for the whole batch, and closes it before anybody waits.
+    /// Opens a lane with room for the whole batch, and closes it before any thread waits.
     fn send_batch<R: Wait>(&self, rt: &R, board: &Shared<Led>) -> Result<(), Trouble> {
         let (mut lane, number) = board.open_lane(rt, self.requests, BATCH)?;
         for _ in 0..BATCH {
@@ -94,7 +94,7 @@ impl<Led: Ledger> Client<Led> {
         close(rt, board, number, lane.finish())
     }
 
-    /// Receives so many answers: the sum of their tickets.
+    /// Receives `count` answers, and returns the sum of their tickets.
     fn receive<R: Wait>(
         &mut self,
         rt: &R,

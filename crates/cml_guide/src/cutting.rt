@@ -1,12 +1,12 @@
-//! A journal that is cut: what it had is handed over or dropped, and the board goes on.
+//! A journal that is cut: its entries are returned or dropped, and the board goes on.
 ghost use Rattle.std.specs.Prelude.{◌≡◌, [], ◌∷◌, IfOk};
 
 use crate::calls::{Numbers, Trouble, ask, fetch, make, perform};
 use cml_board::{Call, Checker, Entry};
 use std::alloc::Global;
 
-/// The journal is full. Once it is cut there is room again, and what was sent before is received: the message, and how
-/// many entries were cut away, and how many there were in all.
+/// Cuts a full journal. Then it has room again, and what was sent before is received. Returns the message, how many entries
+/// were cut away, and how many there were in all.
 pub fn received_after(alloc: Global) -> Result<(u64, [u64; 2]), Trouble>
     ensures message { IfOk result (λ found. found.0 ≡ 5) }
     ensures counts { IfOk result (λ found. found.1 ≡ 2 ∷ 3 ∷ []) }
@@ -21,7 +21,7 @@ pub fn received_after(alloc: Global) -> Result<(u64, [u64; 2]), Trouble>
     Ok((received, [board.cut_at(), board.entries()]))
 }
 
-/// Positions go on counting. An answer from before the cut is confirmed no more, and one from after it is.
+/// Positions go on counting. An answer from before the cut is not confirmed any more, and one from after it is.
 pub fn confirmed_after(alloc: Global) -> Result<([u64; 2], [bool; 2]), Trouble> {
     let mut board = Numbers::new(alloc, 100)?;
     let before = ask(&mut board, Call::NewMailbox)?;
@@ -31,7 +31,7 @@ pub fn confirmed_after(alloc: Global) -> Result<([u64; 2], [bool; 2]), Trouble> 
     Ok(([before.at(), after.at()], confirmed))
 }
 
-/// What was taken, and then what the journal has since: whether they are lawful together, and how many entries they are.
+/// Says whether what was taken, and what the journal has since, are lawful together, and how many entries they are.
 pub fn checked_in_pieces(alloc: Global) -> Result<(bool, u64), Trouble> {
     let mut board = Numbers::new(alloc, 100)?;
     let letters = make(&mut board, Call::NewMailbox)?;
@@ -41,7 +41,7 @@ pub fn checked_in_pieces(alloc: Global) -> Result<(bool, u64), Trouble> {
     check_both(alloc, &taken, board.journal())
 }
 
-/// Whether two pieces are lawful together, and how many entries they are.
+/// Says whether two pieces are lawful together, and how many entries they are.
 fn check_both(
     alloc: Global,
     first: &[Entry<u64>],
@@ -53,16 +53,16 @@ fn check_both(
     Ok((checker.verdict().is_ok(), checker.entries()))
 }
 
-/// Whether all that the checker was fed is lawful with these entries behind it.
+/// Says whether all that the checker was fed is lawful with these entries behind it.
 pub fn feed(checker: &mut Checker<u64>, entries: &[Entry<u64>]) -> Result<bool, Trouble> {
-    // No board has so many, but the prover wants to see it.
+    // No board has so many, but the prover needs the test.
     if u64::MAX - checker.entries() < entries.len() as u64 {
         return Err(Trouble::OtherReply);
     }
     Ok(checker.feed(entries)?.is_ok())
 }
 
-/// A new board goes on where the journal of an old one ends. It gives the message that waited there, and has three entries.
+/// A new board goes on where the journal of an old one ends. It returns the message that waited there, and has three entries.
 pub fn restored(alloc: Global) -> Result<(u64, u64), Trouble> {
     let mut old = Numbers::new(alloc, 100)?;
     let letters = make(&mut old, Call::NewMailbox)?;
@@ -72,7 +72,7 @@ pub fn restored(alloc: Global) -> Result<(u64, u64), Trouble> {
     Ok((received, new.entries()))
 }
 
-/// The board that these calls give.
+/// The board that these calls make.
 fn board_of(alloc: Global, entries: &[Entry<u64>]) -> Result<Numbers, Trouble> {
     let mut checker = Checker::new(alloc)?;
     feed(&mut checker, entries)?;

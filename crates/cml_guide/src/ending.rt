@@ -1,4 +1,4 @@
-//! How threads end: a stall is told, an answer that was kept is confirmed, and a seat that was dropped is missed.
+//! How threads end: a call fails in a stall, an answer that was kept is confirmed, and a seat that was dropped is missing.
 ghost use Rattle.std.specs.Prelude.{◌≡◌, ◌+◌, ◌^◌, length, IfOk};
 
 use crate::calls::Trouble;
@@ -12,7 +12,7 @@ use std::sync::ledger::{Blank, Ledger};
 use std::thread;
 use std::thread::Threads;
 
-/// How the waiting thread was refused, and what is left at the end.
+/// The refusal of the waiting thread's call, and what is left at the end.
 #[derive(Clone, Copy, Debug)]
 pub struct Stall {
     refusal: Option<Refusal>,
@@ -47,7 +47,7 @@ fn wait_in_vain<Led: Ledger + Send + Sync, R: Threads + Wait + Sync>(
     })
 }
 
-/// One thread waits, and the other leaves. Gives an answer that was kept, why the first was refused, and both seats.
+/// One thread waits, and the other leaves. Returns an answer that was kept, why the first thread's call failed, and both seats.
 fn wait_for_nobody<Led: Ledger + Send + Sync, R: Threads + Wait + Sync>(
     rt: &R,
     alloc: Global,
@@ -77,7 +77,7 @@ fn open<Led: Ledger, R: Wait>(
     }
 }
 
-/// Waits for a message, and then leaves. Gives why there was none.
+/// Waits for a message, and then leaves. Returns why there was none.
 pub fn wait_for<Led: Ledger, R: Wait>(
     rt: &R,
     board: &Shared<Led>,
@@ -91,7 +91,7 @@ pub fn wait_for<Led: Ledger, R: Wait>(
     (refusal, board.leave(rt, waiter))
 }
 
-/// A seat is dropped, and so the switchboard is not settled. Gives how many seats were handed back.
+/// Drops a seat, so that the switchboard cannot be settled. Returns how many seats `settle` returned.
 pub fn missed<R: Wait>(rt: &R, alloc: Global) -> Result<usize, Trouble>
     ensures { IfOk result (λ back. back ≡ 1) }
 {

@@ -1,4 +1,4 @@
-//! A feed: what a ticker multicasts goes into a ring, from which a display takes it without a lock.
+//! A feed: a ticker multicasts prices, they go into a ring, and a display takes them from there without a lock.
 ghost use Rattle.std.specs.Prelude.{◌≡◌, ◌+◌, ◌^◌, [], ◌∷◌, ◌++◌, IfOk};
 
 use crate::calls::Trouble;
@@ -14,10 +14,10 @@ use std::sync::ledger::{Blank, Ledger};
 use std::thread;
 use std::thread::Threads;
 
-/// How many prices the ticker tells: 1, 2 and so on.
+/// How many prices the ticker multicasts: 1, 2 and so on.
 const PRICES: u64 = 10;
 
-/// For how many prices the feed has room: for all of them, in case no thread can be made to take them meanwhile.
+/// The number of prices for which the feed has room: all of them, in case no thread can be made to take them meanwhile.
 const ROOM: usize = 16;
 
 /// The sum of all prices that were shown, and how many entries there are at the end.
@@ -42,7 +42,7 @@ fn tell_to_display<Led: Ledger + Send + Sync, R: Threads + Wait + Sync>(
     counted(shared, shown)
 }
 
-/// What was shown, and the ticker's seat. The display has none: a feed is all that it needs.
+/// What was shown, and the ticker's seat. The display has no seat: it only needs the feed.
 fn tell_and_show<Led: Ledger + Send + Sync, R: Threads + Wait + Sync>(
     rt: &R,
     alloc: Global,
@@ -61,7 +61,7 @@ fn tell_and_show<Led: Ledger + Send + Sync, R: Threads + Wait + Sync>(
     with_one(alloc, told.and(Ok(sum)), left)
 }
 
-/// Tells all prices, and leaves, whatever became of that. Then no more will come.
+/// Multicasts all prices, and leaves even if that fails. Then no more will come.
 fn tell_and_leave<Led: Ledger, R: Wait>(
     rt: &R,
     board: &Shared<Led>,
@@ -91,7 +91,7 @@ fn tell_all<Led: Ledger, R: Wait>(
     Ok(())
 }
 
-/// Takes what comes, until no more will: the sum.
+/// Takes what comes, until no more will. Returns the sum.
 fn show_all<R: Wait>(rt: &R, mut feed: Feed<u64>, is_over: &AtomicBool) -> u64 {
     let mut sum = 0u64;
     for _ in rt.forever() {

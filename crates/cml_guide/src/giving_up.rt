@@ -1,4 +1,4 @@
-//! A lane that can't be served any more, and a thread that waits behind a lane of its own: each comes to an end.
+//! A lane that cannot be served any more, and a thread that closes its lane before it waits: both end.
 ghost use Rattle.std.specs.Prelude.{◌≡◌, ◌+◌, ◌^◌, IfOk};
 
 use crate::calls::Trouble;
@@ -14,7 +14,7 @@ use std::sync::Wait;
 use std::sync::atomic::AtomicBool;
 use std::sync::ledger::{Blank, Ledger};
 
-/// For how many messages the lanes here have room.
+/// The number of messages for which the lanes here have room.
 const ROOM: usize = 2;
 
 /// How many readings were sent, why their collector stopped, and why the lane was abandoned.
@@ -75,7 +75,7 @@ fn sent_by(end: &Option<LaneEnd<u64>>) -> u64 {
     }
 }
 
-/// A thread waits, and nobody could go on. Its own lane was closed before: so it is told.
+/// A thread waits in a stall. It has closed its lane before, so its call fails with `Stalled`.
 pub fn closed_before_waiting<R: Wait>(
     rt: &R,
     alloc: Global,

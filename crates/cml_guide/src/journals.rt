@@ -1,11 +1,11 @@
-//! Journals and answers that were kept: whether they can be trusted.
+//! Whether journals and answers that were kept can be trusted.
 ghost use Rattle.std.specs.Prelude.{IfOk, IsTrue};
 
 use crate::calls::{Numbers, SEAT, Trouble, ask, make, perform};
 use cml_board::{Call, Entry, Name, Reply, check};
 use std::alloc::{AllocError, Global};
 
-/// A board's own journal is always found lawful.
+/// The journal of a board is always lawful.
 pub fn own_is_lawful(alloc: Global) -> Result<bool, Trouble>
     ensures { IfOk result IsTrue }
 {
@@ -16,7 +16,7 @@ pub fn own_is_lawful(alloc: Global) -> Result<bool, Trouble>
     Ok(told.is_ok())
 }
 
-/// A journal in which a message is received that was never sent: its second entry can't be.
+/// A journal in which a message is received that was never sent: its second entry is unlawful.
 pub fn invented(alloc: Global) -> Result<Result<(), usize>, AllocError> {
     let letters = Name(0);
     let made = Entry {

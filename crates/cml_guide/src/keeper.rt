@@ -7,7 +7,7 @@ use std::alloc::Global;
 use std::sync::Wait;
 use std::sync::ledger::Ledger;
 
-/// A piece is taken once the journal has so many entries.
+/// How many entries the journal has when a piece is taken.
 const PIECE: u64 = 1_000;
 
 /// What was taken of a journal, and what checks it.
@@ -30,7 +30,7 @@ impl Keeper {
         self.checker.entries()
     }
 
-    /// Takes what the journal has, if that is a piece. The caller knows an entry's position, which tells how many there are.
+    /// Takes the journal's entries, if they are a piece. The caller knows an entry's position, which says how many there are.
     pub fn take_once_due<Led: Ledger, R: Wait>(
         &mut self,
         rt: &R,
@@ -53,7 +53,7 @@ impl Keeper {
         Ok(())
     }
 
-    /// Whether all that was taken is lawful, with these entries behind it.
+    /// Says whether all that was taken is lawful, with these entries behind it.
     pub fn check(&mut self, entries: &[Entry<u64>]) -> Result<bool, Trouble> {
         feed(&mut self.checker, entries)
     }

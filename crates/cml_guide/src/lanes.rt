@@ -1,4 +1,4 @@
-//! A lane: what a sensor sends without a lock, another thread moves into the journal and receives.
+//! A lane: a sensor sends without a lock, and another thread moves the messages into the journal and receives them.
 ghost use Rattle.std.specs.Prelude.{◌≡◌, ◌+◌, ◌^◌, [], ◌∷◌, ◌++◌, IfOk};
 
 use crate::calls::Trouble;
@@ -17,7 +17,7 @@ use std::thread::Threads;
 /// How many readings the sensor sends: 1, 2 and so on.
 const READINGS: usize = 10;
 
-/// For how many readings the lane has room: for all of them, in case no thread can be made to collect them meanwhile.
+/// The number of readings for which the lane has room: all of them, in case no thread can be made to collect them meanwhile.
 const ROOM: usize = 16;
 
 /// The sum of all readings, and how many entries there are at the end.
@@ -42,7 +42,7 @@ fn collect<Led: Ledger + Send + Sync, R: Threads + Wait + Sync>(
     counted(shared, collected)
 }
 
-/// What was collected, and the collector's seat. The sensor has none: a lane is all that it needs.
+/// What was collected, and the collector's seat. The sensor has no seat: it only needs the lane.
 fn send_and_collect<Led: Ledger + Send + Sync, R: Threads + Wait + Sync>(
     rt: &R,
     alloc: Global,
@@ -76,10 +76,10 @@ pub fn send_all<R: Wait>(
     lane.finish()
 }
 
-/// Sends a message, again as long as there is no room for it and its collector goes on. Whether it was sent.
+/// Sends a message, again and again while there is no room for it and its collector goes on. Says whether it was sent.
 fn send<R: Wait>(rt: &R, lane: &mut Lane<u64>, message: u64, has_stopped: &AtomicBool) -> bool {
     for _ in rt.forever() {
-        // Asked before the lane is tried: who has stopped makes no more room.
+        // Asked before the lane is tried: a collector that has stopped makes no more room.
         let last = has_stopped.load(Ordering::SeqCst);
         if lane.send(message).is_ok() {
             return true;
@@ -92,7 +92,7 @@ fn send<R: Wait>(rt: &R, lane: &mut Lane<u64>, message: u64, has_stopped: &Atomi
     unreachable!()
 }
 
-/// Collects all readings, tells that it has stopped, and leaves, whatever became of that.
+/// Collects all readings, notes that it has stopped, and leaves even if that fails.
 pub fn receive_and_leave<Led: Ledger, R: Wait>(
     rt: &R,
     board: &Shared<Led>,
@@ -106,7 +106,7 @@ pub fn receive_and_leave<Led: Ledger, R: Wait>(
     (sum, board.leave(rt, collector))
 }
 
-/// Moves what was sent into the journal, and receives it, until all readings have come: their sum.
+/// Moves what was sent into the journal, and receives it, until all readings have come. Returns their sum.
 fn receive_all<Led: Ledger, R: Wait>(
     rt: &R,
     board: &Shared<Led>,
@@ -128,7 +128,7 @@ fn receive_all<Led: Ledger, R: Wait>(
     unreachable!()
 }
 
-/// Receives so many readings: their sum.
+/// Receives `count` readings, and returns their sum.
 pub fn receive<Led: Ledger, R: Wait>(
     rt: &R,
     board: &Shared<Led>,
@@ -143,7 +143,7 @@ pub fn receive<Led: Ledger, R: Wait>(
     Ok(sum)
 }
 
-/// Closes the lane. Where that is refused it is abandoned: nobody is told of a stall while it is open.
+/// Closes the lane. If that fails, abandons it: no call fails with `Stalled` while it is open.
 pub fn close<Led: Ledger, R: Wait>(
     rt: &R,
     board: &Shared<Led>,
@@ -157,7 +157,7 @@ pub fn close<Led: Ledger, R: Wait>(
     closed
 }
 
-/// Closes the lane by its end; without one, by what is seen of it.
+/// Closes the lane by its end, or without one by `drop_lane`.
 fn close_by<Led: Ledger, R: Wait>(
     rt: &R,
     board: &Shared<Led>,

@@ -1,4 +1,4 @@
-//! A lock: whoever takes the number out of an m-variable has it alone, until it puts one back.
+//! A lock: a thread that takes the number out of an m-variable has it alone, until it puts one back.
 ghost use Rattle.std.specs.Prelude.{◌≡◌, ◌+◌, ◌*◌, ◌^◌, IfOk, OnOk};
 ghost use Rattle.cml_threads.specs.Seating.{answers_in};
 
@@ -16,7 +16,7 @@ use std::thread::Threads;
 /// How often each thread raises the counter.
 const ROUNDS: u64 = 10;
 
-/// What two threads have raised a counter to, and how many entries there are at the end.
+/// The value to which two threads have raised a counter, and how many entries there are at the end.
 pub fn counted_by_two<R: Threads + Wait + Sync>(
     rt: &R,
     alloc: Global,
@@ -47,7 +47,7 @@ fn count_up<Led: Ledger + Send + Sync, R: Threads + Wait + Sync>(
     }
 }
 
-/// Two threads raise a counter. Gives its name, and the seats of both.
+/// Two threads raise a counter. Returns its name, and the seats of both.
 fn raise_by_two<Led: Ledger + Send + Sync, R: Threads + Wait + Sync>(
     rt: &R,
     alloc: Global,

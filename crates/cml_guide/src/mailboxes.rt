@@ -19,7 +19,7 @@ pub fn in_order(alloc: Global) -> Result<(u64, u64), Trouble>
     Ok((first, second))
 }
 
-/// A receive that would wait is handed back, and can be made again once there is a message.
+/// A receive that would wait is returned, and can be made again once there is a message.
 pub fn received_later(alloc: Global) -> Result<u64, Trouble>
     ensures { IfOk result (λ message. message ≡ 5) }
 {
@@ -35,7 +35,7 @@ pub fn received_later(alloc: Global) -> Result<u64, Trouble>
     }
 }
 
-/// A poll takes the next message, or tells that there is none.
+/// A poll takes the next message, or says that there is none.
 pub fn polled(alloc: Global) -> Result<(Option<u64>, Option<u64>), Trouble>
     ensures before { IfOk result (λ found. found.0 ≡ None) }
     ensures after { IfOk result (λ found. found.1 ≡ Some 5) }

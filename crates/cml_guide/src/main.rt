@@ -1,4 +1,4 @@
-//! Short examples of calls on a board, each with what it comes to. `docs/GUIDE.md` shows most, word for word.
+//! Short examples of calls, each of which prints its result. `docs/GUIDE.md` quotes some of them, word for word.
 #![tactic(auto)]
 
 mod bytes;
@@ -47,7 +47,7 @@ fn main(rt: HostRuntime) -> io::Result<()> {
     show_threads(&rt, rt.alloc())
 }
 
-/// Prints what an example comes to.
+/// Prints the result of an example.
 fn show<R: Print, T: Debug>(rt: &R, name: &str, outcome: &T) -> io::Result<()> {
     println!(rt; "{name}: {outcome:?}")
 }

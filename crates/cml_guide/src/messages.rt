@@ -10,7 +10,7 @@ use std::alloc::Global;
 /// A board whose messages are of this type.
 pub type BoardOf<M> = Board<M, BoardLog<M>>;
 
-/// Makes a call that is to be answered, and gives the reply with what it owns.
+/// Makes a call that must be answered, and returns the reply with what it owns.
 pub fn ask<M: Message>(board: &mut BoardOf<M>, call: Call<M>) -> Result<Reply<M>, Trouble>
     ensures answered { IfOk result (λ reply. answer board.old.history call ≡ Some reply) }
     ensures added { IfOk result (λ reply. AddsEntry board.old board.new SEAT call reply) }
@@ -23,7 +23,7 @@ pub fn ask<M: Message>(board: &mut BoardOf<M>, call: Call<M>) -> Result<Reply<M>
     }
 }
 
-/// Makes a call that makes an object, and gives the object's name.
+/// Makes a call that makes an object, and returns the object's name.
 pub fn make<M: Message>(board: &mut BoardOf<M>, call: Call<M>) -> Result<Name, Trouble>
     ensures made { IfOk result (λ name. answer board.old.history call ≡ Some (Reply.Made name)) }
     ensures added { IfOk result (λ name. AddsEntry board.old board.new SEAT call (Reply.Made name)) }
@@ -34,7 +34,7 @@ pub fn make<M: Message>(board: &mut BoardOf<M>, call: Call<M>) -> Result<Name, T
     }
 }
 
-/// Makes a call that gives a message.
+/// Makes a call that receives a message, and returns the message.
 pub fn fetch<M: Message>(board: &mut BoardOf<M>, call: Call<M>) -> Result<M, Trouble>
     ensures got { IfOk result (λ message. answer board.old.history call ≡ Some (Reply.Got message)) }
     ensures added { IfOk result (λ message. AddsEntry board.old board.new SEAT call (Reply.Got message)) }

@@ -1,4 +1,4 @@
-//! Messages that take no memory for a share: plain data, what is borrowed, and what has several owners.
+//! Messages whose share allocates no memory: plain data, borrowed data, and data with several owners.
 ghost use Rattle.std.specs.Prelude.{◌≡◌, true, false, IfOk};
 
 use crate::calls::Trouble;
@@ -8,7 +8,7 @@ use std::alloc::{AllocError, Global};
 use std::marker::Model;
 use std::sync::Arc;
 
-/// What the weather was: plain data, of which a share is a copy. It is never refused.
+/// The weather: plain data, of which a share is a copy. It never fails.
 #[derive(Clone, Copy, Debug, PartialEq, Eq)]
 pub struct Weather {
     degrees: i64,
@@ -27,7 +27,7 @@ impl Message for Weather {
     }
 }
 
-/// A text that lies elsewhere, longer than the board is there. A share is never refused.
+/// A text that lies elsewhere, for longer than the board lives. A share never fails.
 #[derive(Drop)]
 pub struct Headline<'a> {
     text: &'a str,
@@ -53,8 +53,8 @@ impl<'a> Message for Headline<'a> {
     }
 }
 
-/// A report that all who receive it own together. A share is one owner more, and takes no memory; but that there are too
-/// many owners no contract rules out.
+/// A report that all its receivers share. A share adds an owner, and allocates no memory. No contract says that there are
+/// never too many owners.
 #[derive(Drop)]
 pub struct Notice {
     weather: Arc<Weather>,
@@ -91,7 +91,7 @@ fn open_channel<M: Message>(board: &mut BoardOf<M>) -> Result<[Name; 4], Trouble
     Ok([news, first, second, third])
 }
 
-/// Multicasts a message on a new channel: what each of its three ports receives.
+/// Multicasts a message on a new channel. Returns what each of its three ports receives.
 fn tell_three<M: Message>(board: &mut BoardOf<M>, message: M) -> Result<(M, M, M), Trouble> {
     let [news, first, second, third] = open_channel(board)?;
     ask(board, Call::Cast(news, message))?;
@@ -110,7 +110,7 @@ fn receive_each<M: Message>(
     Ok((first, second, third))
 }
 
-/// A notice is multicast, and each of three ports receives it: what the weather was there, and how many owners it has then.
+/// Multicasts a notice, and each of three ports receives it. Returns the weather that each has, and how many owners it has.
 pub fn noticed_by_three(alloc: Global) -> Result<([Weather; 3], usize), Trouble> {
     let mut board = BoardOf::<Notice>::new(alloc, 100)?;
     let weather = Weather {
@@ -125,7 +125,7 @@ pub fn noticed_by_three(alloc: Global) -> Result<([Weather; 3], usize), Trouble>
     Ok(([*first.weather, *second.weather, *third.weather], owners))
 }
 
-/// A headline is multicast, and each of three ports receives it: whether it is the same text.
+/// Multicasts a headline, and each of three ports receives it. Says whether it is the same text.
 pub fn read_by_three(alloc: Global) -> Result<[bool; 3], Trouble> {
     let mut board = BoardOf::<Headline>::new(alloc, 100)?;
     let text = "frost by night";

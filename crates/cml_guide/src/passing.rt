@@ -56,7 +56,7 @@ fn send_and_receive<Led: Ledger + Send + Sync, R: Threads + Wait + Sync>(
     with_both(alloc, sent.and(received), receiver, sender)
 }
 
-/// Receives a message, and leaves, whatever became of that.
+/// Receives a message, and leaves even if that fails.
 fn receive_and_leave<Led: Ledger, R: Wait>(
     rt: &R,
     board: &Shared<Led>,
@@ -69,7 +69,7 @@ fn receive_and_leave<Led: Ledger, R: Wait>(
     (received, board.leave(rt, receiver))
 }
 
-/// Sends a message, and leaves, whatever became of that.
+/// Sends a message, and leaves even if that fails.
 pub fn send_and_leave<M: Message, Led: Ledger, R: Wait>(
     rt: &R,
     board: &Switchboard<M, BoardLog<M>, Led>,

@@ -1,4 +1,4 @@
-//! Workers round one mailbox: each takes a job, and sends what it comes to into another.
+//! Workers round one mailbox: each takes a job, and sends its result to another mailbox.
 ghost use Rattle.std.specs.Prelude.{◌≡◌, ◌+◌, ◌^◌, IfOk};
 
 use crate::calls::Trouble;
@@ -19,10 +19,10 @@ const WORKERS: u64 = 3;
 /// Each number up to this is a job: to square it.
 const JOBS: u64 = 10;
 
-/// What is sent in place of a job to tell a worker to stop.
+/// The message that stops a worker, in place of a job.
 const STOP: u64 = 0;
 
-/// Where jobs are received from, and where results go.
+/// The mailboxes for jobs and for results.
 #[derive(Clone, Copy)]
 pub struct Desk {
     jobs: Name,
@@ -51,7 +51,7 @@ fn run_pool<Led: Ledger + Send + Sync, R: Threads + Wait + Sync>(
     counted(shared, squared)
 }
 
-/// The boss has the jobs done, and leaves, whatever became of that.
+/// The boss has the jobs done, and leaves even if that fails.
 fn square_all<Led: Ledger + Send + Sync, R: Threads + Wait + Sync>(
     rt: &R,
     alloc: Global,
@@ -101,7 +101,7 @@ fn open_desk<Led: Ledger, R: Wait>(
     Ok(Desk { jobs, results })
 }
 
-/// Sends all jobs, and then for each worker that it is to stop.
+/// Sends all jobs, and then a stop for each worker.
 fn hand_out<Led: Ledger, R: Wait>(
     rt: &R,
     board: &Shared<Led>,
@@ -117,7 +117,7 @@ fn hand_out<Led: Ledger, R: Wait>(
     Ok(())
 }
 
-/// What one worker does: job after job, until it is told to stop.
+/// What one worker does: job after job, until a stop comes.
 fn work<Led: Ledger, R: Wait>(
     rt: &R,
     board: &Shared<Led>,
@@ -134,7 +134,7 @@ fn work<Led: Ledger, R: Wait>(
     unreachable!()
 }
 
-/// What a worker's thread runs. It leaves, whatever became of its work.
+/// The code of a worker's thread. It leaves even if its work fails.
 fn work_and_leave<Led: Ledger, R: Wait>(
     rt: &R,
     board: &Shared<Led>,
@@ -145,7 +145,7 @@ fn work_and_leave<Led: Ledger, R: Wait>(
     board.leave(rt, worker)
 }
 
-/// Starts a thread for each seat, and joins them all. Where no thread can be made, its work is done here.
+/// Starts a thread for each seat, and joins them all. If a thread cannot be made, its work is done here.
 fn work_all<Led: Ledger + Send + Sync, R: Threads + Wait + Sync>(
     rt: &R,
     alloc: Global,

@@ -1,11 +1,11 @@
-//! What a board tells without a call: its readers, and the journal of what it accepted.
+//! What a board says without a call: its readers, and the journal of what it accepted.
 ghost use Rattle.std.specs.Prelude.{◌≡◌, IfOk, Some, false};
 
 use crate::calls::{Numbers, SEAT, Trouble, make, perform};
 use cml_board::{Call, Who};
 use std::alloc::Global;
 
-/// Two seats on one board: the journal tells whose call each was, in the order in which they were accepted.
+/// Two seats on one board: the journal says whose call each was, in the order in which they were accepted.
 pub fn journal_of_two_seats(alloc: Global) -> Result<(usize, usize), Trouble> {
     let mut board = Numbers::new(alloc, 100)?;
     let other = Who::Seat(2);
@@ -16,7 +16,7 @@ pub fn journal_of_two_seats(alloc: Global) -> Result<(usize, usize), Trouble> {
     Ok((calls_of(&board, SEAT), calls_of(&board, other)))
 }
 
-/// How many calls of this caller were accepted.
+/// Counts the calls of this caller that were accepted.
 fn calls_of(board: &Numbers, who: Who) -> usize {
     board
         .journal()
@@ -25,7 +25,7 @@ fn calls_of(board: &Numbers, who: Who) -> usize {
         .count()
 }
 
-/// What waits in a mailbox, and whether a receive from it would wait.
+/// Returns how many messages wait in a mailbox, and whether a receive from it would wait.
 pub fn looked_at(alloc: Global) -> Result<(Option<u64>, bool), Trouble>
     ensures waiting { IfOk result (λ found. found.0 ≡ Some 1) }
     ensures waits { IfOk result (λ found. found.1 ≡ false) }

@@ -1,4 +1,4 @@
-//! Calls that are refused: they change nothing and are handed back.
+//! Calls that fail: they change nothing and are returned.
 ghost use Rattle.std.specs.Prelude.{◌≡◌, true, [], ◌∷◌, IfNone, IfOk, IfSome, OnSome};
 ghost use Rattle.cml_board.specs.Outcome.{AddsEntry, Applies, IsAsBefore, Refuses};
 
@@ -6,7 +6,7 @@ use crate::calls::{Numbers, SEAT, Trouble, make};
 use cml_board::{Call, Name, Outcome, Refusal, Reply};
 use std::alloc::Global;
 
-/// No object has the name; the object can't take the call; the journal is full. They are tested in this order.
+/// No object has the name; the object does not take the call; the journal is full. They are tested in this order.
 pub fn told_why(alloc: Global) -> Result<[Refusal; 3], Trouble>
     ensures { IfOk result (λ found. found
         ≡ Refusal.NoSuch ∷ Refusal.WrongKind ∷ Refusal.JournalFull ∷ []) }
@@ -19,7 +19,7 @@ pub fn told_why(alloc: Global) -> Result<[Refusal; 3], Trouble>
     Ok([unmade, wrong, full])
 }
 
-/// Makes a call that is to be refused.
+/// Makes a call that must fail.
 fn refusal_of(board: &mut Numbers, call: Call<u64>) -> Result<Refusal, Trouble>
     ensures refused { IfOk result (λ refusal. Refuses 4 true board.old call refusal) }
     ensures unchanged { IfOk result (λ _. IsAsBefore board.old board.new) }
@@ -31,7 +31,7 @@ fn refusal_of(board: &mut Numbers, call: Call<u64>) -> Result<Refusal, Trouble>
     }
 }
 
-/// Sends a message. Where that is refused, the message comes back with the call.
+/// Sends a message. If that fails, the message comes back with the call.
 pub fn send_or_keep(board: &mut Numbers, letters: Name, message: u64) -> Option<u64>
     ensures sent { IfNone result (AddsEntry board.old board.new SEAT (Call.Send letters message) Reply.Done) }
     ensures kept { IfSome result (λ kept. kept ≡ message) }
@@ -52,7 +52,7 @@ pub fn kept(alloc: Global) -> Result<[Option<u64>; 2], Trouble> {
     Ok([first, second])
 }
 
-/// Makes a call, and makes it again where there was no memory for it.
+/// Makes a call, and makes it again if there was no memory for it.
 pub fn apply_twice(board: &mut Numbers, call: Call<u64>) -> Outcome<u64>
     ensures { Applies 4 true board.old board.new SEAT call result }
 {

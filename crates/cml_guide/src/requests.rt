@@ -1,4 +1,4 @@
-//! Messages of one's own that own memory: a share of one takes memory too, and may be refused.
+//! Your own type of messages that own memory: sharing one allocates memory too, and may fail.
 ghost use Rattle.std.specs.Prelude.{◌≡◌, ◌+◌, ◌^◌, false, IfOk, IfErr, Ok, OnErr, OnOk};
 ghost use Rattle.cml_board.specs.Outcome.{IsAsBefore};
 ghost use Rattle.cml_threads.specs.Seating.{answers_in};
@@ -16,7 +16,7 @@ use std::sync::ledger::{Blank, Ledger};
 use std::thread;
 use std::thread::Threads;
 
-/// What a client asks for: a name in memory of its own, and a number. Contracts see both, and not where the name lies.
+/// What a client asks for: a name, which it owns, and a number. Contracts see both, and not where the name lies.
 #[derive(Debug, Drop)]
 pub struct Request {
     name: String,
@@ -56,8 +56,8 @@ impl Message for Request {
     }
 }
 
-/// Sends a request, or any other message. Where that is refused, as for want of memory for its share, it comes back with the
-/// reason, and the board is as it was.
+/// Sends a request, or any other message. If that fails, for example for want of memory for its share, it comes back with
+/// the reason, and the board is as it was.
 pub fn send_or_keep<M: Message>(
     board: &mut BoardOf<M>,
     requests: Name,
@@ -101,7 +101,7 @@ impl From<(Refusal, Call<Request>)> for Trouble {
     }
 }
 
-/// One thread sends a request and another receives it: the request, and how many entries there are at the end.
+/// One thread sends a request and another receives it. Returns the request, and how many entries there are at the end.
 pub fn passed_on<R: Threads + Wait + Sync>(
     rt: &R,
     alloc: Global,
@@ -148,7 +148,7 @@ fn send_and_receive<Led: Ledger + Send + Sync, R: Threads + Wait + Sync>(
     with_both(alloc, sent.and(received), clerk, client)
 }
 
-/// Receives a request, and leaves, whatever became of that.
+/// Receives a request, and leaves even if that fails.
 fn receive_and_leave<Led: Ledger, R: Wait>(
     rt: &R,
     office: &Office<Led>,

@@ -1,4 +1,4 @@
-//! Memory that is taken in advance.
+//! Memory that is reserved in advance.
 ghost use Rattle.std.specs.Prelude.{◌≡◌, ◌≢◌, Err};
 
 use crate::calls::{Numbers, Trouble, make, poll};
@@ -8,7 +8,7 @@ use std::alloc::Global;
 /// What two polls found.
 pub type Found = (Option<u64>, Option<u64>);
 
-/// Polls twice. Memory for both was taken before the first, so neither is refused for want of it.
+/// Polls twice. Memory for both was reserved before the first, so neither fails for want of it.
 pub fn poll_twice(board: &mut Numbers, letters: Name) -> Result<Found, Trouble>
     ensures { result ≢ Err (Trouble.Refused Refusal.NoMemory) }
 {

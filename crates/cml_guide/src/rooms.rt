@@ -1,4 +1,4 @@
-//! Seats that one thread plays in turn, or threads that bring a lock of their own: a room waits for nobody.
+//! Seats that one thread plays in turn, or threads that share their own lock: no call of a room blocks.
 
 use crate::calls::Trouble;
 use cml_board::{BoardLog, Call, Outcome, Reply};
@@ -8,7 +8,7 @@ use std::alloc::Global;
 /// A room whose messages are numbers.
 type Numbers = Room<u64, BoardLog<u64>>;
 
-/// What a seat got that had to wait for it, what it did meanwhile, and which seat was due then.
+/// The message that a seat got after a wait, its state meanwhile, and which seat was due then.
 pub fn received_in_turn(alloc: Global) -> Result<(u64, Option<State>, Option<u64>), Trouble> {
     let mut room = Numbers::new(alloc, 100)?;
     let one = room.new_seat()?;
@@ -38,7 +38,7 @@ fn pass_on(
     }
 }
 
-/// What a call replies that is to be answered at once.
+/// The reply of a call that must be answered at once.
 fn reply(outcome: Outcome<u64>) -> Result<Reply<u64>, Trouble> {
     match outcome {
         Outcome::Answered(answer) => Ok(answer.into_reply()),

@@ -1,4 +1,4 @@
-//! A server that runs on. It hands out tickets, and takes its journal again and again, so that it never grows full.
+//! A server that runs on. It hands out tickets, and takes its journal again and again, so that the journal is never full.
 ghost use Rattle.std.specs.Prelude.{◌≡◌, ◌+◌, ◌^◌, IfOk};
 
 use crate::calls::Trouble;
@@ -21,10 +21,10 @@ const WAYS: [Way; 3] = [Way::BySeat, Way::BySeat, Way::ByLanes];
 /// How many entries the journal takes between two cuts: more than can come while a lane is open.
 const LIMIT: u64 = 100_000;
 
-/// What a server came to.
+/// The result of a server.
 #[derive(Clone, Copy, Debug)]
 pub struct Served {
-    /// The sum of all tickets that clients were given.
+    /// The sum of all tickets that clients got.
     tickets: u64,
     is_lawful: bool,
     was_cut: bool,
@@ -40,14 +40,14 @@ struct Shop<Led: Ledger> {
     requests: Name,
 }
 
-/// What is left of the server once nobody asks any more.
+/// What is left of the server once no client asks any more.
 #[derive(Drop)]
 struct Shift<Led: Ledger> {
     served: Result<(), Trouble>,
     left: Left<Led>,
 }
 
-/// What the server comes to when all its clients have left.
+/// Runs the server until all its clients have left, and returns its result.
 pub fn ran_on<R: Threads + Wait + Sync>(rt: &R, alloc: Global) -> Result<Served, Trouble>
     ensures { IfOk result (λ served. served.count.total ≡ served.count.seats + served.count.rings) }
 {
@@ -85,7 +85,7 @@ fn run_with<Led: Ledger + Send + Sync, R: Threads + Wait + Sync>(
     sum_up(&ended, tickets, keeper)
 }
 
-/// Checks what has come since the last piece was taken, and tells of all.
+/// Checks what has come since the last piece was taken, and reports on all pieces.
 fn sum_up(ended: &Ended, tickets: u64, keeper: &mut Keeper) -> Result<Served, Trouble>
     ensures { IfOk result (λ served. served.count.total ≡ served.count.seats + served.count.rings) }
 {
@@ -108,7 +108,7 @@ fn open_and_close<Led: Ledger + Send + Sync, R: Threads + Wait + Sync>(
 ) -> Came<u64, Led> {
     let mut shop = open(rt, board)?;
     let clients = make_clients(rt, alloc, board, &mut shop)?;
-    // A thread that runs is to be joined: so there is room for all before the first.
+    // A thread that runs must be joined, so there is room for all of them before the first starts.
     let running = Vec::with_capacity(alloc, WAYS.len())?;
     let (visits, shift) = let_in(rt, alloc, board, clients, running, shop, keeper);
     sum_up_day(alloc, visits?, shift)
@@ -140,7 +140,7 @@ fn make_clients<Led: Ledger, R: Wait>(
     Ok(clients)
 }
 
-/// Starts a thread for each client, serves them here, and joins them all. Where no thread can be made, all are sent home.
+/// Starts a thread for each client, serves them here, and joins them all. If a thread cannot be made, all are sent home.
 fn let_in<Led: Ledger + Send + Sync, R: Threads + Wait + Sync>(
     rt: &R,
     alloc: Global,
@@ -181,7 +181,7 @@ fn join_all<Led: Ledger, R: Threads>(
     Ok(visits)
 }
 
-/// Serves, and leaves, whatever became of that: who still waits is told.
+/// Serves, and leaves even if that fails, so that a call that still waits fails with `Stalled`.
 fn serve_and_leave<Led: Ledger, R: Wait>(
     rt: &R,
     board: &Shared<Led>,
@@ -213,7 +213,7 @@ fn serve<Led: Ledger, R: Wait>(
     Ok(())
 }
 
-/// Where the next answer is to go to; nowhere once nobody is left who could ask.
+/// The mailbox for the next answer, or `None` once no client is left that could ask.
 fn next_request<Led: Ledger, R: Wait>(
     rt: &R,
     board: &Shared<Led>,
@@ -227,7 +227,7 @@ fn next_request<Led: Ledger, R: Wait>(
     }
 }
 
-/// The sum of all clients' tickets, if all have theirs, and everybody's seat.
+/// The sum of all clients' tickets, if all have theirs, and all seats.
 fn sum_up_day<Led: Ledger>(
     alloc: Global,
     visits: Vec<Visit<Led>>,

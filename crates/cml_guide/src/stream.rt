@@ -1,4 +1,4 @@
-//! A stream: what one thread multicasts, each of three others receives, all of it and in order.
+//! A stream: one thread multicasts, and each of three others receives all of it, in order.
 ghost use Rattle.std.specs.Prelude.{◌≡◌, ◌+◌, ◌^◌, IfOk};
 
 use crate::calls::Trouble;
@@ -73,7 +73,7 @@ fn make_seats<Led: Ledger, R: Wait>(
     Ok((board.seat(rt)?, board.seat(rt)?, board.seat(rt)?))
 }
 
-/// What was read, if all was told and each has read it.
+/// What was read, if all was multicast and each has read it.
 fn all_read(
     told: Result<(), Trouble>,
     read: [Result<u64, Trouble>; 3],
@@ -96,14 +96,14 @@ fn open_channel<Led: Ledger, R: Wait>(
     Ok([news, first, second, third])
 }
 
-/// What a reader's thread comes to.
+/// The result of a reader's thread.
 #[derive(Drop)]
 struct Reading<Led: Ledger> {
     digits: Result<u64, Trouble>,
     left: Left<Led>,
 }
 
-/// Receives all digits, and leaves, whatever became of that.
+/// Receives all digits, and leaves even if that fails.
 fn read<Led: Ledger, R: Wait>(
     rt: &R,
     board: &Shared<Led>,

@@ -1,4 +1,4 @@
-//! What threads that share a board have in common: their switchboard, what a reply gives them, and the end.
+//! What threads that share a board have in common: their switchboard, what they take from a reply, and the end.
 ghost use Rattle.std.specs.Prelude.{◌≡◌, ◌+◌, IfOk, Ok};
 ghost use Rattle.cml_threads.specs.Seating.{answers_in};
 
@@ -12,7 +12,7 @@ use std::sync::ledger::Ledger;
 /// A switchboard whose messages are numbers.
 pub type Shared<Led> = Switchboard<u64, BoardLog<u64>, Led>;
 
-/// What a call on one gives: the reply, or the refusal and the call that came back.
+/// The result of a call on one: the reply, or the refusal and the call that came back.
 pub type Replied = Result<Reply<u64>, (Refusal, Call<u64>)>;
 
 /// What is left of one at the end.
@@ -62,7 +62,7 @@ pub fn got(replied: Replied) -> Result<u64, Trouble>
     }
 }
 
-/// Nothing, of a call that is only to be done.
+/// Nothing, of a call whose reply must be `Done`.
 pub fn done(replied: Replied) -> Result<(), Trouble>
     ensures { IfOk result (λ _. replied ≡ Ok Reply.Done) }
 {

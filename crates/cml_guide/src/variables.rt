@@ -6,7 +6,7 @@ use crate::calls::{Numbers, Trouble, ask, fetch, make, perform, poll};
 use cml_board::{Call, Name, Reply};
 use std::alloc::Global;
 
-/// An i-variable is filled once: a second put is answered `Put` and changes nothing. A get leaves what is there.
+/// An i-variable is filled once: a second put replies `Put` and changes nothing. A get leaves what is there.
 pub fn filled_once(alloc: Global) -> Result<(bool, u64), Trouble>
     ensures full { IfOk result (λ found. IsTrue found.0) }
     ensures first { IfOk result (λ found. found.1 ≡ 5) }
@@ -20,8 +20,8 @@ pub fn filled_once(alloc: Global) -> Result<(bool, u64), Trouble>
     Ok((was_full, held))
 }
 
-/// Adds to the number in an m-variable. Whoever takes the number has the variable to itself until it puts one back.
-/// Where the put is refused, as by a full journal, the variable stays empty.
+/// Adds to the number in an m-variable. A thread that takes the number has the variable alone until it puts one back.
+/// If the put fails, for example because the journal is full, the variable stays empty.
 pub fn add_to(board: &mut Numbers, count: Name, more: u64) -> Result<(), Trouble>
     ensures { IfOk result (λ _. held board.new.history count.0
         ≡ option_map (λ old. (old + more) % 2 ^ 64) (held board.old.history count.0)) }
@@ -41,7 +41,7 @@ pub fn counted(alloc: Global) -> Result<u64, Trouble>
     fetch(&mut board, Call::Get(count))
 }
 
-/// A swap gives what was held and leaves another message in its place.
+/// A swap returns what was held and leaves another message in its place.
 pub fn swapped(alloc: Global) -> Result<(u64, u64), Trouble>
     ensures old { IfOk result (λ found. found.0 ≡ 5) }
     ensures new { IfOk result (λ found. found.1 ≡ 7) }
