@@ -76,8 +76,8 @@ pub fn restored(alloc: Global) -> Result<(u64, u64), Trouble> {
 fn board_of(alloc: Global, entries: &[Entry<u64>]) -> Result<Numbers, Trouble> {
     let mut checker = Checker::new(alloc)?;
     feed(&mut checker, entries)?;
-    match checker.into_board(100) {
-        Ok(board) => Ok(board),
-        Err(_) => Err(Trouble::OtherReply),
+    match checker.restore(100) {
+        Some(restored) => Ok(restored.into_board()),
+        None => Err(Trouble::OtherReply),
     }
 }
