@@ -318,7 +318,7 @@ class TimeLimits(Waiting):
 
 
 class Interrupted(Waiting):
-    """Ctrl-C comes to the main thread, on which these tests run."""
+    """Only the main thread gets Ctrl-C, and these tests run on it."""
 
     def setUp(self):
         before = signal.signal(signal.SIGINT, signal.default_int_handler)
