@@ -24,6 +24,7 @@ steps() {
     echo cml_guide
     echo cml_caller
     echo cml_bench
+    echo cml_queueing
     echo guide
 }
 
@@ -39,6 +40,7 @@ step() {
             prints cml_rows
             sh tests/calls.sh "$program" && sh tests/cuts.sh "$program"
             ;;
+        cml_queueing) simulates ;;
         cml_c) calls_from_c ;;
         cml_script_c) replays_from_c ;;
         *_tests) passes "$1" ;;
@@ -59,6 +61,18 @@ prints() {
         return 1
     fi
 }
+
+# A few runs of the simulator, whose journal `cml` checks and whose report `cml_chart` draws. Other steps build these two as well, so
+# here they lie in another folder.
+simulates() (
+    work=$work/simulates
+    mkdir "$work" && build cml crates/cml/src/main.rt || exit
+    cml=$program
+    build cml_chart crates/cml_chart/src/main.rt || exit
+    chart=$program
+    build cml_queueing crates/cml_queueing/src/main.rt || exit
+    sh tests/queueing.sh "$program" "$cml" "$chart" few
+)
 
 # passes NAME: the crate's test functions. Here each access to memory is watched too.
 passes() {
@@ -83,35 +97,14 @@ does() {
 # The programs in C of bindings/c make each call of the library, on one thread and on several.
 calls_from_c() {
     has_c || return
-    build_with_c cml_c '
-        let spent = || handle::Handle::new(alloc, kept::Kept::Numbers(kept::Resource::Spent));
-        let (Ok(mut one), Ok(mut other), Ok(last)) = (spent(), spent(), spent()) else {
-            return;
-        };
-        let (Ok(spare), Ok(owner), Ok(keeper)) = (spent(), spent(), spent()) else {
-            return;
-        };
-        let mut slot = spare.into_slot();
-        let nowhere = || bytes_entries::SeryugoPlace { at: std::ptr::null(), length: 0 };
-        let mut bytes = messages::SeryugoBytes { at: std::ptr::null(), length: 0, owner: owner.into_slot() };
-        let mut found = entries::SeryugoEntry {
-            maker: entries::SeryugoMaker { kind: 0, number: 0 },
-            call: entries::SeryugoCall { kind: 0, object: 0, message: 0 },
-            reply: entries::SeryugoReply { kind: 0, given: 0 },
-        };
-        let mut shown = bytes_entries::SeryugoBytesEntry {
-            maker: entries::SeryugoMaker { kind: 0, number: 0 },
-            call: bytes_entries::SeryugoBytesCall { kind: 0, object: 0, message: nowhere() },
-            reply: bytes_entries::SeryugoBytesReply { kind: 0, name: 0, message: nowhere() },
-            owner: keeper.into_slot(),
-        };' calls threads || return
+    build_with_c cml_c "$room_values" "$owned_by_c" calls threads || return
     does calls env TRIED=calls timeout 60 "$program"
     does threads env TRIED=threads timeout 60 "$program"
 }
 
 replays_from_c() {
     has_c || return
-    build_with_c cml_script_c 'let mut found = SeryugoEnd { status: 0, line: 0, length: 0 };' replay || return
+    build_with_c cml_script_c 'let mut found = SeryugoEnd { status: 0, line: 0, length: 0 };' '' replay || return
     for report in examples/*.report; do
         does "$(basename "$report")" replays "${report%.report}"
     done
