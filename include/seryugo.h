@@ -23,8 +23,10 @@
 #include <stddef.h>
 #include <stdint.h>
 
-/* The version of this header, and of the library that is installed with it. */
+/* The version of this header, as a text and as a number: major * 65536 + minor * 256 + patch. The library that is installed with
+ * the header has the same. seryugo_version returns the number of the library that a program runs with. */
 #define SERYUGO_VERSION "0.1.0"
+#define SERYUGO_VERSION_NUMBER 256
 
 #ifdef __cplusplus
 extern "C" {
@@ -82,6 +84,10 @@ enum seryugo_code {
 struct seryugo {
     void *at;
 };
+
+/* Returns the version of the library that the program runs with: major * 65536 + minor * 256 + patch. If it isn't
+ * SERYUGO_VERSION_NUMBER, the program was compiled with the header of another version. Then make no other call. */
+uint32_t seryugo_version(void);
 
 /* ---- rooms and seats ---- */
 
@@ -183,25 +189,51 @@ uint32_t seryugo_swap(struct seryugo *room, uint64_t seat, uint64_t variable, ui
  * pointer with length 0 is the empty message. SERYUGO_OUT_OF_BOUNDS: the pointer is null and the length isn't 0, or the length
  * is larger. Then, and if there is no memory for the copy (SERYUGO_NO_MEMORY), nothing is changed. Up to 14 bytes need no memory.
  *
- * A call that receives hands a message over: it writes where the bytes are and how many they are, and you own the message until
- * you free it. Nothing is copied of more than 14 bytes: the journal, other receivers and you share them. The bytes never change,
- * and don't write to them. `at` is good until seryugo_bytes_free, also in a copy of the struct. If there is no memory for the
- * message's handle, the call fails with SERYUGO_NO_MEMORY before anything is received, and nothing is changed.
+ * A call that receives hands a message over: it writes the struct, and you own the message until you free it. Up to 14 bytes lie
+ * in the struct itself. Nothing is copied of more: the journal, other receivers and you share them. The bytes never change, and
+ * don't write to them. seryugo_bytes_at says where they are. You may copy the struct, and read the bytes by each copy until one of
+ * them is freed. If there is no memory to keep a message, the call fails with SERYUGO_NO_MEMORY before anything is received, and
+ * nothing is changed.
  *
  * One case is special: a seat that is parked in seryugo_bytes_recv, _get, _take or _swap makes its call again with is_again, and
  * it fails with SERYUGO_NO_MEMORY. Then the seat may still be parked, or be free. Make the call again with is_again: if that
  * returns SERYUGO_GONE, the seat is free.
  */
 
-/* A message: its bytes, and the handle that keeps them. The empty message has a null pointer. */
-struct seryugo_bytes {
-    const uint8_t *at;
-    size_t length;
-    struct seryugo owner;
+/* The most bytes of a message that lie in the struct. */
+#define SERYUGO_IN_PLACE 14
+
+/* What keeps a message of more than 14 bytes. */
+struct seryugo_share {
+    void *at;
 };
 
+/* A message: how many bytes it has, where they are if they are more than 14, what keeps these, and up to 14 bytes. Read the bytes
+ * by seryugo_bytes_at. */
+struct seryugo_bytes {
+    size_t length;
+    const uint8_t *block;
+    struct seryugo_share owner;
+    uint8_t in_place[16];
+};
+
+/* Where the bytes of a message are. Up to 14 are in the struct: use the pointer while the struct is there. For more bytes the
+ * pointer is good until seryugo_bytes_free, also once the struct is gone. It is never null. */
+static inline const uint8_t *seryugo_bytes_at(const struct seryugo_bytes *message)
+{
+    return message->length > SERYUGO_IN_PLACE ? message->block : message->in_place;
+}
+
+/* What the library exports to free a message of more than 14 bytes. From C, call the next function. */
+void seryugo_bytes_release(struct seryugo_share owner);
+
 /* Frees a message that a call handed over. Call it once for each. The room needn't be open any more. */
-void seryugo_bytes_free(struct seryugo_bytes message);
+static inline void seryugo_bytes_free(struct seryugo_bytes message)
+{
+    if (message.length > SERYUGO_IN_PLACE) {
+        seryugo_bytes_release(message.owner);
+    }
+}
 
 /* As seryugo_recv, seryugo_recv_poll, seryugo_get, seryugo_get_poll, seryugo_take and seryugo_take_poll. */
 uint32_t seryugo_bytes_recv(struct seryugo *room, uint64_t seat, uint64_t source, bool is_again, struct seryugo_bytes *message);
@@ -459,7 +491,10 @@ uint32_t seryugo_entry(struct seryugo *room, uint64_t at, struct seryugo_entry *
 uint32_t seryugo_bytes_entry(struct seryugo *room, uint64_t at, struct seryugo_bytes_entry *entry);
 
 /* Frees an entry that was handed over, with its messages. Call it once for each. */
-void seryugo_bytes_entry_free(struct seryugo_bytes_entry entry);
+static inline void seryugo_bytes_entry_free(struct seryugo_bytes_entry entry)
+{
+    seryugo_close(entry.owner);
+}
 
 /* Cuts the journal, and writes a handle to its entries, oldest first, and how many they are. Unlike seryugo_cut it takes what was
  * reserved along with them: reserve again. SERYUGO_NO_MEMORY or SERYUGO_BUSY: nothing is cut, and *journal is as it was. Use the

@@ -1,8 +1,9 @@
 #!/bin/sh
 # The libraries for C, from C and from Rust: `sh tests/bindings.sh ROOMS REPLAY`, with the archives of cml_c and cml_script_c.
 # The programs of bindings/c are built with them: one that replays a script is to write the report beside each example, and five
-# try rooms, two of them with threads. Then the tests of the crate of bindings/rust run, and its documented examples. Where
-# there is no C compiler, or no cargo, that is said and counts for nothing. The last line is `N passed, M failed`.
+# try rooms, two of them with threads. They run under valgrind and the sanitizers too. Then the tests of the crate of bindings/rust
+# run, two of them under valgrind, and its documented examples. What isn't there is named as left out, and counts for nothing. The
+# last line is `N passed, M failed`.
 rooms=$(cd "$(dirname "$1")" && pwd)/$(basename "$1")
 replay=$(cd "$(dirname "$2")" && pwd)/$(basename "$2")
 cd "$(dirname "$0")/.." || exit 1
@@ -25,6 +26,8 @@ check() {
     fi
 }
 
+has() { command -v "$1" > /dev/null || { echo "left out: $2: there is no $1" && return 1; }; }
+
 # compile PROGRAM ARCHIVE
 compile() {
     cc -O2 -Wall -Wextra -Werror -pthread -I include -o "$work/$1" "bindings/c/$1.c" "$2" "$kit/liblibc_c.a"
@@ -41,8 +44,8 @@ replays() {
     fi
 }
 
-# Without a fault of memory, where valgrind can say so.
-is_clean() { valgrind -q --error-exitcode=99 --leak-check=full "$@"; }
+# Without a fault of memory.
+is_clean() { valgrind -q --error-exitcode=99 --leak-check=full --errors-for-leak-kinds=definite "$@"; }
 
 replay_from_c() {
     check 'a program in C that replays is built' compile replay "$replay"
@@ -50,7 +53,7 @@ replay_from_c() {
     for example in examples/*.cml; do
         check "$example, from C" replays "$example"
     done
-    if command -v valgrind > /dev/null; then
+    if has valgrind 'a replay without a fault of memory'; then
         check 'a replay without a fault of memory' is_clean "$work/replay" < examples/hello_mailbox.cml
     fi
 }
@@ -84,13 +87,45 @@ refuse_each_again() {
     [ $request -gt 20 ]
 }
 
-# sanitized PROGRAM WORD..: built and run with the sanitizers of addresses and of undefined behaviour.
+# sanitized KIND PROGRAM WORD..: built and run with this sanitizer. It sees what the program in C does, and not what the library does.
 sanitized() {
-    program=$1
-    shift
-    cc -g -O1 -fsanitize=address,undefined -fno-sanitize-recover=undefined -Wall -Wextra -pthread -I include \
+    kind=$1
+    program=$2
+    shift 2
+    cc -g -O1 "-fsanitize=$kind" -fno-sanitize-recover=undefined -Wall -Wextra -pthread -I include \
         -o "$work/sanitized" "bindings/c/$program.c" "$rooms" "$kit/liblibc_c.a" || return
     timeout 120 "$work/sanitized" "$@"
+}
+
+# has_sanitizer KIND: programs can be built with it, and run.
+has_sanitizer() {
+    if echo 'int main(void) { return 0; }' | cc "-fsanitize=$1" -x c - -o "$work/able" && "$work/able"; then return; fi 2> /dev/null
+    echo "left out: the programs in C with -fsanitize=$1: there is no such sanitizer"
+    return 1
+}
+
+# The sanitizers of addresses and of undefined behaviour, and that of threads.
+sanitizers_from_c() {
+    if has_sanitizer address,undefined; then
+        for program in calls messages keep threads; do
+            check "nothing wrong with an address: $program" sanitized address,undefined $program
+        done
+        check 'nothing wrong with an address: requests' sanitized address,undefined requests 20
+    fi
+    if has_sanitizer thread; then
+        for program in threads keep; do
+            check "no race: $program" sanitized thread $program
+        done
+        check 'no race: requests' sanitized thread requests 20
+    fi
+}
+
+refusals_from_c() {
+    check 'requests for memory can be refused' cc -O2 -shared -fPIC -o "$work/refuse.so" tests/refuse.c -ldl
+    [ -x "$work/calls" ] && check 'each request for memory refused' refuse_each calls 'each call returns'
+    [ -x "$work/messages" ] && check 'the same with messages of bytes' refuse_each messages 'each call returns'
+    [ -x "$work/keep" ] && check 'the same with journals that are kept' refuse_each keep 'each journal is kept'
+    [ -x "$work/requests" ] && check 'the same with threads that try again' refuse_each_again
 }
 
 rooms_from_c() {
@@ -98,20 +133,14 @@ rooms_from_c() {
         check "a program in C of rooms is built: $program" compile $program "$rooms"
         [ -x "$work/$program" ] && check "rooms from C: $program" timeout 60 "$work/$program"
     done
-    check 'requests for memory can be refused' cc -O2 -shared -fPIC -o "$work/refuse.so" tests/refuse.c -ldl
-    [ -x "$work/calls" ] && check 'each request for memory refused' refuse_each calls 'each call returns'
-    [ -x "$work/messages" ] && check 'the same with messages of bytes' refuse_each messages 'each call returns'
-    [ -x "$work/keep" ] && check 'the same with journals that are kept' refuse_each keep 'each journal is kept'
-    [ -x "$work/requests" ] && check 'the same with threads that try again' refuse_each_again
-    if command -v valgrind > /dev/null; then
+    refusals_from_c
+    if has valgrind 'rooms from C without a fault of memory'; then
         for program in calls messages keep; do
             [ -x "$work/$program" ] && check "without a fault of memory: $program" is_clean "$work/$program"
         done
         [ -x "$work/requests" ] && check 'without a fault of memory: requests' is_clean "$work/requests" 5
     fi
-    check 'the sanitizers find nothing: messages' sanitized messages
-    check 'the sanitizers find nothing: keep' sanitized keep
-    check 'the sanitizers find nothing: requests' sanitized requests 20
+    sanitizers_from_c
 }
 
 # cargo_does COMMAND WORD..: a command of cargo's on a copy of the crate, with the archives.
@@ -124,13 +153,24 @@ cargo_does() {
 
 # The README's ten lines do what it says.
 letters_from_rust() {
-    cargo_does run --example letters > "$work/letters" && [ "$(cat "$work/letters")" = 'Ben received Some(5)' ]
+    cargo_does run --example letters > "$work/letters" && [ "$(cat "$work/letters")" = 'Ben received 5' ]
+}
+
+# clean_in_rust TEST: a file of tests in Rust runs without a fault of memory.
+clean_in_rust() {
+    binary=$(cargo_does test --test "$1" --no-run --message-format=json | sed -n 's/.*"executable":"\([^"]*\)".*/\1/p')
+    [ -x "$binary" ] && is_clean "$binary" --test-threads=1 --skip too_long
 }
 
 from_rust() {
     cp -r bindings "$work/bindings"
     ln -s "$PWD/examples" "$work/examples"
     check 'the crate in Rust' cargo_does test --all-features
+    if has valgrind 'the crate in Rust without a fault of memory'; then
+        for tests in codes keeping typed odd_messages; do
+            check "without a fault of memory in Rust: $tests" clean_in_rust $tests
+        done
+    fi
     check 'a mailbox and two threads in Rust' letters_from_rust
     check 'messages are timed in Rust' cargo_does run --release --example speed -- 4000
     check 'journals are timed in Rust' cargo_does run --release --example journals -- 40001
@@ -138,13 +178,11 @@ from_rust() {
 
 check 'the archive of rooms is there' [ -s "$rooms" ]
 check 'the archive of replay is there' [ -s "$replay" ]
-if command -v cc > /dev/null; then
+if has cc 'the programs in C'; then
     rooms_from_c
     replay_from_c
-else
-    echo 'skipped: there is no C compiler'
 fi
-if command -v cargo > /dev/null; then from_rust; else echo 'skipped: there is no cargo'; fi
+if has cargo 'the crate in Rust'; then from_rust; fi
 
 echo "$passed passed, $failed failed"
 [ $failed -eq 0 ] && [ $passed -gt 0 ]

@@ -1,10 +1,8 @@
 /* A journal leaves the room as text, piece by piece, is read back in parts, and another room goes on from it: each call for that
  * once and more, with what it is to return. If there is no memory for a call, the program frees all that it has, and ends with
  * status 5. */
-#include "seryugo.h"
+#include "checks.h"
 
-#include <stdio.h>
-#include <stdlib.h>
 #include <string.h>
 
 /* What is to be freed: at most one of each kind at a time. */
@@ -16,22 +14,6 @@ static bool has_room, has_lane, has_feed, has_journal, has_reading, has_text, ha
 static char file[2 * 1024 * 1024];
 static size_t kept;
 
-static void close_one(bool *has, struct seryugo handle)
-{
-    if (*has) {
-        seryugo_close(handle);
-    }
-    *has = false;
-}
-
-static void free_one(bool *has, struct seryugo_bytes bytes)
-{
-    if (*has) {
-        seryugo_bytes_free(bytes);
-    }
-    *has = false;
-}
-
 static void free_all(void)
 {
     free_one(&has_text, text);
@@ -42,30 +24,6 @@ static void free_all(void)
     close_one(&has_reading, reading);
     close_one(&has_room, room);
 }
-
-static void returns(uint32_t code, uint32_t expected, int line)
-{
-    if (code == SERYUGO_NO_MEMORY && expected != SERYUGO_NO_MEMORY) {
-        free_all();
-        exit(5);
-    }
-    if (code != expected) {
-        fprintf(stderr, "line %d: %u, not %u\n", line, (unsigned)code, (unsigned)expected);
-        exit(1);
-    }
-}
-
-#define RETURNS(expected, call) returns(call, SERYUGO_##expected, __LINE__)
-
-static void is(uint64_t found, uint64_t expected, int line)
-{
-    if (found != expected) {
-        fprintf(stderr, "line %d: found %llu, not %llu\n", line, (unsigned long long)found, (unsigned long long)expected);
-        exit(1);
-    }
-}
-
-#define IS(expected, found) is(found, expected, __LINE__)
 
 /* Takes the journal, and appends its text to the file. */
 static void append(void)
@@ -79,7 +37,7 @@ static void append(void)
     has_text = true;
     /* The text outlives the journal. */
     close_one(&has_journal, journal);
-    memcpy(file + kept, text.at, text.length);
+    memcpy(file + kept, seryugo_bytes_at(&text), text.length);
     kept += text.length;
     free_one(&has_text, text);
 }
@@ -150,7 +108,7 @@ static void try_text(void)
     free_one(&has_text, text);
     RETURNS(DONE, seryugo_journal_text(&journal, 0, &text));
     has_text = true;
-    memcpy(file, text.at, text.length);
+    memcpy(file, seryugo_bytes_at(&text), text.length);
     kept = text.length;
     free_one(&has_text, text);
     close_one(&has_journal, journal);
@@ -422,7 +380,7 @@ static void receives(const void *bytes, size_t length, int line)
     returns(seryugo_bytes_recv(&room, 1, 0, false, &message), SERYUGO_DONE, line);
     has_message = true;
     is(message.length, length, line);
-    if (length != 0 && memcmp(message.at, bytes, length) != 0) {
+    if (memcmp(seryugo_bytes_at(&message), bytes, length) != 0) {
         fprintf(stderr, "line %d: another message\n", line);
         exit(1);
     }

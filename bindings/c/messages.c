@@ -1,9 +1,7 @@
 /* Each call with messages of bytes once and more, on one thread, with what it is to return. If there is no memory for a call, the
  * program frees all that it has, and ends with status 5. */
-#include "seryugo.h"
+#include "checks.h"
 
-#include <stdio.h>
-#include <stdlib.h>
 #include <string.h>
 
 /* What is to be freed: at most one of each kind at a time. */
@@ -11,22 +9,6 @@ static struct seryugo room, lane, feed, journal, checker;
 static struct seryugo_bytes message;
 static struct seryugo_bytes_entry entry;
 static bool has_room, has_lane, has_feed, has_journal, has_checker, has_message, has_entry;
-
-static void close_one(bool *has, struct seryugo handle)
-{
-    if (*has) {
-        seryugo_close(handle);
-    }
-    *has = false;
-}
-
-static void free_message(void)
-{
-    if (has_message) {
-        seryugo_bytes_free(message);
-    }
-    has_message = false;
-}
 
 static void free_entry(void)
 {
@@ -38,7 +20,7 @@ static void free_entry(void)
 
 static void free_all(void)
 {
-    free_message();
+    free_one(&has_message, message);
     free_entry();
     close_one(&has_checker, checker);
     close_one(&has_lane, lane);
@@ -47,43 +29,19 @@ static void free_all(void)
     close_one(&has_journal, journal);
 }
 
-static void returns(uint32_t code, uint32_t expected, int line)
-{
-    if (code == SERYUGO_NO_MEMORY) {
-        free_all();
-        exit(5);
-    }
-    if (code != expected) {
-        fprintf(stderr, "line %d: %u, not %u\n", line, (unsigned)code, (unsigned)expected);
-        exit(1);
-    }
-}
-
-#define RETURNS(expected, call) returns(call, SERYUGO_##expected, __LINE__)
-
 /* The call hands this message over. */
 static void hands(uint32_t code, const char *bytes, size_t length, int line)
 {
     returns(code, SERYUGO_DONE, line);
     has_message = true;
-    if (message.length != length || (length != 0 && memcmp(message.at, bytes, length) != 0)) {
+    if (message.length != length || memcmp(seryugo_bytes_at(&message), bytes, length) != 0) {
         fprintf(stderr, "line %d: another message\n", line);
         exit(1);
     }
-    free_message();
+    free_one(&has_message, message);
 }
 
 #define HANDS(text, call) hands(call, text, sizeof(text) - 1, __LINE__)
-
-static void is(uint64_t found, uint64_t expected, int line)
-{
-    if (found != expected) {
-        fprintf(stderr, "line %d: found %llu, not %llu\n", line, (unsigned long long)found, (unsigned long long)expected);
-        exit(1);
-    }
-}
-
-#define IS(expected, found) is(found, expected, __LINE__)
 
 #define SEND(seat, mailbox, text) seryugo_bytes_send(&room, seat, mailbox, text, sizeof(text) - 1)
 

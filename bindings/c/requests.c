@@ -144,6 +144,7 @@ static void *ask(void *given)
     for (unsigned n = 0; n < part->office->each; n++) {
         size_t length = length_of(client, n);
         struct seryugo_bytes answer;
+        const uint8_t *answered;
 
         for (size_t i = 0; i < length; i++) {
             part->bytes[i] = byte_of(client, n, i);
@@ -151,8 +152,9 @@ static void *ask(void *given)
         send_bytes(part->office, part->seat, part->office->requests[client], part->bytes, length);
         answer = receive(part->office, part->seat, part->office->answers[client]);
         require(answer.length == length, "an answer is as long as its request");
+        answered = seryugo_bytes_at(&answer);
         for (size_t i = 0; i < length; i++) {
-            require(answer.at[i] == answer_to(byte_of(client, n, i)), "each byte is answered");
+            require(answered[i] == answer_to(byte_of(client, n, i)), "each byte is answered");
         }
         seryugo_bytes_free(answer);
     }
@@ -163,9 +165,10 @@ static void *ask(void *given)
 static void answer_one(struct part *part, uint64_t client)
 {
     struct seryugo_bytes request = receive(part->office, part->seat, part->office->requests[client]);
+    const uint8_t *requested = seryugo_bytes_at(&request);
 
     for (size_t i = 0; i < request.length; i++) {
-        part->bytes[i] = answer_to(request.at[i]);
+        part->bytes[i] = answer_to(requested[i]);
     }
     send_bytes(part->office, part->seat, part->office->answers[client], part->bytes, request.length);
     seryugo_bytes_free(request);

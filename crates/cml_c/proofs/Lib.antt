@@ -1,3 +1,4 @@
 mod HandleBox
+mod KeeperBox
 mod GoingOn
 mod Taking

@@ -35,7 +35,7 @@ pub record NoneIsTaken {M : Type 0} (same : Type 0) (reason : Code) (told : ℕ)
 abbrev pub TakesNumber : ℕ → ℕ → ℕ → FeedShown ℕ → FeedShown ℕ → Type 0
 TakesNumber told before after old new = IsTaken after told old new ⊎ NoneIsTaken (after ≡ before) Nothing told old new
 
--- a message of bytes is handed over, or none is seen, or there is no memory for its handle
+-- a message of bytes is handed over, or none is seen, or there is no memory to keep it
 abbrev pub TakesBytes : ℕ → SeryugoBytes → SeryugoBytes → FeedShown (List ℕ) → FeedShown (List ℕ) → Type 0
 TakesBytes told from to old new =
     ((message : List ℕ) × IsTaken message told old new × IsHanded message to)

@@ -10,6 +10,7 @@ use Rattle.cml_c.specs.declared.code.Code.TheVariants.{WrongHandle}
 use Rattle.cml_c.specs.declared.kept.Kept.{Kept}
 use Rattle.cml_c.specs.declared.kept.Kept.TheVariants.{Numbers, Bytes}
 use Rattle.cml_c.specs.declared.kept.Resource.{Resource}
+use Rattle.cml_c.specs.declared.kept.Stocked.{Stocked}
 use Rattle.cml_c.specs.declared.kept.Resource.TheVariants.{Room, Lane, Feed, Journal, Checker, Reading}
 use Rattle.cml_c.specs.Codes.{number}
 
@@ -51,7 +52,7 @@ OnBoth becomes code old new from to = IsWrong (to ≡ from) code old new
 
 -- it is a room, a lane, a feed, a checker or a reading, and this becomes of that; else the call is wrong
 abbrev pub OnRoom : {M : Type 0} → (RoomShown M → RoomShown M → Type 0) → Type 0 → ℕ → Resource M → Resource M → Type 0
-OnRoom {M} becomes same code (Room old) new = (room : Box (RoomShown M) Global) × (new ≡ Room room) × becomes old.value room.value
+OnRoom {M} becomes same code (Room old) new = (room : Box (Stocked M) Global) × (new ≡ Room room) × becomes old.value.room room.value.room
 OnRoom becomes same code other new = IsWrong same code other new
 
 abbrev pub OnLane : {M : Type 0} → (LaneShown M → LaneShown M → Type 0) → Type 0 → ℕ → Resource M → Resource M → Type 0

@@ -1,4 +1,6 @@
+pub mod Version
 pub mod Owning
+pub mod Keeping
 pub mod Lending
 pub mod Codes
 pub mod Handles

@@ -1,6 +1,6 @@
 -- What a call in a room of bytes returns to C, and the messages that it hands over.
-use Rattle.std.specs.Prelude.{ℕ, ◌≡◌, ◌⊎◌, Bool, false, List, length, Option, Some, None, ⊤}
-use Rattle.cml_bytes.specs.Sizes.{IsLong, IsTooLong}
+use Rattle.std.specs.Prelude.{ℕ, ◌≡◌, ◌<◌, ◌⊎◌, Bool, false, List, length, take, Option, Some, None, ⊤}
+use Rattle.cml_bytes.specs.Sizes.{IsShort, IsLong, IsTooLong}
 use Rattle.cml_board.specs.declared.call.Call.{Call}
 use Rattle.cml_board.specs.declared.entry.Reply.{Reply}
 use Rattle.cml_board.specs.declared.entry.Reply.TheVariants as reply
@@ -9,17 +9,23 @@ use Rattle.cml_board.specs.declared.outcome.Outcome.{Outcome}
 use Rattle.cml_board.specs.declared.outcome.Outcome.TheVariants as outcome
 use Rattle.cml_c.specs.declared.code.Code.TheVariants.{Done, Nothing, NoSuch, NoMemory, OutOfBounds}
 use Rattle.cml_c.specs.declared.kept.Kept.{Kept}
-use Rattle.cml_c.specs.declared.kept.Kept.TheVariants.{Bytes}
-use Rattle.cml_c.specs.declared.kept.Resource.TheVariants.{Message}
 use Rattle.cml_c.specs.declared.messages.SeryugoBytes.{SeryugoBytes}
 use Rattle.cml_c.specs.Codes.{number}
 use Rattle.cml_c.specs.Handles.{OnBytes, OnRoom}
 use Rattle.cml_c.specs.Asking.{Makes, Gives}
 
--- a handle to this message is written, with how many bytes it has
+-- up to 14 bytes lie in the struct
+abbrev pub LiesIn : List ℕ → SeryugoBytes → Type 0
+LiesIn message to = IsShort message × (take (length message) to.in_place ≡ message)
+
+-- more are kept by what C has
+abbrev pub IsKept : List ℕ → SeryugoBytes → Type 0
+IsKept message to = (14 < length message) × (to.owner.kept ≡ Some (record { bytes = message }))
+
+-- this message is handed over, with how many bytes it has
 pub record IsHanded (message : List ℕ) (to : SeryugoBytes) : Type 0 where
-  pub owns : to.owner.kept ≡ Some (Bytes (Message message))
   pub counted : to.length ≡ length message
+  pub given : LiesIn message to ⊎ IsKept message to
 
 -- the message of the reply is handed over, if it has one; else what stood there stays
 abbrev pub HandsReply : SeryugoBytes → SeryugoBytes → Reply (List ℕ) → Type 0
@@ -41,7 +47,7 @@ HandsHeld (Some (Some held)) code from to = HandsShare held code from to
 HandsHeld (Some None) code from to = (code ≡ number Nothing) × (to ≡ from)
 HandsHeld None code from to = (code ≡ number NoSuch) × (to ≡ from)
 
--- the call is made; or there is no memory for the handle to the message that it gives, and nothing is changed
+-- the call is made; or there is no memory to keep the message that it may give, and nothing is changed
 pub record HasNoMemory (from to : SeryugoBytes) (code : ℕ) (old new : RoomShown (List ℕ)) : Type 0 where
   pub told : code ≡ number NoMemory
   pub written : to ≡ from

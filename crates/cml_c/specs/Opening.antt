@@ -7,6 +7,7 @@ use Rattle.cml_c.specs.declared.code.Code.TheVariants.{Done, NoMemory, OutOfBoun
 use Rattle.cml_c.specs.declared.handle.Slot.{Slot}
 use Rattle.cml_c.specs.declared.kept.Kept.{Kept}
 use Rattle.cml_c.specs.declared.kept.Resource.{Resource}
+use Rattle.cml_c.specs.declared.kept.Stocked.{Stocked}
 use Rattle.cml_c.specs.declared.kept.Resource.TheVariants.{Room, Checker}
 use Rattle.cml_c.specs.Codes.{number}
 
@@ -36,8 +37,8 @@ pub record WritesNew {X : Type 0} (IsSuch : X → Type 0) (wrap : Box X Global �
 
 -- the limit is such a one, and a handle to a new room is written, or there is no memory; or it is not, and the slot is as it was
 abbrev pub OpensARoom : {M : Type 0} → (Resource M → Kept) → ℕ → ℕ → Slot → Slot → Type 0
-OpensARoom wrap limit told old new =
-    (IsLimit limit × WritesNew (IsNew limit) (λ room. wrap (Room room)) told new)
+OpensARoom {M} wrap limit told old new =
+    (IsLimit limit × WritesNew (λ (stocked : Stocked M). IsNew limit stocked.room) (λ room. wrap (Room room)) told new)
     ⊎ ((told ≡ number NoMemory) × IsLimit limit × (new ≡ old)) ⊎ ((told ≡ number OutOfBounds) × ¬ (IsLimit limit) × (new ≡ old))
 
 -- a handle to a new checker is written; or there is no memory, and the slot is as it was

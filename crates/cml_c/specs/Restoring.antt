@@ -15,6 +15,7 @@ use Rattle.cml_c.specs.declared.handle.Slot.{Slot}
 use Rattle.cml_c.specs.declared.kept.Kept.{Kept}
 use Rattle.cml_c.specs.declared.kept.Kept.TheVariants.{Numbers, Bytes}
 use Rattle.cml_c.specs.declared.kept.Resource.{Resource}
+use Rattle.cml_c.specs.declared.kept.Stocked.{Stocked}
 use Rattle.cml_c.specs.declared.kept.Resource.TheVariants.{Room, Reading, Spent}
 use Rattle.cml_c.specs.Codes.{number}
 use Rattle.cml_c.specs.Handles.{IsWrong}
@@ -30,8 +31,8 @@ pub record IsRoomOn {M : Type 0} (restored : RestoredShown M) (room : RoomShown 
 
 -- a handle to such a room is written; or there is no memory, and the slot is as it was
 abbrev pub OpensOn : {M : Type 0} → (Resource M → Kept) → RestoredShown M → Slot → Slot → ℕ → Type 0
-OpensOn wrap restored from to told =
-    WritesNew (IsRoomOn restored) (λ room. wrap (Room room)) told to ⊎ ((told ≡ number NoMemory) × (to ≡ from))
+OpensOn {M} wrap restored from to told =
+    WritesNew (λ (stocked : Stocked M). IsRoomOn restored stocked.room) (λ room. wrap (Room room)) told to ⊎ ((told ≡ number NoMemory) × (to ≡ from))
 
 -- what C gets of a reading that has stopped, and what is left of it
 abbrev pub told_stopped : Option Halt → Code
@@ -61,7 +62,7 @@ module _ {M : Type 0} (version : ℕ) (meaning : List ℕ → Option M) where
 
   -- a handle to such a room is written, and the reading is spent
   pub record OpensRoom (wrap : Resource M → Kept) (limit : ℕ) (to : Slot) (reading : Progress M) (left : Resource M) (told : ℕ) : Type 0 where
-    pub opened : WritesNew (GoesOn reading limit) (λ room. wrap (Room room)) told to
+    pub opened : WritesNew (λ (stocked : Stocked M). GoesOn reading limit stocked.room) (λ room. wrap (Room room)) told to
     pub spent : left ≡ Spent
 
   -- the reading has stopped: no bytes were read without a fault and without an unlawful entry

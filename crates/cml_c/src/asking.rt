@@ -37,6 +37,7 @@ pub(crate) fn make_naming_call<M: Message>(
         drop(call);
         return Code::WrongHandle.number();
     };
+    let room = &mut room.room;
     tell_name(room.ask(seat, call), name)
 }
 
@@ -87,7 +88,13 @@ pub(crate) fn make_call(
     ensures { Calls is_again seat call handle.old.kept handle.new.kept result given.old given.new }
 {
     match handle.as_mut() {
-        Kept::Numbers(Resource::Room(room)) => make_in_room(room, seat, is_again, call, given),
+        Kept::Numbers(Resource::Room(room)) => make_in_room(
+            &mut room.room,
+            seat,
+            is_again,
+            call,
+            given,
+        ),
         _ => Code::WrongHandle.number(),
     }
 }

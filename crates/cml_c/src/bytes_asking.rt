@@ -7,8 +7,9 @@ ghost use Rattle.cml_c.specs.Messages.{CallsBytes, NamesBytes, NamesNoBytes, Mak
 use crate::asking::{code_of_outcome, code_of_reply, make_naming_call};
 use crate::code::Code;
 use crate::handle::Handle;
-use crate::kept::{Kept, Resource, RoomOf};
-use crate::messages::{SeryugoBytes, hand_over};
+use crate::keeper::Held;
+use crate::kept::{Kept, Resource, Stocked};
+use crate::messages::{SeryugoBytes, hand_over, new_block};
 use cml_board::{Bytes, Call, Outcome, Reply};
 use std::alloc::Global;
 
@@ -34,38 +35,51 @@ pub(crate) fn make_call(
 
 fn make_in_room(
     alloc: Global,
-    room: &mut RoomOf<Bytes>,
+    stocked: &mut Stocked<Bytes>,
     seat: u64,
     is_again: bool,
     call: Call<Bytes>,
     given: &mut SeryugoBytes,
 ) -> u32
-    ensures { MakesBytes is_again seat call result given.old given.new room.old room.new }
+    ensures { MakesBytes is_again seat call result given.old given.new stocked.old.room stocked.new.room }
 {
-    // The handle's memory is taken first, so that no message is received without one.
-    let Ok(owner) = Handle::new(alloc, Kept::Bytes(Resource::Spent)) else {
+    // The memory that keeps a long message is taken first, so that none is received without it.
+    let Some(block) = block_of(alloc, &mut stocked.spare) else {
         return Code::NoMemory.number();
     };
-    if is_again {
-        return tell(owner, room.ask_again(seat, call), given);
-    }
-    tell(owner, room.ask(seat, call), given)
+    let outcome = if is_again {
+        stocked.room.ask_again(seat, call)
+    } else {
+        stocked.room.ask(seat, call)
+    };
+    let (code, left) = tell(block, outcome, given);
+    stocked.spare = left;
+    code.number()
 }
 
-/// The code of what became of a call. A message that it gave is handed over.
-fn tell(owner: Handle, outcome: Outcome<Bytes>, given: &mut SeryugoBytes) -> u32
-    ensures code { result ≡ number (told_outcome outcome) }
+/// The spare block, or a new one.
+fn block_of(alloc: Global, spare: &mut Option<Box<Held>>) -> Option<Box<Held>> {
+    match spare.take() {
+        Some(block) => Some(block),
+        None => new_block(alloc),
+    }
+}
+
+/// The code of what became of a call, and the block, if it is left. A message that the call gave is handed over.
+fn tell(
+    block: Box<Held>,
+    outcome: Outcome<Bytes>,
+    given: &mut SeryugoBytes,
+) -> (Code, Option<Box<Held>>)
+    ensures code { result.0 ≡ told_outcome outcome }
     ensures written { HandsOutcome given.old given.new outcome }
 {
     match outcome {
         Outcome::Answered(answer) => match answer.into_reply() {
-            Reply::Got(message) => {
-                *given = hand_over(owner, message);
-                Code::Done.number()
-            }
-            other => code_of_reply(&other).number(),
+            Reply::Got(message) => (Code::Done, hand_over(block, message, given)),
+            other => (code_of_reply(&other), Some(block)),
         },
-        other => code_of_outcome(&other).number(),
+        other => (code_of_outcome(&other), Some(block)),
     }
 }
 

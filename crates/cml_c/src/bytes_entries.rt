@@ -39,7 +39,7 @@ pub struct SeryugoBytesReply {
     pub message: SeryugoPlace,
 }
 
-/// One accepted call in the journal. Its messages stay where they are until C frees the entry.
+/// One accepted call in the journal. Its messages stay where they are until C closes the owner.
 #[repr(C)]
 #[derive(Drop)]
 pub struct SeryugoBytesEntry {
@@ -47,22 +47,6 @@ pub struct SeryugoBytesEntry {
     pub call: SeryugoBytesCall,
     pub reply: SeryugoBytesReply,
     pub owner: Slot,
-}
-
-/// An entry that C has. In C it is the same struct as `SeryugoBytesEntry`.
-#[repr(C)]
-#[derive(Drop)]
-pub struct OwnedEntry {
-    maker: SeryugoMaker,
-    call: SeryugoBytesCall,
-    reply: SeryugoBytesReply,
-    owner: Handle,
-}
-
-/// Frees an entry with its messages.
-#[unsafe(no_mangle)]
-pub extern "C" fn seryugo_bytes_entry_free(entry: OwnedEntry) {
-    drop(entry);
 }
 
 /// Hands over the journal's entry at this position, counted from 0 since the room was opened. Fails with `NoSuch` if there is
@@ -77,7 +61,7 @@ pub extern "C" fn seryugo_bytes_entry(
     ensures { OnBytes (OnRoom (FindsBytesIn at result entry.old entry.new)) (entry.new ≡ entry.old) result room.old.kept room.new.kept }
 {
     match room.as_mut() {
-        Kept::Bytes(Resource::Room(room)) => find_in(alloc, room, at, entry),
+        Kept::Bytes(Resource::Room(room)) => find_in(alloc, &mut room.room, at, entry),
         _ => Code::WrongHandle.number(),
     }
 }

@@ -23,6 +23,7 @@ fn give_next<M: Message>(resource: &mut Resource<M>, seat: &mut u64) -> u32
     let Resource::Room(room) = resource else {
         return Code::WrongHandle.number();
     };
+    let room = &mut room.room;
     match room.next_due() {
         Some(number) => {
             *seat = number;
@@ -44,7 +45,7 @@ fn is_due<M: Message>(resource: &mut Resource<M>, seat: u64) -> u32
     ensures { OnRoom (TellsDue seat result) ⊤ result resource.old resource.new }
 {
     match resource {
-        Resource::Room(room) => tell_due(room, seat),
+        Resource::Room(room) => tell_due(&mut room.room, seat),
         _ => Code::WrongHandle.number(),
     }
 }

@@ -49,7 +49,7 @@ pub extern "C" fn seryugo_entry(room: &mut Handle, at: u64, entry: &mut SeryugoE
     ensures { OnNumbers (OnRoom (FindsIn at result entry.old entry.new)) (entry.new ≡ entry.old) result room.old.kept room.new.kept }
 {
     match room.as_mut() {
-        Kept::Numbers(Resource::Room(room)) => find_in(room, at, entry),
+        Kept::Numbers(Resource::Room(room)) => find_in(&mut room.room, at, entry),
         _ => Code::WrongHandle.number(),
     }
 }

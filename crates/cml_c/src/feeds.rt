@@ -10,7 +10,7 @@ use crate::code::Code;
 use crate::handle::{Handle, Slot};
 use crate::kept::{Kept, Resource, Sort, for_both};
 use crate::lanes::tell_count;
-use crate::messages::{SeryugoBytes, hand_over};
+use crate::messages::{SeryugoBytes, hand_over, new_block};
 use cml_board::{Bytes, Message, Name};
 use cml_lanes::{Feed, MAX_CAPACITY};
 use std::alloc::Global;
@@ -44,6 +44,7 @@ fn open<M: Sort>(
     let Resource::Room(room) = resource else {
         return Code::WrongHandle.number();
     };
+    let room = &mut room.room;
     if capacity < 1 || capacity > MAX_CAPACITY {
         return Code::OutOfBounds.number();
     }
@@ -74,7 +75,7 @@ fn pump<M: Message>(resource: &mut Resource<M>, feed: u64, count: &mut u64) -> u
     ensures { OnRoom (Counts (Pumps chunk M.SURE feed) result count.old count.new) (count.new ≡ count.old) result resource.old resource.new }
 {
     match resource {
-        Resource::Room(room) => tell_count(room.pump(feed), count),
+        Resource::Room(room) => tell_count(room.room.pump(feed), count),
         _ => Code::WrongHandle.number(),
     }
 }
@@ -114,13 +115,13 @@ pub extern "C" fn seryugo_bytes_feed_recv(
 fn take_bytes(alloc: Global, feed: &mut Feed<Bytes>, message: &mut SeryugoBytes) -> u32
     ensures { TakesBytes result message.old message.new feed.old feed.new }
 {
-    // The handle's memory is taken first, so that no message is taken without one.
-    let Ok(owner) = Handle::new(alloc, Kept::Bytes(Resource::Spent)) else {
+    // The memory that keeps a long message is taken first, so that none is taken without it.
+    let Some(block) = new_block(alloc) else {
         return Code::NoMemory.number();
     };
     match feed.recv() {
         Some(taken) => {
-            *message = hand_over(owner, taken);
+            drop(hand_over(block, taken, message));
             Code::Done.number()
         }
         None => Code::Nothing.number(),
@@ -161,6 +162,7 @@ fn end<M: Message>(resource: &mut Resource<M>, feed: u64) -> u32
     let Resource::Room(room) = resource else {
         return Code::WrongHandle.number();
     };
+    let room = &mut room.room;
     match room.end_feed(feed) {
         Ok(_) => Code::Done.number(),
         Err(refusal) => Code::of_refusal(refusal).number(),

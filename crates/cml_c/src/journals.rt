@@ -27,7 +27,7 @@ fn reserve<M: Message>(resource: &mut Resource<M>, entries: usize) -> u32
     ensures { OnRoom (Does (ReservesSome entries) result) ⊤ result resource.old resource.new }
 {
     match resource {
-        Resource::Room(room) => code_of(room.reserve(entries)),
+        Resource::Room(room) => code_of(room.room.reserve(entries)),
         _ => Code::WrongHandle.number(),
     }
 }
@@ -44,7 +44,7 @@ fn cut<M: Message>(resource: &mut Resource<M>) -> u32
     ensures { OnRoom (Does CutsReserved result) ⊤ result resource.old resource.new }
 {
     match resource {
-        Resource::Room(room) => code_of(room.cut()),
+        Resource::Room(room) => code_of(room.room.cut()),
         _ => Code::WrongHandle.number(),
     }
 }
@@ -71,7 +71,7 @@ fn take<M: Sort>(
     ensures { OnRoom (TakesJournal M.KEPT journal.old journal.new result count.old count.new) ((count.new ≡ count.old) × (journal.new ≡ journal.old)) result resource.old resource.new }
 {
     match resource {
-        Resource::Room(room) => take_in(alloc, room, journal, count),
+        Resource::Room(room) => take_in(alloc, &mut room.room, journal, count),
         _ => Code::WrongHandle.number(),
     }
 }

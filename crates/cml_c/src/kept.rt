@@ -5,6 +5,7 @@ ghost use Rattle.cml_c.specs.declared.kept.Kept.TheVariants as kept;
 ghost use Rattle.cml_c.specs.declared.kept.Resource.{Resource};
 ghost use Rattle.cml_c.specs.declared.kept.Resource.TheVariants as resource;
 
+use crate::keeper::Held;
 use cml_board::{BoardLog, Bytes, Checker, Entry, Message};
 use cml_journal::Check;
 use cml_lanes::{Feed, Lane, LaneEnd};
@@ -12,6 +13,13 @@ use cml_room::Room;
 
 /// A room whose messages are of this type.
 pub type RoomOf<M> = Room<M, BoardLog<M>>;
+
+/// A room, with memory for the next long message that is handed over, unless it is used.
+#[derive(Drop)]
+pub struct Stocked<M: Message> {
+    pub room: RoomOf<M>,
+    pub spare: Option<Box<Held>>,
+}
 
 /// What a handle leads to, by the messages that it has to do with.
 #[derive(Drop)]
@@ -23,7 +31,7 @@ pub enum Kept {
 /// What a handle leads to that has to do with messages of this type. What is large lies in a box, so that this is small.
 #[derive(Drop)]
 pub enum Resource<M: Message> {
-    Room(Box<RoomOf<M>>),
+    Room(Box<Stocked<M>>),
     Lane(Lane<M>),
     /// A lane that has finished, and isn't closed yet.
     LaneEnd(LaneEnd<M>),
@@ -33,8 +41,6 @@ pub enum Resource<M: Message> {
     Checker(Box<Checker<M>>),
     /// A journal's text that is read back.
     Reading(Box<Check<M>>),
-    /// A message that C has.
-    Message(M),
     /// An entry that C has, with its messages.
     Entry(Box<Entry<M>>),
     /// Nothing: a lane that was closed, or a reading that was restored.
@@ -58,7 +64,7 @@ pub trait Sort: Message {
     /// What a handle to such a resource leads to.
     ghost KEPT: { Resource Self → Kept };
 
-    fn keep_room(room: Box<RoomOf<Self>>) -> Kept
+    fn keep_room(room: Box<Stocked<Self>>) -> Kept
         ensures { result ≡ KEPT (resource.Room room) };
 
     fn keep_lane(lane: Lane<Self>) -> Kept
@@ -74,7 +80,7 @@ pub trait Sort: Message {
 impl Sort for u64 {
     ghost KEPT = { kept.Numbers };
 
-    fn keep_room(room: Box<RoomOf<u64>>) -> Kept
+    fn keep_room(room: Box<Stocked<u64>>) -> Kept
         ensures { result ≡ kept.Numbers (resource.Room room) }
     {
         Kept::Numbers(Resource::Room(room))
@@ -102,7 +108,7 @@ impl Sort for u64 {
 impl Sort for Bytes {
     ghost KEPT = { kept.Bytes };
 
-    fn keep_room(room: Box<RoomOf<Bytes>>) -> Kept
+    fn keep_room(room: Box<Stocked<Bytes>>) -> Kept
         ensures { result ≡ kept.Bytes (resource.Room room) }
     {
         Kept::Bytes(Resource::Room(room))

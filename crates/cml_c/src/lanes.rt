@@ -45,6 +45,7 @@ fn open<M: Sort>(
     let Resource::Room(room) = resource else {
         return Code::WrongHandle.number();
     };
+    let room = &mut room.room;
     if capacity < 1 || capacity > MAX_CAPACITY {
         return Code::OutOfBounds.number();
     }
@@ -158,7 +159,7 @@ fn close<M: Message>(resource: &mut Resource<M>, lane: &mut Resource<M>) -> u32
     ensures { Closes M.SURE result resource.old resource.new lane.old lane.new }
 {
     match resource {
-        Resource::Room(room) => close_in(room, lane),
+        Resource::Room(room) => close_in(&mut room.room, lane),
         _ => Code::WrongHandle.number(),
     }
 }
@@ -196,7 +197,7 @@ fn drain<M: Message>(resource: &mut Resource<M>, lane: u64, count: &mut u64) -> 
     ensures { OnRoom (Counts (Drains chunk M.SURE lane) result count.old count.new) (count.new ≡ count.old) result resource.old resource.new }
 {
     match resource {
-        Resource::Room(room) => tell_count(room.drain(lane), count),
+        Resource::Room(room) => tell_count(room.room.drain(lane), count),
         _ => Code::WrongHandle.number(),
     }
 }
@@ -216,6 +217,7 @@ fn drop_lane<M: Message>(resource: &mut Resource<M>, lane: u64, count: &mut u64)
     let Resource::Room(room) = resource else {
         return Code::WrongHandle.number();
     };
+    let room = &mut room.room;
     match room.drop_lane(lane) {
         Ok((moved, true)) => {
             *count = moved as u64;
@@ -241,7 +243,7 @@ fn abandon<M: Message>(resource: &mut Resource<M>, lane: u64) -> u32
     ensures { OnRoom (Does (Abandons lane) result) ⊤ result resource.old resource.new }
 {
     match resource {
-        Resource::Room(room) => code_of(room.abandon_lane(lane)),
+        Resource::Room(room) => code_of(room.room.abandon_lane(lane)),
         _ => Code::WrongHandle.number(),
     }
 }

@@ -1,37 +1,31 @@
 //! Messages of bytes: how they are copied from C, and how they are handed to C.
-ghost use Rattle.std.specs.Prelude.{◌≡◌, length, IfOk, IfErr, option_map, option_copied};
+ghost use Rattle.std.specs.Prelude.{◌≡◌, ◌≤◌, length, IfOk, IfErr, option_map, option_copied};
 ghost use Rattle.cml_c.specs.Codes.{number};
 ghost use Rattle.cml_c.specs.Messages.{IsHanded, NotCopied, HandsHeld, HandsShare};
 
 use crate::code::Code;
-use crate::handle::{Handle, Slot};
-use crate::kept::{Kept, Resource};
+use crate::keeper::{Held, Keeper, Share};
 use cml_board::{Bytes, Message};
 use std::alloc::Global;
 use std::ptr;
 
-/// Where a message is written. The bytes stay where they are until C frees the message.
+/// The most bytes of a message that lie in the struct itself.
+const IN_PLACE: usize = 14;
+
+/// Where a message is written. Up to 14 bytes lie in the struct; more stay where they are until C frees the message.
 #[repr(C)]
 #[derive(Drop)]
 pub struct SeryugoBytes {
-    pub at: *const u8,
     pub length: usize,
-    pub owner: Slot,
+    pub block: *const u8,
+    pub owner: Share,
+    pub in_place: [u8; 16],
 }
 
-/// A message that C has. In C it is the same struct as `SeryugoBytes`.
-#[repr(C)]
-#[derive(Drop)]
-pub struct OwnedBytes {
-    at: *const u8,
-    length: usize,
-    owner: Handle,
-}
-
-/// Frees a message. Its bytes are freed once no clone is left, in a journal or elsewhere.
+/// Frees what keeps a message of more than 14 bytes. Its bytes are freed once no clone is left, in a journal or elsewhere.
 #[unsafe(no_mangle)]
-pub extern "C" fn seryugo_bytes_free(message: OwnedBytes) {
-    drop(message);
+pub extern "C" fn seryugo_bytes_release(owner: Keeper) {
+    drop(owner);
 }
 
 /// Copies the bytes that C sends.
@@ -80,30 +74,50 @@ fn hand_over_share(alloc: Global, held: &Bytes, message: &mut SeryugoBytes) -> u
     }
 }
 
-/// Hands over a message, unless there is no memory for its handle.
+/// Hands over a message, unless there is no memory to keep it.
 pub(crate) fn hand_over_new(alloc: Global, given: Bytes, message: &mut SeryugoBytes) -> u32
     ensures { HandsShare given result message.old message.new }
 {
-    let Ok(owner) = Handle::new(alloc, Kept::Bytes(Resource::Spent)) else {
+    let Some(block) = new_block(alloc) else {
         return Code::NoMemory.number();
     };
-    *message = hand_over(owner, given);
+    drop(hand_over(block, given, message));
     Code::Done.number()
 }
 
-/// Hands a message over by a handle whose memory was there before the message was taken. The handle keeps the message, so that
-/// its bytes stay where they are.
-pub(crate) fn hand_over(mut handle: Handle, message: Bytes) -> SeryugoBytes
-    ensures { IsHanded message result }
+/// Memory in which a message is kept.
+pub(crate) fn new_block(alloc: Global) -> Option<Box<Held>> {
+    let bytes = Bytes::from_slice(alloc, &[]).ok()?.ok()?;
+    Box::new(alloc, Held { bytes }).ok()
+}
+
+/// Hands a message over. A long one is kept in the block, whose memory was there before the message was taken. For a short one the
+/// block is left.
+pub(crate) fn hand_over(
+    mut block: Box<Held>,
+    message: Bytes,
+    to: &mut SeryugoBytes,
+) -> Option<Box<Held>>
+    ensures { IsHanded message to.new }
 {
-    handle.set(Kept::Bytes(Resource::Message(message)));
-    let (at, length) = match handle.as_mut() {
-        Kept::Bytes(Resource::Message(bytes)) => place_of(bytes.as_slice()),
-        _ => (ptr::null(), 0),
-    };
-    SeryugoBytes {
-        at,
-        length,
-        owner: handle.into_slot(),
+    if message.len() <= IN_PLACE {
+        show_short(message.as_slice(), to);
+        return Some(block);
     }
+    let (at, length) = place_of(message.as_slice());
+    *block = Held { bytes: message };
+    to.length = length;
+    to.block = at;
+    to.owner = Keeper::new(block).into_slot();
+    None
+}
+
+/// Writes a short message into the struct. What keeps a long one isn't read then, and is left as it was.
+fn show_short(bytes: &[u8], to: &mut SeryugoBytes)
+    requires { length bytes.now ≤ 14 }
+    ensures { IsHanded bytes.now to.new }
+{
+    to.in_place[..bytes.len()].copy_from_slice(bytes);
+    to.length = bytes.len();
+    to.block = ptr::null();
 }

@@ -128,7 +128,7 @@ fn read_resource<M: Message>(resource: &mut Resource<M>, reading: Reading, numbe
     ensures { OnRoom (Reads reading result number.old number.new) (number.new ≡ number.old) result resource.old resource.new }
 {
     match resource {
-        Resource::Room(room) => read_room(room, reading, number),
+        Resource::Room(room) => read_room(&mut room.room, reading, number),
         _ => Code::WrongHandle.number(),
     }
 }
@@ -183,7 +183,7 @@ pub extern "C" fn seryugo_held(room: &mut Handle, variable: u64, message: &mut u
 {
     match room.as_mut() {
         Kept::Numbers(Resource::Room(room)) => {
-            tell_held(room.board().held(Name(variable)), message)
+            tell_held(room.room.board().held(Name(variable)), message)
         }
         _ => Code::WrongHandle.number(),
     }
@@ -201,7 +201,7 @@ pub extern "C" fn seryugo_bytes_held(
 {
     match room.as_mut() {
         Kept::Bytes(Resource::Room(room)) => {
-            hand_over_held(alloc, room.board().held(Name(variable)), message)
+            hand_over_held(alloc, room.room.board().held(Name(variable)), message)
         }
         _ => Code::WrongHandle.number(),
     }
@@ -219,7 +219,7 @@ fn is_open<M: Message>(resource: &mut Resource<M>, port: u64) -> u32
     ensures { OnRoom (TellsOpen port result) ⊤ result resource.old resource.new }
 {
     match resource {
-        Resource::Room(room) => tell_open_port(room, port),
+        Resource::Room(room) => tell_open_port(&mut room.room, port),
         _ => Code::WrongHandle.number(),
     }
 }
@@ -242,7 +242,7 @@ fn is_full<M: Message>(resource: &mut Resource<M>) -> u32
     ensures { OnRoom (TellsFull result) ⊤ result resource.old resource.new }
 {
     match resource {
-        Resource::Room(room) => tell_full_room(room),
+        Resource::Room(room) => tell_full_room(&mut room.room),
         _ => Code::WrongHandle.number(),
     }
 }

@@ -6,7 +6,7 @@ ghost use Rattle.cml_c.specs.Restoring.{IsRoomOn, OpensOn, Restores, RestoresBy,
 
 use crate::code::Code;
 use crate::handle::{Handle, Slot};
-use crate::kept::{Kept, Resource, RoomOf, Sort, for_both};
+use crate::kept::{Kept, Resource, Sort, Stocked, for_both};
 use crate::read_journals::code_of_halt;
 use crate::rooms::{MOST, write_handle};
 use cml_board::{BoardLog, Restored};
@@ -88,8 +88,14 @@ fn open<M: Sort>(alloc: Global, restored: Restored<M, BoardLog<M>>, room: &mut S
 fn new_room<M: Sort>(
     alloc: Global,
     restored: Restored<M, BoardLog<M>>,
-) -> Result<Box<RoomOf<M>>, AllocError>
-    ensures { IfOk result (λ room. IsRoomOn restored room.value) }
+) -> Result<Box<Stocked<M>>, AllocError>
+    ensures { IfOk result (λ room. IsRoomOn restored room.value.room) }
 {
-    Ok(Box::new(alloc, Room::restore(alloc, restored)?)?)
+    Ok(Box::new(
+        alloc,
+        Stocked {
+            room: Room::restore(alloc, restored)?,
+            spare: None,
+        },
+    )?)
 }

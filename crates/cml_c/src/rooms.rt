@@ -9,7 +9,7 @@ ghost use Rattle.cml_c.specs.Opening.{IsLimit, IsNew, OpensARoom, Writes};
 
 use crate::code::Code;
 use crate::handle::{Handle, Slot};
-use crate::kept::{Kept, Resource, RoomOf, for_both};
+use crate::kept::{Kept, Resource, Stocked, for_both};
 use cml_board::{Message, Refusal};
 use cml_room::Room;
 use std::alloc::Global;
@@ -39,8 +39,8 @@ pub extern "C" fn seryugo_bytes_room_open(alloc: Global, limit: u64, room: &mut 
     }
 }
 
-fn new_room<M: Message>(alloc: Global, limit: u64) -> Result<Box<RoomOf<M>>, Code>
-    ensures opened { IfOk result (λ room. IsLimit limit × IsNew limit room.value) }
+fn new_room<M: Message>(alloc: Global, limit: u64) -> Result<Box<Stocked<M>>, Code>
+    ensures opened { IfOk result (λ room. IsLimit limit × IsNew limit room.value.room) }
     ensures refused { IfErr result (λ code. (code ≡ NoMemory × IsLimit limit) ⊎ (code ≡ OutOfBounds × ¬ (IsLimit limit))) }
 {
     if limit < 1 || limit > MOST {
@@ -49,7 +49,7 @@ fn new_room<M: Message>(alloc: Global, limit: u64) -> Result<Box<RoomOf<M>>, Cod
     let Ok(room) = Room::new(alloc, limit) else {
         return Err(Code::NoMemory);
     };
-    match Box::new(alloc, room) {
+    match Box::new(alloc, Stocked { room, spare: None }) {
         Ok(room) => Ok(room),
         Err(_) => Err(Code::NoMemory),
     }
@@ -88,6 +88,7 @@ fn new_seat<M: Message>(resource: &mut Resource<M>, seat: &mut u64) -> u32
     let Resource::Room(room) = resource else {
         return Code::WrongHandle.number();
     };
+    let room = &mut room.room;
     match room.new_seat() {
         Ok(number) => {
             *seat = number;
@@ -109,7 +110,7 @@ fn leave<M: Message>(resource: &mut Resource<M>, seat: u64) -> u32
     ensures { OnRoom (Leaves seat result) ⊤ result resource.old resource.new }
 {
     match resource {
-        Resource::Room(room) => code_of(room.leave(seat)),
+        Resource::Room(room) => code_of(room.room.leave(seat)),
         _ => Code::WrongHandle.number(),
     }
 }
@@ -126,7 +127,7 @@ fn withdraw<M: Message>(resource: &mut Resource<M>, seat: u64) -> u32
     ensures { OnRoom (Withdraws seat result) ⊤ result resource.old resource.new }
 {
     match resource {
-        Resource::Room(room) => code_of(room.withdraw(seat)),
+        Resource::Room(room) => code_of(room.room.withdraw(seat)),
         _ => Code::WrongHandle.number(),
     }
 }
