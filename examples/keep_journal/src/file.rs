@@ -1,6 +1,6 @@
 //! The file that keeps the journal.
 
-use seryugo::{Journal, Switchboard};
+use seryugo::{Journal, Numbers, Switchboard};
 use std::error::Error;
 use std::fs::{self, OpenOptions};
 use std::io::{self, BufReader, Seek, SeekFrom, Write};
@@ -15,7 +15,7 @@ pub struct File {
 impl File {
     /// Opens the files in a folder, and goes on from what they have. What a killed process left of a piece is kept up to its last
     /// whole line, and the piece gets its end.
-    pub fn open(folder: &Path, limit: u64) -> Result<(File, Switchboard), Box<dyn Error>> {
+    pub fn open(folder: &Path, limit: u64) -> Result<(File, Switchboard<Numbers>), Box<dyn Error>> {
         let mut options = OpenOptions::new();
         options.read(true).append(true).create(true);
         let mut journal = options.open(folder.join("journal"))?;
@@ -28,7 +28,7 @@ impl File {
     }
 
     /// Appends a piece. Once it is on the disk, says so.
-    pub fn keep(&mut self, journal: &Journal) -> io::Result<()> {
+    pub fn keep(&mut self, journal: &Journal<Numbers>) -> io::Result<()> {
         journal.write_to(&mut self.journal)?;
         self.journal.flush()?;
         self.journal.sync_data()?;

@@ -12,7 +12,7 @@ mod pieces;
 
 use file::File;
 use pieces::Pieces;
-use seryugo::{Error, Mailbox, Seat, Switchboard};
+use seryugo::{Error, Mailbox, Numbers, Seat, Switchboard};
 use std::error::Error as AnyError;
 use std::path::PathBuf;
 use std::{env, thread};
@@ -57,7 +57,7 @@ fn main() -> Result<(), Box<dyn AnyError>> {
 }
 
 /// The mailboxes, numbered from 0. The first process makes them; if it was killed before it made all, this one makes the others.
-fn mailboxes(board: &Switchboard) -> Result<Vec<Mailbox>, Error> {
+fn mailboxes(board: &Switchboard<Numbers>) -> Result<Vec<Mailbox<u64>>, Error> {
     let mut seat = board.seat()?;
     (0..THREADS)
         .map(|number| match board.mailbox(number) {
@@ -68,7 +68,13 @@ fn mailboxes(board: &Switchboard) -> Result<Vec<Mailbox>, Error> {
 }
 
 /// One thread: it sends some messages, receives as many, and so on.
-fn pass(pieces: &Pieces<'_>, mut seat: Seat<'_>, to: Mailbox, from: Mailbox, messages: u64) -> Result<(), Error> {
+fn pass(
+    pieces: &Pieces<'_>,
+    mut seat: Seat<'_, Numbers>,
+    to: Mailbox<u64>,
+    from: Mailbox<u64>,
+    messages: u64,
+) -> Result<(), Error> {
     let board = pieces.board();
     let mut sent = board.sent(to)?;
     let mut received = board.got(from)?;
@@ -76,12 +82,12 @@ fn pass(pieces: &Pieces<'_>, mut seat: Seat<'_>, to: Mailbox, from: Mailbox, mes
     while left > 0 {
         let some = left.min(AT_ONCE);
         for _ in 0..some {
-            pieces.with_room(|| seat.send(to, sent))?;
+            pieces.with_room(|| Ok(seat.send(to, sent)?))?;
             sent += 1;
         }
         for _ in 0..some {
             let message = pieces.with_room(|| seat.recv(from))?;
-            assert_eq!(message, Some(received), "a message is lost or doubled");
+            assert_eq!(message, received, "a message is lost or doubled");
             received += 1;
         }
         left -= some;

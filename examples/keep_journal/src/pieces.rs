@@ -1,6 +1,6 @@
 //! The journal, taken piece by piece by the threads that fill it.
 
-use seryugo::{Error, Journal, Switchboard};
+use seryugo::{Error, Journal, Numbers, Switchboard};
 use std::sync::mpsc::{sync_channel, Receiver, SyncSender};
 use std::sync::{Arc, Mutex, PoisonError};
 
@@ -10,20 +10,20 @@ const WAITING: usize = 4;
 /// Takes the journal when it is full, and hands it over.
 #[derive(Clone)]
 pub struct Pieces<'a> {
-    board: &'a Switchboard,
+    board: &'a Switchboard<Numbers>,
     // The thread that has the lock hands over the next piece.
-    writer: Arc<Mutex<SyncSender<Journal>>>,
+    writer: Arc<Mutex<SyncSender<Journal<Numbers>>>>,
 }
 
 impl<'a> Pieces<'a> {
     /// The pieces come from the receiver in their order.
-    pub fn new(board: &'a Switchboard) -> (Pieces<'a>, Receiver<Journal>) {
+    pub fn new(board: &'a Switchboard<Numbers>) -> (Pieces<'a>, Receiver<Journal<Numbers>>) {
         let (writer, taken) = sync_channel(WAITING);
         let writer = Arc::new(Mutex::new(writer));
         (Pieces { board, writer }, taken)
     }
 
-    pub fn board(&self) -> &'a Switchboard {
+    pub fn board(&self) -> &'a Switchboard<Numbers> {
         self.board
     }
 
@@ -52,7 +52,7 @@ impl<'a> Pieces<'a> {
     }
 }
 
-fn hand_over(board: &Switchboard, writer: &SyncSender<Journal>) -> Result<(), Error> {
+fn hand_over(board: &Switchboard<Numbers>, writer: &SyncSender<Journal<Numbers>>) -> Result<(), Error> {
     let journal = board.take_journal()?;
     writer.send(journal).expect("the writer has ended");
     Ok(())

@@ -3,7 +3,7 @@
 fn main() -> Result<(), seryugo::Error> {
     let board = seryugo::Switchboard::new(1_000)?;
     let (mut ann, mut ben) = (board.seat()?, board.seat()?);
-    let letters = ben.mailbox()?;
+    let letters = ben.mailbox::<u64>()?;
     std::thread::scope(|scope| {
         scope.spawn(move || ann.send(letters, 5));
         println!("Ben received {:?}", ben.recv(letters)?);

@@ -1,16 +1,13 @@
 //! A journal's text, checked as it is read.
 
 use crate::error::Error;
-use crate::raw::{self, mismatch, sure, written, Handle};
+use crate::raw::{self, code, written, Handle};
+use crate::room::{Bytes, Numbers, Room};
+use crate::version;
 use std::cell::RefCell;
 use std::fmt;
 use std::io::{self, BufRead, ErrorKind};
-
-/// What the library returns once it has read a part, and why it reads no further.
-const DONE: u32 = 0;
-const NO_MEMORY: u32 = 11;
-const UNLAWFUL: u32 = 17;
-const FAULT: u32 = 18;
+use std::marker::PhantomData;
 
 /// Reads a journal's text from its first piece on, and checks that its entries are a lawful history of one thread.
 ///
@@ -20,17 +17,18 @@ const FAULT: u32 = 18;
 /// use seryugo::{CheckError, Checker};
 ///
 /// # fn main() -> Result<(), CheckError> {
-/// let mut checker = Checker::new()?;
+/// let mut checker = Checker::of_numbers()?;
 /// checker.read(&b"journal 1\nseat 0 mailbox: made 0\nend 1\n"[..])?;
 /// assert_eq!(checker.entries(), 1);
 /// assert!(checker.is_whole());
 /// # Ok(())
 /// # }
 /// ```
-pub struct Checker {
+pub struct Checker<R: Room = Bytes> {
     // Calls on a handle are one at a time, also those that change nothing.
     handle: RefCell<Handle>,
     lines: Lines,
+    kind: PhantomData<fn() -> R>,
 }
 
 /// Why a journal was read no further.
@@ -38,7 +36,7 @@ pub struct Checker {
 /// ```
 /// use seryugo::{CheckError, Checker};
 ///
-/// let read = Checker::new()?.read(&b"journal 1\nwhat\n"[..]);
+/// let read = Checker::of_numbers()?.read(&b"journal 1\nwhat\n"[..]);
 /// assert!(matches!(read, Err(CheckError::Fault(2))));
 /// # Ok::<(), CheckError>(())
 /// ```
@@ -52,6 +50,8 @@ pub enum CheckError {
     Io(io::Error),
     /// There is no memory. Read the journal again by another checker.
     NoMemory,
+    /// The linked library isn't the one that this crate wants.
+    Library(Error),
 }
 
 impl fmt::Display for CheckError {
@@ -60,7 +60,8 @@ impl fmt::Display for CheckError {
             CheckError::Unlawful(at) => write!(f, "the entry at position {at} isn't lawful"),
             CheckError::Fault(line) => write!(f, "line {line} of the journal has a fault"),
             CheckError::Io(error) => error.fmt(f),
-            CheckError::NoMemory => f.write_str("no memory"),
+            CheckError::NoMemory => f.write_str("there is no memory to read the journal"),
+            CheckError::Library(error) => error.fmt(f),
         }
     }
 }
@@ -69,15 +70,25 @@ impl std::error::Error for CheckError {
     fn source(&self) -> Option<&(dyn std::error::Error + 'static)> {
         match self {
             CheckError::Io(error) => Some(error),
+            CheckError::Library(error) => Some(error),
             _ => None,
         }
     }
 }
 
+impl From<Error> for CheckError {
+    fn from(error: Error) -> CheckError {
+        match error {
+            Error::NoMemory => CheckError::NoMemory,
+            error => CheckError::Library(error),
+        }
+    }
+}
+
 impl Checker {
-    /// A checker that has read nothing.
+    /// A checker of a journal of bytes, that has read nothing.
     ///
-    /// Errors: only `NoMemory`.
+    /// Errors: only `NoMemory`, and `Library` if the linked library isn't of this crate's version.
     ///
     /// ```
     /// let checker = seryugo::Checker::new()?;
@@ -86,11 +97,31 @@ impl Checker {
     /// # Ok::<(), seryugo::CheckError>(())
     /// ```
     pub fn new() -> Result<Checker, CheckError> {
-        // The call has no other refusal.
-        let handle = Handle::opened(|reading| unsafe { raw::seryugo_reading_open(reading) });
+        Checker::open()
+    }
+}
+
+impl Checker<Numbers> {
+    /// A checker of a journal of numbers, that has read nothing. See [`new`](Checker::new).
+    ///
+    /// ```
+    /// let mut checker = seryugo::Checker::of_numbers()?;
+    /// checker.read(&b"journal 1\nseat 0 mailbox: made 0\nseat 0 send 0 5: done\nend 2\n"[..])?;
+    /// assert_eq!(checker.entries(), 2);
+    /// # Ok::<(), seryugo::CheckError>(())
+    /// ```
+    pub fn of_numbers() -> Result<Checker<Numbers>, CheckError> {
+        Checker::open()
+    }
+}
+
+impl<R: Room> Checker<R> {
+    pub(crate) fn open() -> Result<Checker<R>, CheckError> {
+        version::check()?;
         Ok(Checker {
-            handle: RefCell::new(handle.map_err(|_| CheckError::NoMemory)?),
+            handle: RefCell::new(Handle::opened(R::open_reading)?),
             lines: Lines::default(),
+            kind: PhantomData,
         })
     }
 
@@ -102,7 +133,7 @@ impl Checker {
     /// use seryugo::{CheckError, Checker};
     ///
     /// # fn main() -> Result<(), CheckError> {
-    /// let mut checker = Checker::new()?;
+    /// let mut checker = Checker::of_numbers()?;
     /// checker.read(&b"journal 1\nseat 0 mail"[..])?;
     /// checker.read(&b"box: made 0\n"[..])?;
     /// let read = checker.read(&b"seat 0 recv 0: 5\n"[..]);
@@ -129,21 +160,20 @@ impl Checker {
     fn take(&mut self, part: &[u8]) -> Result<(), CheckError> {
         // The part is good for the call, which keeps nothing of it.
         match unsafe { raw::seryugo_reading_take_from(self.handle.get_mut(), part.as_ptr().cast(), part.len()) } {
-            UNLAWFUL => Err(CheckError::Unlawful(self.entries())),
-            FAULT => Err(CheckError::Fault(self.whole_lines() + 1)),
-            NO_MEMORY => Err(CheckError::NoMemory),
-            DONE => {
+            code::UNLAWFUL => Err(CheckError::Unlawful(self.entries())),
+            code::FAULT => Err(CheckError::Fault(self.whole_lines().saturating_add(1))),
+            code::DONE => {
                 self.lines.note(part);
                 Ok(())
             }
-            code => mismatch(code),
+            code => Err(Error::of_code(code).into()),
         }
     }
 
     /// How many entries were read, each of which is lawful.
     ///
     /// ```
-    /// let mut checker = seryugo::Checker::new()?;
+    /// let mut checker = seryugo::Checker::of_numbers()?;
     /// checker.read(&b"journal 1\nseat 0 mailbox: made 0\nseat 0 send 0"[..])?;
     /// assert_eq!(checker.entries(), 1);
     /// # Ok::<(), seryugo::CheckError>(())
@@ -155,7 +185,7 @@ impl Checker {
     /// Whether what was read is a whole journal, all of whose entries are lawful: its last piece has its end.
     ///
     /// ```
-    /// let mut checker = seryugo::Checker::new()?;
+    /// let mut checker = seryugo::Checker::of_numbers()?;
     /// checker.read(&b"journal 1\nseat 0 mailbox: made 0\n"[..])?;
     /// assert!(!checker.is_whole());
     /// checker.read(&b"end 1\n"[..])?;
@@ -163,15 +193,16 @@ impl Checker {
     /// # Ok::<(), seryugo::CheckError>(())
     /// ```
     pub fn is_whole(&self) -> bool {
-        unsafe { raw::seryugo_reading_end(&mut *self.handle.borrow_mut()) == DONE }
+        unsafe { raw::seryugo_reading_end(&mut *self.handle.borrow_mut()) == code::DONE }
     }
 
     fn whole_lines(&self) -> u64 {
         self.count(|reading, count| unsafe { raw::seryugo_reading_lines(reading, count) })
     }
 
-    fn count(&self, call: impl FnOnce(&mut Handle, *mut u64) -> u32) -> u64 {
-        sure(written(|count| call(&mut self.handle.borrow_mut(), count)))
+    /// The number that a call writes which no library refuses.
+    fn count(&self, call: impl FnOnce(&mut Handle, &mut u64) -> u32) -> u64 {
+        written(|count| call(&mut self.handle.borrow_mut(), count)).unwrap_or_default()
     }
 
     /// What of the text is in whole lines.
@@ -191,13 +222,19 @@ impl Checker {
     }
 }
 
+impl<R: Room> fmt::Debug for Checker<R> {
+    fn fmt(&self, f: &mut fmt::Formatter<'_>) -> fmt::Result {
+        f.debug_struct("Checker").field("entries", &self.entries()).finish_non_exhaustive()
+    }
+}
+
 /// The part of a journal's text that has whole lines, as [`Switchboard::restore_torn`](crate::Switchboard::restore_torn) returns it.
 ///
 /// ```
-/// use seryugo::{RestoreError, Switchboard};
+/// use seryugo::{Numbers, RestoreError, Switchboard};
 ///
 /// # fn main() -> Result<(), RestoreError> {
-/// let (_, kept) = Switchboard::restore_torn(&b"journal 1\nseat 0 mailbox: made 0\nseat 0 se"[..], 1_000)?;
+/// let (_, kept) = Switchboard::<Numbers>::restore_torn(&b"journal 1\nseat 0 mailbox: made 0\nseat 0 se"[..], 1_000)?;
 /// assert_eq!((kept.entries, kept.bytes, kept.ending.as_str()), (1, 33, "end 1\n"));
 /// # Ok(())
 /// # }

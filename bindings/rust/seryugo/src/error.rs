@@ -1,10 +1,12 @@
 //! Why a call failed.
 
-use crate::raw::mismatch;
+use crate::version::Version;
 use std::fmt;
 
-/// Why a call failed. A call that failed changed nothing, with one exception: [`Lane::close`](crate::Lane::close) has ended the
-/// lane, and may have moved some of its messages.
+/// Why a call failed. A call that failed changed nothing, with two exceptions:
+///
+/// - [`Lane::close`](crate::Lane::close) has ended the lane, and may have moved some of its messages.
+/// - If it fails with [`Unreadable`](Error::Unreadable), the message was received, and its bytes are in the error.
 ///
 /// A `drain` or a `pump` that failed moved nothing. If a message after the first is refused, it returns how many moved.
 ///
@@ -14,16 +16,16 @@ use std::fmt;
 /// # fn main() -> Result<(), Error> {
 /// let board = Switchboard::new(1)?;
 /// let mut seat = board.seat()?;
-/// let mailbox = seat.mailbox()?;
-/// let error = seat.send(mailbox, 5).unwrap_err();
-/// assert_eq!(error, Error::JournalFull);
-/// assert!(error.is_retryable());
+/// let mailbox = seat.mailbox::<String>()?;
+/// let refused = seat.send(mailbox, "hello".to_string()).unwrap_err();
+/// assert_eq!(refused.error, Error::JournalFull);
+/// assert!(refused.error.is_retryable());
 /// board.cut()?;
-/// assert_eq!(seat.send(mailbox, 5), Ok(()));
+/// seat.send(mailbox, refused.message)?;
 /// # Ok(())
 /// # }
 /// ```
-#[derive(Clone, Copy, Debug, PartialEq, Eq, Hash)]
+#[derive(Clone, Debug, PartialEq, Eq, Hash)]
 pub enum Error {
     /// The seat waits, or has left; or the switchboard has closed the lane.
     Gone,
@@ -41,13 +43,27 @@ pub enum Error {
     NoMemory,
     /// Not as many messages were seen of a lane as were sent on it.
     Unseen,
-    /// A limit isn't from 1 to 2^32, or a capacity not from 1 to 1024.
+    /// The lane has no free slot until it is drained.
+    Full,
+    /// A limit isn't from 1 to 2^32, a capacity isn't from 1 to 1024, or a message has more than 2^32 - 1 bytes.
     OutOfBounds,
     /// The call's time limit passed before there was an answer.
     TimedOut,
+    /// The message was received, and it can't be read as the type that its object has. These are its bytes.
+    Unreadable(Vec<u8>),
+    /// The library that is linked isn't of the version that this crate wants. No call was made.
+    Version {
+        /// The version of the library.
+        library: Version,
+        /// The version that this crate wants.
+        wanted: Version,
+    },
+    /// The library returned a code that this version of it never returns there.
+    Unknown(u32),
 }
 
 impl Error {
+    #[cold]
     pub(crate) fn of_code(code: u32) -> Error {
         match code {
             5 => Error::Gone,
@@ -58,13 +74,15 @@ impl Error {
             10 => Error::Stalled,
             11 => Error::NoMemory,
             12 => Error::Unseen,
+            13 => Error::Full,
             16 => Error::OutOfBounds,
-            other => mismatch(other),
+            other => Error::Unknown(other),
         }
     }
 
     /// Whether the same call may succeed later, once something else has changed: the journal was cut (`JournalFull`), the lanes and
-    /// feeds were closed (`Busy`), memory was freed (`NoMemory`), or more time has passed (`TimedOut`, `Unseen`).
+    /// feeds were closed (`Busy`), the lane was drained (`Full`), memory was freed (`NoMemory`), or more time has passed (`TimedOut`,
+    /// `Unseen`).
     ///
     /// ```
     /// use seryugo::Error;
@@ -72,10 +90,11 @@ impl Error {
     /// assert!(Error::TimedOut.is_retryable());
     /// assert!(!Error::WrongKind.is_retryable());
     /// ```
-    pub fn is_retryable(self) -> bool {
+    pub fn is_retryable(&self) -> bool {
         match self {
-            Error::JournalFull | Error::Busy | Error::NoMemory | Error::TimedOut | Error::Unseen => true,
+            Error::JournalFull | Error::Busy | Error::Full | Error::NoMemory | Error::TimedOut | Error::Unseen => true,
             Error::Gone | Error::NoSuch | Error::WrongKind | Error::Stalled | Error::OutOfBounds => false,
+            Error::Unreadable(_) | Error::Version { .. } | Error::Unknown(_) => false,
         }
     }
 }
@@ -91,10 +110,113 @@ impl fmt::Display for Error {
             Error::Stalled => "no seat and no lane is left that could answer this call",
             Error::NoMemory => "there is no memory for this call",
             Error::Unseen => "not all messages that were sent on the lane were seen",
-            Error::OutOfBounds => "a limit isn't from 1 to 2^32, or a capacity isn't from 1 to 1024",
+            Error::Full => "the lane has no free slot until it is drained",
+            Error::OutOfBounds => {
+                "a limit isn't from 1 to 2^32, a capacity isn't from 1 to 1024, or a message has more than 2^32 - 1 bytes"
+            }
             Error::TimedOut => "the time limit passed before there was an answer",
+            Error::Unreadable(bytes) => {
+                return write!(f, "the message of {} bytes that was received can't be read as its type", bytes.len())
+            }
+            Error::Version { library, wanted } => {
+                return write!(f, "the linked library has the version {library}, and this crate wants {wanted}")
+            }
+            Error::Unknown(code) => {
+                return write!(f, "the linked library returned the code {code}, which this crate doesn't know")
+            }
         })
     }
 }
 
 impl std::error::Error for Error {}
+
+/// A message that wasn't sent, and why. It becomes its [`Error`] by `?`, which drops the message.
+///
+/// A `swap` is the only call that may have stored the message nevertheless: if the error is [`Error::Unreadable`], the variable has
+/// the new message, and the error has the bytes of the one before.
+///
+/// ```
+/// use seryugo::{Error, SendError, Switchboard};
+///
+/// # fn main() -> Result<(), Error> {
+/// let (board, other) = (Switchboard::new(1_000)?, Switchboard::new(1_000)?);
+/// let mailbox = other.seat()?.mailbox::<String>()?;
+/// let refused: SendError<String> = board.seat()?.send(mailbox, "hello".to_string()).unwrap_err();
+/// assert_eq!(refused.error, Error::NoSuch);
+/// assert_eq!(refused.to_string(), "the message wasn't sent: this switchboard has nothing of this name or number");
+/// assert_eq!(refused.into_message(), "hello");
+/// # Ok(())
+/// # }
+/// ```
+///
+/// If you send a reference and return `Box<dyn std::error::Error>`, drop the reference by `map_err(Error::from)`: such a box takes
+/// no borrowed message.
+///
+/// ```
+/// use seryugo::{Error, Switchboard};
+///
+/// fn send(text: &String) -> Result<(), Box<dyn std::error::Error>> {
+///     let board = Switchboard::new(1_000)?;
+///     let mut seat = board.seat()?;
+///     let mailbox = seat.mailbox::<String>()?;
+///     seat.send(mailbox, text).map_err(Error::from)?;
+///     Ok(())
+/// }
+/// assert!(send(&"hello".to_string()).is_ok());
+/// ```
+#[derive(Clone, PartialEq, Eq, Hash)]
+pub struct SendError<M> {
+    /// What the call was given.
+    pub message: M,
+    /// Why it failed.
+    pub error: Error,
+}
+
+impl<M> SendError<M> {
+    /// What the call was given.
+    ///
+    /// ```
+    /// # let board = seryugo::Switchboard::new(1)?;
+    /// # let mut seat = board.seat()?;
+    /// let mailbox = seat.mailbox::<String>()?;
+    /// let refused = seat.send(mailbox, "hello".to_string()).unwrap_err();
+    /// assert_eq!(refused.into_message(), "hello");
+    /// # Ok::<(), seryugo::Error>(())
+    /// ```
+    pub fn into_message(self) -> M {
+        self.message
+    }
+}
+
+impl<M> fmt::Debug for SendError<M> {
+    fn fmt(&self, f: &mut fmt::Formatter<'_>) -> fmt::Result {
+        f.debug_struct("SendError").field("error", &self.error).finish_non_exhaustive()
+    }
+}
+
+impl<M> fmt::Display for SendError<M> {
+    fn fmt(&self, f: &mut fmt::Formatter<'_>) -> fmt::Result {
+        write!(f, "the message wasn't sent: {}", self.error)
+    }
+}
+
+impl<M> std::error::Error for SendError<M> {
+    fn source(&self) -> Option<&(dyn std::error::Error + 'static)> {
+        Some(&self.error)
+    }
+}
+
+impl<M> From<SendError<M>> for Error {
+    fn from(refused: SendError<M>) -> Error {
+        refused.error
+    }
+}
+
+/// The same result, with what the call was given if it failed.
+#[inline]
+pub(crate) fn handing_back<T, M>(answer: Result<T, Error>, message: M) -> Result<T, SendError<M>> {
+    match answer {
+        Ok(answer) => Ok(answer),
+        Err(error) => Err(SendError { message, error }),
+    }
+}

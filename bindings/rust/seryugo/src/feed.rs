@@ -1,9 +1,12 @@
 //! Feeds.
 
+use crate::calls::received;
 use crate::error::Error;
 use crate::names::Port;
-use crate::raw::{self, polled, sure, written, Handle};
+use crate::raw::{self, code, written, Handle};
+use crate::room::{Carries, Room};
 use crate::switchboard::Switchboard;
+use std::fmt;
 
 /// A feed of what is multicast on a channel, from which one thread takes without the lock what was pumped. It may go to another
 /// thread, and two can't share it. It ends when it is dropped.
@@ -14,12 +17,12 @@ use crate::switchboard::Switchboard;
 /// # fn main() -> Result<(), Error> {
 /// let board = Switchboard::new(1_000)?;
 /// let mut seat = board.seat()?;
-/// let channel = seat.channel()?;
+/// let channel = seat.channel::<u64>()?;
 /// let mut feed = board.feed(channel, 8)?;
 /// seat.multicast(channel, 5)?;
-/// assert_eq!(feed.recv(), None);
+/// assert_eq!(feed.recv()?, None);
 /// assert_eq!(feed.pump()?, 1);
-/// assert_eq!(feed.recv(), Some(5));
+/// assert_eq!(feed.recv()?, Some(5));
 /// # Ok(())
 /// # }
 /// ```
@@ -28,17 +31,23 @@ use crate::switchboard::Switchboard;
 ///
 /// ```compile_fail,E0277
 /// fn shared<T: Sync>() {}
-/// shared::<seryugo::Feed>();
+/// shared::<seryugo::Feed<seryugo::Numbers, u64>>();
 /// ```
-pub struct Feed<'a> {
-    board: &'a Switchboard,
+pub struct Feed<'a, R: Room, T> {
+    board: &'a Switchboard<R>,
     handle: Handle,
     number: u64,
+    port: Port<T>,
 }
 
-impl<'a> Feed<'a> {
-    pub(crate) fn new(board: &'a Switchboard, handle: Handle, number: u64) -> Feed<'a> {
-        Feed { board, handle, number }
+impl<'a, R: Room, T> Feed<'a, R, T> {
+    pub(crate) fn new(board: &'a Switchboard<R>, handle: Handle, number: u64, port: Port<T>) -> Feed<'a, R, T> {
+        Feed {
+            board,
+            handle,
+            number,
+            port,
+        }
     }
 
     /// The feed's number, by which the journal tells what it receives.
@@ -46,7 +55,7 @@ impl<'a> Feed<'a> {
     /// ```
     /// # let board = seryugo::Switchboard::new(1_000)?;
     /// # let mut seat = board.seat()?;
-    /// # let channel = seat.channel()?;
+    /// # let channel = seat.channel::<u64>()?;
     /// let feed = board.feed(channel, 8)?;
     /// assert_eq!(feed.number(), 0);
     /// # Ok::<(), seryugo::Error>(())
@@ -60,16 +69,16 @@ impl<'a> Feed<'a> {
     /// ```
     /// # let board = seryugo::Switchboard::new(1_000)?;
     /// # let mut seat = board.seat()?;
-    /// # let channel = seat.channel()?;
-    /// let mut feed = board.feed(channel, 8)?;
+    /// # let channel = seat.channel::<u64>()?;
+    /// let feed = board.feed(channel, 8)?;
     /// let port = feed.port();
     /// assert_eq!(seat.recv(port), Err(seryugo::Error::WrongKind));
     /// drop(feed);
     /// assert_eq!(seat.recv_poll(port), Ok(None));
     /// # Ok::<(), seryugo::Error>(())
     /// ```
-    pub fn port(&mut self) -> Port {
-        Port(sure(written(|port| unsafe { raw::seryugo_feed_port(&mut self.handle, port) })))
+    pub fn port(&self) -> Port<T> {
+        self.port
     }
 
     /// Receives what the feed is owed, under the lock, while there is room for it: how many messages.
@@ -77,7 +86,7 @@ impl<'a> Feed<'a> {
     /// ```
     /// # let board = seryugo::Switchboard::new(1_000)?;
     /// # let mut seat = board.seat()?;
-    /// # let channel = seat.channel()?;
+    /// # let channel = seat.channel::<u64>()?;
     /// let mut feed = board.feed(channel, 8)?;
     /// seat.multicast(channel, 5)?;
     /// assert_eq!(feed.pump()?, 1);
@@ -89,27 +98,43 @@ impl<'a> Feed<'a> {
         self.board.change(|room| written(|count| unsafe { raw::seryugo_feed_pump(room, number, count) }))
     }
 
-    /// The next message that was pumped.
+    /// The next message that was pumped. It takes no lock.
+    ///
+    /// Errors: `Unreadable` if the message can't be read as this type: then it is taken. `NoMemory`: then it is still to be taken.
     ///
     /// ```
     /// # let board = seryugo::Switchboard::new(1_000)?;
     /// # let mut seat = board.seat()?;
-    /// # let channel = seat.channel()?;
+    /// # let channel = seat.channel::<u64>()?;
     /// let mut feed = board.feed(channel, 8)?;
     /// seat.multicast(channel, 5)?;
     /// feed.pump()?;
-    /// assert_eq!(feed.recv(), Some(5));
-    /// assert_eq!(feed.recv(), None);
+    /// assert_eq!(feed.recv()?, Some(5));
+    /// assert_eq!(feed.recv()?, None);
     /// # Ok::<(), seryugo::Error>(())
     /// ```
-    pub fn recv(&mut self) -> Option<u64> {
-        sure(polled(|message| unsafe { raw::seryugo_feed_recv(&mut self.handle, message) }))
+    #[inline]
+    pub fn recv(&mut self) -> Result<Option<T>, Error>
+    where
+        R: Carries<T>,
+    {
+        let mut slot = R::slot();
+        match R::feed_recv(&mut self.handle, &mut slot) {
+            code::NOTHING => Ok(None),
+            code => received::<R, T>(code, &mut slot).map(Some),
+        }
     }
 }
 
-impl Drop for Feed<'_> {
+impl<R: Room, T> Drop for Feed<'_, R, T> {
     fn drop(&mut self) {
         let number = self.number;
         self.board.change(|room| unsafe { raw::seryugo_feed_end(room, number) });
+    }
+}
+
+impl<R: Room, T> fmt::Debug for Feed<'_, R, T> {
+    fn fmt(&self, f: &mut fmt::Formatter<'_>) -> fmt::Result {
+        f.debug_struct("Feed").field("number", &self.number).field("port", &self.port).finish_non_exhaustive()
     }
 }

@@ -2,7 +2,9 @@
 
 use crate::error::Error;
 use crate::names::Source;
+use crate::room::{Carries, Room};
 use crate::seat::Seat;
+use std::fmt;
 use std::iter::FusedIterator;
 
 /// The messages of a mailbox or a port, each received as it is asked for. It blocks while there is none. It ends if the port is
@@ -16,9 +18,9 @@ use std::iter::FusedIterator;
 /// # fn main() -> Result<(), Error> {
 /// let board = Switchboard::new(1_000)?;
 /// let (mut seat, mut other) = (board.seat()?, board.seat()?);
-/// let mailbox = seat.mailbox()?;
+/// let mailbox = seat.mailbox::<u64>()?;
 /// std::thread::scope(|scope| {
-///     scope.spawn(move || (1..=3).try_for_each(|message| other.send(mailbox, message)));
+///     scope.spawn(move || (1..=3_u64).try_for_each(|message| other.send(mailbox, message)));
 ///     let mut messages = seat.iter(mailbox);
 ///     assert_eq!(messages.by_ref().sum::<u64>(), 6);
 ///     assert_eq!(messages.error(), Some(Error::Stalled));
@@ -26,8 +28,8 @@ use std::iter::FusedIterator;
 /// # Ok(())
 /// # }
 /// ```
-pub struct Iter<'s, 'a, S> {
-    seat: &'s mut Seat<'a>,
+pub struct Iter<'s, 'a, R: Room, S> {
+    seat: &'s mut Seat<'a, R>,
     source: S,
     is_over: bool,
     error: Option<Error>,
@@ -39,7 +41,7 @@ pub struct Iter<'s, 'a, S> {
 /// ```
 /// # let board = seryugo::Switchboard::new(1_000)?;
 /// let mut seat = board.seat()?;
-/// let mailbox = seat.mailbox()?;
+/// let mailbox = seat.mailbox::<u64>()?;
 /// seat.send(mailbox, 5)?;
 /// seat.send(mailbox, 6)?;
 /// let mut messages = seat.try_iter(mailbox);
@@ -47,19 +49,19 @@ pub struct Iter<'s, 'a, S> {
 /// assert_eq!(messages.error(), None);
 /// # Ok::<(), seryugo::Error>(())
 /// ```
-pub struct TryIter<'s, 'a, S> {
-    seat: &'s mut Seat<'a>,
+pub struct TryIter<'s, 'a, R: Room, S> {
+    seat: &'s mut Seat<'a, R>,
     source: S,
     error: Option<Error>,
 }
 
-impl<'a> Seat<'a> {
+impl<'a, R: Room> Seat<'a, R> {
     /// Receives the messages of a mailbox or a port in a loop, which ends if the port is closed or a call fails: see [`Iter`].
     ///
     /// ```
     /// # let board = seryugo::Switchboard::new(1_000)?;
     /// let mut seat = board.seat()?;
-    /// let channel = seat.channel()?;
+    /// let channel = seat.channel::<u64>()?;
     /// let port = seat.port(channel)?;
     /// seat.multicast(channel, 5)?;
     /// for message in seat.iter(port) {
@@ -67,7 +69,10 @@ impl<'a> Seat<'a> {
     /// }
     /// # Ok::<(), seryugo::Error>(())
     /// ```
-    pub fn iter<S: Source>(&mut self, source: S) -> Iter<'_, 'a, S> {
+    pub fn iter<S: Source>(&mut self, source: S) -> Iter<'_, 'a, R, S>
+    where
+        R: Carries<S::Message>,
+    {
         Iter {
             seat: self,
             source,
@@ -81,11 +86,14 @@ impl<'a> Seat<'a> {
     /// ```
     /// # let board = seryugo::Switchboard::new(1_000)?;
     /// let mut seat = board.seat()?;
-    /// let mailbox = seat.mailbox()?;
+    /// let mailbox = seat.mailbox::<u64>()?;
     /// assert_eq!(seat.try_iter(mailbox).count(), 0);
     /// # Ok::<(), seryugo::Error>(())
     /// ```
-    pub fn try_iter<S: Source>(&mut self, source: S) -> TryIter<'_, 'a, S> {
+    pub fn try_iter<S: Source>(&mut self, source: S) -> TryIter<'_, 'a, R, S>
+    where
+        R: Carries<S::Message>,
+    {
         TryIter {
             seat: self,
             source,
@@ -94,62 +102,85 @@ impl<'a> Seat<'a> {
     }
 }
 
-impl<S> Iter<'_, '_, S> {
+impl<R: Room, S> Iter<'_, '_, R, S> {
     /// The error that ended it, if one did.
     ///
     /// ```
     /// # let board = seryugo::Switchboard::new(1_000)?;
     /// # let mut seat = board.seat()?;
-    /// let mailbox = seat.mailbox()?;
+    /// let mailbox = seat.mailbox::<u64>()?;
     /// let mut messages = seat.iter(mailbox);
     /// assert_eq!(messages.next(), None);
     /// assert_eq!(messages.error(), Some(seryugo::Error::Stalled));
     /// # Ok::<(), seryugo::Error>(())
     /// ```
     pub fn error(&self) -> Option<Error> {
-        self.error
+        self.error.clone()
     }
 }
 
-impl<S> TryIter<'_, '_, S> {
+impl<R: Room, S> TryIter<'_, '_, R, S> {
     /// The error that ended it the last time, if one did.
     ///
     /// ```
     /// # let board = seryugo::Switchboard::new(1_000)?;
     /// # let mut seat = board.seat()?;
-    /// let mailbox = seat.mailbox()?;
+    /// let mailbox = seat.mailbox::<u64>()?;
     /// let mut messages = seat.try_iter(mailbox);
     /// assert_eq!((messages.next(), messages.error()), (None, None));
     /// # Ok::<(), seryugo::Error>(())
     /// ```
     pub fn error(&self) -> Option<Error> {
-        self.error
+        self.error.clone()
     }
 }
 
-impl<S: Source> Iterator for Iter<'_, '_, S> {
-    type Item = u64;
+impl<R: Carries<S::Message>, S: Source> Iterator for Iter<'_, '_, R, S> {
+    type Item = S::Message;
 
-    fn next(&mut self) -> Option<u64> {
+    fn next(&mut self) -> Option<S::Message> {
         if self.is_over {
             return None;
         }
-        let told = self.seat.recv(self.source);
-        self.error = told.err();
-        let message = told.ok().flatten();
+        let message = match self.seat.recv(self.source) {
+            Ok(received) => S::message(received),
+            Err(error) => {
+                self.error = Some(error);
+                None
+            }
+        };
         self.is_over = message.is_none();
         message
     }
 }
 
-impl<S: Source> FusedIterator for Iter<'_, '_, S> {}
+impl<R: Carries<S::Message>, S: Source> FusedIterator for Iter<'_, '_, R, S> {}
 
-impl<S: Source> Iterator for TryIter<'_, '_, S> {
-    type Item = u64;
+impl<R: Carries<S::Message>, S: Source> Iterator for TryIter<'_, '_, R, S> {
+    type Item = S::Message;
 
-    fn next(&mut self) -> Option<u64> {
-        let told = self.seat.recv_poll(self.source);
-        self.error = told.err();
-        told.ok().flatten()
+    fn next(&mut self) -> Option<S::Message> {
+        match self.seat.recv_poll(self.source) {
+            Ok(message) => {
+                self.error = None;
+                message
+            }
+            Err(error) => {
+                self.error = Some(error);
+                None
+            }
+        }
+    }
+}
+
+impl<R: Room, S> fmt::Debug for Iter<'_, '_, R, S> {
+    fn fmt(&self, f: &mut fmt::Formatter<'_>) -> fmt::Result {
+        f.debug_struct("Iter").field("seat", &self.seat).field("error", &self.error).finish_non_exhaustive()
+    }
+}
+
+impl<R: Room, S> fmt::Debug for TryIter<'_, '_, R, S> {
+    fn fmt(&self, f: &mut fmt::Formatter<'_>) -> fmt::Result {
+        f.debug_struct("TryIter").field("seat", &self.seat).field("error", &self.error).finish_non_exhaustive()
     }
 }

@@ -1,9 +1,13 @@
 //! A journal that was taken.
 
-use crate::entry::Entry;
-use crate::raw::{self, done, Handle, RawEntry, Text};
+use crate::entry::{found, Entry};
+use crate::raw::Handle;
+use crate::received::Received;
+use crate::room::{Bytes, Room};
 use std::cell::RefCell;
+use std::fmt;
 use std::io::{self, ErrorKind, Write};
+use std::marker::PhantomData;
 use std::ops::Range;
 
 /// The entries that a switchboard's journal had when it was taken, oldest first. They are their owner's own, and may go to
@@ -13,9 +17,9 @@ use std::ops::Range;
 /// use seryugo::{Call, Error, Switchboard};
 ///
 /// # fn main() -> Result<(), Error> {
-/// let board = Switchboard::new(1_000)?;
+/// let board = Switchboard::of_numbers(1_000)?;
 /// let mut seat = board.seat()?;
-/// let mailbox = seat.mailbox()?;
+/// let mailbox = seat.mailbox::<u64>()?;
 /// seat.send(mailbox, 5)?;
 /// let journal = board.take_journal()?;
 /// let sent = journal.iter().filter(|entry| matches!(entry.call, Call::Send(_, 5)));
@@ -31,19 +35,21 @@ use std::ops::Range;
 /// fn shared<T: Sync>() {}
 /// shared::<seryugo::Journal>();
 /// ```
-pub struct Journal {
+pub struct Journal<R: Room = Bytes> {
     // Calls on a handle are one at a time, also those that change nothing.
     handle: RefCell<Handle>,
     first: u64,
     len: usize,
+    kind: PhantomData<fn() -> R>,
 }
 
-impl Journal {
-    pub(crate) fn new(handle: Handle, first: u64, len: usize) -> Journal {
+impl<R: Room> Journal<R> {
+    pub(crate) fn new(handle: Handle, first: u64, len: usize) -> Journal<R> {
         Journal {
             handle: RefCell::new(handle),
             first,
             len,
+            kind: PhantomData,
         }
     }
 
@@ -51,11 +57,11 @@ impl Journal {
     ///
     /// ```
     /// # fn main() -> Result<(), seryugo::Error> {
-    /// let board = seryugo::Switchboard::new(1_000)?;
+    /// let board = seryugo::Switchboard::of_numbers(1_000)?;
     /// let mut seat = board.seat()?;
-    /// seat.mailbox()?;
+    /// seat.mailbox::<u64>()?;
     /// assert_eq!(board.take_journal()?.first(), 0);
-    /// seat.mailbox()?;
+    /// seat.mailbox::<u64>()?;
     /// assert_eq!(board.take_journal()?.first(), 1);
     /// # Ok(())
     /// # }
@@ -67,9 +73,9 @@ impl Journal {
     /// How many entries there are.
     ///
     /// ```
-    /// # let board = seryugo::Switchboard::new(1_000)?;
+    /// # let board = seryugo::Switchboard::of_numbers(1_000)?;
     /// # let mut seat = board.seat()?;
-    /// seat.mailbox()?;
+    /// seat.mailbox::<u64>()?;
     /// let journal = board.take_journal()?;
     /// assert_eq!(journal.len(), 1);
     /// # Ok::<(), seryugo::Error>(())
@@ -81,7 +87,7 @@ impl Journal {
     /// Whether there is none.
     ///
     /// ```
-    /// # let board = seryugo::Switchboard::new(1_000)?;
+    /// # let board = seryugo::Switchboard::of_numbers(1_000)?;
     /// assert!(board.take_journal()?.is_empty());
     /// # Ok::<(), seryugo::Error>(())
     /// ```
@@ -89,22 +95,20 @@ impl Journal {
         self.len == 0
     }
 
-    /// The entry of this place, counted from 0 for the oldest.
+    /// The entry of this place, counted from 0 for the oldest. It has copies of the messages. If there is no memory for them, the
+    /// program aborts, as if a `Vec` found none.
     ///
     /// ```
-    /// # let board = seryugo::Switchboard::new(1_000)?;
+    /// # let board = seryugo::Switchboard::of_numbers(1_000)?;
     /// # let mut seat = board.seat()?;
-    /// seat.mailbox()?;
+    /// seat.mailbox::<u64>()?;
     /// let journal = board.take_journal()?;
     /// assert_eq!(journal.entry(0).map(|entry| entry.call), Some(seryugo::Call::NewMailbox));
     /// assert_eq!(journal.entry(1), None);
     /// # Ok::<(), seryugo::Error>(())
     /// ```
-    pub fn entry(&self, place: usize) -> Option<Entry> {
-        let mut entry = RawEntry::default();
-        let code = unsafe { raw::seryugo_taken_entry(&mut *self.handle.borrow_mut(), place as u64, &mut entry) };
-        done(code).ok()?;
-        Some(Entry::of(&entry))
+    pub fn entry(&self, place: usize) -> Option<Entry<R>> {
+        found(R::taken_entry(&mut self.handle.borrow_mut(), place as u64))
     }
 
     /// Writes the entries as text: one piece, as `docs/FORMATS.md` says under "Journals". Write the pieces of a switchboard one
@@ -115,9 +119,9 @@ impl Journal {
     ///
     /// ```
     /// # fn main() -> Result<(), Box<dyn std::error::Error>> {
-    /// let board = seryugo::Switchboard::new(1_000)?;
+    /// let board = seryugo::Switchboard::of_numbers(1_000)?;
     /// let mut seat = board.seat()?;
-    /// let mailbox = seat.mailbox()?;
+    /// let mailbox = seat.mailbox::<u64>()?;
     /// seat.send(mailbox, 5)?;
     /// let mut file = Vec::new();
     /// board.take_journal()?.write_to(&mut file)?;
@@ -127,21 +131,21 @@ impl Journal {
     /// ```
     pub fn write_to(&self, to: &mut impl Write) -> io::Result<()> {
         // No journal has a position of 2^64, so that only memory can be refused.
-        let text = Text::of_journal(&mut self.handle.borrow_mut(), self.first).map_err(|_| ErrorKind::OutOfMemory)?;
-        to.write_all(text.as_bytes())
+        let text = Received::text_of(&mut self.handle.borrow_mut(), self.first).map_err(|_| ErrorKind::OutOfMemory)?;
+        to.write_all(text.as_slice())
     }
 
     /// Each entry, oldest first.
     ///
     /// ```
-    /// # let board = seryugo::Switchboard::new(1_000)?;
+    /// # let board = seryugo::Switchboard::of_numbers(1_000)?;
     /// # let mut seat = board.seat()?;
-    /// seat.mailbox()?;
+    /// seat.mailbox::<u64>()?;
     /// let journal = board.take_journal()?;
     /// assert!(journal.iter().all(|entry| entry.call == seryugo::Call::NewMailbox));
     /// # Ok::<(), seryugo::Error>(())
     /// ```
-    pub fn iter(&self) -> Entries<'_> {
+    pub fn iter(&self) -> Entries<'_, R> {
         Entries {
             journal: self,
             places: 0..self.len,
@@ -152,24 +156,24 @@ impl Journal {
 /// The entries of a [`Journal`], oldest first.
 ///
 /// ```
-/// # let board = seryugo::Switchboard::new(1_000)?;
+/// # let board = seryugo::Switchboard::of_numbers(1_000)?;
 /// # let mut seat = board.seat()?;
-/// seat.mailbox()?;
+/// seat.mailbox::<u64>()?;
 /// let journal = board.take_journal()?;
 /// let mut entries = journal.iter();
 /// assert_eq!(entries.len(), 1);
 /// assert!(entries.next().is_some() && entries.next().is_none());
 /// # Ok::<(), seryugo::Error>(())
 /// ```
-pub struct Entries<'a> {
-    journal: &'a Journal,
+pub struct Entries<'a, R: Room = Bytes> {
+    journal: &'a Journal<R>,
     places: Range<usize>,
 }
 
-impl Iterator for Entries<'_> {
-    type Item = Entry;
+impl<R: Room> Iterator for Entries<'_, R> {
+    type Item = Entry<R>;
 
-    fn next(&mut self) -> Option<Entry> {
+    fn next(&mut self) -> Option<Entry<R>> {
         self.journal.entry(self.places.next()?)
     }
 
@@ -178,13 +182,25 @@ impl Iterator for Entries<'_> {
     }
 }
 
-impl ExactSizeIterator for Entries<'_> {}
+impl<R: Room> ExactSizeIterator for Entries<'_, R> {}
 
-impl<'a> IntoIterator for &'a Journal {
-    type Item = Entry;
-    type IntoIter = Entries<'a>;
+impl<'a, R: Room> IntoIterator for &'a Journal<R> {
+    type Item = Entry<R>;
+    type IntoIter = Entries<'a, R>;
 
-    fn into_iter(self) -> Entries<'a> {
+    fn into_iter(self) -> Entries<'a, R> {
         self.iter()
+    }
+}
+
+impl<R: Room> fmt::Debug for Journal<R> {
+    fn fmt(&self, f: &mut fmt::Formatter<'_>) -> fmt::Result {
+        f.debug_struct("Journal").field("first", &self.first).field("len", &self.len).finish_non_exhaustive()
+    }
+}
+
+impl<R: Room> fmt::Debug for Entries<'_, R> {
+    fn fmt(&self, f: &mut fmt::Formatter<'_>) -> fmt::Result {
+        f.debug_struct("Entries").field("places", &self.places).finish_non_exhaustive()
     }
 }

@@ -1,9 +1,12 @@
 //! Lanes.
 
-use crate::error::Error;
-use crate::raw::{self, told, Handle, Told};
+use crate::error::{handing_back, Error, SendError};
+use crate::raw::{self, done, Handle};
+use crate::room::{Carries, Room};
 use crate::switchboard::Switchboard;
+use std::borrow::Borrow;
 use std::fmt;
+use std::marker::PhantomData;
 
 /// A lane, on which one thread sends without the lock. End it by [`close`](Lane::close), which loses nothing.
 ///
@@ -11,20 +14,21 @@ use std::fmt;
 /// Those for which the journal has no room are lost: [`Switchboard::lost`] counts them.
 ///
 /// ```
-/// use seryugo::{Error, LaneFull, Switchboard};
+/// use seryugo::{Error, Switchboard};
 ///
 /// # fn main() -> Result<(), Error> {
 /// let board = Switchboard::new(1_000)?;
 /// let mut seat = board.seat()?;
-/// let mailbox = seat.mailbox()?;
+/// let mailbox = seat.mailbox::<String>()?;
 /// let mut lane = board.lane(mailbox, 1)?;
-/// assert_eq!(lane.send(5), Ok(()));
-/// assert_eq!(lane.send(6), Err(LaneFull(6)));
+/// lane.send("one".to_string())?;
+/// let refused = lane.send("two".to_string()).unwrap_err();
+/// assert_eq!(refused.error, Error::Full);
 /// assert_eq!(lane.drain()?, 1);
-/// assert_eq!(lane.send(6), Ok(()));
+/// lane.send(refused.message)?;
 /// lane.close()?;
-/// assert_eq!(seat.recv(mailbox)?, Some(5));
-/// assert_eq!(seat.recv(mailbox)?, Some(6));
+/// assert_eq!(seat.recv(mailbox)?, "one");
+/// assert_eq!(seat.recv(mailbox)?, "two");
 /// # Ok(())
 /// # }
 /// ```
@@ -33,51 +37,27 @@ use std::fmt;
 ///
 /// ```compile_fail,E0277
 /// fn shared<T: Sync>() {}
-/// shared::<seryugo::Lane>();
+/// shared::<seryugo::Lane<seryugo::Numbers, u64>>();
 /// ```
-pub struct Lane<'a> {
-    board: &'a Switchboard,
+pub struct Lane<'a, R: Room, T> {
+    board: &'a Switchboard<R>,
     handle: Handle,
     number: u64,
     /// How many messages were sent on it.
     sent: u64,
     is_closed: bool,
+    message: PhantomData<fn(T)>,
 }
 
-/// The lane has no free slot. The message comes back.
-///
-/// ```
-/// use seryugo::{LaneFull, Switchboard};
-///
-/// let board = Switchboard::new(1_000)?;
-/// let mailbox = board.seat()?.mailbox()?;
-/// let mut lane = board.lane(mailbox, 1)?;
-/// lane.send(5).unwrap();
-/// while let Err(LaneFull(message)) = lane.send(6) {
-///     assert_eq!(message, 6);
-///     lane.drain()?;
-/// }
-/// # Ok::<(), seryugo::Error>(())
-/// ```
-#[derive(Clone, Copy, Debug, PartialEq, Eq)]
-pub struct LaneFull(pub u64);
-
-impl fmt::Display for LaneFull {
-    fn fmt(&self, f: &mut fmt::Formatter<'_>) -> fmt::Result {
-        f.write_str("the lane has no free slot until it is drained")
-    }
-}
-
-impl std::error::Error for LaneFull {}
-
-impl<'a> Lane<'a> {
-    pub(crate) fn new(board: &'a Switchboard, handle: Handle, number: u64) -> Lane<'a> {
+impl<'a, R: Room, T> Lane<'a, R, T> {
+    pub(crate) fn new(board: &'a Switchboard<R>, handle: Handle, number: u64) -> Lane<'a, R, T> {
         Lane {
             board,
             handle,
             number,
             sent: 0,
             is_closed: false,
+            message: PhantomData,
         }
     }
 
@@ -85,7 +65,7 @@ impl<'a> Lane<'a> {
     ///
     /// ```
     /// # let board = seryugo::Switchboard::new(1_000)?;
-    /// # let mailbox = board.seat()?.mailbox()?;
+    /// # let mailbox = board.seat()?.mailbox::<u64>()?;
     /// let mut lane = board.lane(mailbox, 8)?;
     /// lane.send(5).unwrap();
     /// assert_eq!(board.drain(lane.number())?, 1);
@@ -95,11 +75,14 @@ impl<'a> Lane<'a> {
         self.number
     }
 
-    /// Sends a message, which the next drain may move into the journal.
+    /// Sends a message, which the next drain may move into the journal. It takes no lock, and never blocks.
+    ///
+    /// Errors: [`SendError`] hands the message back. `Full`: the lane has no free slot until it is drained. `NoMemory` and
+    /// `OutOfBounds`: as of [`Seat::send`](crate::Seat::send).
     ///
     /// ```
     /// # let board = seryugo::Switchboard::new(1_000)?;
-    /// # let mailbox = board.seat()?.mailbox()?;
+    /// # let mailbox = board.seat()?.mailbox::<u64>()?;
     /// let mut lane = board.lane(mailbox, 8)?;
     /// assert!(lane.send(5).is_ok());
     /// assert_eq!(board.owed(mailbox)?, 0);
@@ -107,23 +90,21 @@ impl<'a> Lane<'a> {
     /// assert_eq!(board.owed(mailbox)?, 1);
     /// # Ok::<(), seryugo::Error>(())
     /// ```
-    pub fn send(&mut self, message: u64) -> Result<(), LaneFull> {
-        let code = unsafe { raw::seryugo_lane_send(&mut self.handle, message) };
-        match told(code) {
-            Ok(Told::Done) => {
-                self.sent += 1;
-                Ok(())
-            }
-            Ok(Told::Full) => Err(LaneFull(message)),
-            _ => raw::mismatch(code),
-        }
+    #[inline]
+    pub fn send<M: Borrow<T>>(&mut self, message: M) -> Result<(), SendError<M>>
+    where
+        R: Carries<T>,
+    {
+        let sent = done(R::with_sent(message.borrow(), |sent| R::lane_send(&mut self.handle, sent)));
+        self.sent += u64::from(sent.is_ok());
+        handing_back(sent, message)
     }
 
     /// Moves what was sent into the journal, under the lock: how many messages.
     ///
     /// ```
     /// # let board = seryugo::Switchboard::new(1_000)?;
-    /// # let mailbox = board.seat()?.mailbox()?;
+    /// # let mailbox = board.seat()?.mailbox::<u64>()?;
     /// let mut lane = board.lane(mailbox, 8)?;
     /// lane.send(5).unwrap();
     /// lane.send(6).unwrap();
@@ -146,7 +127,7 @@ impl<'a> Lane<'a> {
     /// # fn main() -> Result<(), Error> {
     /// let board = Switchboard::new(2)?;
     /// let mut seat = board.seat()?;
-    /// let mailbox = seat.mailbox()?;
+    /// let mailbox = seat.mailbox::<u64>()?;
     /// let mut lane = board.lane(mailbox, 8)?;
     /// lane.send(5).unwrap();
     /// lane.send(6).unwrap();
@@ -158,13 +139,13 @@ impl<'a> Lane<'a> {
     /// # }
     /// ```
     #[must_use = "a lane that wasn't closed loses messages when it is dropped"]
-    pub fn close(mut self) -> Result<(), UnclosedLane<'a>> {
+    pub fn close(mut self) -> Result<(), UnclosedLane<'a, R, T>> {
         // A lane that is open on both sides can be ended.
         unsafe { raw::seryugo_lane_finish(&mut self.handle) };
         self.close_finished()
     }
 
-    fn close_finished(mut self) -> Result<(), UnclosedLane<'a>> {
+    fn close_finished(mut self) -> Result<(), UnclosedLane<'a, R, T>> {
         match self.board.close_lane(self.number, &mut self.handle) {
             Ok(()) => {
                 self.is_closed = true;
@@ -180,7 +161,7 @@ impl<'a> Lane<'a> {
     }
 }
 
-impl Drop for Lane<'_> {
+impl<R: Room, T> Drop for Lane<'_, R, T> {
     fn drop(&mut self) {
         if !self.is_closed {
             self.end();
@@ -200,7 +181,7 @@ impl Drop for Lane<'_> {
 /// # fn main() -> Result<(), Error> {
 /// let board = Switchboard::new(2)?;
 /// let mut seat = board.seat()?;
-/// let mailbox = seat.mailbox()?;
+/// let mailbox = seat.mailbox::<u64>()?;
 /// let (mut lane, mut other) = (board.lane(mailbox, 8)?, board.lane(mailbox, 8)?);
 /// lane.send(5).unwrap();
 /// other.send(6).unwrap();
@@ -213,17 +194,17 @@ impl Drop for Lane<'_> {
 /// # }
 /// ```
 #[must_use = "a lane that wasn't closed loses messages when it is dropped"]
-pub struct UnclosedLane<'a> {
-    lane: Lane<'a>,
+pub struct UnclosedLane<'a, R: Room, T> {
+    lane: Lane<'a, R, T>,
     error: Error,
 }
 
-impl<'a> UnclosedLane<'a> {
+impl<'a, R: Room, T> UnclosedLane<'a, R, T> {
     /// Why the lane could not be closed.
     ///
     /// ```
     /// # let board = seryugo::Switchboard::new(1)?;
-    /// let mailbox = board.seat()?.mailbox()?;
+    /// let mailbox = board.seat()?.mailbox::<u64>()?;
     /// let mut lane = board.lane(mailbox, 8)?;
     /// lane.send(5).unwrap();
     /// let unclosed = lane.close().unwrap_err();
@@ -231,14 +212,14 @@ impl<'a> UnclosedLane<'a> {
     /// # Ok::<(), seryugo::Error>(())
     /// ```
     pub fn error(&self) -> Error {
-        self.error
+        self.error.clone()
     }
 
     /// The lane's number.
     ///
     /// ```
     /// # let board = seryugo::Switchboard::new(1)?;
-    /// let mailbox = board.seat()?.mailbox()?;
+    /// let mailbox = board.seat()?.mailbox::<u64>()?;
     /// let mut lane = board.lane(mailbox, 8)?;
     /// lane.send(5).unwrap();
     /// let unclosed = lane.close().unwrap_err();
@@ -253,7 +234,7 @@ impl<'a> UnclosedLane<'a> {
     ///
     /// ```
     /// # let board = seryugo::Switchboard::new(1)?;
-    /// let mailbox = board.seat()?.mailbox()?;
+    /// let mailbox = board.seat()?.mailbox::<u64>()?;
     /// let mut lane = board.lane(mailbox, 8)?;
     /// lane.send(5).unwrap();
     /// let unclosed = lane.close().unwrap_err();
@@ -262,7 +243,7 @@ impl<'a> UnclosedLane<'a> {
     /// # Ok::<(), seryugo::Error>(())
     /// ```
     #[must_use = "a lane that wasn't closed loses messages when it is dropped"]
-    pub fn close(self) -> Result<(), UnclosedLane<'a>> {
+    pub fn close(self) -> Result<(), UnclosedLane<'a, R, T>> {
         self.lane.close_finished()
     }
 
@@ -270,7 +251,7 @@ impl<'a> UnclosedLane<'a> {
     ///
     /// ```
     /// # let board = seryugo::Switchboard::new(1)?;
-    /// let mailbox = board.seat()?.mailbox()?;
+    /// let mailbox = board.seat()?.mailbox::<u64>()?;
     /// let mut lane = board.lane(mailbox, 8)?;
     /// lane.send(5).unwrap();
     /// let unclosed = lane.close().unwrap_err();
@@ -283,7 +264,7 @@ impl<'a> UnclosedLane<'a> {
     }
 }
 
-impl fmt::Debug for UnclosedLane<'_> {
+impl<R: Room, T> fmt::Debug for UnclosedLane<'_, R, T> {
     fn fmt(&self, f: &mut fmt::Formatter<'_>) -> fmt::Result {
         f.debug_struct("UnclosedLane")
             .field("number", &self.lane.number)
@@ -292,20 +273,26 @@ impl fmt::Debug for UnclosedLane<'_> {
     }
 }
 
-impl fmt::Display for UnclosedLane<'_> {
+impl<R: Room, T> fmt::Display for UnclosedLane<'_, R, T> {
     fn fmt(&self, f: &mut fmt::Formatter<'_>) -> fmt::Result {
         write!(f, "lane {} isn't closed: {}", self.lane.number, self.error)
     }
 }
 
-impl std::error::Error for UnclosedLane<'_> {
+impl<R: Room, T> std::error::Error for UnclosedLane<'_, R, T> {
     fn source(&self) -> Option<&(dyn std::error::Error + 'static)> {
         Some(&self.error)
     }
 }
 
-impl From<UnclosedLane<'_>> for Error {
-    fn from(unclosed: UnclosedLane<'_>) -> Error {
+impl<R: Room, T> From<UnclosedLane<'_, R, T>> for Error {
+    fn from(unclosed: UnclosedLane<'_, R, T>) -> Error {
         unclosed.error
+    }
+}
+
+impl<R: Room, T> fmt::Debug for Lane<'_, R, T> {
+    fn fmt(&self, f: &mut fmt::Formatter<'_>) -> fmt::Result {
+        f.debug_struct("Lane").field("number", &self.number).field("sent", &self.sent).finish_non_exhaustive()
     }
 }

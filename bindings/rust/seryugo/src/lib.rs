@@ -1,7 +1,8 @@
 //! Buffered Concurrent ML for Rust, by a library that is proved.
 //!
-//! A [`Switchboard`] has mailboxes, channels and variables of 64-bit messages, and a journal of every call that was accepted.
-//! Threads call from [`Seat`]s under a lock of this crate.
+//! A [`Switchboard`] has mailboxes, channels and variables, and a journal of every call that was accepted. Each object has a type of
+//! messages: numbers, texts, tuples, or a type of yours that implements [`Message`]. Threads call from [`Seat`]s under a lock of this
+//! crate.
 //!
 //! ```
 //! use seryugo::{Error, Switchboard};
@@ -9,14 +10,27 @@
 //! # fn main() -> Result<(), Error> {
 //! let board = Switchboard::new(1_000)?;
 //! let (mut ann, mut ben) = (board.seat()?, board.seat()?);
-//! let letters = ben.mailbox()?;
+//! let letters = ben.mailbox::<String>()?;
 //! std::thread::scope(|scope| {
-//!     scope.spawn(move || ann.send(letters, 5));
-//!     assert_eq!(ben.recv(letters)?, Some(5));
+//!     scope.spawn(move || ann.send(letters, "Dear Ben".to_string()));
+//!     assert_eq!(ben.recv(letters)?, "Dear Ben");
 //!     Ok(())
 //! })
 //! # }
 //! ```
+//!
+//! # What is sent
+//!
+//! | | messages | made by |
+//! |---|---|---|
+//! | a switchboard of [`Bytes`] | each type that implements [`Message`], several types on one switchboard | [`Switchboard::new`] |
+//! | a switchboard of [`Numbers`] | `u64`; its calls are the fastest | [`Switchboard::of_numbers`] |
+//!
+//! - A call that sends takes the message or a reference to it. If it fails, [`SendError`] hands the message back.
+//! - A message that was received and can't be read as the object's type is [`Error::Unreadable`], which has its bytes.
+//! - A name such as [`Mailbox`] is `Copy`, and belongs to the switchboard that made it. On another one each call with it fails with
+//!   [`Error::NoSuch`].
+//! - [`Error::is_retryable`] says whether the same call may succeed later.
 //!
 //! # How a call waits
 //!
@@ -33,12 +47,55 @@
 //! - If all seats wait, and no lane is open, each call that waits fails with [`Error::Stalled`]. A seat that waits with a time limit
 //!   or as a future counts as one that waits. If it is to answer others later, keep another seat free.
 //!
+//! # Beside other channels
+//!
+//! A dash says that there is no such call.
+//!
+//! | here | crossbeam-channel | Concurrent ML |
+//! |---|---|---|
+//! | [`seat.mailbox::<T>()`](Seat::mailbox) | `unbounded::<T>()` | `Mailbox.mailbox` |
+//! | [`seat.send(mailbox, message)`](Seat::send) | `sender.send(message)` | `Mailbox.send` |
+//! | [`seat.recv(mailbox)`](Seat::recv) | `receiver.recv()` | `Mailbox.recv` |
+//! | [`seat.recv_poll(mailbox)`](Seat::recv_poll) | `receiver.try_recv()` | `Mailbox.recvPoll` |
+//! | [`recv_timeout`](Seat::recv_timeout), [`recv_deadline`](Seat::recv_deadline) | `recv_timeout`, `recv_deadline` | a choice of `recvEvt` and `timeOutEvt` or `atTimeEvt` |
+//! | [`seat.iter(mailbox)`](Seat::iter), [`seat.try_iter(mailbox)`](Seat::try_iter) | `receiver.iter()`, `receiver.try_iter()` | - |
+//! | [`board.owed(mailbox)`](Switchboard::owed) | `receiver.len()` | - |
+//! | [`SendError`] with the message | `SendError`, once no receiver is left | - |
+//! | [`Error::Stalled`]: nothing could answer the call | `RecvError`, once no sender is left | the thread is blocked for ever |
+//! | [`board.lane(mailbox, capacity)`](Switchboard::lane) | `bounded(capacity)` and `try_send` | - |
+//! | [`seat.channel::<T>()`](Seat::channel) | - | `Multicast.mChannel` |
+//! | [`seat.port(channel)`](Seat::port) | - | `Multicast.port` |
+//! | [`seat.copy(port)`](Seat::copy) | - | `Multicast.copy` |
+//! | [`seat.multicast(channel, message)`](Seat::multicast) | - | `Multicast.multicast` |
+//! | [`seat.recv(port)`](Seat::recv) | - | `Multicast.recv` |
+//! | [`seat.close(port)`](Seat::close) | - | - |
+//! | [`seat.ivar::<T>()`](Seat::ivar) | - | `SyncVar.iVar` |
+//! | [`seat.put(ivar, message)`](Seat::put), which returns whether it was empty | - | `SyncVar.iPut`, which raises `Put` |
+//! | [`seat.get(ivar)`](Seat::get), [`seat.get_poll(ivar)`](Seat::get_poll) | - | `SyncVar.iGet`, `iGetPoll` |
+//! | [`seat.mvar::<T>()`](Seat::mvar), [`seat.mvar_init(message)`](Seat::mvar_init) | - | `SyncVar.mVar`, `mVarInit` |
+//! | [`seat.put(mvar, message)`](Seat::put) | - | `SyncVar.mPut` |
+//! | [`seat.take(mvar)`](Seat::take), [`seat.take_poll(mvar)`](Seat::take_poll) | - | `SyncVar.mTake`, `mTakePoll` |
+//! | [`seat.get(mvar)`](Seat::get), [`seat.get_poll(mvar)`](Seat::get_poll) | - | `SyncVar.mGet`, `mGetPoll` |
+//! | [`seat.swap(mvar, message)`](Seat::swap) | - | `SyncVar.mSwap` |
+//! | `==` on names | `same_channel` | `sameMailbox`, `sameIVar`, `sameMVar` |
+//! | [`board.take_journal()`](Switchboard::take_journal), [`Switchboard::restore`] | - | - |
+//! | - | `select!` | `choose`, `wrap`, `guard` and the other events |
+//!
+//! Nothing is cloned here: give each thread a seat. A mailbox has no end. To end those that receive, send a last message, or let them
+//! receive from a port and close it.
+//!
 //! # What else there is
 //!
 //! [`Lane`]s and [`Feed`]s keep senders and subscribers off the lock. A [`Journal`] that was taken is written as text. A [`Checker`]
 //! checks such a text, and [`Switchboard::restore`] goes on from it in another process. With the feature `scripts`, `replay` plays
 //! scripts of threads.
+//!
+//! Before its first call the crate compares the library's version with its own. If they differ, it fails with [`Error::Version`].
 
+#![warn(missing_docs)]
+
+mod bytes;
+mod calls;
 mod checker;
 mod entry;
 mod error;
@@ -47,29 +104,37 @@ mod iter;
 mod journal;
 mod lane;
 mod looks;
+mod message;
 mod names;
+mod numbers;
 mod objects;
 mod raw;
+mod received;
 mod restore;
+mod room;
 #[cfg(feature = "scripts")]
 mod script;
 mod seat;
 mod sleeper;
 mod sleepers;
 mod switchboard;
+mod version;
 mod waiting;
 mod want;
 
 pub use checker::{CheckError, Checker, Kept};
 pub use entry::{Call, Entry, Reply, Who};
-pub use error::Error;
+pub use error::{Error, SendError};
 pub use feed::Feed;
 pub use iter::{Iter, TryIter};
 pub use journal::{Entries, Journal};
-pub use lane::{Lane, LaneFull, UnclosedLane};
+pub use lane::{Lane, UnclosedLane};
+pub use message::Message;
 pub use names::{Channel, IVar, MVar, Mailbox, Object, Port, Source, Target, Variable};
 pub use restore::RestoreError;
+pub use room::{Bytes, Carries, Numbers, Room};
 #[cfg(feature = "scripts")]
 pub use script::{replay, BadLimit, End, Replayed, MOST_ENTRIES};
 pub use seat::Seat;
 pub use switchboard::Switchboard;
+pub use version::Version;

@@ -2,14 +2,16 @@
 //!
 //! What is read is so at some moment of the call: other threads may go on before the call returns.
 
+use crate::calls::received;
 use crate::error::Error;
-use crate::names::{Channel, IVar, Kind, MVar, Mailbox, Object, Port, Target, Variable};
-use crate::raw::{self, polled, told, Told};
+use crate::names::{Channel, IVar, MVar, Mailbox, Named, Object, Port, Target, Variable};
+use crate::raw::{self, code, done_or, Handle};
+use crate::room::{Carries, Room};
 use crate::switchboard::Switchboard;
 
-impl Switchboard {
+impl<R: Room> Switchboard<R> {
     /// The mailbox of this number, as of a switchboard that goes on from a journal. Objects are numbered in the order in which they
-    /// were made, from 0.
+    /// were made, from 0. The journal has no types: name the type that the mailbox had.
     ///
     /// Errors: `NoSuch` if there is no object of this number, and `WrongKind` if it isn't a mailbox.
     ///
@@ -19,20 +21,23 @@ impl Switchboard {
     /// # fn main() -> Result<(), Error> {
     /// let board = Switchboard::new(1_000)?;
     /// let mut seat = board.seat()?;
-    /// let (mailbox, channel) = (seat.mailbox()?, seat.channel()?);
+    /// let (mailbox, channel) = (seat.mailbox::<u64>()?, seat.channel::<u64>()?);
     /// let port = seat.port(channel)?;
-    /// let (ivar, mvar) = (seat.ivar()?, seat.mvar()?);
+    /// let (ivar, mvar) = (seat.ivar::<u64>()?, seat.mvar::<u64>()?);
     /// assert_eq!(board.mailbox(0), Ok(mailbox));
     /// assert_eq!(board.channel(1), Ok(channel));
     /// assert_eq!(board.port(2), Ok(port));
     /// assert_eq!(board.ivar(3), Ok(ivar));
     /// assert_eq!(board.mvar(4), Ok(mvar));
-    /// assert_eq!(board.mailbox(1), Err(Error::WrongKind));
-    /// assert_eq!(board.mailbox(5), Err(Error::NoSuch));
+    /// assert_eq!(board.mailbox::<u64>(1), Err(Error::WrongKind));
+    /// assert_eq!(board.mailbox::<u64>(5), Err(Error::NoSuch));
     /// # Ok(())
     /// # }
     /// ```
-    pub fn mailbox(&self, number: u64) -> Result<Mailbox, Error> {
+    pub fn mailbox<T>(&self, number: u64) -> Result<Mailbox<T>, Error>
+    where
+        R: Carries<T>,
+    {
         self.named(number)
     }
 
@@ -41,11 +46,14 @@ impl Switchboard {
     /// ```
     /// # let board = seryugo::Switchboard::new(1_000)?;
     /// # let mut seat = board.seat()?;
-    /// let channel = seat.channel()?;
+    /// let channel = seat.channel::<u64>()?;
     /// assert_eq!(board.channel(0), Ok(channel));
     /// # Ok::<(), seryugo::Error>(())
     /// ```
-    pub fn channel(&self, number: u64) -> Result<Channel, Error> {
+    pub fn channel<T>(&self, number: u64) -> Result<Channel<T>, Error>
+    where
+        R: Carries<T>,
+    {
         self.named(number)
     }
 
@@ -54,12 +62,15 @@ impl Switchboard {
     /// ```
     /// # let board = seryugo::Switchboard::new(1_000)?;
     /// # let mut seat = board.seat()?;
-    /// let channel = seat.channel()?;
+    /// let channel = seat.channel::<u64>()?;
     /// let port = seat.port(channel)?;
     /// assert_eq!(board.port(1), Ok(port));
     /// # Ok::<(), seryugo::Error>(())
     /// ```
-    pub fn port(&self, number: u64) -> Result<Port, Error> {
+    pub fn port<T>(&self, number: u64) -> Result<Port<T>, Error>
+    where
+        R: Carries<T>,
+    {
         self.named(number)
     }
 
@@ -68,11 +79,14 @@ impl Switchboard {
     /// ```
     /// # let board = seryugo::Switchboard::new(1_000)?;
     /// # let mut seat = board.seat()?;
-    /// let variable = seat.ivar()?;
+    /// let variable = seat.ivar::<u64>()?;
     /// assert_eq!(board.ivar(0), Ok(variable));
     /// # Ok::<(), seryugo::Error>(())
     /// ```
-    pub fn ivar(&self, number: u64) -> Result<IVar, Error> {
+    pub fn ivar<T>(&self, number: u64) -> Result<IVar<T>, Error>
+    where
+        R: Carries<T>,
+    {
         self.named(number)
     }
 
@@ -81,19 +95,22 @@ impl Switchboard {
     /// ```
     /// # let board = seryugo::Switchboard::new(1_000)?;
     /// # let mut seat = board.seat()?;
-    /// let variable = seat.mvar()?;
+    /// let variable = seat.mvar::<u64>()?;
     /// assert_eq!(board.mvar(0), Ok(variable));
     /// # Ok::<(), seryugo::Error>(())
     /// ```
-    pub fn mvar(&self, number: u64) -> Result<MVar, Error> {
+    pub fn mvar<T>(&self, number: u64) -> Result<MVar<T>, Error>
+    where
+        R: Carries<T>,
+    {
         self.named(number)
     }
 
     /// The name of an object of this number, if it has this kind.
-    fn named<N: Kind>(&self, number: u64) -> Result<N, Error> {
+    fn named<N: Named>(&self, number: u64) -> Result<N, Error> {
         let kind = self.read(|room, kind| unsafe { raw::seryugo_kind(room, number, kind) })?;
-        if kind == N::NUMBER {
-            Ok(N::of(number))
+        if kind == N::KIND {
+            Ok(self.name(number))
         } else {
             Err(Error::WrongKind)
         }
@@ -104,7 +121,7 @@ impl Switchboard {
     /// ```
     /// # let board = seryugo::Switchboard::new(1_000)?;
     /// # let mut seat = board.seat()?;
-    /// let mailbox = seat.mailbox()?;
+    /// let mailbox = seat.mailbox::<u64>()?;
     /// seat.send(mailbox, 5)?;
     /// seat.send(mailbox, 6)?;
     /// seat.recv(mailbox)?;
@@ -112,7 +129,7 @@ impl Switchboard {
     /// # Ok::<(), seryugo::Error>(())
     /// ```
     pub fn sent(&self, object: impl Target) -> Result<u64, Error> {
-        self.read(|room, count| unsafe { raw::seryugo_sent(room, object.number(), count) })
+        self.read_of(object, |room, object, count| unsafe { raw::seryugo_sent(room, object, count) })
     }
 
     /// How many were received from a mailbox or a port.
@@ -120,7 +137,7 @@ impl Switchboard {
     /// ```
     /// # let board = seryugo::Switchboard::new(1_000)?;
     /// # let mut seat = board.seat()?;
-    /// let mailbox = seat.mailbox()?;
+    /// let mailbox = seat.mailbox::<u64>()?;
     /// seat.send(mailbox, 5)?;
     /// seat.send(mailbox, 6)?;
     /// seat.recv(mailbox)?;
@@ -128,7 +145,7 @@ impl Switchboard {
     /// # Ok::<(), seryugo::Error>(())
     /// ```
     pub fn got(&self, object: impl Object) -> Result<u64, Error> {
-        self.read(|room, count| unsafe { raw::seryugo_got(room, object.number(), count) })
+        self.read_of(object, |room, object, count| unsafe { raw::seryugo_got(room, object, count) })
     }
 
     /// How many wait in a mailbox, or are owed to an open port.
@@ -136,7 +153,7 @@ impl Switchboard {
     /// ```
     /// # let board = seryugo::Switchboard::new(1_000)?;
     /// # let mut seat = board.seat()?;
-    /// let mailbox = seat.mailbox()?;
+    /// let mailbox = seat.mailbox::<u64>()?;
     /// seat.send(mailbox, 5)?;
     /// seat.send(mailbox, 6)?;
     /// seat.recv(mailbox)?;
@@ -144,7 +161,7 @@ impl Switchboard {
     /// # Ok::<(), seryugo::Error>(())
     /// ```
     pub fn owed(&self, object: impl Object) -> Result<u64, Error> {
-        self.read(|room, count| unsafe { raw::seryugo_owed(room, object.number(), count) })
+        self.read_of(object, |room, object, count| unsafe { raw::seryugo_owed(room, object, count) })
     }
 
     /// How many of a mailbox or a channel are kept.
@@ -152,7 +169,7 @@ impl Switchboard {
     /// ```
     /// # let board = seryugo::Switchboard::new(1_000)?;
     /// # let mut seat = board.seat()?;
-    /// let mailbox = seat.mailbox()?;
+    /// let mailbox = seat.mailbox::<u64>()?;
     /// seat.send(mailbox, 5)?;
     /// seat.send(mailbox, 6)?;
     /// seat.recv(mailbox)?;
@@ -160,10 +177,12 @@ impl Switchboard {
     /// # Ok::<(), seryugo::Error>(())
     /// ```
     pub fn kept(&self, object: impl Target) -> Result<u64, Error> {
-        self.read(|room, count| unsafe { raw::seryugo_kept(room, object.number(), count) })
+        self.read_of(object, |room, object, count| unsafe { raw::seryugo_kept(room, object, count) })
     }
 
-    /// What a variable holds; `None` where it is empty.
+    /// What a variable holds; `None` if it is empty.
+    ///
+    /// Errors: `Unreadable` if it holds what can't be read as this type. It holds it still.
     ///
     /// ```
     /// # let board = seryugo::Switchboard::new(1_000)?;
@@ -174,8 +193,16 @@ impl Switchboard {
     /// assert_eq!(board.held(variable)?, None);
     /// # Ok::<(), seryugo::Error>(())
     /// ```
-    pub fn held(&self, variable: impl Variable) -> Result<Option<u64>, Error> {
-        self.with_handle(|room| polled(|message| unsafe { raw::seryugo_held(room, variable.number(), message) }))
+    pub fn held<V: Variable>(&self, variable: V) -> Result<Option<V::Message>, Error>
+    where
+        R: Carries<V::Message>,
+    {
+        let variable = self.here(variable)?;
+        let mut slot = R::slot();
+        match self.with_handle(|room| R::held(room, variable, &mut slot)) {
+            code::NOTHING => Ok(None),
+            code => received::<R, _>(code, &mut slot).map(Some),
+        }
     }
 
     /// Whether a port is open.
@@ -183,7 +210,7 @@ impl Switchboard {
     /// ```
     /// # let board = seryugo::Switchboard::new(1_000)?;
     /// # let mut seat = board.seat()?;
-    /// let channel = seat.channel()?;
+    /// let channel = seat.channel::<u64>()?;
     /// seat.multicast(channel, 5)?;
     /// let port = seat.port(channel)?;
     /// assert!(board.is_open(port)?);
@@ -191,9 +218,9 @@ impl Switchboard {
     /// assert!(!board.is_open(port)?);
     /// # Ok::<(), seryugo::Error>(())
     /// ```
-    pub fn is_open(&self, port: Port) -> Result<bool, Error> {
-        let code = self.with_handle(|room| unsafe { raw::seryugo_is_open(room, port.0) });
-        Ok(told(code)? == Told::Done)
+    pub fn is_open<T>(&self, port: Port<T>) -> Result<bool, Error> {
+        let port = self.here(port)?;
+        done_or(self.with_handle(|room| unsafe { raw::seryugo_is_open(room, port) }), code::CLOSED)
     }
 
     /// A port's channel.
@@ -201,14 +228,15 @@ impl Switchboard {
     /// ```
     /// # let board = seryugo::Switchboard::new(1_000)?;
     /// # let mut seat = board.seat()?;
-    /// let channel = seat.channel()?;
+    /// let channel = seat.channel::<u64>()?;
     /// seat.multicast(channel, 5)?;
     /// let port = seat.port(channel)?;
     /// assert_eq!(board.channel_of(port)?, channel);
     /// # Ok::<(), seryugo::Error>(())
     /// ```
-    pub fn channel_of(&self, port: Port) -> Result<Channel, Error> {
-        self.read(|room, channel| unsafe { raw::seryugo_channel_of(room, port.number(), channel) }).map(Channel)
+    pub fn channel_of<T>(&self, port: Port<T>) -> Result<Channel<T>, Error> {
+        let channel = self.read_of(port, |room, port, channel| unsafe { raw::seryugo_channel_of(room, port, channel) })?;
+        Ok(self.name(channel))
     }
 
     /// How many messages had been multicast on a port's channel before the first that it receives.
@@ -216,13 +244,19 @@ impl Switchboard {
     /// ```
     /// # let board = seryugo::Switchboard::new(1_000)?;
     /// # let mut seat = board.seat()?;
-    /// let channel = seat.channel()?;
+    /// let channel = seat.channel::<u64>()?;
     /// seat.multicast(channel, 5)?;
     /// let port = seat.port(channel)?;
     /// assert_eq!(board.start_of(port)?, 1);
     /// # Ok::<(), seryugo::Error>(())
     /// ```
-    pub fn start_of(&self, port: Port) -> Result<u64, Error> {
-        self.read(|room, start| unsafe { raw::seryugo_start_of(room, port.number(), start) })
+    pub fn start_of<T>(&self, port: Port<T>) -> Result<u64, Error> {
+        self.read_of(port, |room, port, start| unsafe { raw::seryugo_start_of(room, port, start) })
+    }
+
+    /// A number that an object has.
+    fn read_of(&self, object: impl Named, call: impl FnOnce(&mut Handle, u64, &mut u64) -> u32) -> Result<u64, Error> {
+        let object = self.here(object)?;
+        self.read(|room, number| call(room, object, number))
     }
 }

@@ -2,6 +2,7 @@
 
 use crate::checker::{CheckError, Checker, Kept};
 use crate::error::Error;
+use crate::room::Room;
 use crate::switchboard::Switchboard;
 use std::fmt;
 use std::io::BufRead;
@@ -9,9 +10,9 @@ use std::io::BufRead;
 /// Why no switchboard goes on from a journal.
 ///
 /// ```
-/// use seryugo::{RestoreError, Switchboard};
+/// use seryugo::{Numbers, RestoreError, Switchboard};
 ///
-/// let restored = Switchboard::restore(&b"journal 1\nseat 0 mail"[..], 1_000);
+/// let restored = Switchboard::<Numbers>::restore(&b"journal 1\nseat 0 mail"[..], 1_000);
 /// assert!(matches!(restored, Err(RestoreError::Torn(kept)) if kept.entries == 0));
 /// ```
 #[derive(Debug)]
@@ -49,7 +50,7 @@ impl From<CheckError> for RestoreError {
     }
 }
 
-impl Switchboard {
+impl<R: Room> Switchboard<R> {
     /// Reads a journal to its end, and returns a switchboard that goes on from there: with the objects that the journal made,
     /// and what they held behind its last entry. Its journal is cut, and takes `limit` entries between two cuts.
     ///
@@ -59,27 +60,27 @@ impl Switchboard {
     /// Errors: the journal isn't lawful, or has a fault, or ends in the middle.
     ///
     /// ```
-    /// use seryugo::Switchboard;
+    /// use seryugo::{Numbers, Switchboard};
     ///
     /// # fn main() -> Result<(), Box<dyn std::error::Error>> {
     /// let mut file = Vec::new();
-    /// let before = Switchboard::new(1_000)?;
+    /// let before = Switchboard::of_numbers(1_000)?;
     /// let mut seat = before.seat()?;
-    /// let mailbox = seat.mailbox()?;
+    /// let mailbox = seat.mailbox::<u64>()?;
     /// seat.send(mailbox, 5)?;
     /// before.take_journal()?.write_to(&mut file)?;
     ///
-    /// let board = Switchboard::restore(&file[..], 1_000)?;
+    /// let board = Switchboard::<Numbers>::restore(&file[..], 1_000)?;
     /// let mailbox = board.mailbox(0)?;
     /// let mut seat = board.seat()?;
     /// assert_eq!(seat.number(), 1);
-    /// assert_eq!(seat.recv(mailbox)?, Some(5));
+    /// assert_eq!(seat.recv(mailbox)?, 5);
     /// board.take_journal()?.write_to(&mut file)?;
     /// assert!(file.ends_with(b"from 2\nseat 1 recv 0: 5\nend 3\n"));
     /// # Ok(())
     /// # }
     /// ```
-    pub fn restore(journal: impl BufRead, limit: u64) -> Result<Switchboard, RestoreError> {
+    pub fn restore(journal: impl BufRead, limit: u64) -> Result<Switchboard<R>, RestoreError> {
         let checker = checked(journal)?;
         if !checker.is_whole() {
             return Err(RestoreError::Torn(checker.kept()));
@@ -92,36 +93,36 @@ impl Switchboard {
     /// Before you write the next piece, cut the text to the bytes that were kept, and write their ending.
     ///
     /// ```
-    /// use seryugo::Switchboard;
+    /// use seryugo::{Numbers, Switchboard};
     ///
     /// # fn main() -> Result<(), Box<dyn std::error::Error>> {
     /// let mut file = b"journal 1\nseat 0 mailbox: made 0\nseat 0 send 0 5: done\nseat 0 recv 0".to_vec();
-    /// let (board, kept) = Switchboard::restore_torn(&file[..], 1_000)?;
+    /// let (board, kept) = Switchboard::<Numbers>::restore_torn(&file[..], 1_000)?;
     /// assert_eq!((kept.entries, kept.bytes), (2, 55));
     /// assert_eq!(board.owed(board.mailbox(0)?)?, 1);
     /// file.truncate(55);
     /// file.extend_from_slice(kept.ending.as_bytes());
-    /// assert!(Switchboard::restore(&file[..], 1_000).is_ok());
+    /// assert!(Switchboard::<Numbers>::restore(&file[..], 1_000).is_ok());
     /// # Ok(())
     /// # }
     /// ```
-    pub fn restore_torn(journal: impl BufRead, limit: u64) -> Result<(Switchboard, Kept), RestoreError> {
+    pub fn restore_torn(journal: impl BufRead, limit: u64) -> Result<(Switchboard<R>, Kept), RestoreError> {
         let checker = checked(journal)?;
         let kept = checker.kept();
         Ok((restored(checker, limit)?, kept))
     }
 }
 
-fn checked(journal: impl BufRead) -> Result<Checker, CheckError> {
-    let mut checker = Checker::new()?;
+fn checked<R: Room>(journal: impl BufRead) -> Result<Checker<R>, CheckError> {
+    let mut checker = Checker::open()?;
     checker.read(journal)?;
     Ok(checker)
 }
 
-fn restored(checker: Checker, limit: u64) -> Result<Switchboard, RestoreError> {
+fn restored<R: Room>(checker: Checker<R>, limit: u64) -> Result<Switchboard<R>, RestoreError> {
     match checker.into_room(limit) {
         Ok(room) => Ok(Switchboard::over(room)),
         Err(Error::OutOfBounds) => Err(RestoreError::OutOfBounds),
-        Err(_) => Err(RestoreError::Check(CheckError::NoMemory)),
+        Err(error) => Err(RestoreError::Check(error.into())),
     }
 }

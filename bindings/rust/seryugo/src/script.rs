@@ -1,13 +1,26 @@
 //! Scripts, replayed.
 
-use crate::raw::mismatch;
 use std::error::Error;
 use std::fmt;
 
 /// The most entries that a journal may be given room for.
+///
+/// ```
+/// use seryugo::{replay, BadLimit, MOST_ENTRIES};
+///
+/// assert!(replay(b"cml 1\n", MOST_ENTRIES).is_ok());
+/// assert_eq!(replay(b"cml 1\n", MOST_ENTRIES + 1), Err(BadLimit));
+/// ```
 pub const MOST_ENTRIES: u64 = 1 << 32;
 
 /// How a replay ended.
+///
+/// ```
+/// use seryugo::{replay, End};
+///
+/// let replayed = replay(b"cml 1\nthread A\nA jump m\n", 10).unwrap();
+/// assert_eq!(replayed.end, End::Fault(3));
+/// ```
 #[derive(Clone, Copy, Debug, PartialEq, Eq)]
 pub enum End {
     /// Every step was performed.
@@ -20,16 +33,29 @@ pub enum End {
     NoMemory,
     /// The journal met its limit.
     Full,
+    /// The library ended by a status that this version of the crate doesn't know.
+    Unknown(u32),
 }
 
-/// A report, and how it came to its end. Of a script with a fault, and where there was no memory, it is empty.
+/// A report, and how the replay ended. If the script has a fault, or there was no memory, the report is empty.
+///
+/// ```
+/// let replayed = seryugo::replay(b"cml 1\nmailbox m\nthread A\nA send m 5\n", 10).unwrap();
+/// assert!(replayed.report.contains("A send m 5: done"));
+/// ```
 #[derive(Clone, Debug, PartialEq, Eq)]
 pub struct Replayed {
+    /// The report, as `cml replay` writes it.
     pub report: String,
+    /// How the replay ended.
     pub end: End,
 }
 
 /// The limit was 0, or more than [`MOST_ENTRIES`].
+///
+/// ```
+/// assert_eq!(seryugo::replay(b"cml 1\n", 0), Err(seryugo::BadLimit));
+/// ```
 #[derive(Clone, Copy, Debug, PartialEq, Eq)]
 pub struct BadLimit;
 
@@ -104,7 +130,7 @@ impl RawEnd {
             2 => End::Fault(self.line),
             5 => End::NoMemory,
             6 => End::Full,
-            status => mismatch(status),
+            status => End::Unknown(status),
         }
     }
 }

@@ -1,10 +1,14 @@
 //! A seat, from which one thread calls.
 
-use crate::error::Error;
-use crate::names::{Channel, IVar, MVar, Mailbox, Port, Source, Variable};
-use crate::raw::{self, done, told, written, Handle, Told};
+use crate::calls::received;
+use crate::error::{handing_back, Error, SendError};
+use crate::names::{Channel, IVar, MVar, Mailbox, Named, Port, Source, Variable};
+use crate::raw::{self, code, done, done_or, Handle};
+use crate::room::{Bytes, Carries, Room};
 use crate::sleeper::Sleeper;
 use crate::switchboard::Switchboard;
+use std::borrow::Borrow;
+use std::fmt;
 
 /// A seat at a switchboard, for one thread at a time. It leaves when it is dropped.
 ///
@@ -17,7 +21,7 @@ use crate::switchboard::Switchboard;
 /// # fn main() -> Result<(), Error> {
 /// let board = Switchboard::new(1_000)?;
 /// let mut seat = board.seat()?;
-/// let variable = seat.mvar()?;
+/// let variable = seat.mvar::<u64>()?;
 /// assert!(seat.put(variable, 3)?);
 /// assert!(!seat.put(variable, 4)?);
 /// assert_eq!(seat.take(variable)?, 3);
@@ -25,16 +29,16 @@ use crate::switchboard::Switchboard;
 /// # Ok(())
 /// # }
 /// ```
-pub struct Seat<'a> {
-    pub(crate) board: &'a Switchboard,
+pub struct Seat<'a, R: Room = Bytes> {
+    pub(crate) board: &'a Switchboard<R>,
     number: u64,
     pub(crate) sleeper: &'a Sleeper,
     /// Whether a future waits by it, or was forgotten while it waited.
     pub(crate) is_parked: bool,
 }
 
-impl<'a> Seat<'a> {
-    pub(crate) fn new(board: &'a Switchboard, number: u64, sleeper: &'a Sleeper) -> Seat<'a> {
+impl<'a, R: Room> Seat<'a, R> {
+    pub(crate) fn new(board: &'a Switchboard<R>, number: u64, sleeper: &'a Sleeper) -> Seat<'a, R> {
         Seat {
             board,
             number,
@@ -55,30 +59,36 @@ impl<'a> Seat<'a> {
         self.number
     }
 
-    /// Makes a mailbox.
+    /// Makes a mailbox of messages of a type.
     ///
     /// ```
     /// # let board = seryugo::Switchboard::new(1_000)?;
     /// # let mut seat = board.seat()?;
-    /// let mailbox = seat.mailbox()?;
-    /// assert_eq!(board.owed(mailbox)?, 0);
+    /// let (names, ages) = (seat.mailbox::<String>()?, seat.mailbox::<u8>()?);
+    /// assert_eq!((board.owed(names)?, board.owed(ages)?), (0, 0));
     /// # Ok::<(), seryugo::Error>(())
     /// ```
-    pub fn mailbox(&mut self) -> Result<Mailbox, Error> {
-        self.make(|room, seat, name| unsafe { raw::seryugo_new_mailbox(room, seat, name) }).map(Mailbox)
+    pub fn mailbox<T>(&mut self) -> Result<Mailbox<T>, Error>
+    where
+        R: Carries<T>,
+    {
+        self.make(|room, seat, name| unsafe { raw::seryugo_new_mailbox(room, seat, name) })
     }
 
-    /// Makes a channel.
+    /// Makes a channel of messages of a type.
     ///
     /// ```
     /// # let board = seryugo::Switchboard::new(1_000)?;
     /// # let mut seat = board.seat()?;
-    /// let channel = seat.channel()?;
+    /// let channel = seat.channel::<(String, u64)>()?;
     /// assert_eq!(board.sent(channel)?, 0);
     /// # Ok::<(), seryugo::Error>(())
     /// ```
-    pub fn channel(&mut self) -> Result<Channel, Error> {
-        self.make(|room, seat, name| unsafe { raw::seryugo_new_channel(room, seat, name) }).map(Channel)
+    pub fn channel<T>(&mut self) -> Result<Channel<T>, Error>
+    where
+        R: Carries<T>,
+    {
+        self.make(|room, seat, name| unsafe { raw::seryugo_new_channel(room, seat, name) })
     }
 
     /// Makes a port of a channel, which receives what is multicast from now on.
@@ -86,15 +96,16 @@ impl<'a> Seat<'a> {
     /// ```
     /// # let board = seryugo::Switchboard::new(1_000)?;
     /// # let mut seat = board.seat()?;
-    /// let channel = seat.channel()?;
+    /// let channel = seat.channel::<u64>()?;
     /// seat.multicast(channel, 1)?;
     /// let port = seat.port(channel)?;
     /// seat.multicast(channel, 2)?;
     /// assert_eq!(seat.recv(port)?, Some(2));
     /// # Ok::<(), seryugo::Error>(())
     /// ```
-    pub fn port(&mut self, channel: Channel) -> Result<Port, Error> {
-        self.make(|room, seat, name| unsafe { raw::seryugo_new_port(room, seat, channel.0, name) }).map(Port)
+    pub fn port<T>(&mut self, channel: Channel<T>) -> Result<Port<T>, Error> {
+        let channel = self.here(channel)?;
+        self.make(|room, seat, name| unsafe { raw::seryugo_new_port(room, seat, channel, name) })
     }
 
     /// Makes a port at this port's place. Returns `None` if this port was closed.
@@ -102,7 +113,7 @@ impl<'a> Seat<'a> {
     /// ```
     /// # let board = seryugo::Switchboard::new(1_000)?;
     /// # let mut seat = board.seat()?;
-    /// # let channel = seat.channel()?;
+    /// # let channel = seat.channel::<u64>()?;
     /// let port = seat.port(channel)?;
     /// seat.multicast(channel, 1)?;
     /// if let Some(copy) = seat.copy(port)? {
@@ -111,10 +122,12 @@ impl<'a> Seat<'a> {
     /// assert_eq!(seat.recv(port)?, Some(1));
     /// # Ok::<(), seryugo::Error>(())
     /// ```
-    pub fn copy(&mut self, port: Port) -> Result<Option<Port>, Error> {
-        let mut name = 0;
-        let told = self.call(|room, seat| unsafe { raw::seryugo_copy_port(room, seat, port.0, &mut name) })?;
-        Ok((told == Told::Done).then_some(Port(name)))
+    pub fn copy<T>(&mut self, port: Port<T>) -> Result<Option<Port<T>>, Error> {
+        let port = self.here(port)?;
+        let mut number = 0;
+        let code = self.call(|room, seat| unsafe { raw::seryugo_copy_port(room, seat, port, &mut number) });
+        let is_open = done_or(code, code::CLOSED)?;
+        Ok(is_open.then(|| self.board.name(number)))
     }
 
     /// Closes a port: whether it was open.
@@ -122,15 +135,17 @@ impl<'a> Seat<'a> {
     /// ```
     /// # let board = seryugo::Switchboard::new(1_000)?;
     /// # let mut seat = board.seat()?;
-    /// # let channel = seat.channel()?;
+    /// # let channel = seat.channel::<u64>()?;
     /// let port = seat.port(channel)?;
     /// assert!(seat.close(port)?);
     /// assert!(!seat.close(port)?);
     /// assert_eq!(seat.recv(port)?, None);
     /// # Ok::<(), seryugo::Error>(())
     /// ```
-    pub fn close(&mut self, port: Port) -> Result<bool, Error> {
-        Ok(self.call(|room, seat| unsafe { raw::seryugo_close_port(room, seat, port.0) })? == Told::Done)
+    pub fn close<T>(&mut self, port: Port<T>) -> Result<bool, Error> {
+        let port = self.here(port)?;
+        let code = self.call(|room, seat| unsafe { raw::seryugo_close_port(room, seat, port) });
+        done_or(code, code::CLOSED)
     }
 
     /// Makes an empty i-variable.
@@ -138,13 +153,16 @@ impl<'a> Seat<'a> {
     /// ```
     /// # let board = seryugo::Switchboard::new(1_000)?;
     /// # let mut seat = board.seat()?;
-    /// let variable = seat.ivar()?;
+    /// let variable = seat.ivar::<u64>()?;
     /// assert!(seat.put(variable, 5)?);
     /// assert!(!seat.put(variable, 6)?);
     /// # Ok::<(), seryugo::Error>(())
     /// ```
-    pub fn ivar(&mut self) -> Result<IVar, Error> {
-        self.make(|room, seat, name| unsafe { raw::seryugo_new_ivar(room, seat, name) }).map(IVar)
+    pub fn ivar<T>(&mut self) -> Result<IVar<T>, Error>
+    where
+        R: Carries<T>,
+    {
+        self.make(|room, seat, name| unsafe { raw::seryugo_new_ivar(room, seat, name) })
     }
 
     /// Makes an empty m-variable.
@@ -152,17 +170,22 @@ impl<'a> Seat<'a> {
     /// ```
     /// # let board = seryugo::Switchboard::new(1_000)?;
     /// # let mut seat = board.seat()?;
-    /// let variable = seat.mvar()?;
+    /// let variable = seat.mvar::<u64>()?;
     /// seat.put(variable, 5)?;
     /// assert_eq!(seat.take(variable)?, 5);
     /// assert!(seat.put(variable, 6)?);
     /// # Ok::<(), seryugo::Error>(())
     /// ```
-    pub fn mvar(&mut self) -> Result<MVar, Error> {
-        self.make(|room, seat, name| unsafe { raw::seryugo_new_mvar(room, seat, name) }).map(MVar)
+    pub fn mvar<T>(&mut self) -> Result<MVar<T>, Error>
+    where
+        R: Carries<T>,
+    {
+        self.make(|room, seat, name| unsafe { raw::seryugo_new_mvar(room, seat, name) })
     }
 
-    /// Makes an m-variable that holds this.
+    /// Makes an m-variable that holds this, of this type.
+    ///
+    /// Errors: [`SendError`] hands the message back.
     ///
     /// ```
     /// # let board = seryugo::Switchboard::new(1_000)?;
@@ -171,38 +194,65 @@ impl<'a> Seat<'a> {
     /// assert_eq!(seat.take(variable)?, 5);
     /// # Ok::<(), seryugo::Error>(())
     /// ```
-    pub fn mvar_init(&mut self, message: u64) -> Result<MVar, Error> {
-        self.make(|room, seat, name| unsafe { raw::seryugo_mvar_init(room, seat, message, name) }).map(MVar)
+    pub fn mvar_init<T>(&mut self, message: T) -> Result<MVar<T>, SendError<T>>
+    where
+        R: Carries<T>,
+    {
+        let made = R::with_sent(&message, |sent| self.make(|room, seat, name| R::mvar_init(room, seat, sent, name)));
+        handing_back(made, message)
     }
 
-    /// Sends a message to a mailbox.
+    /// Sends a message to a mailbox: the message, or a reference to it. It never blocks.
+    ///
+    /// Errors: [`SendError`] hands the message or the reference back. If a message has more than 2^32 - 1 bytes, the error is
+    /// `OutOfBounds`.
     ///
     /// ```
     /// # let board = seryugo::Switchboard::new(1_000)?;
     /// # let mut seat = board.seat()?;
-    /// let mailbox = seat.mailbox()?;
-    /// seat.send(mailbox, 5)?;
-    /// assert_eq!(seat.recv(mailbox)?, Some(5));
+    /// let mailbox = seat.mailbox::<String>()?;
+    /// let letter = "Dear Ben".to_string();
+    /// seat.send(mailbox, &letter)?;
+    /// seat.send(mailbox, letter)?;
+    /// assert_eq!(seat.recv(mailbox)?, "Dear Ben");
     /// # Ok::<(), seryugo::Error>(())
     /// ```
-    pub fn send(&mut self, mailbox: Mailbox, message: u64) -> Result<(), Error> {
-        self.call(|room, seat| unsafe { raw::seryugo_send(room, seat, mailbox.0, message) }).map(drop)
+    #[inline]
+    pub fn send<T, M: Borrow<T>>(&mut self, mailbox: Mailbox<T>, message: M) -> Result<(), SendError<M>>
+    where
+        R: Carries<T>,
+    {
+        let sent = self.here(mailbox).and_then(|mailbox| {
+            done(R::with_sent(message.borrow(), |sent| self.call(|room, seat| R::send(room, seat, mailbox, sent))))
+        });
+        handing_back(sent, message)
     }
 
-    /// Sends a message to every port of a channel.
+    /// Sends a message to every port of a channel. It never blocks.
+    ///
+    /// Errors: [`SendError`] hands the message back.
     ///
     /// ```
     /// # let board = seryugo::Switchboard::new(1_000)?;
     /// # let mut seat = board.seat()?;
-    /// let channel = seat.channel()?;
+    /// let channel = seat.channel::<u64>()?;
     /// let (one, other) = (seat.port(channel)?, seat.port(channel)?);
     /// seat.multicast(channel, 5)?;
     /// assert_eq!(seat.recv(one)?, Some(5));
     /// assert_eq!(seat.recv(other)?, Some(5));
     /// # Ok::<(), seryugo::Error>(())
     /// ```
-    pub fn multicast(&mut self, channel: Channel, message: u64) -> Result<(), Error> {
-        self.call(|room, seat| unsafe { raw::seryugo_multicast(room, seat, channel.0, message) }).map(drop)
+    #[inline]
+    pub fn multicast<T, M: Borrow<T>>(&mut self, channel: Channel<T>, message: M) -> Result<(), SendError<M>>
+    where
+        R: Carries<T>,
+    {
+        let sent = self.here(channel).and_then(|channel| {
+            done(R::with_sent(message.borrow(), |sent| {
+                self.call(|room, seat| R::multicast(room, seat, channel, sent))
+            }))
+        });
+        handing_back(sent, message)
     }
 
     /// Receives the next message of a mailbox or a port. Returns `None` if there is none, or if the port is closed.
@@ -210,32 +260,47 @@ impl<'a> Seat<'a> {
     /// ```
     /// # let board = seryugo::Switchboard::new(1_000)?;
     /// # let mut seat = board.seat()?;
-    /// let mailbox = seat.mailbox()?;
+    /// let mailbox = seat.mailbox::<u64>()?;
     /// assert_eq!(seat.recv_poll(mailbox)?, None);
     /// seat.send(mailbox, 5)?;
     /// assert_eq!(seat.recv_poll(mailbox)?, Some(5));
     /// # Ok::<(), seryugo::Error>(())
     /// ```
-    pub fn recv_poll(&mut self, source: impl Source) -> Result<Option<u64>, Error> {
-        let mut message = 0;
-        let told = self.call(|room, seat| unsafe { raw::seryugo_recv_poll(room, seat, source.number(), &mut message) })?;
-        Ok((told == Told::Done).then_some(message))
+    #[inline]
+    pub fn recv_poll<S: Source>(&mut self, source: S) -> Result<Option<S::Message>, Error>
+    where
+        R: Carries<S::Message>,
+    {
+        let source = self.here(source)?;
+        self.poll(|room, seat, slot| match R::recv_poll(room, seat, source, slot) {
+            code::CLOSED => code::NOTHING,
+            code => code,
+        })
     }
 
-    /// Fills an empty variable: whether it was empty.
+    /// Fills an empty variable: whether it was empty. It never blocks.
+    ///
+    /// Errors: [`SendError`] hands the message back.
     ///
     /// ```
     /// # let board = seryugo::Switchboard::new(1_000)?;
     /// # let mut seat = board.seat()?;
-    /// let variable = seat.mvar()?;
+    /// let variable = seat.mvar::<u64>()?;
     /// assert!(seat.put(variable, 5)?);
     /// assert!(!seat.put(variable, 6)?);
     /// assert_eq!(seat.get(variable)?, 5);
     /// # Ok::<(), seryugo::Error>(())
     /// ```
-    pub fn put(&mut self, variable: impl Variable, message: u64) -> Result<bool, Error> {
-        let told = self.call(|room, seat| unsafe { raw::seryugo_put(room, seat, variable.number(), message) })?;
-        Ok(told == Told::Done)
+    #[inline]
+    pub fn put<V: Variable, M: Borrow<V::Message>>(&mut self, variable: V, message: M) -> Result<bool, SendError<M>>
+    where
+        R: Carries<V::Message>,
+    {
+        let put = self.here(variable).and_then(|variable| {
+            let code = R::with_sent(message.borrow(), |sent| self.call(|room, seat| R::put(room, seat, variable, sent)));
+            done_or(code, code::PUT)
+        });
+        handing_back(put, message)
     }
 
     /// Reads a variable, which keeps what it holds. Returns `None` if it is empty.
@@ -243,16 +308,19 @@ impl<'a> Seat<'a> {
     /// ```
     /// # let board = seryugo::Switchboard::new(1_000)?;
     /// # let mut seat = board.seat()?;
-    /// let variable = seat.ivar()?;
+    /// let variable = seat.ivar::<u64>()?;
     /// assert_eq!(seat.get_poll(variable)?, None);
     /// seat.put(variable, 5)?;
     /// assert_eq!(seat.get_poll(variable)?, Some(5));
     /// # Ok::<(), seryugo::Error>(())
     /// ```
-    pub fn get_poll(&mut self, variable: impl Variable) -> Result<Option<u64>, Error> {
-        let mut message = 0;
-        let told = self.call(|room, seat| unsafe { raw::seryugo_get_poll(room, seat, variable.number(), &mut message) })?;
-        Ok((told == Told::Done).then_some(message))
+    #[inline]
+    pub fn get_poll<V: Variable>(&mut self, variable: V) -> Result<Option<V::Message>, Error>
+    where
+        R: Carries<V::Message>,
+    {
+        let variable = self.here(variable)?;
+        self.poll(|room, seat, slot| R::get_poll(room, seat, variable, slot))
     }
 
     /// Reads and empties an m-variable. Returns `None` if it is empty.
@@ -265,20 +333,44 @@ impl<'a> Seat<'a> {
     /// assert_eq!(seat.take_poll(variable)?, None);
     /// # Ok::<(), seryugo::Error>(())
     /// ```
-    pub fn take_poll(&mut self, variable: MVar) -> Result<Option<u64>, Error> {
-        let mut message = 0;
-        let told = self.call(|room, seat| unsafe { raw::seryugo_take_poll(room, seat, variable.0, &mut message) })?;
-        Ok((told == Told::Done).then_some(message))
+    #[inline]
+    pub fn take_poll<T>(&mut self, variable: MVar<T>) -> Result<Option<T>, Error>
+    where
+        R: Carries<T>,
+    {
+        let variable = self.here(variable)?;
+        self.poll(|room, seat, slot| R::take_poll(room, seat, variable, slot))
     }
 
-    fn make(&mut self, call: impl FnOnce(&mut Handle, u64, *mut u64) -> u32) -> Result<u64, Error> {
-        let seat = self.ready();
-        self.board.change_by(self.sleeper, |room| written(|name| call(room, seat, name)))
+    /// The number of an object of this switchboard.
+    #[inline]
+    pub(crate) fn here(&self, object: impl Named) -> Result<u64, Error> {
+        self.board.here(object)
     }
 
-    fn call(&mut self, call: impl FnOnce(&mut Handle, u64) -> u32) -> Result<Told, Error> {
+    fn make<N: Named>(&mut self, call: impl FnOnce(&mut Handle, u64, &mut u64) -> u32) -> Result<N, Error> {
+        let mut number = 0;
+        done(self.call(|room, seat| call(room, seat, &mut number)))?;
+        Ok(self.board.name(number))
+    }
+
+    /// Makes a call that may find a message.
+    #[inline]
+    fn poll<T>(&mut self, call: impl FnOnce(&mut Handle, u64, &mut R::Slot) -> u32) -> Result<Option<T>, Error>
+    where
+        R: Carries<T>,
+    {
+        let mut slot = R::slot();
+        match self.call(|room, seat| call(room, seat, &mut slot)) {
+            code::NOTHING => Ok(None),
+            code => received::<R, T>(code, &mut slot).map(Some),
+        }
+    }
+
+    #[inline]
+    fn call(&mut self, call: impl FnOnce(&mut Handle, u64) -> u32) -> u32 {
         let seat = self.ready();
-        self.board.change_by(self.sleeper, |room| told(call(room, seat)))
+        self.board.change_by(self.sleeper, |room| call(room, seat))
     }
 
     /// The seat's number, once it may call: a future that was forgotten left it waiting.
@@ -299,10 +391,16 @@ impl<'a> Seat<'a> {
     }
 }
 
-impl Drop for Seat<'_> {
+impl<R: Room> Drop for Seat<'_, R> {
     fn drop(&mut self) {
         let seat = self.ready();
-        let left = self.board.change(|room| done(unsafe { raw::seryugo_leave(room, seat) }));
-        debug_assert_eq!(left, Ok(()));
+        // The seat isn't parked, so that it may leave.
+        self.board.change(|room| unsafe { raw::seryugo_leave(room, seat) });
+    }
+}
+
+impl<R: Room> fmt::Debug for Seat<'_, R> {
+    fn fmt(&self, f: &mut fmt::Formatter<'_>) -> fmt::Result {
+        f.debug_struct("Seat").field("number", &self.number).finish_non_exhaustive()
     }
 }

@@ -21,6 +21,17 @@ const WOKEN: u8 = 1;
 const ASLEEP: u8 = 2;
 const LISTENS: u8 = 3;
 
+/// What a wake has met.
+#[derive(Clone, Copy, PartialEq)]
+pub(crate) enum Woken {
+    /// A thread that slept.
+    Thread,
+    /// The task of a future. It is polled some time.
+    Task,
+    /// Neither: the seat is about to wait, and sees the wake then.
+    Awake,
+}
+
 /// The number of no seat.
 const NOBODY: u64 = u64::MAX;
 
@@ -146,30 +157,30 @@ impl Sleeper {
         let _ = self.state.compare_exchange(AWAKE, ASLEEP, Ordering::AcqRel, Ordering::Acquire);
     }
 
-    /// Wakes the thread or the future, or has its next wait end at once, for a call of that seat or of none. Whether a thread slept.
-    pub fn wake(&self, by: Option<&Sleeper>) -> bool {
+    /// Wakes the thread or the future, or has its next wait end at once, for a call of that seat or of none.
+    pub fn wake(&self, by: Option<&Sleeper>) -> Woken {
         self.woken_by.store(by.map_or(NOBODY, |by| by.number), Ordering::Relaxed);
         match self.state.swap(WOKEN, Ordering::AcqRel) {
             ASLEEP => {
                 // The thread that has fallen asleep gives the lock back as it waits for the notice.
                 drop(self.waker());
                 self.woken.notify_one();
-                true
+                Woken::Thread
             }
             LISTENS => {
                 // A waker may run anything, so that the lock isn't held.
                 let waker = self.waker().take();
                 waker.into_iter().for_each(Waker::wake);
-                false
+                Woken::Task
             }
-            _ => false,
+            _ => Woken::Awake,
         }
     }
 
-    /// The seat's call has just woken another seat, which slept or not. If that one slept, or had woken this one, it may answer
+    /// The seat's call has just woken another seat. If a thread slept there, or that seat had woken this one, it may answer
     /// soon: so in its next wait this seat's thread may look for longer.
-    pub fn note_woken(&self, other: &Sleeper, slept: bool) {
-        if slept || self.woken_by.load(Ordering::Relaxed) == other.number {
+    pub fn note_woken(&self, other: &Sleeper, woken: Woken) {
+        if woken == Woken::Thread || self.woken_by.load(Ordering::Relaxed) == other.number {
             self.is_answer_near.store(true, Ordering::Relaxed);
         }
     }

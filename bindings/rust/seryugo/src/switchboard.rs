@@ -1,16 +1,21 @@
 //! A room under a lock, on which threads call and wait.
 
-use crate::entry::Entry;
+use crate::entry::{found, Entry};
 use crate::error::Error;
 use crate::feed::Feed;
 use crate::journal::Journal;
 use crate::lane::Lane;
-use crate::names::{Channel, Target};
-use crate::raw::{self, done, sure, told, written, Handle, RawEntry, Told};
+use crate::names::{Channel, Name, Named, Target};
+use crate::raw::{self, code, done, written, Handle};
+use crate::room::{Bytes, Carries, Numbers, Room};
 use crate::seat::Seat;
-use crate::sleeper::Sleeper;
+use crate::sleeper::{Sleeper, Woken};
 use crate::sleepers::Sleepers;
+use crate::version;
 use std::collections::BTreeMap;
+use std::fmt;
+use std::marker::PhantomData;
+use std::sync::atomic::{AtomicU64, Ordering};
 use std::sync::{Mutex, MutexGuard, PoisonError};
 
 /// Objects, the journal of every call that was accepted, and the seats from which threads call.
@@ -22,28 +27,34 @@ use std::sync::{Mutex, MutexGuard, PoisonError};
 /// let board = Switchboard::new(1_000)?;
 /// let mut seat = board.seat()?;
 /// let mut other = board.seat()?;
-/// let mailbox = seat.mailbox()?;
+/// let mailbox = seat.mailbox::<u64>()?;
 /// let received = std::thread::scope(|scope| {
 ///     let receiver = scope.spawn(move || other.recv(mailbox));
 ///     seat.send(mailbox, 5)?;
 ///     receiver.join().unwrap()
 /// })?;
-/// assert_eq!(received, Some(5));
+/// assert_eq!(received, 5);
 /// assert_eq!(board.owed(mailbox)?, 0);
 /// # Ok(())
 /// # }
 /// ```
-pub struct Switchboard {
-    room: Apart<Mutex<Room>>,
+pub struct Switchboard<R: Room = Bytes> {
+    inside: Apart<Mutex<Inside>>,
     sleepers: Sleepers,
+    /// No other switchboard of the process has it. The names of the objects have it too.
+    number: u64,
+    kind: PhantomData<fn() -> R>,
 }
+
+/// How many switchboards were made.
+static MADE: AtomicU64 = AtomicU64::new(0);
 
 /// Lines of memory for the lock alone: threads that wake others read what lies beside it.
 #[repr(align(128))]
 struct Apart<T>(T);
 
 /// What the lock guards.
-struct Room {
+struct Inside {
     handle: Handle,
     /// The number of the first seat that was made here. Those of a journal from which the switchboard goes on have lesser ones.
     first_seat: u64,
@@ -55,19 +66,20 @@ struct Room {
     lost: u64,
 }
 
-impl Room {
+impl Inside {
     /// The place of the next seat that is due among those that were made here. Each seat that is due is given once.
     #[inline]
     fn next_due(&mut self) -> Option<u64> {
         let mut seat = 0;
         let code = unsafe { raw::seryugo_next_due(&mut self.handle, &mut seat) };
-        (told(code) == Ok(Told::Done)).then(|| seat - self.first_seat)
+        (code == code::DONE).then(|| seat.wrapping_sub(self.first_seat))
     }
 
     /// Moves what is seen of an open lane into the journal, up to the first message that is refused.
     fn drain(&mut self, lane: u64) -> Result<u64, Error> {
         let count = written(|count| unsafe { raw::seryugo_lane_drain(&mut self.handle, lane, count) })?;
-        *self.moved.entry(lane).or_default() += count;
+        let moved = self.moved.entry(lane).or_default();
+        *moved = moved.saturating_add(count);
         Ok(count)
     }
 
@@ -91,13 +103,15 @@ impl Room {
         let _ = self.drain_all(lane);
         unsafe { raw::seryugo_lane_abandon(&mut self.handle, lane) };
         let lost = sent.saturating_sub(self.moved.remove(&lane).unwrap_or_default());
-        self.lost += lost;
+        self.lost = self.lost.saturating_add(lost);
         lost
     }
 }
 
 impl Switchboard {
-    /// A switchboard with no objects, whose journal takes `limit` entries between two cuts, from 1 to 2^32.
+    /// A switchboard of bytes with no objects, whose journal takes `limit` entries between two cuts, from 1 to 2^32.
+    ///
+    /// Errors: `OutOfBounds`, `NoMemory`, and `Version` if the linked library isn't of this crate's version.
     ///
     /// ```
     /// use seryugo::{Error, Switchboard};
@@ -108,12 +122,35 @@ impl Switchboard {
     /// # Ok::<(), seryugo::Error>(())
     /// ```
     pub fn new(limit: u64) -> Result<Switchboard, Error> {
-        Handle::opened(|room| unsafe { raw::seryugo_room_open(limit, room) }).map(Switchboard::over)
+        Switchboard::open(limit)
+    }
+}
+
+impl Switchboard<Numbers> {
+    /// A switchboard of numbers, with no objects. See [`new`](Switchboard::new).
+    ///
+    /// ```
+    /// let board = seryugo::Switchboard::of_numbers(1_000)?;
+    /// let mut seat = board.seat()?;
+    /// let mailbox = seat.mailbox::<u64>()?;
+    /// seat.send(mailbox, 5)?;
+    /// assert_eq!(seat.recv(mailbox)?, 5);
+    /// # Ok::<(), seryugo::Error>(())
+    /// ```
+    pub fn of_numbers(limit: u64) -> Result<Switchboard<Numbers>, Error> {
+        Switchboard::open(limit)
+    }
+}
+
+impl<R: Room> Switchboard<R> {
+    fn open(limit: u64) -> Result<Switchboard<R>, Error> {
+        version::check()?;
+        Handle::opened(|room| R::open(limit, room)).map(Switchboard::over)
     }
 
     /// A switchboard over a room in which no seat was made yet.
-    pub(crate) fn over(handle: Handle) -> Switchboard {
-        let room = Room {
+    pub(crate) fn over(handle: Handle) -> Switchboard<R> {
+        let inside = Inside {
             handle,
             first_seat: 0,
             seats: 0,
@@ -121,9 +158,30 @@ impl Switchboard {
             lost: 0,
         };
         Switchboard {
-            room: Apart(Mutex::new(room)),
+            inside: Apart(Mutex::new(inside)),
             sleepers: Sleepers::new(),
+            number: MADE.fetch_add(1, Ordering::Relaxed),
+            kind: PhantomData,
         }
+    }
+
+    /// The number of an object, if this switchboard has it.
+    #[inline]
+    pub(crate) fn here(&self, object: impl Named) -> Result<u64, Error> {
+        let name = object.name();
+        if name.board == self.number {
+            Ok(name.number)
+        } else {
+            Err(Error::NoSuch)
+        }
+    }
+
+    /// The name of the object with this number.
+    pub(crate) fn name<N: Named>(&self, number: u64) -> N {
+        N::of(Name {
+            board: self.number,
+            number,
+        })
     }
 
     /// A new seat. Make all seats before the first thread waits: while one is free no call fails with `Stalled`.
@@ -131,20 +189,19 @@ impl Switchboard {
     /// ```
     /// # let board = seryugo::Switchboard::new(1_000)?;
     /// let (mut ann, mut ben) = (board.seat()?, board.seat()?);
-    /// let mailbox = ben.mailbox()?;
+    /// let mailbox = ben.mailbox::<u64>()?;
     /// ann.send(mailbox, 5)?;
-    /// assert_eq!(ben.recv(mailbox)?, Some(5));
+    /// assert_eq!(ben.recv(mailbox)?, 5);
     /// # Ok::<(), seryugo::Error>(())
     /// ```
-    pub fn seat(&self) -> Result<Seat<'_>, Error> {
-        let mut room = self.lock();
-        let sleeper = self.sleepers.make(room.seats).ok_or(Error::NoMemory)?;
-        let number = written(|seat| unsafe { raw::seryugo_new_seat(&mut room.handle, seat) })?;
-        if room.seats == 0 {
-            room.first_seat = number;
+    pub fn seat(&self) -> Result<Seat<'_, R>, Error> {
+        let mut inside = self.lock();
+        let sleeper = self.sleepers.make(inside.seats).ok_or(Error::NoMemory)?;
+        let number = written(|seat| unsafe { raw::seryugo_new_seat(&mut inside.handle, seat) })?;
+        if inside.seats == 0 {
+            inside.first_seat = number;
         }
-        debug_assert_eq!(number, room.first_seat + room.seats);
-        room.seats += 1;
+        inside.seats += 1;
         Ok(Seat::new(self, number, sleeper))
     }
 
@@ -153,20 +210,24 @@ impl Switchboard {
     /// ```
     /// # let board = seryugo::Switchboard::new(1_000)?;
     /// # let mut seat = board.seat()?;
-    /// let mailbox = seat.mailbox()?;
+    /// let mailbox = seat.mailbox::<u64>()?;
     /// let mut lane = board.lane(mailbox, 8)?;
     /// lane.send(5).unwrap();
     /// lane.close()?;
-    /// assert_eq!(seat.recv(mailbox)?, Some(5));
+    /// assert_eq!(seat.recv(mailbox)?, 5);
     /// # Ok::<(), seryugo::Error>(())
     /// ```
-    pub fn lane(&self, target: impl Target, capacity: usize) -> Result<Lane<'_>, Error> {
+    pub fn lane<G: Target>(&self, target: G, capacity: usize) -> Result<Lane<'_, R, G::Message>, Error>
+    where
+        R: Carries<G::Message>,
+    {
+        let target = self.here(target)?;
         let mut number = 0;
-        let mut room = self.lock();
+        let mut inside = self.lock();
         let handle = Handle::opened(|lane| unsafe {
-            raw::seryugo_lane_open(&mut room.handle, target.number(), capacity, lane, &mut number)
+            raw::seryugo_lane_open(&mut inside.handle, target, capacity, lane, &mut number)
         })?;
-        room.moved.insert(number, 0);
+        inside.moved.insert(number, 0);
         Ok(Lane::new(self, handle, number))
     }
 
@@ -175,24 +236,24 @@ impl Switchboard {
     /// ```
     /// # let board = seryugo::Switchboard::new(1_000)?;
     /// # let mut seat = board.seat()?;
-    /// let mailbox = seat.mailbox()?;
+    /// let mailbox = seat.mailbox::<u64>()?;
     /// let mut lane = board.lane(mailbox, 8)?;
     /// lane.send(5).unwrap();
     /// assert_eq!(board.drain(lane.number())?, 1);
     /// # Ok::<(), seryugo::Error>(())
     /// ```
     pub fn drain(&self, lane: u64) -> Result<u64, Error> {
-        self.change_room(|room| room.drain(lane))
+        self.change_inside(|inside| inside.drain(lane))
     }
 
     /// Closes a lane that has ended, once all of its messages have moved.
     pub(crate) fn close_lane(&self, number: u64, lane: &mut Handle) -> Result<(), Error> {
-        self.change_room(|room| room.close_lane(number, lane))
+        self.change_inside(|inside| inside.close_lane(number, lane))
     }
 
     /// Closes a lane on which so many messages were sent: how many are lost.
     pub(crate) fn end_lane(&self, number: u64, sent: u64) -> u64 {
-        self.change_room(|room| room.end_lane(number, sent))
+        self.change_inside(|inside| inside.end_lane(number, sent))
     }
 
     /// How many messages were lost: those of lanes that were dropped or abandoned while the journal had no room for them, or the
@@ -200,7 +261,7 @@ impl Switchboard {
     ///
     /// ```
     /// # let board = seryugo::Switchboard::new(1)?;
-    /// let mailbox = board.seat()?.mailbox()?;
+    /// let mailbox = board.seat()?.mailbox::<u64>()?;
     /// let mut lane = board.lane(mailbox, 8)?;
     /// lane.send(5).unwrap();
     /// drop(lane);
@@ -216,19 +277,24 @@ impl Switchboard {
     /// ```
     /// # let board = seryugo::Switchboard::new(1_000)?;
     /// # let mut seat = board.seat()?;
-    /// let channel = seat.channel()?;
+    /// let channel = seat.channel::<u64>()?;
     /// let mut feed = board.feed(channel, 8)?;
     /// seat.multicast(channel, 5)?;
     /// feed.pump()?;
-    /// assert_eq!(feed.recv(), Some(5));
+    /// assert_eq!(feed.recv()?, Some(5));
     /// # Ok::<(), seryugo::Error>(())
     /// ```
-    pub fn feed(&self, channel: Channel, capacity: usize) -> Result<Feed<'_>, Error> {
+    pub fn feed<T>(&self, channel: Channel<T>, capacity: usize) -> Result<Feed<'_, R, T>, Error>
+    where
+        R: Carries<T>,
+    {
+        let channel = self.here(channel)?;
         let mut number = 0;
-        let handle = self.change(|room| {
-            Handle::opened(|feed| unsafe { raw::seryugo_feed_open(room, channel.0, capacity, feed, &mut number) })
+        let mut handle = self.change(|room| {
+            Handle::opened(|feed| unsafe { raw::seryugo_feed_open(room, channel, capacity, feed, &mut number) })
         })?;
-        Ok(Feed::new(self, handle, number))
+        let port = written(|port| unsafe { raw::seryugo_feed_port(&mut handle, port) })?;
+        Ok(Feed::new(self, handle, number, self.name(port)))
     }
 
     /// Takes memory for so many more entries.
@@ -248,10 +314,11 @@ impl Switchboard {
     /// ```
     /// # let board = seryugo::Switchboard::new(1)?;
     /// # let mut seat = board.seat()?;
-    /// let mailbox = seat.mailbox()?;
-    /// assert_eq!(seat.send(mailbox, 5), Err(seryugo::Error::JournalFull));
+    /// let mailbox = seat.mailbox::<u64>()?;
+    /// let refused = seat.send(mailbox, 5).unwrap_err();
+    /// assert_eq!(refused.error, seryugo::Error::JournalFull);
     /// board.cut()?;
-    /// assert_eq!(seat.send(mailbox, 5), Ok(()));
+    /// seat.send(mailbox, refused.message)?;
     /// # Ok::<(), seryugo::Error>(())
     /// ```
     pub fn cut(&self) -> Result<(), Error> {
@@ -263,38 +330,37 @@ impl Switchboard {
     /// ```
     /// # let board = seryugo::Switchboard::new(1_000)?;
     /// # let mut seat = board.seat()?;
-    /// seat.mailbox()?;
+    /// seat.mailbox::<u64>()?;
     /// let journal = board.take_journal()?;
     /// assert_eq!(journal.len(), 1);
     /// assert_eq!(board.entry(0), None);
     /// # Ok::<(), seryugo::Error>(())
     /// ```
-    pub fn take_journal(&self) -> Result<Journal, Error> {
-        let mut room = self.lock();
-        let first = written(|count| unsafe { raw::seryugo_cut_at(&mut room.handle, count) })?;
+    pub fn take_journal(&self) -> Result<Journal<R>, Error> {
+        let mut inside = self.lock();
+        let first = written(|count| unsafe { raw::seryugo_cut_at(&mut inside.handle, count) })?;
         let mut count = 0;
-        let handle = Handle::opened(|journal| unsafe { raw::seryugo_take_journal(&mut room.handle, journal, &mut count) })?;
+        let handle =
+            Handle::opened(|journal| unsafe { raw::seryugo_take_journal(&mut inside.handle, journal, &mut count) })?;
         Ok(Journal::new(handle, first, count as usize))
     }
 
-    /// The journal's entry at this position, counted from 0 since the switchboard was made.
+    /// The journal's entry at this position, counted from 0 since the switchboard was made. It has copies of the messages. If there
+    /// is no memory for them, the program aborts, as if a `Vec` found none.
     ///
     /// ```
     /// # let board = seryugo::Switchboard::new(1_000)?;
     /// # let mut seat = board.seat()?;
     /// use seryugo::Call;
     ///
-    /// let mailbox = seat.mailbox()?;
-    /// seat.send(mailbox, 5)?;
-    /// assert_eq!(board.entry(1).map(|entry| entry.call), Some(Call::Send(0, 5)));
+    /// let mailbox = seat.mailbox::<String>()?;
+    /// seat.send(mailbox, "hello".to_string())?;
+    /// assert_eq!(board.entry(1).map(|entry| entry.call), Some(Call::Send(0, b"hello".to_vec())));
     /// assert_eq!(board.entry(2), None);
     /// # Ok::<(), seryugo::Error>(())
     /// ```
-    pub fn entry(&self, at: u64) -> Option<Entry> {
-        let mut entry = RawEntry::default();
-        let code = unsafe { raw::seryugo_entry(&mut self.lock().handle, at, &mut entry) };
-        done(code).ok()?;
-        Some(Entry::of(&entry))
+    pub fn entry(&self, at: u64) -> Option<Entry<R>> {
+        found(R::entry(&mut self.lock().handle, at))
     }
 
     /// How many calls were accepted since the switchboard was made.
@@ -302,7 +368,7 @@ impl Switchboard {
     /// ```
     /// # let board = seryugo::Switchboard::new(1_000)?;
     /// # let mut seat = board.seat()?;
-    /// seat.mailbox()?;
+    /// seat.mailbox::<u64>()?;
     /// board.cut()?;
     /// assert_eq!(board.entries(), 1);
     /// # Ok::<(), seryugo::Error>(())
@@ -316,7 +382,7 @@ impl Switchboard {
     /// ```
     /// # let board = seryugo::Switchboard::new(1_000)?;
     /// # let mut seat = board.seat()?;
-    /// seat.mailbox()?;
+    /// seat.mailbox::<u64>()?;
     /// assert_eq!(board.cut_at(), 0);
     /// board.cut()?;
     /// assert_eq!(board.cut_at(), 1);
@@ -332,33 +398,32 @@ impl Switchboard {
     }
 
     /// The same of a call that writes a number.
-    pub(crate) fn read(&self, call: impl FnOnce(&mut Handle, *mut u64) -> u32) -> Result<u64, Error> {
+    pub(crate) fn read(&self, call: impl FnOnce(&mut Handle, &mut u64) -> u32) -> Result<u64, Error> {
         self.with_handle(|room| written(|number| call(room, number)))
     }
 
-    /// A number that the library always has.
-    fn count(&self, call: impl FnOnce(&mut Handle, *mut u64) -> u32) -> u64 {
-        sure(self.read(call))
+    /// The number that a call writes which no library refuses.
+    fn count(&self, call: impl FnOnce(&mut Handle, &mut u64) -> u32) -> u64 {
+        self.read(call).unwrap_or_default()
     }
 
     /// The room. A thread that panicked left it between two calls, where it is whole.
     #[inline]
-    fn lock(&self) -> MutexGuard<'_, Room> {
-        self.room.0.lock().unwrap_or_else(PoisonError::into_inner)
+    fn lock(&self) -> MutexGuard<'_, Inside> {
+        self.inside.0.lock().unwrap_or_else(PoisonError::into_inner)
     }
 
-    /// Makes a call under the lock, unlocks the room, and then wakes the next seat that is due. That one makes a call too, which
-    /// wakes the one after.
+    /// Makes a call under the lock, unlocks the room, and then wakes the next seat that is due.
     #[inline]
     pub(crate) fn change<T>(&self, call: impl FnOnce(&mut Handle) -> T) -> T {
-        self.change_room(|room| call(&mut room.handle))
+        self.change_inside(|inside| call(&mut inside.handle))
     }
 
     #[inline]
-    fn change_room<T>(&self, call: impl FnOnce(&mut Room) -> T) -> T {
+    fn change_inside<T>(&self, call: impl FnOnce(&mut Inside) -> T) -> T {
         let (answer, due) = self.make(call);
         if let Some(due) = due {
-            due.wake(None);
+            self.wake(due, None);
         }
         answer
     }
@@ -366,21 +431,44 @@ impl Switchboard {
     /// The same for a seat, which waits next, maybe for what the woken one does.
     #[inline]
     pub(crate) fn change_by<T>(&self, sleeper: &Sleeper, call: impl FnOnce(&mut Handle) -> T) -> T {
-        let (answer, due) = self.make(|room| call(&mut room.handle));
+        let (answer, due) = self.make(|inside| call(&mut inside.handle));
         if let Some(due) = due {
-            let slept = due.wake(Some(sleeper));
-            sleeper.note_woken(due, slept);
+            self.wake(due, Some(sleeper));
         }
         answer
     }
 
+    /// Wakes a seat that is due, for a call of that seat or of none. A thread that is woken makes a call, which wakes the seat after.
+    /// A task may be polled late. So behind a task this wakes the next seat too, up to the first thread.
+    fn wake(&self, due: &Sleeper, by: Option<&Sleeper>) {
+        let mut next = Some(due);
+        while let Some(due) = next {
+            let woken = due.wake(by);
+            if let Some(by) = by {
+                by.note_woken(due, woken);
+            }
+            next = (woken == Woken::Task).then(|| self.next_due()).flatten();
+        }
+    }
+
+    fn next_due(&self) -> Option<&Sleeper> {
+        let due = self.lock().next_due();
+        due.and_then(|place| self.sleepers.get(place))
+    }
+
     /// Makes a call under the lock. The next seat that is due comes with the answer.
     #[inline]
-    fn make<T>(&self, call: impl FnOnce(&mut Room) -> T) -> (T, Option<&Sleeper>) {
-        let mut room = self.lock();
-        let answer = call(&mut room);
-        let due = room.next_due();
-        drop(room);
+    fn make<T>(&self, call: impl FnOnce(&mut Inside) -> T) -> (T, Option<&Sleeper>) {
+        let mut inside = self.lock();
+        let answer = call(&mut inside);
+        let due = inside.next_due();
+        drop(inside);
         (answer, due.and_then(|place| self.sleepers.get(place)))
+    }
+}
+
+impl<R: Room> fmt::Debug for Switchboard<R> {
+    fn fmt(&self, f: &mut fmt::Formatter<'_>) -> fmt::Result {
+        f.debug_struct("Switchboard").field("number", &self.number).finish_non_exhaustive()
     }
 }

@@ -1,9 +1,11 @@
 //! The calls of a seat that wait: until they are answered, up to a time limit, or as futures.
 
-use crate::error::Error;
+use crate::error::{handing_back, Error, SendError};
 use crate::names::{MVar, Source, Variable};
+use crate::room::{Carries, Room};
 use crate::seat::Seat;
 use crate::want::{held, received, Want};
+use std::borrow::Borrow;
 use std::time::{Duration, Instant};
 
 /// # Calls that wait
@@ -14,19 +16,33 @@ use std::time::{Duration, Instant};
 ///
 /// A call that fails and a future that is dropped have done nothing. If the seat was about to be answered, the next seat that waits
 /// for the same goes on in its place.
-impl Seat<'_> {
-    /// Receives the next message of a mailbox or a port. Blocks while there is none. Returns `None` if the port is closed.
+impl<R: Room> Seat<'_, R> {
+    /// Receives the next message of a mailbox or a port. Blocks while there is none. A mailbox gives the message. A port gives `Some`
+    /// message, or `None` once it is closed.
+    ///
+    /// Errors: `Unreadable` if the message was received, and can't be read as this type.
     ///
     /// ```
     /// # let board = seryugo::Switchboard::new(1_000)?;
     /// let mut seat = board.seat()?;
-    /// let mailbox = seat.mailbox()?;
-    /// seat.send(mailbox, 5)?;
-    /// assert_eq!(seat.recv(mailbox)?, Some(5));
+    /// let mailbox = seat.mailbox::<String>()?;
+    /// seat.send(mailbox, "hello".to_string())?;
+    /// assert_eq!(seat.recv(mailbox)?, "hello");
+    /// let channel = seat.channel::<u64>()?;
+    /// let port = seat.port(channel)?;
+    /// seat.multicast(channel, 5)?;
+    /// assert_eq!(seat.recv(port)?, Some(5));
+    /// seat.close(port)?;
+    /// assert_eq!(seat.recv(port)?, None);
     /// # Ok::<(), seryugo::Error>(())
     /// ```
-    pub fn recv(&mut self, source: impl Source) -> Result<Option<u64>, Error> {
-        received(self.wait(Want::Recv(source.number())))
+    #[inline]
+    pub fn recv<S: Source>(&mut self, source: S) -> Result<S::Received, Error>
+    where
+        R: Carries<S::Message>,
+    {
+        let source = self.here(source)?;
+        received::<R, S>(self.wait(Want::Recv(source)))
     }
 
     /// The same, but it blocks no longer than this.
@@ -37,14 +53,18 @@ impl Seat<'_> {
     ///
     /// # let board = seryugo::Switchboard::new(1_000)?;
     /// let (mut seat, _other) = (board.seat()?, board.seat()?);
-    /// let mailbox = seat.mailbox()?;
+    /// let mailbox = seat.mailbox::<u64>()?;
     /// assert_eq!(seat.recv_timeout(mailbox, Duration::from_millis(1)), Err(Error::TimedOut));
     /// seat.send(mailbox, 5)?;
-    /// assert_eq!(seat.recv_timeout(mailbox, Duration::from_millis(1)), Ok(Some(5)));
+    /// assert_eq!(seat.recv_timeout(mailbox, Duration::from_millis(1)), Ok(5));
     /// # Ok::<(), seryugo::Error>(())
     /// ```
-    pub fn recv_timeout(&mut self, source: impl Source, timeout: Duration) -> Result<Option<u64>, Error> {
-        received(self.wait_for(Want::Recv(source.number()), timeout))
+    pub fn recv_timeout<S: Source>(&mut self, source: S, timeout: Duration) -> Result<S::Received, Error>
+    where
+        R: Carries<S::Message>,
+    {
+        let source = self.here(source)?;
+        received::<R, S>(self.wait_for(Want::Recv(source), timeout))
     }
 
     /// The same, but it blocks until then at the latest.
@@ -55,13 +75,17 @@ impl Seat<'_> {
     ///
     /// # let board = seryugo::Switchboard::new(1_000)?;
     /// let (mut seat, _other) = (board.seat()?, board.seat()?);
-    /// let mailbox = seat.mailbox()?;
+    /// let mailbox = seat.mailbox::<u64>()?;
     /// let deadline = Instant::now() + Duration::from_millis(1);
     /// assert_eq!(seat.recv_deadline(mailbox, deadline), Err(Error::TimedOut));
     /// # Ok::<(), seryugo::Error>(())
     /// ```
-    pub fn recv_deadline(&mut self, source: impl Source, deadline: Instant) -> Result<Option<u64>, Error> {
-        received(self.wait_until(Want::Recv(source.number()), deadline))
+    pub fn recv_deadline<S: Source>(&mut self, source: S, deadline: Instant) -> Result<S::Received, Error>
+    where
+        R: Carries<S::Message>,
+    {
+        let source = self.here(source)?;
+        received::<R, S>(self.wait_until(Want::Recv(source), deadline))
     }
 
     /// The same as a future.
@@ -70,16 +94,20 @@ impl Seat<'_> {
     /// # use std::{future::Future, pin::pin, task::{Context, Poll, Waker}};
     /// # let board = seryugo::Switchboard::new(1_000)?;
     /// let (mut seat, mut other) = (board.seat()?, board.seat()?);
-    /// let mailbox = seat.mailbox()?;
+    /// let mailbox = seat.mailbox::<u64>()?;
     /// let mut received = pin!(seat.recv_async(mailbox));
     /// let mut context = Context::from_waker(Waker::noop());
     /// assert_eq!(received.as_mut().poll(&mut context), Poll::Pending);
     /// other.send(mailbox, 5)?;
-    /// assert_eq!(received.as_mut().poll(&mut context), Poll::Ready(Ok(Some(5))));
+    /// assert_eq!(received.as_mut().poll(&mut context), Poll::Ready(Ok(5)));
     /// # Ok::<(), seryugo::Error>(())
     /// ```
-    pub async fn recv_async(&mut self, source: impl Source) -> Result<Option<u64>, Error> {
-        received(self.waiting(Want::Recv(source.number())).await)
+    pub async fn recv_async<S: Source>(&mut self, source: S) -> Result<S::Received, Error>
+    where
+        R: Carries<S::Message>,
+    {
+        let source = self.here(source)?;
+        received::<R, S>(self.waiting(Want::Recv(source)).await)
     }
 
     /// Reads a variable, which keeps its message. Blocks while it is empty.
@@ -87,13 +115,18 @@ impl Seat<'_> {
     /// ```
     /// # let board = seryugo::Switchboard::new(1_000)?;
     /// let mut seat = board.seat()?;
-    /// let variable = seat.ivar()?;
+    /// let variable = seat.ivar::<u64>()?;
     /// seat.put(variable, 5)?;
     /// assert_eq!(seat.get(variable)?, 5);
     /// # Ok::<(), seryugo::Error>(())
     /// ```
-    pub fn get(&mut self, variable: impl Variable) -> Result<u64, Error> {
-        held(self.wait(Want::Get(variable.number())))
+    #[inline]
+    pub fn get<V: Variable>(&mut self, variable: V) -> Result<V::Message, Error>
+    where
+        R: Carries<V::Message>,
+    {
+        let variable = self.here(variable)?;
+        held::<R, _>(self.wait(Want::Get(variable)))
     }
 
     /// The same, but it blocks no longer than this.
@@ -103,12 +136,16 @@ impl Seat<'_> {
     ///
     /// # let board = seryugo::Switchboard::new(1_000)?;
     /// let (mut seat, _other) = (board.seat()?, board.seat()?);
-    /// let variable = seat.ivar()?;
+    /// let variable = seat.ivar::<u64>()?;
     /// assert_eq!(seat.get_timeout(variable, Duration::ZERO), Err(seryugo::Error::TimedOut));
     /// # Ok::<(), seryugo::Error>(())
     /// ```
-    pub fn get_timeout(&mut self, variable: impl Variable, timeout: Duration) -> Result<u64, Error> {
-        held(self.wait_for(Want::Get(variable.number()), timeout))
+    pub fn get_timeout<V: Variable>(&mut self, variable: V, timeout: Duration) -> Result<V::Message, Error>
+    where
+        R: Carries<V::Message>,
+    {
+        let variable = self.here(variable)?;
+        held::<R, _>(self.wait_for(Want::Get(variable), timeout))
     }
 
     /// The same, but it blocks until then at the latest.
@@ -116,13 +153,17 @@ impl Seat<'_> {
     /// ```
     /// # let board = seryugo::Switchboard::new(1_000)?;
     /// let (mut seat, _other) = (board.seat()?, board.seat()?);
-    /// let variable = seat.ivar()?;
+    /// let variable = seat.ivar::<u64>()?;
     /// let now = std::time::Instant::now();
     /// assert_eq!(seat.get_deadline(variable, now), Err(seryugo::Error::TimedOut));
     /// # Ok::<(), seryugo::Error>(())
     /// ```
-    pub fn get_deadline(&mut self, variable: impl Variable, deadline: Instant) -> Result<u64, Error> {
-        held(self.wait_until(Want::Get(variable.number()), deadline))
+    pub fn get_deadline<V: Variable>(&mut self, variable: V, deadline: Instant) -> Result<V::Message, Error>
+    where
+        R: Carries<V::Message>,
+    {
+        let variable = self.here(variable)?;
+        held::<R, _>(self.wait_until(Want::Get(variable), deadline))
     }
 
     /// The same as a future.
@@ -136,8 +177,12 @@ impl Seat<'_> {
     /// assert_eq!(pin!(seat.get_async(variable)).poll(&mut context), Poll::Ready(Ok(5)));
     /// # Ok::<(), seryugo::Error>(())
     /// ```
-    pub async fn get_async(&mut self, variable: impl Variable) -> Result<u64, Error> {
-        held(self.waiting(Want::Get(variable.number())).await)
+    pub async fn get_async<V: Variable>(&mut self, variable: V) -> Result<V::Message, Error>
+    where
+        R: Carries<V::Message>,
+    {
+        let variable = self.here(variable)?;
+        held::<R, _>(self.waiting(Want::Get(variable)).await)
     }
 
     /// Reads and empties an m-variable. Blocks while it is empty.
@@ -150,8 +195,13 @@ impl Seat<'_> {
     /// assert_eq!(board.held(variable)?, None);
     /// # Ok::<(), seryugo::Error>(())
     /// ```
-    pub fn take(&mut self, variable: MVar) -> Result<u64, Error> {
-        held(self.wait(Want::Take(variable.0)))
+    #[inline]
+    pub fn take<T>(&mut self, variable: MVar<T>) -> Result<T, Error>
+    where
+        R: Carries<T>,
+    {
+        let variable = self.here(variable)?;
+        held::<R, _>(self.wait(Want::Take(variable)))
     }
 
     /// The same, but it blocks no longer than this.
@@ -166,8 +216,12 @@ impl Seat<'_> {
     /// assert_eq!(seat.take_timeout(variable, Duration::from_millis(1)), Err(seryugo::Error::TimedOut));
     /// # Ok::<(), seryugo::Error>(())
     /// ```
-    pub fn take_timeout(&mut self, variable: MVar, timeout: Duration) -> Result<u64, Error> {
-        held(self.wait_for(Want::Take(variable.0), timeout))
+    pub fn take_timeout<T>(&mut self, variable: MVar<T>, timeout: Duration) -> Result<T, Error>
+    where
+        R: Carries<T>,
+    {
+        let variable = self.here(variable)?;
+        held::<R, _>(self.wait_for(Want::Take(variable), timeout))
     }
 
     /// The same, but it blocks until then at the latest.
@@ -175,13 +229,17 @@ impl Seat<'_> {
     /// ```
     /// # let board = seryugo::Switchboard::new(1_000)?;
     /// let (mut seat, _other) = (board.seat()?, board.seat()?);
-    /// let variable = seat.mvar()?;
+    /// let variable = seat.mvar::<u64>()?;
     /// let now = std::time::Instant::now();
     /// assert_eq!(seat.take_deadline(variable, now), Err(seryugo::Error::TimedOut));
     /// # Ok::<(), seryugo::Error>(())
     /// ```
-    pub fn take_deadline(&mut self, variable: MVar, deadline: Instant) -> Result<u64, Error> {
-        held(self.wait_until(Want::Take(variable.0), deadline))
+    pub fn take_deadline<T>(&mut self, variable: MVar<T>, deadline: Instant) -> Result<T, Error>
+    where
+        R: Carries<T>,
+    {
+        let variable = self.here(variable)?;
+        held::<R, _>(self.wait_until(Want::Take(variable), deadline))
     }
 
     /// The same as a future.
@@ -195,11 +253,18 @@ impl Seat<'_> {
     /// assert_eq!(pin!(seat.take_async(variable)).poll(&mut context), Poll::Ready(Ok(5)));
     /// # Ok::<(), seryugo::Error>(())
     /// ```
-    pub async fn take_async(&mut self, variable: MVar) -> Result<u64, Error> {
-        held(self.waiting(Want::Take(variable.0)).await)
+    pub async fn take_async<T>(&mut self, variable: MVar<T>) -> Result<T, Error>
+    where
+        R: Carries<T>,
+    {
+        let variable = self.here(variable)?;
+        held::<R, _>(self.waiting(Want::Take(variable)).await)
     }
 
     /// Stores a message in a full m-variable, and returns the one that it held. Blocks while it is empty.
+    ///
+    /// Errors: [`SendError`] hands the message back. If the error is `Unreadable`, the message was stored nevertheless, and the error
+    /// has the bytes of the one before.
     ///
     /// ```
     /// # let board = seryugo::Switchboard::new(1_000)?;
@@ -209,8 +274,15 @@ impl Seat<'_> {
     /// assert_eq!(seat.take(variable)?, 6);
     /// # Ok::<(), seryugo::Error>(())
     /// ```
-    pub fn swap(&mut self, variable: MVar, message: u64) -> Result<u64, Error> {
-        held(self.wait(Want::Swap(variable.0, message)))
+    #[inline]
+    pub fn swap<T, M: Borrow<T>>(&mut self, variable: MVar<T>, message: M) -> Result<T, SendError<M>>
+    where
+        R: Carries<T>,
+    {
+        let held = self.here(variable).and_then(|variable| {
+            held::<R, _>(R::with_sent(message.borrow(), |sent| self.wait(Want::Swap(variable, sent))))
+        });
+        handing_back(held, message)
     }
 
     /// The same, but it blocks no longer than this. If its time passes, the variable is as it was.
@@ -220,13 +292,25 @@ impl Seat<'_> {
     ///
     /// # let board = seryugo::Switchboard::new(1_000)?;
     /// let (mut seat, _other) = (board.seat()?, board.seat()?);
-    /// let variable = seat.mvar()?;
-    /// assert_eq!(seat.swap_timeout(variable, 6, Duration::from_millis(1)), Err(seryugo::Error::TimedOut));
+    /// let variable = seat.mvar::<u64>()?;
+    /// let refused = seat.swap_timeout(variable, 6, Duration::from_millis(1)).unwrap_err();
+    /// assert_eq!(refused.error, seryugo::Error::TimedOut);
     /// assert_eq!(board.held(variable)?, None);
     /// # Ok::<(), seryugo::Error>(())
     /// ```
-    pub fn swap_timeout(&mut self, variable: MVar, message: u64, timeout: Duration) -> Result<u64, Error> {
-        held(self.wait_for(Want::Swap(variable.0, message), timeout))
+    pub fn swap_timeout<T, M: Borrow<T>>(
+        &mut self,
+        variable: MVar<T>,
+        message: M,
+        timeout: Duration,
+    ) -> Result<T, SendError<M>>
+    where
+        R: Carries<T>,
+    {
+        let held = self.here(variable).and_then(|variable| {
+            held::<R, _>(R::with_sent(message.borrow(), |sent| self.wait_for(Want::Swap(variable, sent), timeout)))
+        });
+        handing_back(held, message)
     }
 
     /// The same, but it blocks until then at the latest.
@@ -234,13 +318,24 @@ impl Seat<'_> {
     /// ```
     /// # let board = seryugo::Switchboard::new(1_000)?;
     /// let (mut seat, _other) = (board.seat()?, board.seat()?);
-    /// let variable = seat.mvar()?;
+    /// let variable = seat.mvar::<u64>()?;
     /// let now = std::time::Instant::now();
-    /// assert_eq!(seat.swap_deadline(variable, 6, now), Err(seryugo::Error::TimedOut));
+    /// assert_eq!(seat.swap_deadline(variable, 6, now).unwrap_err().error, seryugo::Error::TimedOut);
     /// # Ok::<(), seryugo::Error>(())
     /// ```
-    pub fn swap_deadline(&mut self, variable: MVar, message: u64, deadline: Instant) -> Result<u64, Error> {
-        held(self.wait_until(Want::Swap(variable.0, message), deadline))
+    pub fn swap_deadline<T, M: Borrow<T>>(
+        &mut self,
+        variable: MVar<T>,
+        message: M,
+        deadline: Instant,
+    ) -> Result<T, SendError<M>>
+    where
+        R: Carries<T>,
+    {
+        let held = self.here(variable).and_then(|variable| {
+            held::<R, _>(R::with_sent(message.borrow(), |sent| self.wait_until(Want::Swap(variable, sent), deadline)))
+        });
+        handing_back(held, message)
     }
 
     /// The same as a future.
@@ -254,7 +349,17 @@ impl Seat<'_> {
     /// assert_eq!(pin!(seat.swap_async(variable, 6)).poll(&mut context), Poll::Ready(Ok(5)));
     /// # Ok::<(), seryugo::Error>(())
     /// ```
-    pub async fn swap_async(&mut self, variable: MVar, message: u64) -> Result<u64, Error> {
-        held(self.waiting(Want::Swap(variable.0, message)).await)
+    pub async fn swap_async<T, M: Borrow<T>>(&mut self, variable: MVar<T>, message: M) -> Result<T, SendError<M>>
+    where
+        R: Carries<T>,
+    {
+        let held = match self.here(variable) {
+            Ok(variable) => {
+                let kept = R::kept(message.borrow());
+                held::<R, _>(self.waiting(Want::Swap(variable, R::sent(&kept))).await)
+            }
+            Err(error) => Err(error),
+        };
+        handing_back(held, message)
     }
 }

@@ -1,7 +1,9 @@
 //! How a seat waits for what it wants.
 
 use crate::error::Error;
-use crate::raw::{self, told, Handle, Told};
+use crate::names::Source;
+use crate::raw::{self, code, Handle};
+use crate::room::{Carries, Room};
 use crate::seat::Seat;
 use std::future::Future;
 use std::pin::Pin;
@@ -10,58 +12,90 @@ use std::time::{Duration, Instant};
 
 /// A call that may wait, with the number of its object.
 #[derive(Clone, Copy)]
-pub(crate) enum Want {
+pub(crate) enum Want<'m, R: Room> {
     Recv(u64),
     Get(u64),
     Take(u64),
-    Swap(u64, u64),
+    Swap(u64, R::Sent<'m>),
 }
 
-impl Want {
+impl<R: Room> Want<'_, R> {
     #[inline]
-    fn ask(self, room: &mut Handle, seat: u64, is_again: bool, message: &mut u64) -> Result<Told, Error> {
-        told(unsafe {
-            match self {
-                Want::Recv(source) => raw::seryugo_recv(room, seat, source, is_again, message),
-                Want::Get(variable) => raw::seryugo_get(room, seat, variable, is_again, message),
-                Want::Take(variable) => raw::seryugo_take(room, seat, variable, is_again, message),
-                Want::Swap(variable, stored) => raw::seryugo_swap(room, seat, variable, stored, is_again, message),
-            }
-        })
+    fn ask(self, room: &mut Handle, seat: u64, is_again: bool, slot: &mut R::Slot) -> u32 {
+        let code = match self {
+            Want::Recv(source) => R::recv(room, seat, source, is_again, slot),
+            Want::Get(variable) => R::get(room, seat, variable, is_again, slot),
+            Want::Take(variable) => R::take(room, seat, variable, is_again, slot),
+            Want::Swap(variable, stored) => R::swap(room, seat, variable, stored, is_again, slot),
+        };
+        if is_again && code == code::NO_MEMORY {
+            // The seat may be parked still. It isn't to wait after a refusal.
+            unsafe { raw::seryugo_withdraw(room, seat) };
+        }
+        code
     }
 }
 
-/// An answer, and the message that came with it.
-pub(crate) type Answer = Result<(Told, u64), Error>;
+/// Why a call that waits has no message.
+pub(crate) enum Refused {
+    Code(u32),
+    TimedOut,
+}
 
-/// The message that was received; `None` if the port is closed.
+impl From<Refused> for Error {
+    #[cold]
+    fn from(refused: Refused) -> Error {
+        match refused {
+            Refused::Code(code) => Error::of_code(code),
+            Refused::TimedOut => Error::TimedOut,
+        }
+    }
+}
+
+/// What a call that waits has received.
+pub(crate) type Answer<R> = Result<<R as crate::calls::Calls>::Received, Refused>;
+
 #[inline]
-pub(crate) fn received(answer: Answer) -> Result<Option<u64>, Error> {
-    answer.map(|(told, message)| (told == Told::Done).then_some(message))
+fn answer<R: Room>(code: u32, slot: &mut R::Slot) -> Answer<R> {
+    match code {
+        // The call has written the message.
+        code::DONE => Ok(unsafe { R::taken(slot) }),
+        _ => Err(Refused::Code(code)),
+    }
+}
+
+/// What was received from a mailbox or a port.
+#[inline]
+pub(crate) fn received<R: Carries<S::Message>, S: Source>(answer: Answer<R>) -> Result<S::Received, Error> {
+    match answer {
+        Ok(message) => S::received(Some(R::read(message)?)),
+        Err(Refused::Code(code::CLOSED)) => S::received(None),
+        Err(refused) => Err(refused.into()),
+    }
 }
 
 /// The message that a variable held.
 #[inline]
-pub(crate) fn held(answer: Answer) -> Result<u64, Error> {
-    answer.map(|(_, message)| message)
+pub(crate) fn held<R: Carries<T>, T>(answer: Answer<R>) -> Result<T, Error> {
+    R::read(answer?)
 }
 
-impl<'a> Seat<'a> {
+impl<'a, R: Room> Seat<'a, R> {
     /// Makes a call that may block. If its seat is parked, this waits until the seat is woken, and makes the call again.
     #[inline]
-    pub(crate) fn wait(&mut self, want: Want) -> Answer {
+    pub(crate) fn wait(&mut self, want: Want<'_, R>) -> Answer<R> {
         let seat = self.ready();
-        let mut message = 0;
-        let mut answer = self.board.change_by(self.sleeper, |room| want.ask(room, seat, false, &mut message))?;
-        while answer == Told::Parked {
+        let mut slot = R::slot();
+        let mut code = self.board.change_by(self.sleeper, |room| want.ask(room, seat, false, &mut slot));
+        while code == code::PARKED {
             self.sleeper.wait();
-            answer = self.board.change_by(self.sleeper, |room| want.ask(room, seat, true, &mut message))?;
+            code = self.board.change_by(self.sleeper, |room| want.ask(room, seat, true, &mut slot));
         }
-        Ok((answer, message))
+        answer::<R>(code, &mut slot)
     }
 
     /// The same, but no longer than this. A limit that no clock reaches is none.
-    pub(crate) fn wait_for(&mut self, want: Want, timeout: Duration) -> Answer {
+    pub(crate) fn wait_for(&mut self, want: Want<'_, R>, timeout: Duration) -> Answer<R> {
         match Instant::now().checked_add(timeout) {
             Some(deadline) => self.wait_until(want, deadline),
             None => self.wait(want),
@@ -70,22 +104,24 @@ impl<'a> Seat<'a> {
 
     /// The same, until then at the latest. Behind the deadline it makes the call once more. If that is parked, it withdraws it
     /// before others have the lock.
-    pub(crate) fn wait_until(&mut self, want: Want, deadline: Instant) -> Answer {
+    pub(crate) fn wait_until(&mut self, want: Want<'_, R>, deadline: Instant) -> Answer<R> {
         let seat = self.ready();
-        let mut message = 0;
+        let mut slot = R::slot();
         let mut is_again = false;
         let mut is_last = deadline <= Instant::now();
         loop {
-            let answer = self.board.change_by(self.sleeper, |room| {
-                let answer = want.ask(room, seat, is_again, &mut message);
-                if is_last && answer == Ok(Told::Parked) {
+            let code = self.board.change_by(self.sleeper, |room| {
+                let code = want.ask(room, seat, is_again, &mut slot);
+                if is_last && code == code::PARKED {
                     unsafe { raw::seryugo_withdraw(room, seat) };
-                    return Err(Error::TimedOut);
                 }
-                answer
-            })?;
-            if answer != Told::Parked {
-                return Ok((answer, message));
+                code
+            });
+            if code != code::PARKED {
+                return answer::<R>(code, &mut slot);
+            }
+            if is_last {
+                return Err(Refused::TimedOut);
             }
             is_last = !self.sleeper.wait_until(deadline);
             is_again = true;
@@ -93,40 +129,39 @@ impl<'a> Seat<'a> {
     }
 
     /// The same as a future.
-    pub(crate) fn waiting(&mut self, want: Want) -> Waiting<'_, 'a> {
+    pub(crate) fn waiting<'m>(&mut self, want: Want<'m, R>) -> Waiting<'_, 'a, 'm, R> {
         self.ready();
         Waiting { seat: self, want }
     }
 }
 
 /// A call that waits for its future's task to be woken. If it is dropped before it is answered, it is withdrawn.
-pub(crate) struct Waiting<'s, 'a> {
-    seat: &'s mut Seat<'a>,
-    want: Want,
+pub(crate) struct Waiting<'s, 'a, 'm, R: Room> {
+    seat: &'s mut Seat<'a, R>,
+    want: Want<'m, R>,
 }
 
-impl Waiting<'_, '_> {
-    /// Makes the call, for the first time or again.
-    fn ask(&mut self, is_again: bool) -> Answer {
+impl<R: Room> Waiting<'_, '_, '_, R> {
+    /// Makes the call, for the first time or again. `None` if its seat is parked.
+    fn ask(&mut self, is_again: bool) -> Option<Answer<R>> {
         let (seat, want) = (self.seat.number(), self.want);
-        let mut message = 0;
-        let told = self.seat.board.change_by(self.seat.sleeper, |room| want.ask(room, seat, is_again, &mut message));
-        self.seat.is_parked = told == Ok(Told::Parked);
-        told.map(|told| (told, message))
+        let mut slot = R::slot();
+        let code = self.seat.board.change_by(self.seat.sleeper, |room| want.ask(room, seat, is_again, &mut slot));
+        self.seat.is_parked = code == code::PARKED;
+        (!self.seat.is_parked).then(|| answer::<R>(code, &mut slot))
     }
 }
 
-impl Future for Waiting<'_, '_> {
-    type Output = Answer;
+impl<R: Room> Future for Waiting<'_, '_, '_, R> {
+    type Output = Answer<R>;
 
-    fn poll(mut self: Pin<&mut Self>, context: &mut Context<'_>) -> Poll<Answer> {
+    fn poll(mut self: Pin<&mut Self>, context: &mut Context<'_>) -> Poll<Answer<R>> {
         let mut is_again = self.seat.is_parked;
         loop {
             if is_again && !self.seat.sleeper.poll(context.waker()) {
                 return Poll::Pending;
             }
-            let answer = self.ask(is_again);
-            if !self.seat.is_parked {
+            if let Some(answer) = self.ask(is_again) {
                 return Poll::Ready(answer);
             }
             is_again = true;
@@ -134,7 +169,7 @@ impl Future for Waiting<'_, '_> {
     }
 }
 
-impl Drop for Waiting<'_, '_> {
+impl<R: Room> Drop for Waiting<'_, '_, '_, R> {
     fn drop(&mut self) {
         self.seat.ready();
     }

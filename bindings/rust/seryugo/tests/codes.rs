@@ -4,8 +4,8 @@
 
 mod common;
 
-use common::block_on;
-use seryugo::{Channel, Error, IVar, LaneFull, MVar, Mailbox, Port, RestoreError, Seat, Switchboard};
+use common::{block_on, Board, Channel, IVar, MVar, Mailbox, Port, Seat};
+use seryugo::{Error, RestoreError, SendError, Switchboard, Version};
 use std::process::Command;
 use std::time::{Duration, Instant};
 
@@ -15,15 +15,13 @@ const CHANNEL: u64 = 1;
 const PORT: u64 = 2;
 const IVAR: u64 = 3;
 const MVAR: u64 = 4;
-/// No object has this number.
-const NONE: u64 = 40;
 
 const OBJECTS: u64 = 5;
 const A_MILLISECOND: Duration = Duration::from_millis(1);
 
 /// A switchboard with an object of each kind.
-fn board_of_each(limit: u64) -> Switchboard {
-    let board = Switchboard::new(limit).unwrap();
+fn board_of_each(limit: u64) -> Board {
+    let board = Switchboard::of_numbers(limit).unwrap();
     let mut seat = board.seat().unwrap();
     seat.mailbox().unwrap();
     let channel = seat.channel().unwrap();
@@ -34,147 +32,175 @@ fn board_of_each(limit: u64) -> Switchboard {
     board
 }
 
-/// A name of this number, from a switchboard where it is that of an object of this kind.
-fn name_of<N>(number: u64, make: fn(&mut Seat<'_>) -> N) -> N {
-    let board = Switchboard::new(100).unwrap();
-    let mut seat = board.seat().unwrap();
-    (0..number).for_each(|_| seat.ivar().map(drop).unwrap());
-    make(&mut seat)
+/// The names of a switchboard's objects.
+struct Names {
+    mailbox: Mailbox,
+    channel: Channel,
+    port: Port,
+    ivar: IVar,
+    mvar: MVar,
 }
 
-fn mailbox(number: u64) -> Mailbox {
-    name_of(number, |seat| seat.mailbox().unwrap())
+impl Names {
+    fn of(board: &Board) -> Names {
+        Names {
+            mailbox: board.mailbox(MAILBOX).unwrap(),
+            channel: board.channel(CHANNEL).unwrap(),
+            port: board.port(PORT).unwrap(),
+            ivar: board.ivar(IVAR).unwrap(),
+            mvar: board.mvar(MVAR).unwrap(),
+        }
+    }
 }
 
-fn channel(number: u64) -> Channel {
-    name_of(number, |seat| seat.channel().unwrap())
-}
+/// A call on one of these objects.
+type Call = fn(&Board, &mut Seat<'_>, &Names) -> Result<(), Error>;
 
-fn port(number: u64) -> Port {
-    name_of(number - 1, |seat| {
-        let channel = seat.channel().unwrap();
-        seat.port(channel).unwrap()
-    })
-}
-
-fn ivar(number: u64) -> IVar {
-    name_of(number, |seat| seat.ivar().unwrap())
-}
-
-fn mvar(number: u64) -> MVar {
-    name_of(number, |seat| seat.mvar().unwrap())
-}
-
-/// A call on the object of this number.
-type Call = fn(&Switchboard, &mut Seat<'_>, u64) -> Result<(), Error>;
+/// A call's name, and the call.
+type Row = (&'static str, Call);
 
 fn past() -> Instant {
     Instant::now()
 }
 
-/// A call's name, the call, an object that takes it, and one that doesn't.
-type Row = (&'static str, Call, u64, u64);
+/// The error of a call that hands its message back.
+fn refusal<T>(answer: Result<T, SendError<u64>>) -> Result<(), Error> {
+    answer.map(drop).map_err(|refused| {
+        assert_eq!(refused.message, 7, "each call here sends the same message");
+        refused.error
+    })
+}
 
 /// The calls that the journal has no room for if it is full.
 const WRITTEN: [Row; 29] = [
-    ("port", |_, seat, n| seat.port(channel(n)).map(drop), CHANNEL, MAILBOX),
-    ("copy", |_, seat, n| seat.copy(port(n)).map(drop), PORT, IVAR),
-    ("close", |_, seat, n| seat.close(port(n)).map(drop), PORT, IVAR),
-    ("send", |_, seat, n| seat.send(mailbox(n), 1), MAILBOX, CHANNEL),
-    ("multicast", |_, seat, n| seat.multicast(channel(n), 1), CHANNEL, PORT),
-    ("recv", |_, seat, n| seat.recv(mailbox(n)).map(drop), MAILBOX, CHANNEL),
-    ("recv of a port", |_, seat, n| seat.recv(port(n)).map(drop), PORT, MVAR),
-    ("recv_timeout", |_, seat, n| seat.recv_timeout(mailbox(n), A_MILLISECOND).map(drop), MAILBOX, IVAR),
-    ("recv_deadline", |_, seat, n| seat.recv_deadline(port(n), past()).map(drop), PORT, IVAR),
-    ("recv_async", |_, seat, n| block_on(seat.recv_async(port(n))).map(drop), PORT, IVAR),
-    ("recv_poll", |_, seat, n| seat.recv_poll(mailbox(n)).map(drop), MAILBOX, IVAR),
-    ("recv_poll of a port", |_, seat, n| seat.recv_poll(port(n)).map(drop), PORT, IVAR),
-    ("put", |_, seat, n| seat.put(ivar(n), 1).map(drop), IVAR, MAILBOX),
-    ("put of an m-variable", |_, seat, n| seat.put(mvar(n), 1).map(drop), MVAR, PORT),
-    ("get", |_, seat, n| seat.get(ivar(n)).map(drop), IVAR, PORT),
-    ("get_timeout", |_, seat, n| seat.get_timeout(mvar(n), A_MILLISECOND).map(drop), MVAR, CHANNEL),
-    ("get_deadline", |_, seat, n| seat.get_deadline(ivar(n), past()).map(drop), IVAR, CHANNEL),
-    ("get_async", |_, seat, n| block_on(seat.get_async(ivar(n))).map(drop), IVAR, MAILBOX),
-    ("get_poll", |_, seat, n| seat.get_poll(ivar(n)).map(drop), IVAR, MAILBOX),
-    ("take", |_, seat, n| seat.take(mvar(n)).map(drop), MVAR, IVAR),
-    ("take_timeout", |_, seat, n| seat.take_timeout(mvar(n), A_MILLISECOND).map(drop), MVAR, IVAR),
-    ("take_deadline", |_, seat, n| seat.take_deadline(mvar(n), past()).map(drop), MVAR, IVAR),
-    ("take_async", |_, seat, n| block_on(seat.take_async(mvar(n))).map(drop), MVAR, IVAR),
-    ("take_poll", |_, seat, n| seat.take_poll(mvar(n)).map(drop), MVAR, IVAR),
-    ("swap", |_, seat, n| seat.swap(mvar(n), 1).map(drop), MVAR, IVAR),
-    ("swap_timeout", |_, seat, n| seat.swap_timeout(mvar(n), 1, A_MILLISECOND).map(drop), MVAR, IVAR),
-    ("swap_deadline", |_, seat, n| seat.swap_deadline(mvar(n), 1, past()).map(drop), MVAR, IVAR),
-    ("swap_async", |_, seat, n| block_on(seat.swap_async(mvar(n), 1)).map(drop), MVAR, IVAR),
-    ("feed", |board, _, n| board.feed(channel(n), 1).map(drop), CHANNEL, MAILBOX),
+    ("port", |_, seat, names| seat.port(names.channel).map(drop)),
+    ("copy", |_, seat, names| seat.copy(names.port).map(drop)),
+    ("close", |_, seat, names| seat.close(names.port).map(drop)),
+    ("send", |_, seat, names| refusal(seat.send(names.mailbox, 7))),
+    ("multicast", |_, seat, names| refusal(seat.multicast(names.channel, 7))),
+    ("recv", |_, seat, names| seat.recv(names.mailbox).map(drop)),
+    ("recv of a port", |_, seat, names| seat.recv(names.port).map(drop)),
+    ("recv_timeout", |_, seat, names| seat.recv_timeout(names.mailbox, A_MILLISECOND).map(drop)),
+    ("recv_deadline", |_, seat, names| seat.recv_deadline(names.port, past()).map(drop)),
+    ("recv_async", |_, seat, names| block_on(seat.recv_async(names.port)).map(drop)),
+    ("recv_poll", |_, seat, names| seat.recv_poll(names.mailbox).map(drop)),
+    ("recv_poll of a port", |_, seat, names| seat.recv_poll(names.port).map(drop)),
+    ("put", |_, seat, names| refusal(seat.put(names.ivar, 7))),
+    ("put of an m-variable", |_, seat, names| refusal(seat.put(names.mvar, 7))),
+    ("get", |_, seat, names| seat.get(names.ivar).map(drop)),
+    ("get_timeout", |_, seat, names| seat.get_timeout(names.mvar, A_MILLISECOND).map(drop)),
+    ("get_deadline", |_, seat, names| seat.get_deadline(names.ivar, past()).map(drop)),
+    ("get_async", |_, seat, names| block_on(seat.get_async(names.ivar)).map(drop)),
+    ("get_poll", |_, seat, names| seat.get_poll(names.ivar).map(drop)),
+    ("take", |_, seat, names| seat.take(names.mvar).map(drop)),
+    ("take_timeout", |_, seat, names| seat.take_timeout(names.mvar, A_MILLISECOND).map(drop)),
+    ("take_deadline", |_, seat, names| seat.take_deadline(names.mvar, past()).map(drop)),
+    ("take_async", |_, seat, names| block_on(seat.take_async(names.mvar)).map(drop)),
+    ("take_poll", |_, seat, names| seat.take_poll(names.mvar).map(drop)),
+    ("swap", |_, seat, names| refusal(seat.swap(names.mvar, 7))),
+    ("swap_timeout", |_, seat, names| refusal(seat.swap_timeout(names.mvar, 7, A_MILLISECOND))),
+    ("swap_deadline", |_, seat, names| refusal(seat.swap_deadline(names.mvar, 7, past()))),
+    ("swap_async", |_, seat, names| refusal(block_on(seat.swap_async(names.mvar, 7)))),
+    ("feed", |board, _, names| board.feed(names.channel, 1).map(drop)),
 ];
 
 /// The calls that write no entry.
-const UNWRITTEN: [Row; 6] = [
-    ("lane", |board, _, n| board.lane(mailbox(n), 1).map(drop), MAILBOX, PORT),
-    ("lane to a channel", |board, _, n| board.lane(channel(n), 1).map(drop), CHANNEL, IVAR),
-    ("mailbox", |board, _, n| board.mailbox(n).map(drop), MAILBOX, CHANNEL),
-    ("channel", |board, _, n| board.channel(n).map(drop), CHANNEL, MAILBOX),
-    ("ivar", |board, _, n| board.ivar(n).map(drop), IVAR, MVAR),
-    ("mvar", |board, _, n| board.mvar(n).map(drop), MVAR, IVAR),
+const UNWRITTEN: [Row; 10] = [
+    ("lane", |board, _, names| board.lane(names.mailbox, 1).map(drop)),
+    ("lane to a channel", |board, _, names| board.lane(names.channel, 1).map(drop)),
+    ("sent", |board, _, names| board.sent(names.channel).map(drop)),
+    ("got", |board, _, names| board.got(names.mailbox).map(drop)),
+    ("owed", |board, _, names| board.owed(names.port).map(drop)),
+    ("kept", |board, _, names| board.kept(names.mailbox).map(drop)),
+    ("held", |board, _, names| board.held(names.ivar).map(drop)),
+    ("is_open", |board, _, names| board.is_open(names.port).map(drop)),
+    ("channel_of", |board, _, names| board.channel_of(names.port).map(drop)),
+    ("start_of", |board, _, names| board.start_of(names.port).map(drop)),
 ];
 
-/// Those that read something of an object. Of an object that has no such thing they fail with `NoSuch`.
-const READING: [Row; 8] = [
-    ("sent", |board, _, n| board.sent(channel(n)).map(drop), CHANNEL, PORT),
-    ("got", |board, _, n| board.got(mailbox(n)).map(drop), MAILBOX, CHANNEL),
-    ("owed", |board, _, n| board.owed(port(n)).map(drop), PORT, IVAR),
-    ("kept", |board, _, n| board.kept(mailbox(n)).map(drop), MAILBOX, PORT),
-    ("held", |board, _, n| board.held(ivar(n)).map(drop), IVAR, MAILBOX),
-    ("is_open", |board, _, n| board.is_open(port(n)).map(drop), PORT, IVAR),
-    ("channel_of", |board, _, n| board.channel_of(port(n)).map(drop), PORT, IVAR),
-    ("start_of", |board, _, n| board.start_of(port(n)).map(drop), PORT, IVAR),
-];
-
+/// A name belongs to its switchboard, also if another one has an object of the same number and kind.
 #[test]
 fn objects_of_other_boards_are_refused() {
-    for (call, make, _, wrong) in WRITTEN.into_iter().chain(UNWRITTEN) {
-        let board = board_of_each(100);
-        let mut seat = board.seat().unwrap();
-        assert_eq!(make(&board, &mut seat, NONE), Err(Error::NoSuch), "{call}");
-        assert_eq!(make(&board, &mut seat, wrong), Err(Error::WrongKind), "{call}");
-        assert_eq!(board.entries(), OBJECTS, "{call}");
+    let other = board_of_each(100);
+    let names = Names::of(&other);
+    for (call, make) in WRITTEN.into_iter().chain(UNWRITTEN) {
+        for board in [board_of_each(100), Switchboard::of_numbers(100).unwrap()] {
+            let mut seat = board.seat().unwrap();
+            let entries = board.entries();
+            assert_eq!(make(&board, &mut seat, &names), Err(Error::NoSuch), "{call}");
+            assert_eq!(board.entries(), entries, "{call}");
+        }
     }
-    for (call, read, _, wrong) in READING {
-        let board = board_of_each(100);
-        let mut seat = board.seat().unwrap();
-        assert_eq!(read(&board, &mut seat, NONE), Err(Error::NoSuch), "{call}");
-        assert_eq!(read(&board, &mut seat, wrong), Err(Error::NoSuch), "{call}");
+    assert_eq!(other.entries(), OBJECTS);
+}
+
+/// A restored switchboard is another one, though it has the same objects.
+#[test]
+fn names_end_with_their_switchboard() {
+    let mut text = Vec::new();
+    let before = board_of_each(100);
+    let names = Names::of(&before);
+    before.take_journal().unwrap().write_to(&mut text).unwrap();
+    drop(before);
+    let board = Board::restore(&text[..], 100).unwrap();
+    let mut seat = board.seat().unwrap();
+    assert_eq!(refusal(seat.send(names.mailbox, 7)), Err(Error::NoSuch));
+    assert_ne!(board.mailbox(MAILBOX), Ok(names.mailbox));
+    assert_eq!(refusal(seat.send(board.mailbox(MAILBOX).unwrap(), 7)), Ok(()));
+}
+
+/// Finds an object of one kind by its number.
+type Find = fn(&Board, u64) -> Result<(), Error>;
+
+#[test]
+fn objects_are_found_by_number_and_kind() {
+    let board = board_of_each(100);
+    let finds: [(u64, Find); 5] = [
+        (MAILBOX, |board, number| board.mailbox(number).map(drop)),
+        (CHANNEL, |board, number| board.channel(number).map(drop)),
+        (PORT, |board, number| board.port(number).map(drop)),
+        (IVAR, |board, number| board.ivar(number).map(drop)),
+        (MVAR, |board, number| board.mvar(number).map(drop)),
+    ];
+    for (kind, find) in finds {
+        for number in 0..OBJECTS {
+            let expected = if number == kind { Ok(()) } else { Err(Error::WrongKind) };
+            assert_eq!(find(&board, number), expected);
+        }
+        assert_eq!(find(&board, OBJECTS), Err(Error::NoSuch));
+        assert_eq!(find(&board, u64::MAX), Err(Error::NoSuch));
     }
 }
 
-/// A full journal is named only if nothing else is wrong. After a cut the call is answered, or would wait.
+/// After a cut the call is answered, or would wait.
 #[test]
 fn a_full_journal_refuses_each_call_that_it_would_have() {
-    for (call, make, right, wrong) in WRITTEN {
+    for (call, make) in WRITTEN {
         let board = board_of_each(OBJECTS);
+        let names = Names::of(&board);
         let mut seat = board.seat().unwrap();
-        assert_eq!(make(&board, &mut seat, right), Err(Error::JournalFull), "{call}");
-        assert_eq!(make(&board, &mut seat, wrong), Err(Error::WrongKind), "{call}");
+        assert_eq!(make(&board, &mut seat, &names), Err(Error::JournalFull), "{call}");
         assert_eq!(board.entries(), OBJECTS, "{call}");
         board.cut().unwrap();
-        assert!(matches!(make(&board, &mut seat, right), Ok(()) | Err(Error::Stalled)), "{call}");
+        assert!(matches!(make(&board, &mut seat, &names), Ok(()) | Err(Error::Stalled)), "{call}");
     }
-    for (call, make, right, _) in UNWRITTEN.into_iter().chain(READING) {
+    for (call, make) in UNWRITTEN {
         let board = board_of_each(OBJECTS);
-        assert_eq!(make(&board, &mut board.seat().unwrap(), right), Ok(()), "{call}");
+        let names = Names::of(&board);
+        assert_eq!(make(&board, &mut board.seat().unwrap(), &names), Ok(()), "{call}");
     }
 }
 
 #[test]
 fn a_full_journal_takes_no_new_object() {
-    let board = Switchboard::new(1).unwrap();
+    let board = Switchboard::of_numbers(1).unwrap();
     let mut seat = board.seat().unwrap();
     seat.mailbox().unwrap();
     assert_eq!(seat.mailbox(), Err(Error::JournalFull));
     assert_eq!(seat.channel(), Err(Error::JournalFull));
     assert_eq!(seat.ivar(), Err(Error::JournalFull));
     assert_eq!(seat.mvar(), Err(Error::JournalFull));
-    assert_eq!(seat.mvar_init(1), Err(Error::JournalFull));
+    assert_eq!(refusal(seat.mvar_init(7)), Err(Error::JournalFull));
 }
 
 #[test]
@@ -197,9 +223,9 @@ fn each_call_that_waits_alone_is_stalled() {
     assert_eq!(seat.take(mvar), Err(Error::Stalled));
     assert_eq!(seat.take_timeout(mvar, A_MILLISECOND), Err(Error::Stalled));
     assert_eq!(block_on(seat.take_async(mvar)), Err(Error::Stalled));
-    assert_eq!(seat.swap(mvar, 1), Err(Error::Stalled));
-    assert_eq!(seat.swap_timeout(mvar, 1, A_MILLISECOND), Err(Error::Stalled));
-    assert_eq!(block_on(seat.swap_async(mvar, 1)), Err(Error::Stalled));
+    assert_eq!(refusal(seat.swap(mvar, 7)), Err(Error::Stalled));
+    assert_eq!(refusal(seat.swap_timeout(mvar, 7, A_MILLISECOND)), Err(Error::Stalled));
+    assert_eq!(refusal(block_on(seat.swap_async(mvar, 7))), Err(Error::Stalled));
     assert_eq!(board.entries(), OBJECTS);
 }
 
@@ -227,8 +253,8 @@ fn nothing_put_and_closed_are_answers() {
 #[test]
 fn limits_and_capacities_have_bounds() {
     for limit in [0, (1 << 32) + 1, u64::MAX] {
-        assert_eq!(Switchboard::new(limit).err(), Some(Error::OutOfBounds));
-        assert!(matches!(Switchboard::restore(&b"journal 1\nend 0\n"[..], limit), Err(RestoreError::OutOfBounds)));
+        assert_eq!(Switchboard::of_numbers(limit).err(), Some(Error::OutOfBounds));
+        assert!(matches!(Board::restore(&b"journal 1\nend 0\n"[..], limit), Err(RestoreError::OutOfBounds)));
     }
     let board = board_of_each(100);
     let (mailbox, channel) = (board.mailbox(MAILBOX).unwrap(), board.channel(CHANNEL).unwrap());
@@ -249,7 +275,7 @@ fn the_port_of_an_open_feed_is_the_feeds_alone() {
     assert_eq!((seat.recv(port), seat.recv_poll(port)), (Err(Error::WrongKind), Err(Error::WrongKind)));
     assert_eq!(seat.recv_timeout(port, A_MILLISECOND), Err(Error::WrongKind));
     assert_eq!(seat.close(port), Err(Error::WrongKind));
-    assert_eq!((feed.recv(), feed.pump()), (None, Ok(0)));
+    assert_eq!((feed.recv(), feed.pump()), (Ok(None), Ok(0)));
     assert_eq!((board.cut(), board.take_journal().err()), (Err(Error::Busy), Some(Error::Busy)));
     drop(feed);
     assert_eq!((seat.close(port), board.cut()), (Ok(true), Ok(())));
@@ -264,7 +290,7 @@ fn a_pump_stops_where_the_journal_is_full() {
     seat.multicast(channel, 1).unwrap();
     seat.multicast(channel, 2).unwrap();
     assert_eq!((feed.pump(), feed.pump()), (Ok(1), Err(Error::JournalFull)));
-    assert_eq!((feed.recv(), feed.recv()), (Some(1), None));
+    assert_eq!((feed.recv(), feed.recv()), (Ok(Some(1)), Ok(None)));
 }
 
 #[test]
@@ -273,7 +299,7 @@ fn a_lane_may_be_full_and_the_journal_too() {
     let mailbox = board.mailbox(MAILBOX).unwrap();
     let mut lane = board.lane(mailbox, 3).unwrap();
     (1..=3).for_each(|message| lane.send(message).unwrap());
-    assert_eq!(lane.send(4), Err(LaneFull(4)));
+    assert_eq!(refusal(lane.send(7)), Err(Error::Full));
     assert_eq!(board.cut(), Err(Error::Busy));
     assert_eq!((lane.drain(), lane.drain()), (Ok(2), Err(Error::JournalFull)));
     assert_eq!(board.drain(lane.number()), Err(Error::JournalFull));
@@ -292,7 +318,7 @@ fn a_lane_may_be_full_and_the_journal_too() {
 /// However a lane with messages ends while the journal is full, those that it loses are counted.
 #[test]
 fn lost_messages_are_counted() {
-    fn by_question_mark(board: &Switchboard, mailbox: Mailbox) -> Result<(), Error> {
+    fn by_question_mark(board: &Board, mailbox: Mailbox) -> Result<(), Error> {
         let mut lane = board.lane(mailbox, 8)?;
         (0..4).for_each(|message| lane.send(message).unwrap());
         lane.close()?;
@@ -367,7 +393,7 @@ fn runs_out_of_memory() {
     lane.send(1).unwrap();
     let taken = take_memory();
     let refused = loop {
-        if let Err(error) = seat.send(mailbox, 0) {
+        if let Err(error) = refusal(seat.send(mailbox, 7)) {
             break error;
         }
     };
@@ -383,7 +409,8 @@ fn runs_out_of_memory() {
 
 #[test]
 fn errors_have_plain_words() {
-    const ALL: [Error; 10] = [
+    let version = |minor| Version::new(0, minor, 0);
+    let all = [
         Error::Gone,
         Error::Busy,
         Error::NoSuch,
@@ -392,14 +419,21 @@ fn errors_have_plain_words() {
         Error::Stalled,
         Error::NoMemory,
         Error::Unseen,
+        Error::Full,
         Error::OutOfBounds,
         Error::TimedOut,
+        Error::Unreadable(vec![1, 2]),
+        Error::Version {
+            library: version(2),
+            wanted: version(1),
+        },
+        Error::Unknown(40),
     ];
-    let mut texts = ALL.map(|error| error.to_string());
+    let mut texts = all.clone().map(|error| error.to_string());
     texts.sort();
     assert!(texts.windows(2).all(|pair| pair[0] != pair[1]));
     assert!(texts.iter().all(|text| text.len() > 20 && !text.ends_with('.')));
-    let retryable: Vec<Error> = ALL.into_iter().filter(|error| error.is_retryable()).collect();
+    let retryable: Vec<Error> = all.into_iter().filter(|error| error.is_retryable()).collect();
     assert_eq!(
         retryable,
         [
@@ -407,6 +441,7 @@ fn errors_have_plain_words() {
             Error::JournalFull,
             Error::NoMemory,
             Error::Unseen,
+            Error::Full,
             Error::TimedOut
         ]
     );

@@ -2,8 +2,8 @@
 
 mod common;
 
-use common::{block_on, let_them_wait, seats, within_a_minute, Random};
-use seryugo::{Error, Mailbox, Seat, Switchboard};
+use common::{block_on, let_them_wait, seats, within_a_minute, Board, Mailbox, Random, Seat};
+use seryugo::{Error, Switchboard};
 use std::collections::VecDeque;
 use std::future::Future;
 use std::pin::{pin, Pin};
@@ -94,7 +94,7 @@ fn run_all(tasks: Vec<Task<'_>>) {
 #[test]
 fn each_call_is_a_future() {
     within_a_minute(|| {
-        let board = Switchboard::new(100).unwrap();
+        let board = Switchboard::of_numbers(100).unwrap();
         let (mut seat, mut other) = (board.seat().unwrap(), board.seat().unwrap());
         let mailbox = seat.mailbox().unwrap();
         let channel = seat.channel().unwrap();
@@ -103,7 +103,7 @@ fn each_call_is_a_future() {
         thread::scope(|scope| {
             scope.spawn(move || {
                 block_on(async {
-                    assert_eq!(seat.recv_async(mailbox).await, Ok(Some(1)));
+                    assert_eq!(seat.recv_async(mailbox).await, Ok(1));
                     assert_eq!(seat.recv_async(port).await, Ok(Some(2)));
                     assert_eq!(seat.get_async(once).await, Ok(3));
                     assert_eq!(seat.swap_async(often, 5).await, Ok(4));
@@ -137,7 +137,7 @@ fn a_future_may_go_to_another_thread() {
     }
 
     within_a_minute(|| {
-        let board = Switchboard::new(100).unwrap();
+        let board = Switchboard::of_numbers(100).unwrap();
         let (mut seat, mut other) = (board.seat().unwrap(), board.seat().unwrap());
         let mailbox = seat.mailbox().unwrap();
         let mut future = Box::pin(is_send(seat.recv_async(mailbox)));
@@ -146,14 +146,14 @@ fn a_future_may_go_to_another_thread() {
             let received = scope.spawn(move || block_on(future));
             let_them_wait();
             other.send(mailbox, 7).unwrap();
-            assert_eq!(received.join().unwrap(), Ok(Some(7)));
+            assert_eq!(received.join().unwrap(), Ok(7));
         });
     });
 }
 
 #[test]
 fn only_the_last_waker_is_called_and_once() {
-    let board = Switchboard::new(100).unwrap();
+    let board = Switchboard::of_numbers(100).unwrap();
     let (mut seat, mut other) = (board.seat().unwrap(), board.seat().unwrap());
     let mailbox = seat.mailbox().unwrap();
     let (first, last) = (Arc::new(Count::default()), Arc::new(Count::default()));
@@ -165,14 +165,79 @@ fn only_the_last_waker_is_called_and_once() {
     other.send(mailbox, 1).unwrap();
     other.send(mailbox, 2).unwrap();
     assert_eq!((first.get(), last.get()), (0, 1));
-    assert_eq!(future.as_mut().poll(&mut Context::from_waker(&latter)), Poll::Ready(Ok(Some(1))));
+    assert_eq!(future.as_mut().poll(&mut Context::from_waker(&latter)), Poll::Ready(Ok(1)));
     drop((former, latter));
     assert_eq!((Arc::strong_count(&first), Arc::strong_count(&last)), (1, 1), "no waker is kept");
 }
 
+/// A call that makes all of them due wakes each task, though none of them is polled meanwhile.
+#[test]
+fn each_task_that_is_due_is_woken() {
+    type Event = fn(&Board, Seat<'_>);
+    let events: [(Event, Result<u64, Error>); 3] = [
+        (|board, mut seat| assert_eq!(seat.put(board.ivar(0).unwrap(), 5), Ok(true)), Ok(5)),
+        (|board, mut seat| while seat.send(board.mailbox(1).unwrap(), 5).is_ok() {}, Err(Error::JournalFull)),
+        (|_, seat| drop(seat), Err(Error::Stalled)),
+    ];
+    for (event, expected) in events {
+        let board = Switchboard::of_numbers(20).unwrap();
+        let mut first = board.seat().unwrap();
+        let variable = first.ivar().unwrap();
+        first.mailbox().unwrap();
+        let counts = [(); 4].map(|()| Arc::new(Count::default()));
+        let mut seats = seats(&board, 4);
+        let mut futures: Vec<_> = seats.iter_mut().map(|seat| Box::pin(seat.get_async(variable))).collect();
+        for (future, count) in futures.iter_mut().zip(&counts) {
+            let waker = Waker::from(Arc::clone(count));
+            assert!(future.as_mut().poll(&mut Context::from_waker(&waker)).is_pending());
+        }
+        event(&board, first);
+        assert!(counts.iter().all(|count| count.get() == 1));
+        // Once the first is refused as stalled, its seat is free, and could answer the others.
+        let answered = if expected == Err(Error::Stalled) { 1 } else { 4 };
+        for (at, future) in futures.iter_mut().enumerate() {
+            let polled = poll_once(future.as_mut());
+            assert_eq!(
+                polled,
+                if at < answered {
+                    Poll::Ready(expected.clone())
+                } else {
+                    Poll::Pending
+                }
+            );
+        }
+    }
+}
+
+/// A thread that waits behind tasks is woken, and so is a task behind it, though the first tasks aren't polled.
+#[test]
+fn tasks_that_sleep_on_hold_up_no_thread() {
+    within_a_minute(|| {
+        let board = Switchboard::of_numbers(100).unwrap();
+        let mut first = board.seat().unwrap();
+        let variable = first.ivar().unwrap();
+        let [mut one, mut two, mut three] = [(); 3].map(|()| board.seat().unwrap());
+        let (mut thread, last) = (board.seat().unwrap(), Arc::new(Count::default()));
+        let (mut early, mut late) = (pin!(one.get_async(variable)), pin!(two.get_async(variable)));
+        assert!(poll_once(early.as_mut()).is_pending() && poll_once(late.as_mut()).is_pending());
+        thread::scope(|scope| {
+            let read = scope.spawn(move || thread.get(variable));
+            let_them_wait();
+            let waker = Waker::from(Arc::clone(&last));
+            let mut behind = pin!(three.get_async(variable));
+            assert!(behind.as_mut().poll(&mut Context::from_waker(&waker)).is_pending());
+            first.put(variable, 5).unwrap();
+            assert_eq!(read.join().unwrap(), Ok(5));
+            assert_eq!(last.get(), 1);
+            assert_eq!(poll_once(behind), Poll::Ready(Ok(5)));
+        });
+        assert_eq!((poll_once(early), poll_once(late)), (Poll::Ready(Ok(5)), Poll::Ready(Ok(5))));
+    });
+}
+
 #[test]
 fn a_dropped_future_does_nothing() {
-    let board = Switchboard::new(100).unwrap();
+    let board = Switchboard::of_numbers(100).unwrap();
     let (mut seat, mut other) = (board.seat().unwrap(), board.seat().unwrap());
     let mailbox = seat.mailbox().unwrap();
     let variable = seat.mvar().unwrap();
@@ -198,7 +263,7 @@ fn a_dropped_future_does_nothing() {
 fn a_dropped_future_hands_its_turn_on() {
     within_a_minute(|| {
         for _ in 0..200 {
-            let board = Switchboard::new(100).unwrap();
+            let board = Switchboard::of_numbers(100).unwrap();
             let mut first = board.seat().unwrap();
             let mailbox = first.mailbox().unwrap();
             let (mut dropped, mut patient, mut last) =
@@ -213,7 +278,7 @@ fn a_dropped_future_hands_its_turn_on() {
             assert_eq!(count.get(), 0);
             drop(future);
             assert_eq!(count.get(), 1, "it is the next that waits");
-            assert_eq!(poll_once(other), Poll::Ready(Ok(Some(1))));
+            assert_eq!(poll_once(other), Poll::Ready(Ok(1)));
 
             let mut future = Box::pin(dropped.recv_async(mailbox));
             assert!(poll_once(future.as_mut()).is_pending());
@@ -222,7 +287,7 @@ fn a_dropped_future_hands_its_turn_on() {
                 let_them_wait();
                 first.send(mailbox, 2).unwrap();
                 drop(future);
-                assert_eq!(received.join().unwrap(), Ok(Some(2)));
+                assert_eq!(received.join().unwrap(), Ok(2));
             });
         }
     });
@@ -232,7 +297,7 @@ fn a_dropped_future_hands_its_turn_on() {
 #[test]
 fn a_future_may_be_forgotten() {
     within_a_minute(|| {
-        let board = Switchboard::new(100).unwrap();
+        let board = Switchboard::of_numbers(100).unwrap();
         let (mut seat, mut other) = (board.seat().unwrap(), board.seat().unwrap());
         let mailbox = seat.mailbox().unwrap();
         let forget = |seat: &mut Seat<'_>| {
@@ -242,7 +307,7 @@ fn a_future_may_be_forgotten() {
         };
         forget(&mut seat);
         assert_eq!(seat.send(mailbox, 5), Ok(()));
-        assert_eq!(seat.recv(mailbox), Ok(Some(5)));
+        assert_eq!(seat.recv(mailbox), Ok(5));
         forget(&mut seat);
         assert_eq!(seat.recv_timeout(mailbox, Duration::ZERO), Err(Error::TimedOut));
         forget(&mut seat);
@@ -253,7 +318,7 @@ fn a_future_may_be_forgotten() {
         forget(&mut seat);
         other.send(mailbox, 6).unwrap();
         drop(seat);
-        assert_eq!(other.recv(mailbox), Ok(Some(6)));
+        assert_eq!(other.recv(mailbox), Ok(6));
         assert_eq!(other.recv(mailbox), Err(Error::Stalled));
     });
 }
@@ -271,7 +336,7 @@ impl Wake for Calls<'static> {
 #[test]
 fn a_waker_may_make_calls() {
     within_a_minute(|| {
-        let board: &'static Switchboard = Box::leak(Box::new(Switchboard::new(100).unwrap()));
+        let board: &'static Board = Box::leak(Box::new(Switchboard::of_numbers(100).unwrap()));
         let mut seats = seats(board, 3);
         let mailbox = seats[0].mailbox().unwrap();
         let waker = Waker::from(Arc::new(Calls(Mutex::new(Some((seats.pop().unwrap(), mailbox))))));
@@ -280,7 +345,7 @@ fn a_waker_may_make_calls() {
         assert!(future.as_mut().poll(&mut Context::from_waker(&waker)).is_pending());
         two.send(mailbox, 7).unwrap();
         assert_eq!(board.owed(mailbox), Ok(2));
-        assert_eq!(poll_once(future), Poll::Ready(Ok(Some(7))));
+        assert_eq!(poll_once(future), Poll::Ready(Ok(7)));
     });
 }
 
@@ -291,7 +356,7 @@ fn a_token_goes_round_tasks_and_threads() {
     const ROUNDS: u64 = 200;
 
     within_a_minute(|| {
-        let board = Switchboard::new(1 << 32).unwrap();
+        let board = Switchboard::of_numbers(1 << 32).unwrap();
         let mut first = board.seat().unwrap();
         let mailboxes: Vec<Mailbox> = (0..SEATS).map(|_| first.mailbox().unwrap()).collect();
         let mailboxes = &mailboxes;
@@ -302,14 +367,14 @@ fn a_token_goes_round_tasks_and_threads() {
                 if at % 3 == 2 {
                     scope.spawn(move || {
                         for _ in 0..ROUNDS {
-                            let token = seat.recv(mailboxes[at]).unwrap().unwrap();
+                            let token = seat.recv(mailboxes[at]).unwrap();
                             seat.send(next, token + 1).unwrap();
                         }
                     });
                 } else {
                     tasks[at % 3].push(Box::pin(async move {
                         for _ in 0..ROUNDS {
-                            let token = seat.recv_async(mailboxes[at]).await.unwrap().unwrap();
+                            let token = seat.recv_async(mailboxes[at]).await.unwrap();
                             seat.send(next, token + 1).unwrap();
                         }
                     }));
@@ -329,13 +394,13 @@ fn receive_all(seat: &mut Seat<'_>, mailbox: Mailbox, received: &AtomicU64, all:
     let (mut random, mut sum) = (Random::new(seed), 0);
     while received.load(Ordering::Relaxed) < all {
         let message = match random.below(3) {
-            0 => seat.recv_timeout(mailbox, Duration::from_micros(random.below(60))).ok().flatten(),
+            0 => seat.recv_timeout(mailbox, Duration::from_micros(random.below(60))).ok(),
             polls => {
                 let mut future = pin!(seat.recv_async(mailbox));
                 let mut message = None;
                 for _ in 0..=polls {
                     if let Poll::Ready(answer) = poll_once(future.as_mut()) {
-                        message = answer.unwrap();
+                        message = Some(answer.unwrap());
                         break;
                     }
                     thread::sleep(Duration::from_micros(random.below(30)));
@@ -359,7 +424,7 @@ fn futures_are_dropped_while_messages_are_sent() {
     const BLOCKS: u64 = 1_000;
 
     within_a_minute(|| {
-        let board = &Switchboard::new(1 << 32).unwrap();
+        let board = &Switchboard::of_numbers(1 << 32).unwrap();
         let mut first = board.seat().unwrap();
         let mailbox = first.mailbox().unwrap();
         let received = &AtomicU64::new(0);
@@ -371,9 +436,7 @@ fn futures_are_dropped_while_messages_are_sent() {
                     scope.spawn(move || receive_all(&mut seat, mailbox, received, 3 * EACH - BLOCKS, seed))
                 })
                 .collect();
-            receiving.push(
-                scope.spawn(move || (0..BLOCKS).map(|_| block_on(blocks.recv_async(mailbox)).unwrap().unwrap()).sum()),
-            );
+            receiving.push(scope.spawn(move || (0..BLOCKS).map(|_| block_on(blocks.recv_async(mailbox)).unwrap()).sum()));
             for (sender, mut seat) in (0..).zip(senders) {
                 scope.spawn(move || {
                     let mut random = Random::new(sender);

@@ -1,6 +1,9 @@
 //! Journals that leave the process: written, checked, and gone on from.
 
-use seryugo::{Call, CheckError, Checker, Error, Reply, RestoreError, Switchboard, Who};
+mod common;
+
+use common::Board;
+use seryugo::{Call, CheckError, Checker, Error, Numbers, Reply, RestoreError, Switchboard, Who};
 use std::io::{self, BufReader, Read};
 use std::thread;
 
@@ -8,7 +11,7 @@ const LIMIT: u64 = 1_000;
 
 /// A journal with objects of each kind, in three pieces, of which one has no entry.
 fn three_pieces() -> Vec<u8> {
-    let board = Switchboard::new(LIMIT).unwrap();
+    let board = Switchboard::of_numbers(LIMIT).unwrap();
     let (mut ann, mut ben) = (board.seat().unwrap(), board.seat().unwrap());
     let mailbox = ann.mailbox().unwrap();
     let channel = ann.channel().unwrap();
@@ -37,8 +40,8 @@ fn three_pieces() -> Vec<u8> {
     text
 }
 
-fn checked(text: &[u8]) -> Result<Checker, CheckError> {
-    let mut checker = Checker::new()?;
+fn checked(text: &[u8]) -> Result<Checker<Numbers>, CheckError> {
+    let mut checker = Checker::of_numbers()?;
     checker.read(text)?;
     Ok(checker)
 }
@@ -46,7 +49,7 @@ fn checked(text: &[u8]) -> Result<Checker, CheckError> {
 #[test]
 fn a_board_goes_on_where_another_ended() {
     let mut text = three_pieces();
-    let board = Switchboard::restore(&text[..], LIMIT).unwrap();
+    let board = Board::restore(&text[..], LIMIT).unwrap();
     assert_eq!((board.entries(), board.cut_at()), (16, 16));
     let (mailbox, channel, port) = (board.mailbox(0).unwrap(), board.channel(1).unwrap(), board.port(2).unwrap());
     let (ivar, mvar, copy) = (board.ivar(3).unwrap(), board.mvar(4).unwrap(), board.port(5).unwrap());
@@ -65,10 +68,7 @@ fn a_board_goes_on_where_another_ended() {
     assert_eq!((seat.number(), lane.number(), feed.number()), (2, 1, 1));
     lane.send(11).unwrap();
     lane.drain().unwrap();
-    assert_eq!(
-        (seat.recv(mailbox), seat.recv(mailbox), seat.recv(mailbox)),
-        (Ok(Some(6)), Ok(Some(10)), Ok(Some(11)))
-    );
+    assert_eq!((seat.recv(mailbox), seat.recv(mailbox), seat.recv(mailbox)), (Ok(6), Ok(10), Ok(11)));
     lane.close().unwrap();
     drop(feed);
 
@@ -88,7 +88,7 @@ fn a_text_may_end_anywhere() {
     for end in 0..=text.len() {
         let torn = &text[..end];
         // The parts that are read end at other places each time.
-        let (board, kept) = Switchboard::restore_torn(BufReader::with_capacity(1 + end % 40, torn), LIMIT).unwrap();
+        let (board, kept) = Board::restore_torn(BufReader::with_capacity(1 + end % 40, torn), LIMIT).unwrap();
         let whole = torn.iter().rposition(|byte| *byte == b'\n').map_or(0, |at| at + 1);
         assert_eq!(kept.bytes, whole as u64);
         let lines = torn[..whole].split(|byte| *byte == b'\n');
@@ -101,7 +101,7 @@ fn a_text_may_end_anywhere() {
         board.take_journal().unwrap().write_to(&mut mended).unwrap();
         let checker = checked(&mended).unwrap();
         assert_eq!((checker.entries(), checker.is_whole()), (kept.entries + 1, true), "the first {end} bytes");
-        match Switchboard::restore(torn, LIMIT) {
+        match Board::restore(torn, LIMIT) {
             Ok(_) => assert!(kept.ending.is_empty() && whole == end),
             Err(RestoreError::Torn(told)) => assert_eq!(told, kept),
             Err(error) => panic!("{error}"),
@@ -122,26 +122,26 @@ fn what_is_wrong_is_told() {
     assert_eq!(fault("journal 1\nseat 0 mailbox: made 0\nwhat\n"), 3);
     assert_eq!(fault("journal 1\nend 0\njournal 1\nfrom 1\n"), 4);
 
-    let mut checker = Checker::new().unwrap();
+    let mut checker = Checker::of_numbers().unwrap();
     checker.read(&b"journal 1\nseat 0 mailbox: made 0\n"[..]).unwrap();
     for _ in 0..2 {
         let read = checker.read(&b"seat 0 recv 0: 5\nend 2\n"[..]);
         assert!(matches!(read, Err(CheckError::Unlawful(1))), "{read:?}");
         assert_eq!((checker.entries(), checker.is_whole()), (1, false));
     }
-    let restored = Switchboard::restore(&b"journal 1\nseat 0 poll 0: none\nend 1\n"[..], LIMIT);
+    let restored = Board::restore(&b"journal 1\nseat 0 poll 0: none\nend 1\n"[..], LIMIT);
     assert!(matches!(restored, Err(RestoreError::Check(CheckError::Unlawful(0)))));
     // A number of which there is none behind it.
     for who in ["seat", "lane", "feed"] {
         let text = format!("journal 1\n{who} {} mailbox: made 0\nend 1\n", u64::MAX);
-        let restored = Switchboard::restore(text.as_bytes(), LIMIT);
+        let restored = Board::restore(text.as_bytes(), LIMIT);
         assert!(matches!(restored, Err(RestoreError::Check(CheckError::NoMemory))));
     }
     for limit in [0, (1 << 32) + 1] {
-        let restored = Switchboard::restore(&b"journal 1\nend 0\n"[..], limit);
+        let restored = Board::restore(&b"journal 1\nend 0\n"[..], limit);
         assert!(matches!(restored, Err(RestoreError::OutOfBounds)));
     }
-    assert!(Switchboard::restore(&b"journal 1\nend 0\n"[..], 1 << 32).is_ok());
+    assert!(Board::restore(&b"journal 1\nend 0\n"[..], 1 << 32).is_ok());
 }
 
 /// Fails at every other read, and gives little at each.
@@ -172,11 +172,11 @@ fn readers_and_writers_may_fail() {
             error,
         })
     };
-    let mut checker = Checker::new().unwrap();
+    let mut checker = Checker::of_numbers().unwrap();
     checker.read(fickle(io::ErrorKind::Interrupted)).unwrap();
     assert_eq!((checker.entries(), checker.is_whole()), (16, true));
 
-    let mut checker = Checker::new().unwrap();
+    let mut checker = Checker::of_numbers().unwrap();
     let mut reader = fickle(io::ErrorKind::TimedOut);
     let mut failed = 0;
     while let Err(CheckError::Io(error)) = checker.read(&mut reader) {
@@ -186,7 +186,7 @@ fn readers_and_writers_may_fail() {
     assert_eq!((checker.entries(), checker.is_whole()), (16, true));
     assert!(failed > text.len() / 7);
 
-    let board = Switchboard::new(LIMIT).unwrap();
+    let board = Switchboard::of_numbers(LIMIT).unwrap();
     let mut room = [0; 5];
     let written = board.take_journal().unwrap().write_to(&mut room.as_mut_slice());
     assert_eq!(written.map_err(|error| error.kind()), Err(io::ErrorKind::WriteZero));
@@ -197,19 +197,19 @@ fn readers_and_writers_may_fail() {
 #[test]
 fn threads_wait_on_a_restored_board() {
     let board =
-        Switchboard::restore(&b"journal 1\nseat 40 mailbox: made 0\nseat 7 mailbox: made 1\nend 2\n"[..], 1 << 32).unwrap();
+        Board::restore(&b"journal 1\nseat 40 mailbox: made 0\nseat 7 mailbox: made 1\nend 2\n"[..], 1 << 32).unwrap();
     let (there, back) = (board.mailbox(0).unwrap(), board.mailbox(1).unwrap());
     let (mut ann, mut ben) = (board.seat().unwrap(), board.seat().unwrap());
     assert_eq!((ann.number(), ben.number()), (41, 42));
     thread::scope(|scope| {
         scope.spawn(move || {
-            while let Ok(Some(message)) = ben.recv(there) {
+            while let Ok(message) = ben.recv(there) {
                 ben.send(back, message + 1).unwrap();
             }
         });
         for message in 0..1_000 {
             ann.send(there, message).unwrap();
-            assert_eq!(ann.recv(back), Ok(Some(message + 1)));
+            assert_eq!(ann.recv(back), Ok(message + 1));
         }
         // No thread could go on. Once this seat leaves, the other thread's call fails too.
         assert_eq!(ann.recv(back), Err(Error::Stalled));

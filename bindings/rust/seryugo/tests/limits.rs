@@ -2,8 +2,8 @@
 
 mod common;
 
-use common::{let_them_wait, seats, within_a_minute, Random};
-use seryugo::{Error, MVar, Mailbox, Seat, Switchboard};
+use common::{let_them_wait, seats, within_a_minute, MVar, Mailbox, Random, Seat};
+use seryugo::{Error, Switchboard};
 use std::sync::atomic::{AtomicU64, Ordering};
 use std::thread;
 use std::time::{Duration, Instant};
@@ -22,17 +22,17 @@ fn each_call(seat: &mut Seat<'_>, timeout: Duration) -> [Result<(), Error>; 6] {
         seat.get_timeout(once, timeout).map(drop),
         seat.get_timeout(often, timeout).map(drop),
         seat.take_timeout(often, timeout).map(drop),
-        seat.swap_timeout(often, 1, timeout).map(drop),
+        seat.swap_timeout(often, 1, timeout).map(drop).map_err(Error::from),
     ]
 }
 
 #[test]
 fn each_call_ends_at_its_limit() {
-    let board = Switchboard::new(100).unwrap();
+    let board = Switchboard::of_numbers(100).unwrap();
     let (mut seat, _free) = (board.seat().unwrap(), board.seat().unwrap());
     for timeout in [Duration::ZERO, Duration::from_micros(50), SHORT] {
         let (start, entries) = (Instant::now(), board.entries());
-        assert_eq!(each_call(&mut seat, timeout), [Err(Error::TimedOut); 6]);
+        assert_eq!(each_call(&mut seat, timeout), [const { Err(Error::TimedOut) }; 6]);
         assert!(start.elapsed() >= 6 * timeout);
         assert_eq!(board.entries(), entries + 5, "only the objects are made");
     }
@@ -40,20 +40,20 @@ fn each_call_ends_at_its_limit() {
 
 #[test]
 fn what_is_there_is_received_whatever_the_limit() {
-    let board = Switchboard::new(100).unwrap();
+    let board = Switchboard::of_numbers(100).unwrap();
     let mut seat = board.seat().unwrap();
     let mailbox = seat.mailbox().unwrap();
     let variable = seat.mvar_init(1).unwrap();
     for timeout in [Duration::ZERO, SHORT, Duration::MAX] {
         seat.send(mailbox, 5).unwrap();
-        assert_eq!(seat.recv_timeout(mailbox, timeout), Ok(Some(5)));
+        assert_eq!(seat.recv_timeout(mailbox, timeout), Ok(5));
         assert_eq!(seat.swap_timeout(variable, 2, timeout), Ok(1));
         assert_eq!(seat.get_timeout(variable, timeout), Ok(2));
         assert_eq!(seat.swap_timeout(variable, 1, timeout), Ok(2));
     }
     let past = Instant::now();
     seat.send(mailbox, 6).unwrap();
-    assert_eq!(seat.recv_deadline(mailbox, past), Ok(Some(6)));
+    assert_eq!(seat.recv_deadline(mailbox, past), Ok(6));
     assert_eq!(seat.get_deadline(variable, past), Ok(1));
     assert_eq!(seat.swap_deadline(variable, 3, past), Ok(1));
     assert_eq!(seat.take_deadline(variable, past), Ok(3));
@@ -64,7 +64,7 @@ fn what_is_there_is_received_whatever_the_limit() {
 fn a_call_with_a_limit_is_answered_and_refused_as_any_other() {
     within_a_minute(|| {
         for timeout in [Duration::from_secs(3_600), Duration::MAX] {
-            let board = Switchboard::new(100).unwrap();
+            let board = Switchboard::of_numbers(100).unwrap();
             let mut first = board.seat().unwrap();
             let mailbox = first.mailbox().unwrap();
             let channel = first.channel().unwrap();
@@ -74,7 +74,7 @@ fn a_call_with_a_limit_is_answered_and_refused_as_any_other() {
             thread::scope(|scope| {
                 for (n, mut seat) in waiting.into_iter().enumerate() {
                     scope.spawn(move || match n {
-                        0 => assert_eq!(seat.recv_timeout(mailbox, timeout), Ok(Some(5))),
+                        0 => assert_eq!(seat.recv_timeout(mailbox, timeout), Ok(5)),
                         1 => assert_eq!(seat.recv_timeout(port, timeout), Ok(None)),
                         2 => assert_eq!(seat.take_timeout(variable, timeout), Ok(6)),
                         _ => assert_eq!(seat.get_timeout(empty, timeout), Err(Error::Stalled)),
@@ -98,7 +98,7 @@ fn a_seat_that_gives_up_hands_its_turn_on() {
         let mut random = Random::new(1);
         let mut timed_out = 0;
         for _ in 0..1_000 {
-            let board = Switchboard::new(100).unwrap();
+            let board = Switchboard::of_numbers(100).unwrap();
             let mut first = board.seat().unwrap();
             let mailbox = first.mailbox().unwrap();
             let (mut brief, mut patient) = (board.seat().unwrap(), board.seat().unwrap());
@@ -111,7 +111,7 @@ fn a_seat_that_gives_up_hands_its_turn_on() {
                 first.send(mailbox, 1).unwrap();
                 match brief.join().unwrap() {
                     Ok(message) => {
-                        assert_eq!(message, Some(1));
+                        assert_eq!(message, 1);
                         first.send(mailbox, 1).unwrap();
                     }
                     Err(error) => {
@@ -119,7 +119,7 @@ fn a_seat_that_gives_up_hands_its_turn_on() {
                         timed_out += 1;
                     }
                 }
-                assert_eq!(patient.join().unwrap(), Ok(Some(1)));
+                assert_eq!(patient.join().unwrap(), Ok(1));
             });
             assert_eq!(board.owed(mailbox), Ok(0));
         }
@@ -134,7 +134,6 @@ fn receive_all(seat: &mut Seat<'_>, mailbox: Mailbox, received: &AtomicU64, all:
         let limit = Duration::from_micros(random.below(60));
         match seat.recv_timeout(mailbox, limit) {
             Ok(message) => {
-                let message = message.unwrap();
                 let last = &mut last[(message % 4) as usize];
                 assert!(last.replace(message) < Some(message), "a sender's messages are in order");
                 sum += message;
@@ -152,7 +151,7 @@ fn limits_pass_while_messages_are_sent() {
     const EACH: u64 = 5_000;
 
     within_a_minute(|| {
-        let board = &Switchboard::new(1 << 32).unwrap();
+        let board = &Switchboard::of_numbers(1 << 32).unwrap();
         let mut first = board.seat().unwrap();
         let mailbox = first.mailbox().unwrap();
         let received = &AtomicU64::new(0);
@@ -197,7 +196,7 @@ fn variables_are_locks_with_limits() {
     const TIMES: u64 = 2_000;
 
     within_a_minute(|| {
-        let board = Switchboard::new(1 << 32).unwrap();
+        let board = Switchboard::of_numbers(1 << 32).unwrap();
         // It stays free, since those that give up are to go on.
         let mut first = board.seat().unwrap();
         let variables = &[(); 3].map(|()| first.mvar_init(0).unwrap());
@@ -227,7 +226,7 @@ fn some_of_many_give_up() {
     within_a_minute(|| {
         let mut random = Random::new(2);
         for n in 0..300 {
-            let board = Switchboard::new(100).unwrap();
+            let board = Switchboard::of_numbers(100).unwrap();
             let mut first = board.seat().unwrap();
             let channel = first.channel().unwrap();
             let port = first.port(channel).unwrap();
@@ -253,7 +252,7 @@ fn some_of_many_give_up() {
 #[test]
 fn iterators_end() {
     within_a_minute(|| {
-        let board = Switchboard::new(100).unwrap();
+        let board = Switchboard::of_numbers(100).unwrap();
         let (mut seat, mut other) = (board.seat().unwrap(), board.seat().unwrap());
         let channel = seat.channel().unwrap();
         let port = seat.port(channel).unwrap();

@@ -1,6 +1,9 @@
 //! Threads on one switchboard.
 
-use seryugo::{Call, Error, Lane, LaneFull, Reply, Switchboard, Who};
+mod common;
+
+use common::Lane;
+use seryugo::{Call, Error, Reply, SendError, Switchboard, Who};
 use std::thread;
 
 const SENDERS: u64 = 4;
@@ -19,7 +22,7 @@ fn all_in_order(mut next: impl FnMut() -> u64) {
 
 #[test]
 fn four_senders_from_seats() {
-    let board = Switchboard::new(1 << 32).unwrap();
+    let board = Switchboard::of_numbers(1 << 32).unwrap();
     let mut receiver = board.seat().unwrap();
     let mailbox = receiver.mailbox().unwrap();
     let seats: Vec<_> = (0..SENDERS).map(|_| board.seat().unwrap()).collect();
@@ -31,14 +34,15 @@ fn four_senders_from_seats() {
                 }
             });
         }
-        all_in_order(|| receiver.recv(mailbox).unwrap().unwrap());
+        all_in_order(|| receiver.recv(mailbox).unwrap());
     });
     assert_eq!(board.got(mailbox), Ok(SENDERS * EACH));
 }
 
 fn send_all(mut lane: Lane<'_>, sender: u64) {
     for n in 0..EACH {
-        while let Err(LaneFull(_)) = lane.send(sender * EACH + n) {
+        while let Err(refused) = lane.send(sender * EACH + n) {
+            assert_eq!(refused.error, Error::Full);
             lane.drain().unwrap();
         }
     }
@@ -47,7 +51,7 @@ fn send_all(mut lane: Lane<'_>, sender: u64) {
 
 #[test]
 fn four_senders_on_lanes() {
-    let board = Switchboard::new(1 << 32).unwrap();
+    let board = Switchboard::of_numbers(1 << 32).unwrap();
     let mut receiver = board.seat().unwrap();
     let mailbox = receiver.mailbox().unwrap();
     let lanes: Vec<_> = (0..SENDERS).map(|_| board.lane(mailbox, 32).unwrap()).collect();
@@ -55,14 +59,14 @@ fn four_senders_on_lanes() {
         for (sender, lane) in (0..).zip(lanes) {
             scope.spawn(move || send_all(lane, sender));
         }
-        all_in_order(|| receiver.recv(mailbox).unwrap().unwrap());
+        all_in_order(|| receiver.recv(mailbox).unwrap());
     });
     assert_eq!(board.entry(1).map(|entry| matches!(entry.who, Who::Lane(_) | Who::Seat(_))), Some(true));
 }
 
 #[test]
 fn one_that_receives_drains_a_lane() {
-    let board = Switchboard::new(100).unwrap();
+    let board = Switchboard::of_numbers(100).unwrap();
     let mut receiver = board.seat().unwrap();
     let mailbox = receiver.mailbox().unwrap();
     let mut lane = board.lane(mailbox, 2).unwrap();
@@ -73,13 +77,13 @@ fn one_that_receives_drains_a_lane() {
             assert_eq!(board.drain(number), Ok(1));
             assert_eq!(board.drain(number + 1), Err(Error::NoSuch));
         });
-        assert_eq!(receiver.recv(mailbox), Ok(Some(5)));
+        assert_eq!(receiver.recv(mailbox), Ok(5));
     });
 }
 
 #[test]
 fn two_that_both_wait_are_stalled() {
-    let board = Switchboard::new(100).unwrap();
+    let board = Switchboard::of_numbers(100).unwrap();
     let mut one = board.seat().unwrap();
     let mut two = board.seat().unwrap();
     let mailbox = one.mailbox().unwrap();
@@ -93,8 +97,8 @@ fn two_that_both_wait_are_stalled() {
 
 #[test]
 fn refusals_are_told() {
-    assert_eq!(Switchboard::new(0).err(), Some(Error::OutOfBounds));
-    let board = Switchboard::new(2).unwrap();
+    assert_eq!(Switchboard::of_numbers(0).err(), Some(Error::OutOfBounds));
+    let board = Switchboard::of_numbers(2).unwrap();
     let mut seat = board.seat().unwrap();
     let mailbox = seat.mailbox().unwrap();
     let lane = board.lane(mailbox, 1).unwrap();
@@ -102,7 +106,8 @@ fn refusals_are_told() {
     assert_eq!(board.lane(mailbox, 0).err(), Some(Error::OutOfBounds));
     drop(lane);
     assert_eq!(seat.recv_poll(mailbox), Ok(None));
-    assert_eq!(seat.send(mailbox, 5), Err(Error::JournalFull));
+    let (message, error) = (5, Error::JournalFull);
+    assert_eq!(seat.send(mailbox, 5), Err(SendError { message, error }));
     assert_eq!(board.cut(), Ok(()));
     assert_eq!(seat.send(mailbox, 5), Ok(()));
     assert_eq!((board.entries(), board.cut_at()), (3, 2));
@@ -110,7 +115,7 @@ fn refusals_are_told() {
 
 #[test]
 fn a_journal_is_taken_and_read_by_another_thread() {
-    let board = Switchboard::new(100).unwrap();
+    let board = Switchboard::of_numbers(100).unwrap();
     let mut seat = board.seat().unwrap();
     let channel = seat.channel().unwrap();
     seat.multicast(channel, 5).unwrap();
@@ -122,7 +127,7 @@ fn a_journal_is_taken_and_read_by_another_thread() {
     let journal = board.take_journal().unwrap();
     assert_eq!((board.entries(), board.cut_at(), board.entry(1)), (3, 3, None));
     seat.multicast(channel, 6).unwrap();
-    let calls: Vec<Call> = thread::spawn(move || journal.iter().map(|entry| entry.call).collect()).join().unwrap();
+    let calls: Vec<Call<u64>> = thread::spawn(move || journal.iter().map(|entry| entry.call).collect()).join().unwrap();
     assert_eq!(calls, [Call::NewChannel, Call::Multicast(0, 5), Call::NewPort(0)]);
     let rest = board.take_journal().unwrap();
     assert_eq!((rest.len(), rest.entry(0).map(|entry| entry.call)), (1, Some(Call::Multicast(0, 6))));
@@ -132,7 +137,7 @@ fn a_journal_is_taken_and_read_by_another_thread() {
 
 #[test]
 fn the_journal_is_read_by_position() {
-    let board = Switchboard::new(100).unwrap();
+    let board = Switchboard::of_numbers(100).unwrap();
     let mut seat = board.seat().unwrap();
     let channel = seat.channel().unwrap();
     let port = seat.port(channel).unwrap();

@@ -2,8 +2,8 @@
 
 mod common;
 
-use common::{let_them_wait, seats, within_a_minute, Random};
-use seryugo::{Channel, Error, Feed, Lane, MVar, Mailbox, Port, Seat, Switchboard};
+use common::{let_them_wait, seats, within_a_minute, Board, Channel, Feed, Lane, MVar, Mailbox, Port, Random, Seat};
+use seryugo::{Error, Switchboard};
 use std::sync::atomic::{AtomicU64, Ordering};
 use std::sync::Barrier;
 use std::thread;
@@ -18,14 +18,14 @@ fn a_token_goes_round() {
     const ROUNDS: u64 = 1_000;
 
     within_a_minute(|| {
-        let board = Switchboard::new(1 << 32).unwrap();
+        let board = Switchboard::of_numbers(1 << 32).unwrap();
         let mut first = board.seat().unwrap();
         let mailboxes = &mailboxes(&mut first, THREADS);
         thread::scope(|scope| {
             for (at, mut seat) in seats(&board, THREADS).into_iter().enumerate() {
                 scope.spawn(move || {
                     for _ in 0..ROUNDS {
-                        let token = seat.recv(mailboxes[at]).unwrap().unwrap();
+                        let token = seat.recv(mailboxes[at]).unwrap();
                         seat.send(mailboxes[(at + 1) % THREADS], token + 1).unwrap();
                     }
                 });
@@ -55,7 +55,7 @@ fn variables_are_locks() {
     const TIMES: usize = 2_000;
 
     within_a_minute(|| {
-        let board = Switchboard::new(1 << 32).unwrap();
+        let board = Switchboard::of_numbers(1 << 32).unwrap();
         let mut first = board.seat().unwrap();
         let variables = &[(); 3].map(|()| first.mvar_init(0).unwrap());
         let out = &AtomicU64::new(0);
@@ -77,7 +77,7 @@ fn a_channel_has_eight_ports() {
     const MESSAGES: u64 = 1_000;
 
     within_a_minute(|| {
-        let board = Switchboard::new(1 << 32).unwrap();
+        let board = Switchboard::of_numbers(1 << 32).unwrap();
         let mut first = board.seat().unwrap();
         let (channel, answers) = (first.channel().unwrap(), first.mailbox().unwrap());
         let ports = &[(); PORTS].map(|()| first.port(channel).unwrap());
@@ -97,7 +97,7 @@ fn a_channel_has_eight_ports() {
             for n in 0..MESSAGES {
                 first.multicast(channel, n).unwrap();
                 for _ in 0..PORTS {
-                    assert_eq!(first.recv(answers), Ok(Some(n)));
+                    assert_eq!(first.recv(answers), Ok(n));
                 }
             }
             for (&port, mut seat) in ports.iter().zip(late) {
@@ -118,7 +118,7 @@ fn all_that_read_a_variable_are_woken() {
 
     within_a_minute(|| {
         for n in 0..200 {
-            let board = Switchboard::new(100).unwrap();
+            let board = Switchboard::of_numbers(100).unwrap();
             let mut first = board.seat().unwrap();
             let variable = first.ivar().unwrap();
             let all = &Barrier::new(THREADS);
@@ -137,14 +137,14 @@ fn all_that_read_a_variable_are_woken() {
 }
 
 /// Makes a call until the journal has room for it. Where it has none this thread cuts it.
-fn with_room<T>(board: &Switchboard, full: &AtomicU64, mut call: impl FnMut() -> Result<T, Error>) -> T {
+fn with_room<T>(board: &Board, full: &AtomicU64, mut call: impl FnMut() -> Result<T, Error>) -> T {
     loop {
         match call() {
             Err(Error::JournalFull) => {
                 full.fetch_add(1, Ordering::Relaxed);
                 board.cut().unwrap();
             }
-            told => return told.unwrap(),
+            answer => return answer.unwrap(),
         }
     }
 }
@@ -153,7 +153,7 @@ fn with_room<T>(board: &Switchboard, full: &AtomicU64, mut call: impl FnMut() ->
 fn four_send_and_four_receive(limit: u64) -> u64 {
     const EACH: u64 = 3_000;
 
-    let board = &Switchboard::new(limit).unwrap();
+    let board = &Switchboard::of_numbers(limit).unwrap();
     let mut first = board.seat().unwrap();
     let mailbox = first.mailbox().unwrap();
     let (sum, full) = (&AtomicU64::new(0), &AtomicU64::new(0));
@@ -163,7 +163,7 @@ fn four_send_and_four_receive(limit: u64) -> u64 {
         for (sender, mut seat) in (0..).zip(senders) {
             scope.spawn(move || {
                 for n in 0..EACH {
-                    with_room(board, full, || seat.send(mailbox, 4 * n + sender));
+                    with_room(board, full, || Ok(seat.send(mailbox, 4 * n + sender)?));
                 }
             });
         }
@@ -171,7 +171,7 @@ fn four_send_and_four_receive(limit: u64) -> u64 {
             scope.spawn(move || {
                 let mut last = [None; 4];
                 for _ in 0..EACH {
-                    let message = with_room(board, full, || seat.recv(mailbox)).unwrap();
+                    let message = with_room(board, full, || seat.recv(mailbox));
                     let last = &mut last[(message % 4) as usize];
                     assert!(last.replace(message) < Some(message));
                     sum.fetch_add(message, Ordering::Relaxed);
@@ -200,7 +200,7 @@ fn the_journal_is_cut_while_others_wait() {
 
 /// A call that makes the journal full, on a board with this channel, and this mailbox that has a message. A feed that it opens
 /// comes back, since its end is a call too.
-type Filling = for<'a> fn(&'a Switchboard, &mut Seat<'_>, Channel, Mailbox) -> Option<Feed<'a>>;
+type Filling = for<'a> fn(&'a Board, &mut Seat<'_>, Channel, Mailbox) -> Option<Feed<'a>>;
 
 const FILLINGS: [Filling; 5] = [
     |_, seat, _, mailbox| seat.recv(mailbox).map(|_| None).unwrap(),
@@ -220,7 +220,7 @@ const FILLINGS: [Filling; 5] = [
 fn all_that_wait_are_refused_where_the_journal_is_full() {
     within_a_minute(|| {
         for fill in FILLINGS.iter().cycle().take(200) {
-            let board = Switchboard::new(6).unwrap();
+            let board = Switchboard::of_numbers(6).unwrap();
             let mut first = board.seat().unwrap();
             let (channel, full, empty) = (first.channel().unwrap(), first.mailbox().unwrap(), first.mailbox().unwrap());
             let variable = first.mvar().unwrap();
@@ -249,7 +249,7 @@ fn all_that_wait_are_refused_where_the_journal_is_full() {
 fn all_that_wait_are_refused_where_a_pump_fills_the_journal() {
     within_a_minute(|| {
         for _ in 0..50 {
-            let board = Switchboard::new(5).unwrap();
+            let board = Switchboard::of_numbers(5).unwrap();
             let mut first = board.seat().unwrap();
             let (channel, mailbox) = (first.channel().unwrap(), first.mailbox().unwrap());
             let mut feed = board.feed(channel, 1).unwrap();
@@ -265,7 +265,7 @@ fn all_that_wait_are_refused_where_a_pump_fills_the_journal() {
                 let_them_wait();
                 assert_eq!(feed.pump(), Ok(1));
             });
-            assert_eq!(feed.recv(), Some(7));
+            assert_eq!(feed.recv(), Ok(Some(7)));
         }
     });
 }
@@ -287,7 +287,7 @@ const MOVINGS: [Moving; 3] = [
 fn messages_of_a_lane_wake_all_that_receive_them() {
     within_a_minute(|| {
         for moves in MOVINGS.iter().cycle().take(150) {
-            let board = Switchboard::new(100).unwrap();
+            let board = Switchboard::of_numbers(100).unwrap();
             let mut first = board.seat().unwrap();
             let mailbox = first.mailbox().unwrap();
             let mut lane = board.lane(mailbox, 3).unwrap();
@@ -295,7 +295,7 @@ fn messages_of_a_lane_wake_all_that_receive_them() {
             let _open = thread::scope(|scope| {
                 for mut seat in seats(&board, 3) {
                     scope.spawn(move || {
-                        assert_eq!(seat.recv(mailbox), Ok(Some(7)));
+                        assert_eq!(seat.recv(mailbox), Ok(7));
                         all.wait();
                     });
                 }
@@ -314,7 +314,7 @@ fn messages_of_a_lane_wake_all_that_receive_them() {
 fn all_that_wait_are_refused_where_they_are_stalled() {
     within_a_minute(|| {
         for _ in 0..200 {
-            let board = Switchboard::new(100).unwrap();
+            let board = Switchboard::of_numbers(100).unwrap();
             let mut first = board.seat().unwrap();
             let mailbox = first.mailbox().unwrap();
             let channel = first.channel().unwrap();
@@ -330,7 +330,7 @@ fn all_that_wait_are_refused_where_they_are_stalled() {
                             5..=6 => seat.get(once).map(drop),
                             7 => seat.get(often).map(drop),
                             8 => seat.take(often).map(drop),
-                            _ => seat.swap(often, 1).map(drop),
+                            _ => seat.swap(often, 1).map(drop).map_err(Error::from),
                         };
                         assert_eq!(told, Err(Error::Stalled));
                     });
@@ -347,7 +347,7 @@ fn all_that_wait_are_refused_where_they_are_stalled() {
 fn the_last_lane_leaves_all_stalled() {
     within_a_minute(|| {
         for n in 0..200 {
-            let board = Switchboard::new(100).unwrap();
+            let board = Switchboard::of_numbers(100).unwrap();
             let mut waiting = seats(&board, 6);
             let mailbox = waiting[0].mailbox().unwrap();
             let mut lane = board.lane(mailbox, 2).unwrap();
@@ -355,7 +355,7 @@ fn the_last_lane_leaves_all_stalled() {
             thread::scope(|scope| {
                 for mut seat in waiting {
                     scope.spawn(move || match seat.recv(mailbox) {
-                        Ok(Some(message)) => assert_eq!(received.fetch_add(1, Ordering::Relaxed), message),
+                        Ok(message) => assert_eq!(received.fetch_add(1, Ordering::Relaxed), message),
                         told => assert_eq!(told, Err(Error::Stalled)),
                     });
                 }
@@ -376,7 +376,7 @@ fn the_last_lane_leaves_all_stalled() {
 fn who_is_refused_wakes_the_other() {
     within_a_minute(|| {
         for _ in 0..500 {
-            let board = Switchboard::new(100).unwrap();
+            let board = Switchboard::of_numbers(100).unwrap();
             let mut waiting = seats(&board, 2);
             let mailbox = waiting[0].mailbox().unwrap();
             let stalled = &AtomicU64::new(0);
@@ -398,7 +398,7 @@ fn who_is_refused_wakes_the_other() {
 
 /// What the threads of the next test share.
 struct Shared {
-    board: Switchboard,
+    board: Board,
     mailboxes: Vec<Mailbox>,
     variables: Vec<MVar>,
     channel: Channel,
@@ -407,7 +407,7 @@ struct Shared {
 
 impl Shared {
     fn new(limit: u64) -> Shared {
-        let board = Switchboard::new(limit).unwrap();
+        let board = Switchboard::of_numbers(limit).unwrap();
         let mut first = board.seat().unwrap();
         let mailboxes = mailboxes(&mut first, 3);
         let variables = (0..3).map(|_| first.mvar().unwrap()).collect();
@@ -428,13 +428,13 @@ impl Shared {
         let at = number / 9 % 3;
         let (mailbox, variable, port) = (self.mailboxes[at], self.variables[at], self.ports[at]);
         let told = match number % 9 {
-            0 => seat.send(mailbox, 1),
+            0 => seat.send(mailbox, 1).map_err(Error::from),
             1..=2 => seat.recv(mailbox).map(drop),
-            3 => seat.put(variable, 1).map(drop),
+            3 => seat.put(variable, 1).map(drop).map_err(Error::from),
             4 => seat.take(variable).map(drop),
-            5 => seat.swap(variable, 2).map(drop),
+            5 => seat.swap(variable, 2).map(drop).map_err(Error::from),
             6 => seat.get(variable).map(drop),
-            7 => seat.multicast(self.channel, 1),
+            7 => seat.multicast(self.channel, 1).map_err(Error::from),
             _ => seat.recv(port).map(drop),
         };
         match told {

@@ -2,7 +2,7 @@
 
 use crate::queue::{Queue, Waking};
 use crate::Way;
-use seryugo::{Lane, LaneFull, Mailbox, Seat, Switchboard};
+use seryugo::{Error, Lane, Mailbox, Numbers, Seat, Switchboard};
 use std::sync::mpsc;
 use std::thread;
 use std::time::{Duration, Instant};
@@ -56,10 +56,10 @@ fn by_lock(messages: u64, waking: Waking) -> Duration {
 }
 
 fn by_seats(messages: u64) -> Duration {
-    let board = Switchboard::new(1 << 32).unwrap();
+    let board = Switchboard::of_numbers(1 << 32).unwrap();
     let mut receiver = board.seat().unwrap();
     let mailbox = receiver.mailbox().unwrap();
-    let seats: Vec<Seat> = (0..SENDERS).map(|_| board.seat().unwrap()).collect();
+    let seats: Vec<Seat<'_, Numbers>> = (0..SENDERS).map(|_| board.seat().unwrap()).collect();
     let each = messages / SENDERS;
     let start = Instant::now();
     thread::scope(|scope| {
@@ -72,10 +72,10 @@ fn by_seats(messages: u64) -> Duration {
 }
 
 fn by_lanes(messages: u64) -> Duration {
-    let board = Switchboard::new(1 << 32).unwrap();
+    let board = Switchboard::of_numbers(1 << 32).unwrap();
     let mut receiver = board.seat().unwrap();
     let mailbox = receiver.mailbox().unwrap();
-    let lanes: Vec<Lane> = (0..SENDERS).map(|_| board.lane(mailbox, CAPACITY).unwrap()).collect();
+    let lanes: Vec<Lane<'_, Numbers, u64>> = (0..SENDERS).map(|_| board.lane(mailbox, CAPACITY).unwrap()).collect();
     let each = messages / SENDERS;
     let start = Instant::now();
     thread::scope(|scope| {
@@ -88,17 +88,18 @@ fn by_lanes(messages: u64) -> Duration {
 }
 
 /// The lock is taken only where the lane is full.
-fn send_on(mut lane: Lane<'_>, sender: u64, each: u64) {
+fn send_on(mut lane: Lane<'_, Numbers, u64>, sender: u64, each: u64) {
     for message in messages_of(sender, each) {
-        while let Err(LaneFull(_)) = lane.send(message) {
+        while let Err(refused) = lane.send(message) {
+            assert_eq!(refused.error, Error::Full);
             lane.drain().unwrap();
         }
     }
     lane.close().unwrap();
 }
 
-fn receive_from(receiver: &mut Seat<'_>, mailbox: Mailbox, each: u64) {
-    receive_all(each, || receiver.recv(mailbox).unwrap().unwrap());
+fn receive_from(receiver: &mut Seat<'_, Numbers>, mailbox: Mailbox<u64>, each: u64) {
+    receive_all(each, || receiver.recv(mailbox).unwrap());
 }
 
 fn by_mpsc(messages: u64) -> Duration {

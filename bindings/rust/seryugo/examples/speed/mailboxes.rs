@@ -1,7 +1,7 @@
 //! What one writes by hand with care where several mailboxes have threads that wait: a lock round deques and a journal of every
 //! call, and a condition variable for each mailbox.
 
-use seryugo::{Call, Entry, Error, Reply, Who};
+use seryugo::{Call, Entry, Error, Numbers, Reply, Who};
 use std::collections::VecDeque;
 use std::sync::{Condvar, Mutex, MutexGuard, PoisonError};
 
@@ -14,7 +14,7 @@ pub struct Mailboxes {
 
 struct Inside {
     mailboxes: Vec<Mailbox>,
-    journal: Vec<Entry>,
+    journal: Vec<Entry<Numbers>>,
 }
 
 #[derive(Default)]
@@ -63,7 +63,7 @@ impl Mailboxes {
         Ok(message)
     }
 
-    fn note(&self, inside: &mut Inside, seat: u64, call: Call, reply: Reply) -> Result<(), Error> {
+    fn note(&self, inside: &mut Inside, seat: u64, call: Call<u64>, reply: Reply<u64>) -> Result<(), Error> {
         if inside.journal.len() >= self.limit {
             return Err(Error::JournalFull);
         }

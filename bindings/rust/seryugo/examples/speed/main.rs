@@ -2,8 +2,8 @@
 //! journal: `cargo run --release --example speed`. Behind `--` may come a number of messages, and then a word: only workloads
 //! and ways whose names have it are gone.
 //!
-//! First one thread sends and receives in turn. It does the same with messages of 64 bytes, by hand alone. Then four threads
-//! send to one that receives. A token goes round 8 and round 63 threads, and eight workers serve 32 and 128 clients: these take
+//! First one thread sends and receives in turn. It does the same with values of types, and with messages of 64 bytes, by hand alone.
+//! Then four threads send to one that receives. A token goes round 8 and round 63 threads, and eight workers serve 32 and 128 clients: these take
 //! a tenth of the messages, since a thread sleeps and is woken for each. Each figure is the median of several rounds, in which
 //! all ways come in turn.
 
@@ -15,6 +15,7 @@ mod queue;
 mod server;
 mod together;
 mod token;
+mod typed;
 
 use std::time::Duration;
 
@@ -32,6 +33,8 @@ fn main() {
     let only = words.next().unwrap_or_default();
     let few = messages.div_ceil(10);
     measure("one thread sends and receives", &one_thread::WAYS, messages, &only);
+    measure("typed: a u64", &typed::NUMBERS, messages, &only);
+    measure("typed: a String of 32 bytes", &typed::STRINGS, messages, &only);
     measure("pairs1 of 64 bytes, without a lock", &bytes::WAYS, messages, &only);
     measure("four threads send, one receives", &four_senders::WAYS, messages, &only);
     measure("token8: a token goes round 8 threads", &token::ways::<8>(), few, &only);

@@ -38,13 +38,13 @@ fn by_lock(messages: u64, waking: Waking) -> Duration {
 }
 
 fn by_seat(messages: u64) -> Duration {
-    let board = Switchboard::new(1 << 32).unwrap();
+    let board = Switchboard::of_numbers(1 << 32).unwrap();
     let mut seat = board.seat().unwrap();
     let mailbox = seat.mailbox().unwrap();
     let start = Instant::now();
     for n in 0..messages {
         seat.send(mailbox, n).unwrap();
-        assert_eq!(seat.recv(mailbox), Ok(Some(n)));
+        assert_eq!(seat.recv(mailbox), Ok(n));
         if n % CUT == 0 {
             board.cut().unwrap();
         }

@@ -1,12 +1,12 @@
 //! What one writes by hand in place of a switchboard: a lock round a deque and a journal of every call.
 
-use seryugo::{Call, Entry, Error, Reply, Who};
+use seryugo::{Call, Error, Reply, Who};
 use std::collections::VecDeque;
 use std::sync::{Condvar, Mutex, MutexGuard, PoisonError};
 
 /// One queue, with a journal that takes so many entries. Its entries say what those of a switchboard say.
-pub struct Queue {
-    inside: Mutex<Inside>,
+pub struct Queue<M> {
+    inside: Mutex<Inside<M>>,
     changed: Condvar,
     limit: usize,
     waking: Waking,
@@ -20,17 +20,25 @@ pub enum Waking {
     WhereSleeping,
 }
 
-struct Inside {
-    messages: VecDeque<u64>,
-    journal: Vec<Entry>,
+struct Inside<M> {
+    messages: VecDeque<M>,
+    journal: Vec<Entry<M>>,
     sleeping: usize,
+}
+
+/// No test reads it: it is there to cost what a journal costs.
+#[allow(dead_code)]
+struct Entry<M> {
+    who: Who,
+    call: Call<M>,
+    reply: Reply<M>,
 }
 
 /// The number under which the journal tells of the queue.
 const QUEUE: u64 = 0;
 
-impl Queue {
-    pub fn new(limit: usize, waking: Waking) -> Queue {
+impl<M: Clone> Queue<M> {
+    pub fn new(limit: usize, waking: Waking) -> Queue<M> {
         let inside = Inside {
             messages: VecDeque::new(),
             journal: Vec::new(),
@@ -49,9 +57,9 @@ impl Queue {
         self.lock().journal.clear();
     }
 
-    pub fn send(&self, sender: u64, message: u64) -> Result<(), Error> {
+    pub fn send(&self, sender: u64, message: M) -> Result<(), Error> {
         let mut inside = self.lock();
-        self.note(&mut inside, sender, Call::Send(QUEUE, message), Reply::Done)?;
+        self.note(&mut inside, sender, Call::Send(QUEUE, message.clone()), Reply::Done)?;
         inside.messages.push_back(message);
         let wakes = self.waking == Waking::Always || inside.sleeping > 0;
         drop(inside);
@@ -61,20 +69,20 @@ impl Queue {
         Ok(())
     }
 
-    pub fn recv(&self, receiver: u64) -> Result<u64, Error> {
+    pub fn recv(&self, receiver: u64) -> Result<M, Error> {
         let mut inside = self.lock();
         while inside.messages.is_empty() {
             inside.sleeping += 1;
             inside = self.changed.wait(inside).unwrap_or_else(PoisonError::into_inner);
             inside.sleeping -= 1;
         }
-        let message = inside.messages[0];
-        self.note(&mut inside, receiver, Call::Recv(QUEUE), Reply::Got(message))?;
+        let message = inside.messages[0].clone();
+        self.note(&mut inside, receiver, Call::Recv(QUEUE), Reply::Got(message.clone()))?;
         inside.messages.pop_front();
         Ok(message)
     }
 
-    fn note(&self, inside: &mut Inside, seat: u64, call: Call, reply: Reply) -> Result<(), Error> {
+    fn note(&self, inside: &mut Inside<M>, seat: u64, call: Call<M>, reply: Reply<M>) -> Result<(), Error> {
         if inside.journal.len() >= self.limit {
             return Err(Error::JournalFull);
         }
@@ -83,7 +91,7 @@ impl Queue {
         Ok(())
     }
 
-    fn lock(&self) -> MutexGuard<'_, Inside> {
+    fn lock(&self) -> MutexGuard<'_, Inside<M>> {
         self.inside.lock().unwrap_or_else(PoisonError::into_inner)
     }
 }

@@ -26,7 +26,7 @@ fn each<const CLIENTS: usize>(messages: u64) -> u64 {
 
 /// A request is its client's number, and so is the answer. As the last client has left, each worker is refused.
 fn by_seats<const CLIENTS: usize>(messages: u64) -> Duration {
-    let board = Switchboard::new(1 << 32).unwrap();
+    let board = Switchboard::of_numbers(1 << 32).unwrap();
     let mut first = board.seat().unwrap();
     let requests = first.mailbox().unwrap();
     let answers = &(0..CLIENTS).map(|_| first.mailbox().unwrap()).collect::<Vec<_>>();
@@ -36,7 +36,7 @@ fn by_seats<const CLIENTS: usize>(messages: u64) -> Duration {
         let mut seat = board.seat().unwrap();
         jobs.push(Box::new(move || loop {
             match seat.recv(requests) {
-                Ok(client) => seat.send(answers[client.unwrap() as usize], client.unwrap()).unwrap(),
+                Ok(client) => seat.send(answers[client as usize], client).unwrap(),
                 Err(error) => return assert_eq!(error, Error::Stalled),
             }
         }));
@@ -46,7 +46,7 @@ fn by_seats<const CLIENTS: usize>(messages: u64) -> Duration {
         jobs.push(Box::new(move || {
             for _ in 0..each::<CLIENTS>(messages) {
                 seat.send(requests, client).unwrap();
-                assert_eq!(seat.recv(answer), Ok(Some(client)));
+                assert_eq!(seat.recv(answer), Ok(client));
             }
         }));
     }

@@ -26,7 +26,7 @@ fn hops<const THREADS: usize>(messages: u64) -> u64 {
 }
 
 fn by_seats<const THREADS: usize>(messages: u64) -> Duration {
-    let board = Switchboard::new(1 << 32).unwrap();
+    let board = Switchboard::of_numbers(1 << 32).unwrap();
     let mut first = board.seat().unwrap();
     let mailboxes = &(0..THREADS).map(|_| first.mailbox().unwrap()).collect::<Vec<_>>();
     let mut jobs: Vec<Job> = Vec::new();
@@ -35,7 +35,7 @@ fn by_seats<const THREADS: usize>(messages: u64) -> Duration {
         jobs.push(Box::new(move || {
             let next = mailboxes[(at + 1) % THREADS];
             pass_on::<THREADS>(|| {
-                let left = seat.recv(mailboxes[at]).unwrap().unwrap();
+                let left = seat.recv(mailboxes[at]).unwrap();
                 if left > 0 {
                     seat.send(next, left - 1).unwrap();
                 }

@@ -3,7 +3,7 @@
 // Each test is its own crate, and none needs all of it.
 #![allow(dead_code)]
 
-use seryugo::{Seat, Switchboard};
+use seryugo::{Numbers, Switchboard};
 use std::future::Future;
 use std::pin::pin;
 use std::sync::mpsc::{self, RecvTimeoutError};
@@ -11,6 +11,17 @@ use std::sync::Arc;
 use std::task::{Context, Poll, Wake, Waker};
 use std::thread::{self, Thread};
 use std::time::Duration;
+
+/// Most tests are on numbers: the calls are the same on bytes.
+pub type Board = Switchboard<Numbers>;
+pub type Seat<'a> = seryugo::Seat<'a, Numbers>;
+pub type Lane<'a> = seryugo::Lane<'a, Numbers, u64>;
+pub type Feed<'a> = seryugo::Feed<'a, Numbers, u64>;
+pub type Mailbox = seryugo::Mailbox<u64>;
+pub type Channel = seryugo::Channel<u64>;
+pub type Port = seryugo::Port<u64>;
+pub type IVar = seryugo::IVar<u64>;
+pub type MVar = seryugo::MVar<u64>;
 
 /// Fails where the test hasn't ended within a minute.
 pub fn within_a_minute(test: impl FnOnce() + Send + 'static) {
@@ -30,7 +41,7 @@ pub fn let_them_wait() {
     thread::sleep(Duration::from_micros(200));
 }
 
-pub fn seats(board: &Switchboard, count: usize) -> Vec<Seat<'_>> {
+pub fn seats(board: &Board, count: usize) -> Vec<Seat<'_>> {
     (0..count).map(|_| board.seat().unwrap()).collect()
 }
 

@@ -1,0 +1,240 @@
+//! A library that isn't the one of this crate, though it has the same version: its calls return any code. No call of the crate
+//! panics, and each that fails says by which code.
+
+use seryugo::{Carries, Channel, CheckError, Checker, Error, IVar, MVar, Mailbox, Port, Seat, Switchboard};
+use std::env;
+use std::fs;
+use std::future::Future;
+use std::path::{Path, PathBuf};
+use std::pin::pin;
+use std::process::Command;
+use std::task::{Context, Poll, Waker};
+use std::time::{Duration, Instant};
+
+/// The variables of the environment that have what the library returns: from the calls that open or make something, and from others.
+const OPENING: &str = "SERYUGO_TEST_OPENING";
+const OTHER: &str = "SERYUGO_TEST_OTHER";
+
+/// The head of the library. Its functions read nothing that they are given, so none declares it.
+const HEAD: &str = r#"
+#include <stdint.h>
+#include <stdlib.h>
+static uint32_t code(const char *of) { return (uint32_t)strtoul(getenv(of), NULL, 10); }
+uint32_t seryugo_kind(void *room, uint64_t object, uint64_t *kind) { (void)room; *kind = object; return 0; }
+"#;
+
+/// The files that declare what the crate calls.
+const DECLARING: [&str; 5] = [
+    include_str!("../src/raw.rs"),
+    include_str!("../src/numbers.rs"),
+    include_str!("../src/bytes.rs"),
+    include_str!("../src/received.rs"),
+    include_str!("../src/version.rs"),
+];
+
+/// A library of this version with each function that the crate calls.
+fn library_in_c() -> String {
+    let part = |digits: &str| digits.parse::<u32>().unwrap();
+    let version = part(env!("CARGO_PKG_VERSION_MAJOR")) << 16
+        | part(env!("CARGO_PKG_VERSION_MINOR")) << 8
+        | part(env!("CARGO_PKG_VERSION_PATCH"));
+    let mut library = format!("{HEAD}uint32_t seryugo_version(void) {{ return {version}; }}\n");
+    let declared = DECLARING.iter().flat_map(|file| file.split("fn seryugo_").skip(1));
+    let names = declared.filter_map(|function| Some(function.split_once('(')?.0));
+    for name in names.filter(|name| !matches!(*name, "version" | "kind")) {
+        let variable = if opens(name) { OPENING } else { OTHER };
+        library += &format!("uint32_t seryugo_{name}(void) {{ return code(\"{variable}\"); }}\n");
+    }
+    library
+}
+
+/// Whether a call opens or makes something, or is needed for that.
+fn opens(name: &str) -> bool {
+    match name {
+        "take_journal" | "room_restore" | "feed_port" | "cut_at" => true,
+        "is_open" => false,
+        _ => name.ends_with("_open") || name.starts_with("new_"),
+    }
+}
+
+/// Builds that library into a folder. `None` if there is no compiler for C.
+fn built(folder: &Path) -> Option<()> {
+    fs::create_dir_all(folder.join("lib")).unwrap();
+    fs::write(folder.join("library.c"), library_in_c()).unwrap();
+    let run = |program: &str, words: &[&str]| Command::new(program).args(words).current_dir(folder).status().ok();
+    let compiled = run("cc", &["-c", "library.c", "-o", "library.o"])?;
+    let archived = run("ar", &["rcs", "lib/libseryugo.a", "library.o"])?;
+    assert!(compiled.success() && archived.success());
+    Some(())
+}
+
+/// Links the next test with that library, and runs it.
+#[test]
+fn a_foreign_library_makes_no_call_panic() {
+    let folder = PathBuf::from(env!("CARGO_TARGET_TMPDIR")).join("foreign");
+    if built(&folder).is_none() {
+        println!("left out: there is no compiler for C");
+        return;
+    }
+    let ended = Command::new(env!("CARGO"))
+        .args(["test", "--quiet", "--offline", "--test", "foreign", "--", "--ignored"])
+        .current_dir(env!("CARGO_MANIFEST_DIR"))
+        .env("SERYUGO_PREFIX", &folder)
+        .env_remove("SERYUGO_ARCHIVES")
+        .env("CARGO_TARGET_DIR", folder.join("target"))
+        .output()
+        .unwrap();
+    let text = String::from_utf8_lossy(&ended.stdout) + String::from_utf8_lossy(&ended.stderr);
+    assert!(ended.status.success() && text.contains("1 passed"), "{text}");
+}
+
+/// What the library returns from now on.
+fn returns(opening: u32, other: u32) {
+    env::set_var(OPENING, opening.to_string());
+    env::set_var(OTHER, other.to_string());
+}
+
+#[test]
+#[ignore = "a_foreign_library_makes_no_call_panic runs it with that library"]
+fn each_code_at_each_call() {
+    const PARKED: u32 = 4;
+    const NO_MEMORY: u32 = 11;
+
+    for code in (1..=40).chain([255, u32::MAX]) {
+        returns(code, code);
+        assert_eq!(Switchboard::new(9).err(), Some(error_of(code)));
+        assert_eq!(Switchboard::of_numbers(9).err(), Some(error_of(code)));
+        assert!(Checker::new().is_err());
+        returns(0, code);
+        let (bytes, numbers) = (Switchboard::new(9).unwrap(), Switchboard::of_numbers(9).unwrap());
+        calls(&bytes, code);
+        calls(&numbers, code);
+        if code != PARKED {
+            blocking_calls(&bytes, code);
+            blocking_calls(&numbers, code);
+        }
+        if code != NO_MEMORY {
+            assert_eq!((bytes.entry(0), numbers.entry(0)), (None, None));
+            assert_eq!(bytes.take_journal().unwrap().entry(0), None);
+        }
+        assert!(numbers.take_journal().unwrap().write_to(&mut Vec::new()).is_err());
+        assert!(Switchboard::<seryugo::Bytes>::restore(&b"journal 2\nend 0\n"[..], 9).is_err());
+        assert_eq!((bytes.entries(), bytes.cut_at(), bytes.lost()), (0, 0, 0));
+        checks(code);
+    }
+}
+
+fn error_of(code: u32) -> Error {
+    match code {
+        5 => Error::Gone,
+        6 => Error::Busy,
+        7 => Error::NoSuch,
+        8 => Error::WrongKind,
+        9 => Error::JournalFull,
+        10 => Error::Stalled,
+        11 => Error::NoMemory,
+        12 => Error::Unseen,
+        13 => Error::Full,
+        16 => Error::OutOfBounds,
+        code => Error::Unknown(code),
+    }
+}
+
+/// The answer of a call. The first codes are answers of some calls: then it may be one.
+fn see<T>(call: &str, answer: Result<T, impl Into<Error>>, code: u32) {
+    match answer.map_err(Into::into) {
+        Ok(_) => assert!(code < 5, "{call} with the code {code}"),
+        Err(Error::TimedOut) => assert_eq!(code, 4, "{call}"),
+        Err(error) => assert_eq!(error, error_of(code), "{call}"),
+    }
+}
+
+type Names = (Mailbox<u64>, Channel<u64>, Port<u64>, IVar<u64>, MVar<u64>);
+
+/// In this library an object's number is that of its kind.
+fn names<R: Carries<u64>>(board: &Switchboard<R>) -> Names {
+    (
+        board.mailbox(0).unwrap(),
+        board.channel(1).unwrap(),
+        board.port(2).unwrap(),
+        board.ivar(3).unwrap(),
+        board.mvar(4).unwrap(),
+    )
+}
+
+fn calls<R: Carries<u64>>(board: &Switchboard<R>, code: u32) {
+    let (mailbox, channel, port, ivar, mvar) = names(board);
+    let mut seat = board.seat().unwrap();
+    see("copy", seat.copy(port), code);
+    see("close", seat.close(port), code);
+    see("mvar_init", seat.mvar_init(5), code);
+    see("send", seat.send(mailbox, 5), code);
+    see("multicast", seat.multicast(channel, 5), code);
+    see("put", seat.put(ivar, 5), code);
+    see("recv_poll", seat.recv_poll(mailbox), code);
+    see("get_poll", seat.get_poll(ivar), code);
+    see("take_poll", seat.take_poll(mvar), code);
+    see("recv_timeout", seat.recv_timeout(mailbox, Duration::from_micros(1)), code);
+    see("get_deadline", seat.get_deadline(ivar, Instant::now()), code);
+    see("swap_timeout", seat.swap_timeout(mvar, 5, Duration::ZERO), code);
+    assert_eq!(seat.try_iter(mailbox).next(), None);
+    see("held", board.held(mvar), code);
+    see("is_open", board.is_open(port), code);
+    see("sent", board.sent(channel), code);
+    see("got", board.got(port), code);
+    see("owed", board.owed(mailbox), code);
+    see("kept", board.kept(channel), code);
+    see("channel_of", board.channel_of(port), code);
+    see("start_of", board.start_of(port), code);
+    see("reserve", board.reserve(1), code);
+    see("cut", board.cut(), code);
+    lanes_and_feeds(board, code);
+    drop(seat);
+}
+
+fn lanes_and_feeds<R: Carries<u64>>(board: &Switchboard<R>, code: u32) {
+    let (mailbox, channel, ..) = names(board);
+    let mut feed = board.feed(channel, 1).unwrap();
+    see("feed.pump", feed.pump(), code);
+    see("feed.recv", feed.recv(), code);
+    let mut lane = board.lane(mailbox, 1).unwrap();
+    see("lane.send", lane.send(5), code);
+    see("lane.drain", lane.drain(), code);
+    let unclosed = lane.close().unwrap_err();
+    assert_eq!(unclosed.error(), error_of(code));
+    assert_eq!((unclosed.close().unwrap_err().abandon(), board.lost()), (0, 0));
+}
+
+/// These would wait for ever if each of them parked.
+fn blocking_calls<R: Carries<u64>>(board: &Switchboard<R>, code: u32) {
+    let (mailbox, _, port, ivar, mvar) = names(board);
+    let mut seat: Seat<'_, R> = board.seat().unwrap();
+    see("recv", seat.recv(mailbox), code);
+    see("recv of a port", seat.recv(port), code);
+    see("get", seat.get(ivar), code);
+    see("take", seat.take(mvar), code);
+    see("swap", seat.swap(mvar, 5), code);
+    see("recv_async", polled(seat.recv_async(port)), code);
+    see("swap_async", polled(seat.swap_async(mvar, 5)), code);
+    let mut messages = seat.iter(mailbox);
+    assert_eq!((messages.next(), messages.error()), (None, Some(error_of(code))));
+}
+
+fn polled<T>(future: impl Future<Output = T>) -> T {
+    match pin!(future).poll(&mut Context::from_waker(Waker::noop())) {
+        Poll::Ready(answer) => answer,
+        Poll::Pending => panic!("it is parked"),
+    }
+}
+
+fn checks(code: u32) {
+    let mut checker = Checker::new().unwrap();
+    let read = checker.read(&b"journal 2\n"[..]).unwrap_err();
+    match code {
+        17 => assert!(matches!(read, CheckError::Unlawful(0))),
+        18 => assert!(matches!(read, CheckError::Fault(1))),
+        11 => assert!(matches!(read, CheckError::NoMemory)),
+        code => assert!(matches!(read, CheckError::Library(error) if error == error_of(code))),
+    }
+    assert_eq!((checker.entries(), checker.is_whole()), (0, false));
+}
