@@ -1,14 +1,18 @@
 #!/bin/sh
 # What bindings/install.sh installs: `sh tests/install.sh ROOMS [REPLAY]`, with the archives of cml_c and cml_script_c. It installs
 # them into a new folder. There programs of bindings/c are built by pkg-config, with the shared library and with the static
-# one, the crate in Rust finds the library, and the tests of the package for Python run. What isn't there is named and counts for
-# nothing. The last line is `N passed, M failed`.
+# one. The crate in Rust finds the library, and so do the crates beside it, for serde and for tokio. The package for Python is
+# tested, and installed by pip. Then bindings/try.sh installs the library without a proof. What isn't there is named and counts
+# for nothing. The last line is `N passed, M failed`.
 rooms=$(cd "$(dirname "$1")" && pwd)/$(basename "$1")
 replay=${2:+$(cd "$(dirname "$2")" && pwd)/$(basename "$2")}
 cd "$(dirname "$0")/.." || exit 1
 work=$(mktemp -d) || exit 1
 trap 'rm -rf "$work"' EXIT
 prefix=$work/installed
+# Where the distribution has the sources of other crates.
+sources=/usr/share/cargo/registry
+version=$(sed -n 's/^#define SERYUGO_VERSION "\(.*\)"/\1/p' include/seryugo.h)
 unset SERYUGO_PREFIX SERYUGO_ARCHIVES LD_LIBRARY_PATH PKG_CONFIG_PATH
 passed=0
 failed=0
@@ -28,6 +32,20 @@ check() {
 
 has() { command -v "$1" > /dev/null || { echo "left out: $2: there is no $1" && return 1; }; }
 
+# has_sources WHAT CRATE: the distribution has the sources of a crate, of any version if its name ends in `*`.
+has_sources() {
+    for found in "$sources"/$2; do
+        [ -d "$found" ] || { echo "left out: $1: there is no $sources/$2" && return 1; }
+    done
+}
+
+# prints LINE COMMAND..: the command prints this line alone.
+prints() {
+    line=$1
+    shift
+    [ "$("$@")" = "$line" ]
+}
+
 installs() {
     SERYUGO_ARCHIVE="$rooms" SERYUGO_SCRIPT_ARCHIVE="${replay:-/nowhere}" sh bindings/install.sh "$prefix"
 }
@@ -46,11 +64,11 @@ names_the_function() {
         grep -q 'lacks .*seryugo_room_open' "$work/words" && [ ! -e "$work/empty" ]
 }
 
-# One version is in the header, the crate, the package and what was installed.
+# One version is in the header, the crates, the package and what was installed.
 same_version() {
-    version=$(sed -n 's/^#define SERYUGO_VERSION "\(.*\)"/\1/p' include/seryugo.h)
     [ -n "$version" ] && grep -qx "version = \"$version\"" bindings/rust/seryugo/Cargo.toml &&
-        grep -qx "__version__ = \"$version\"" bindings/python/seryugo/__init__.py &&
+        grep -qx "version = \"$version\"" bindings/rust/seryugo_serde/Cargo.toml &&
+        grep -qx "__version__ = \"$version\"" bindings/python/seryugo/_version.py &&
         grep -qx "Version: $version" "$prefix/lib/pkgconfig/seryugo.pc"
 }
 
@@ -61,11 +79,8 @@ exports_the_header() {
     [ -s "$work/wanted" ] && diff "$work/wanted" "$work/exported"
 }
 
-# built PROGRAM WORD..: a program of bindings/c is built in an empty folder as its user would build it, and runs.
-built() {
-    program=$1
-    shift
-    rm -rf "$work/alone" && mkdir "$work/alone" && cp "bindings/c/$program.c" "$work/alone/program.c" || return
+# compiled WORD..: program.c is built in its own folder, as its user would build it, and runs.
+compiled() {
     (
         cd "$work/alone" || exit
         PKG_CONFIG_PATH="$prefix/lib/pkgconfig"
@@ -76,8 +91,31 @@ built() {
     )
 }
 
+# built PROGRAM WORD..: the same with a program of bindings/c, and with the headers that its programs share.
+built() {
+    program=$1
+    shift
+    rm -rf "$work/alone" && mkdir "$work/alone" && cp "bindings/c/$program.c" "$work/alone/program.c" &&
+        find bindings/c -name '*.h' -exec cp {} "$work/alone" \; && compiled "$@"
+}
+
 # A program that was built the plain way needs the shared library, which it finds.
 needs_the_shared_library() { built calls && readelf -d "$work/alone/program" | grep -q 'NEEDED.*libseryugo\.so'; }
+
+# The version of the library with which a program in C runs.
+version_in_c() {
+    rm -rf "$work/alone" && mkdir "$work/alone" && cat > "$work/alone/program.c" << 'END' || return
+#include <seryugo.h>
+#include <stdio.h>
+
+int main(void) {
+    uint32_t version = seryugo_version();
+    printf("%u.%u.%u\n", version >> 16, version >> 8 & 0xFF, version & 0xFF);
+    return 0;
+}
+END
+    compiled -Wall -Wextra -Werror
+}
 
 # The same once the folder lies elsewhere.
 built_elsewhere() {
@@ -97,21 +135,95 @@ from_c() {
     done
     if [ -n "$replay" ]; then check 'a script replayed' replays; fi
     check 'a program needs the shared library' needs_the_shared_library
+    check 'the version at run time, from C' prints "$version" version_in_c
     check 'the installed folder may be moved' built_elsewhere messages
 }
 
-# letters VARIABLE=VALUE: the crate finds what is installed by this variable.
+# letters VARIABLE=VALUE: the crate finds what is installed by this variable. It needs no other crate.
 letters() {
-    [ "$(env "$1" CARGO_TARGET_DIR="$work/target" cargo run --manifest-path "$work/crate/Cargo.toml" --quiet --offline --example \
-        letters)" = 'Ben received Some(5)' ]
+    env "$1" CARGO_TARGET_DIR="$work/target" cargo run --manifest-path "$work/rust/seryugo/Cargo.toml" --quiet --offline \
+        --example letters > "$work/letters" && [ "$(cat "$work/letters")" = 'Ben received 5' ]
+}
+
+# cargo_does COMMAND CRATE WORD..: a command of cargo's on a copy of a crate, with the installed library. The distribution's sources
+# are there for other crates.
+cargo_does() {
+    command=$1
+    crate=$2
+    shift 2
+    SERYUGO_PREFIX="$prefix" CARGO_TARGET_DIR="$work/target" cargo "$command" --quiet --offline \
+        --config 'source.crates-io.replace-with="distribution"' --config "source.distribution.directory=\"$sources\"" \
+        --manifest-path "$work/rust/$crate/Cargo.toml" "$@"
+}
+
+# The version that the crate wants. It opens a switchboard only if the library has that one.
+version_in_rust() {
+    cat > "$work/rust/seryugo/examples/version.rs" << 'END' || return
+fn main() -> Result<(), seryugo::Error> {
+    seryugo::Switchboard::new(1)?;
+    println!("{}", seryugo::Version::WANTED);
+    Ok(())
+}
+END
+    cargo_does run seryugo --example version
+}
+
+# A crate of another version opens no switchboard, and names the library's version and its own.
+another_version_in_rust() {
+    sed 's/^version = .*/version = "9.8.7"/' bindings/rust/seryugo/Cargo.toml > "$work/rust/seryugo/Cargo.toml" &&
+        ! version_in_rust 2> "$work/words" && grep -qF "$version" "$work/words" && grep -qF '9.8.7' "$work/words"
 }
 
 from_rust() {
-    cp -r bindings/rust/seryugo "$work/crate"
+    cp -r bindings/rust "$work/rust"
     check 'from Rust, by SERYUGO_PREFIX' letters "SERYUGO_PREFIX=$prefix"
     if has pkg-config 'Rust by pkg-config'; then
         check 'from Rust, by pkg-config' letters "PKG_CONFIG_PATH=$prefix/lib/pkgconfig"
     fi
+    check 'the version at run time, from Rust' prints "$version" version_in_rust
+    if has_sources 'messages by serde' 'serde-1.*' && has_sources 'messages by serde' 'bincode-1.3.*'; then
+        check 'whatever serde takes is a message' cargo_does test seryugo_serde
+    fi
+    if has_sources 'futures under tokio' 'tokio-1.*'; then check 'futures under tokio' cargo_does test on_tokio; fi
+    check 'a crate of another version' another_version_in_rust
+}
+
+# test_names FILE: the test functions of a file in Rust, each with its module in the file.
+test_names() {
+    awk '/^mod / { module = $2 "::" }
+        /#\[test\]/ { on = 1 }
+        on && match($0, /fn [a-z0-9_]+/) { print module substr($0, RSTART + 3, RLENGTH - 3); on = 0 }' "$1"
+}
+
+# docs/PEERS.md names each test of bindings/rust/seryugo/tests/peers, and each that it names is there.
+peers_tests() {
+    for file in bindings/rust/seryugo/tests/peers/*.rs; do
+        module=$(basename "$file" .rs)
+        test_names "$file" | sed "s/^/$module::/"
+    done | sort > "$work/tests"
+    modules=$(cut -d: -f1 "$work/tests" | sort -u | tr '\n' '|')
+    # shellcheck disable=SC2016
+    grep -oE '`[a-z0-9_]+::[a-z0-9_]+`' docs/PEERS.md | tr -d '`' | grep -E "^(${modules%|})::" | sort -u > "$work/named"
+    [ -s "$work/tests" ] && diff "$work/tests" "$work/named"
+}
+
+# peers_cases FILE: docs/PEERS.md has each case of a peer's file, in the part whose title names the file.
+peers_cases() {
+    test_names "$1" > "$work/cases"
+    awk -v file="$(basename "$1")" '/^## / { on = index($0, file) } on' docs/PEERS.md > "$work/part"
+    while read -r name; do
+        grep -qF "\`$name\`" "$work/part" || { echo "docs/PEERS.md lacks $name of $1" && return 1; }
+    done < "$work/cases" && [ -s "$work/cases" ]
+}
+
+# peer CRATE FILE..: the same of these files of a crate.
+peer() {
+    crate=$1
+    shift
+    has_sources "the cases of $crate" "$crate" || return
+    for file in "$@"; do
+        check "the cases of $crate, $file" peers_cases "$sources/$crate/tests/$file.rs"
+    done
 }
 
 # in_python WORD..: in the package's folder, with the installed library.
@@ -122,32 +234,76 @@ in_python() {
 # page FILE: the first example in Python of a page is examples/letters.py.
 page() { awk 'on && /^```$/ { exit } on; /^```python$/ { on = 1 }' "$1" | diff - bindings/python/examples/letters.py; }
 
-says_hello() { [ "$("$@")" = 'Ben received hello' ]; }
-
 by_pkg_config() {
     (cd bindings/python && PKG_CONFIG_PATH="$prefix/lib/pkgconfig" PYTHONDONTWRITEBYTECODE=1 PYTHONPATH=. \
         python3 examples/letters.py)
 }
 
+version_in_python() {
+    in_python -c 'from seryugo import _library, _version; print(_version.in_words(_library.version()))'
+}
+
+# A python3 that builds a package without a network. Before 71, setuptools needs the package wheel for it.
+building_python() {
+    for python in python3 /usr/bin/python3; do
+        "$python" -c "
+import setuptools, ensurepip, pip, venv
+major = int(setuptools.__version__.split('.')[0])
+assert major >= 71 or major >= 61 and __import__('wheel')
+" && echo "$python" && return
+    done 2> "$work/words"
+    return 1
+}
+
+# by_pip PYTHON: the package as pip installs it into a new environment.
+by_pip() {
+    cp -r bindings/python "$work/package" && "$1" -m venv --system-site-packages "$work/venv" &&
+        "$work/venv/bin/python" -m pip install --quiet --no-index --no-build-isolation "$work/package" || return
+    (
+        cd "$work/venv" && SERYUGO_PREFIX=$prefix && export SERYUGO_PREFIX || exit
+        prints "$version" bin/python -c "import seryugo; assert '$work/venv' in seryugo.__file__; print(seryugo.__version__)" &&
+            prints 'Ben received hello' bin/python "$work/package/examples/letters.py"
+    )
+}
+
 from_python() {
     check 'the tests in Python' in_python -W error::ResourceWarning -m unittest
-    check 'a mailbox and two threads in Python' says_hello in_python examples/letters.py
-    if has pkg-config 'Python by pkg-config'; then check 'from Python, by pkg-config' says_hello by_pkg_config; fi
+    check 'a mailbox and two threads in Python' prints 'Ben received hello' in_python examples/letters.py
+    if has pkg-config 'Python by pkg-config'; then
+        check 'from Python, by pkg-config' prints 'Ben received hello' by_pkg_config
+    fi
     check 'messages are timed in Python' in_python examples/speed.py 2
+    check 'the version at run time, from Python' prints "$version" version_in_python
+    if python=$(building_python); then
+        check 'the package by pip' by_pip "$python"
+    else
+        echo 'left out: the package by pip: no python3 has pip, venv, wheel and setuptools from 61 on'
+    fi
     check "the README's example in Python" page bindings/python/README.md
     check "the page's example in Python" page docs/BINDINGS.md
+}
+
+# What bindings/try.sh installs without a proof, from an empty environment.
+tried() {
+    env -i PATH="$PATH" sh bindings/try.sh "$work/tried" && prefix=$work/tried && built calls && built messages -static
 }
 
 check 'the archive of rooms is there' [ -s "$rooms" ]
 check 'without an archive' names_the_archive
 check 'the library is installed' installs
 check 'one version' same_version
+check "the tests that docs/PEERS.md names" peers_tests
+peer crossbeam-channel-0.5.6 list iter thread_locals golang mpsc
+peer tokio-1.24.2 sync_broadcast
 if has cc 'all programs'; then
     check 'an archive that is too old' names_the_function
     check 'the shared library exports the header' exports_the_header
     if has pkg-config 'programs in C'; then from_c; fi
     if has cargo 'the crate in Rust'; then from_rust; fi
     if has python3 'the package for Python'; then from_python; fi
+    if has rt 'the library without a proof' && has pkg-config 'the library without a proof'; then
+        check 'the library without a proof' tried
+    fi
 fi
 
 echo "$passed passed, $failed failed"

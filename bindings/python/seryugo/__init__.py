@@ -15,6 +15,7 @@ lock go meanwhile.
         print("Ben received", ben.recv(letters))
 """
 
+from ._version import __version__
 from .errors import (
     Busy,
     Closed,
@@ -45,8 +46,6 @@ from .journal import (
 from .objects import Channel, IVar, Mailbox, MVar, Object, Port, Source, Variable
 from .seat import Seat
 from .switchboard import Switchboard
-
-__version__ = "0.1.0"
 
 __all__ = [
     "Busy",
@@ -81,5 +80,6 @@ __all__ = [
     "Unlawful",
     "Variable",
     "WrongKind",
+    "__version__",
     "check",
 ]

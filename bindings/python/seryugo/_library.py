@@ -11,11 +11,17 @@ from ctypes import (
     c_char,
     c_char_p,
     c_size_t,
+    c_uint8,
     c_uint32,
     c_uint64,
     c_void_p,
 )
 from typing import Any, Callable, Optional, cast
+
+from . import _version
+
+# The most bytes of a message that lie in the struct.
+IN_PLACE = 14
 
 # What a call returns if it isn't refused. `errors` has the refusals.
 DONE = 0
@@ -26,15 +32,26 @@ PARKED = 4
 
 
 class Handle(Structure):
-    """A handle to a room, a taken journal, a checker, a message or an entry."""
+    """A handle to a room, a taken journal, a checker or an entry."""
+
+    _fields_ = [("at", c_void_p)]
+
+
+class Share(Structure):
+    """What keeps a message of more than `IN_PLACE` bytes."""
 
     _fields_ = [("at", c_void_p)]
 
 
 class Bytes(Structure):
-    """A message that a call hands over."""
+    """A message that a call hands over. Up to `IN_PLACE` bytes lie in the struct itself."""
 
-    _fields_ = [("at", POINTER(c_char)), ("length", c_size_t), ("owner", Handle)]
+    _fields_ = [
+        ("length", c_size_t),
+        ("block", POINTER(c_char)),
+        ("owner", Share),
+        ("in_place", c_uint8 * 16),
+    ]
 
 
 class Place(Structure):
@@ -147,6 +164,10 @@ def _freeing(library: ctypes.CDLL, name: str, argument: Any) -> Callable[[Any], 
     return freeing
 
 
+# Before any other function is looked for, since another version may lack some.
+version = _short("version")
+_version.compare(version(), _PATH)
+
 _HANDLE = POINTER(Handle)
 _NUMBER = POINTER(c_uint64)
 
@@ -177,7 +198,7 @@ get_poll = _quick("bytes_get_poll")
 take = _quick("bytes_take")
 take_poll = _quick("bytes_take_poll")
 swap = _quick("bytes_swap_from")
-bytes_free = _freeing(_HELD, "bytes_free", Bytes)
+bytes_release = _freeing(_HELD, "bytes_release", Share)
 
 # What an object has.
 sent = _short("sent", _HANDLE, c_uint64, _NUMBER)
@@ -197,8 +218,8 @@ entry = _short("bytes_entry", _HANDLE, c_uint64, POINTER(Entry))
 reserve = _long("reserve", _HANDLE, c_size_t)
 cut = _long("cut", _HANDLE)
 take_journal = _long("take_journal", _HANDLE, _HANDLE, _NUMBER)
+_close_entry = _freeing(_HELD, "close", Handle)
 taken_entry = _short("bytes_taken_entry", _HANDLE, c_uint64, POINTER(Entry))
-entry_free = _freeing(_HELD, "bytes_entry_free", Entry)
 checker_open = _short("bytes_checker_open", _HANDLE)
 checker_feed_journal = _long("checker_feed_journal", _HANDLE, _HANDLE, c_uint64)
 checker_verdict = _short("checker_verdict", _HANDLE, _NUMBER)
@@ -215,7 +236,15 @@ room_restore = _long("room_restore", _HANDLE, c_uint64, _HANDLE)
 
 def taken_over(message: Bytes) -> bytes:
     """Copy a message that the library has handed over, and free it."""
+    length: int = message.length
+    if length <= IN_PLACE:
+        return bytes(message.in_place)[:length]
     try:
-        return cast(bytes, message.at[: message.length])
+        return cast(bytes, message.block[:length])
     finally:
-        bytes_free(message)
+        bytes_release(message.owner)
+
+
+def entry_free(entry: Entry) -> None:
+    """Free an entry that the library has handed over."""
+    _close_entry(entry.owner)

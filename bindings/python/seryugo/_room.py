@@ -11,6 +11,7 @@ from typing import Any, Callable, Deque, Dict, Set, Tuple
 from . import _library as library
 from . import errors
 from ._library import DONE, PARKED
+from ._lock import free, is_held, new_lock
 from ._messages import Codec
 
 # As a call that may block takes it: whether it is made again.
@@ -31,7 +32,7 @@ class Room:
         # At its end the process frees all memory, and threads may be in a call then.
         weakref.finalize(self, library.close, room).atexit = False
         self.handle = byref(room)
-        self.lock = threading.Lock()
+        self.lock = new_lock()
         # The messages' type of each object, by its number.
         self.codecs: Dict[int, Codec[Any]] = {}
         # What the thread of each seat waits by: a lock that is free if the thread was woken.
@@ -55,8 +56,12 @@ class Room:
 
     def do(self, call: Callable[..., int], *arguments: Any) -> int:
         """Make a call that makes no seat due."""
-        with self.lock:
-            code = call(self.handle, *arguments)
+        try:
+            with self.lock:
+                code = call(self.handle, *arguments)
+        except BaseException:
+            self.recover()
+            raise
         if self._dropped:
             self._let_dropped_leave()
         return code
@@ -148,6 +153,7 @@ class Room:
         """After an exception in a call, withdraw the call of this seat, and wake all that wait."""
         while True:
             try:
+                free(self.lock)
                 with self.lock:
                     self._wake_all(seats)
                 if self._dropped:
@@ -163,12 +169,16 @@ class Room:
         The collector runs in the midst of any method, so this very thread may have the lock.
         """
         self._dropped.append(seat)
-        if not self.lock.locked():
+        if not is_held(self.lock):
             self._let_dropped_leave()
 
     def _let_dropped_leave(self) -> None:
-        with self.lock:
-            self._leave_all()
+        try:
+            with self.lock:
+                self._leave_all()
+        except BaseException:
+            free(self.lock)
+            raise
 
     # There is no loop right below `with self.lock`: in Python 3.13 the lock stays locked if a
     # signal's handler raises an exception as such a loop begins anew.

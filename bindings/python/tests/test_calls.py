@@ -1,9 +1,6 @@
 """Each call on one thread: what it returns, and why it fails."""
 
 import gc
-import os
-import subprocess
-import sys
 import unittest
 import warnings
 
@@ -218,16 +215,3 @@ class Calls(unittest.TestCase):
     def test_repr(self):
         self.assertEqual(repr(self.seat.mailbox(str)), "<Mailbox 0 of str>")
         self.assertEqual(repr(self.seat), "<Seat 0>")
-
-
-class Finding(unittest.TestCase):
-    def test_no_library(self):
-        path = os.pathsep.join(sys.path)
-        ended = subprocess.run(
-            [sys.executable, "-c", "import seryugo"],
-            env={**os.environ, "SERYUGO_PREFIX": "/nowhere", "PYTHONPATH": path},
-            capture_output=True,
-            text=True,
-        )
-        self.assertEqual(ended.returncode, 1)
-        self.assertIn("ImportError: found no library seryugo", ended.stderr)
