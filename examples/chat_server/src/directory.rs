@@ -1,0 +1,260 @@
+//! The rooms, and who has a place in which: kept as records in m-variables of the switchboard.
+//!
+//! A full m-variable is a record, and an empty one is free for the next. So the journal has every change, and a later server
+//! finds all records among the objects.
+
+use crate::keeper::Keeper;
+use crate::messages::{Record, Said};
+use crate::protocol::{Name, Refusal};
+use seryugo::{Channel, Error, MVar, Mailbox, Object, Port, Seat, Switchboard};
+use std::collections::{BTreeMap, HashMap};
+use std::sync::{Arc, Mutex, MutexGuard, PoisonError};
+
+/// A room. What is said goes into the queue; once it is kept, on the channel.
+#[derive(Debug, PartialEq, Eq)]
+pub struct Room {
+    pub name: Name,
+    /// The queue's number in the journal.
+    pub number: u64,
+    pub queue: Mailbox<Said>,
+    pub channel: Channel<Said>,
+}
+
+/// A member's place.
+#[derive(Clone, Debug)]
+pub struct Place {
+    pub room: Arc<Room>,
+    pub port: Port<Said>,
+    slot: MVar<Record>,
+}
+
+/// Which place a name has.
+#[derive(Debug)]
+pub enum Found {
+    Nowhere,
+    In(Place),
+    /// It had one, and fell behind.
+    Behind(Refusal),
+}
+
+/// Why a name has no place now.
+pub enum NoPlace {
+    Refused(Refusal),
+    Failed(Error),
+}
+
+impl From<Error> for NoPlace {
+    fn from(error: Error) -> NoPlace {
+        NoPlace::Failed(error)
+    }
+}
+
+/// What one thread at a time changes.
+#[derive(Default)]
+pub struct Books {
+    rooms: HashMap<Name, Arc<Room>>,
+    queues: HashMap<u64, Arc<Room>>,
+    places: BTreeMap<Name, Place>,
+    /// Who fell behind: the room, the number of the last message, and the record.
+    behind: HashMap<Name, (Name, u64, MVar<Record>)>,
+    free: Vec<MVar<Record>>,
+}
+
+pub struct Directory<'a> {
+    board: &'a Switchboard,
+    keeper: &'a Keeper<'a>,
+    most_rooms: u64,
+    most_members: u64,
+    books: Mutex<Books>,
+}
+
+impl<'a> Directory<'a> {
+    /// The directory with these books.
+    pub fn new(board: &'a Switchboard, keeper: &'a Keeper<'a>, books: Books, rooms: u64, members: u64) -> Directory<'a> {
+        Directory {
+            board,
+            keeper,
+            most_rooms: rooms,
+            most_members: members,
+            books: Mutex::new(books),
+        }
+    }
+
+    /// How many rooms there are.
+    pub fn rooms(&self) -> usize {
+        self.lock().rooms.len()
+    }
+
+    pub fn all_rooms(&self) -> Vec<Arc<Room>> {
+        self.lock().rooms.values().cloned().collect()
+    }
+
+    /// The room whose queue has this number.
+    pub fn of_queue(&self, number: u64) -> Option<Arc<Room>> {
+        self.lock().queues.get(&number).cloned()
+    }
+
+    /// The place of a name, if it has one.
+    pub fn place(&self, name: &Name) -> Option<Place> {
+        self.lock().places.get(name).cloned()
+    }
+
+    /// The place of a name that comes back. If it fell behind, its record ends with this call.
+    pub fn find(&self, seat: &mut Seat<'_>, name: &Name) -> Result<Found, Error> {
+        let mut books = self.lock();
+        if let Some(place) = books.places.get(name) {
+            return Ok(Found::In(place.clone()));
+        }
+        let Some((room, last, slot)) = books.behind.get(name).cloned() else {
+            return Ok(Found::Nowhere);
+        };
+        self.keeper.call(|| seat.take_poll(slot))?;
+        books.behind.remove(name);
+        books.free.push(slot);
+        Ok(Found::Behind(Refusal::FellBehind { room, last }))
+    }
+
+    /// Gives a name a place in a room. The first who joins makes the room.
+    pub fn join(&self, seat: &mut Seat<'_>, name: &Name, room: &Name) -> Result<Place, NoPlace> {
+        let mut books = self.lock();
+        if books.places.len() as u64 >= self.most_members {
+            return Err(NoPlace::Refused(Refusal::MemberLimit(self.most_members)));
+        }
+        let room = match books.rooms.get(room) {
+            Some(room) => room.clone(),
+            None if books.rooms.len() as u64 >= self.most_rooms => {
+                return Err(NoPlace::Refused(Refusal::RoomLimit(self.most_rooms)));
+            }
+            None => self.make_room(&mut books, seat, room)?,
+        };
+        let port = self.keeper.call(|| seat.port(room.channel))?;
+        let record = Record::Member {
+            name: name.clone(),
+            room: room.name.clone(),
+            port: port.number(),
+        };
+        let slot = self.write(&mut books, seat, record)?;
+        let place = Place { room, port, slot };
+        books.places.insert(name.clone(), place.clone());
+        Ok(place)
+    }
+
+    fn make_room(&self, books: &mut Books, seat: &mut Seat<'_>, name: &Name) -> Result<Arc<Room>, Error> {
+        let queue = self.keeper.call(|| seat.mailbox::<Said>())?;
+        let channel = self.keeper.call(|| seat.channel::<Said>())?;
+        let record = Record::Room {
+            room: name.clone(),
+            queue: queue.number(),
+            channel: channel.number(),
+        };
+        self.write(books, seat, record)?;
+        Ok(books.add_room(name.clone(), queue, channel))
+    }
+
+    /// Ends the place of a name: its record, and then its port.
+    pub fn leave(&self, seat: &mut Seat<'_>, name: &Name) -> Result<(), Error> {
+        let mut books = self.lock();
+        let Some(place) = books.places.remove(name) else {
+            return Ok(());
+        };
+        self.keeper.call(|| seat.take_poll(place.slot))?;
+        books.free.push(place.slot);
+        self.keeper.call(|| seat.close(place.port))?;
+        Ok(())
+    }
+
+    /// Ends the places of all members of a room that are owed more messages than this: who they are, and why.
+    pub fn drop_behind(&self, seat: &mut Seat<'_>, room: &Room, most: u64) -> Result<Vec<(Name, Refusal)>, Error> {
+        let mut books = self.lock();
+        let mut late = Vec::new();
+        for (name, place) in books.places.iter().filter(|(_, place)| place.room.number == room.number) {
+            if self.board.owed(place.port)? > most {
+                late.push((name.clone(), place.clone()));
+            }
+        }
+        late.into_iter().map(|(name, place)| self.drop_one(&mut books, seat, name, place)).collect()
+    }
+
+    fn drop_one(&self, books: &mut Books, seat: &mut Seat<'_>, name: Name, place: Place) -> Result<(Name, Refusal), Error> {
+        self.keeper.call(|| seat.close(place.port))?;
+        let last = self.board.start_of(place.port)? + self.board.got(place.port)?;
+        let room = place.room.name.clone();
+        let record = Record::Behind {
+            name: name.clone(),
+            room: room.clone(),
+            last,
+        };
+        self.keeper.call(|| seat.swap(place.slot, &record))?;
+        books.places.remove(&name);
+        books.behind.insert(name.clone(), (room.clone(), last, place.slot));
+        Ok((name, Refusal::FellBehind { room, last }))
+    }
+
+    /// Ends the places whose ports are closed: a server was killed while it dropped them.
+    pub fn note_closed(&self, seat: &mut Seat<'_>) -> Result<(), Error> {
+        let mut books = self.lock();
+        let places: Vec<(Name, Place)> = books.places.iter().map(|(name, place)| (name.clone(), place.clone())).collect();
+        for (name, place) in places {
+            if !self.board.is_open(place.port)? {
+                self.drop_one(&mut books, seat, name, place)?;
+            }
+        }
+        Ok(())
+    }
+
+    /// The members of a room, in the order of their names, and how many messages each is owed.
+    pub fn members(&self, room: &Room) -> Result<Vec<(Name, u64)>, Error> {
+        let books = self.lock();
+        let members = books.places.iter().filter(|(_, place)| place.room.number == room.number);
+        members.map(|(name, place)| Ok((name.clone(), self.board.owed(place.port)?))).collect()
+    }
+
+    /// Fills a free slot, or makes one.
+    fn write(&self, books: &mut Books, seat: &mut Seat<'_>, record: Record) -> Result<MVar<Record>, Error> {
+        match books.free.pop() {
+            Some(slot) => {
+                self.keeper.call(|| seat.put(slot, &record))?;
+                Ok(slot)
+            }
+            None => self.keeper.call(|| seat.mvar_init(record.clone())),
+        }
+    }
+
+    fn lock(&self) -> MutexGuard<'_, Books> {
+        self.books.lock().unwrap_or_else(PoisonError::into_inner)
+    }
+}
+
+impl Books {
+    pub fn add_room(&mut self, name: Name, queue: Mailbox<Said>, channel: Channel<Said>) -> Arc<Room> {
+        let room = Arc::new(Room {
+            name: name.clone(),
+            number: queue.number(),
+            queue,
+            channel,
+        });
+        self.rooms.insert(name, room.clone());
+        self.queues.insert(queue.number(), room.clone());
+        room
+    }
+
+    /// Adds a member whose room is there.
+    pub fn add_member(&mut self, name: Name, room: &Name, port: Port<Said>, slot: MVar<Record>) -> Option<()> {
+        let room = self.rooms.get(room)?.clone();
+        self.places.insert(name, Place { room, port, slot });
+        Some(())
+    }
+
+    pub fn add_behind(&mut self, name: Name, room: Name, last: u64, slot: MVar<Record>) {
+        self.behind.insert(name, (room, last, slot));
+    }
+
+    pub fn add_free(&mut self, slot: MVar<Record>) {
+        self.free.push(slot);
+    }
+
+    /// Whether a member reads this port.
+    pub fn is_read(&self, port: Port<Said>) -> bool {
+        self.places.values().any(|place| place.port == port)
+    }
+}

@@ -1,0 +1,161 @@
+//! What a server does with the switchboard that an earlier one left, before it listens.
+
+use crate::directory::{Books, Directory, Room};
+use crate::failure::Failure;
+use crate::history::History;
+use crate::keeper::Keeper;
+use crate::messages::{Record, Said};
+use seryugo::{Error, MVar, Object, Port, Seat, Switchboard};
+use std::fmt;
+
+/// Why the switchboard isn't one of a chat server.
+#[derive(Debug)]
+pub enum Foreign {
+    /// The first object isn't the record of a chat server.
+    NoChat,
+    /// This record can't be read, or names what isn't there.
+    BadRecord(u64),
+    Failed(Error),
+}
+
+impl fmt::Display for Foreign {
+    fn fmt(&self, f: &mut fmt::Formatter<'_>) -> fmt::Result {
+        match self {
+            Foreign::NoChat => f.write_str("its first object isn't the record of a chat server"),
+            Foreign::BadRecord(number) => write!(f, "object {number} is no record of a chat server"),
+            Foreign::Failed(error) => error.fmt(f),
+        }
+    }
+}
+
+impl From<Error> for Foreign {
+    fn from(error: Error) -> Foreign {
+        Foreign::Failed(error)
+    }
+}
+
+/// The objects that an earlier server left.
+#[derive(Default)]
+pub struct Found {
+    records: Vec<(MVar<Record>, Record)>,
+    free: Vec<MVar<Record>>,
+    ports: Vec<Port<Said>>,
+}
+
+impl Found {
+    /// Looks at all objects of the switchboard.
+    pub fn on(board: &Switchboard) -> Result<Found, Foreign> {
+        let mut found = Found::default();
+        for number in 0.. {
+            match board.mvar::<Record>(number) {
+                Ok(slot) => found.add_slot(board, slot)?,
+                Err(Error::NoSuch) => break,
+                Err(Error::WrongKind) => found.add_port(board, number),
+                Err(error) => return Err(error.into()),
+            }
+        }
+        let is_chat = matches!(found.records.first(), Some((slot, Record::Chat)) if slot.number() == 0);
+        if board.entries() > 0 && !is_chat {
+            return Err(Foreign::NoChat);
+        }
+        Ok(found)
+    }
+
+    fn add_slot(&mut self, board: &Switchboard, slot: MVar<Record>) -> Result<(), Foreign> {
+        match board.held(slot) {
+            Ok(Some(record)) => self.records.push((slot, record)),
+            Ok(None) => self.free.push(slot),
+            Err(Error::Unreadable(_)) if slot.number() == 0 => return Err(Foreign::NoChat),
+            Err(Error::Unreadable(_)) => return Err(Foreign::BadRecord(slot.number())),
+            Err(error) => return Err(error.into()),
+        }
+        Ok(())
+    }
+
+    /// Adds the object of this number, if it is a port.
+    fn add_port(&mut self, board: &Switchboard, number: u64) {
+        if let Ok(port) = board.port(number) {
+            self.ports.push(port);
+        }
+    }
+
+    /// The directory's books. Also the ports to close: a server was killed between two calls, and no member reads them.
+    pub fn books(self, board: &Switchboard) -> Result<(Books, Vec<Port<Said>>), Foreign> {
+        let mut books = Books::default();
+        // Rooms come before their members, since the first member makes the room.
+        for (slot, record) in self.records {
+            let number = slot.number();
+            add(&mut books, board, slot, record)?.ok_or(Foreign::BadRecord(number))?;
+        }
+        self.free.into_iter().for_each(|slot| books.add_free(slot));
+        let mut strays = Vec::new();
+        for port in self.ports {
+            if board.is_open(port)? && !books.is_read(port) {
+                strays.push(port);
+            }
+        }
+        Ok((books, strays))
+    }
+}
+
+/// Adds a record. Returns `None` if it names an object of another kind, or a room that isn't there.
+fn add(books: &mut Books, board: &Switchboard, slot: MVar<Record>, record: Record) -> Result<Option<()>, Foreign> {
+    match record {
+        Record::Chat => Ok(Some(())),
+        Record::Room { room, queue, channel } => {
+            let (Ok(queue), Ok(channel)) = (board.mailbox(queue), board.channel(channel)) else {
+                return Ok(None);
+            };
+            books.add_room(room, queue, channel);
+            Ok(Some(()))
+        }
+        Record::Member { name, room, port } => match board.port(port) {
+            Ok(port) => Ok(books.add_member(name, &room, port, slot)),
+            Err(_) => Ok(None),
+        },
+        Record::Behind { name, room, last } => {
+            books.add_behind(name, room, last, slot);
+            Ok(Some(()))
+        }
+    }
+}
+
+/// What is needed to finish what an earlier server began.
+pub struct Mending<'s, 'a> {
+    pub board: &'a Switchboard,
+    pub keeper: &'s Keeper<'a>,
+    pub directory: &'s Directory<'a>,
+    pub history: &'s History,
+}
+
+impl Mending<'_, '_> {
+    /// Closes the ports that no member reads, notes who fell behind, and publishes what is kept.
+    ///
+    /// Errors: a call of the library fails, or the file can't be read.
+    pub fn run(&self, seat: &mut Seat<'_>, strays: &[Port<Said>]) -> Result<(), Failure> {
+        if self.board.entries() == 0 {
+            self.keeper.call(|| seat.mvar_init(Record::Chat))?;
+        }
+        for port in strays {
+            self.keeper.call(|| seat.close(*port))?;
+        }
+        self.directory.note_closed(seat)?;
+        self.directory.all_rooms().iter().try_for_each(|room| self.publish(seat, room))
+    }
+
+    /// Moves what waits in a room's queue to its channel. All of it is kept, since the file has it.
+    fn publish(&self, seat: &mut Seat<'_>, room: &Room) -> Result<(), Failure> {
+        let received = self.board.got(room.queue)?;
+        let published = self.board.sent(room.channel)?;
+        // A server was killed between the receive and the multicast, whose message only the file has now.
+        for number in published + 1..=received {
+            let said = self.history.message(room.number, number).map_err(|error| self.history.failure(error))?;
+            self.keeper.call(|| seat.multicast(room.channel, &said))?;
+        }
+        for _ in 0..self.board.owed(room.queue)? {
+            let said = self.keeper.call(|| seat.recv(room.queue))?;
+            self.keeper.call(|| seat.multicast(room.channel, &said))?;
+        }
+        Ok(())
+    }
+}

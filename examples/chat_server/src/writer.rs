@@ -1,0 +1,145 @@
+//! Writes to one client: the lines that are due, and the messages of its room as they come.
+
+use crate::connection::Connection;
+use crate::messages::Said;
+use crate::outbox::Stream;
+use crate::protocol::Name;
+use crate::server::Server;
+use crate::wait::Waiter;
+use seryugo::{Error, Seat};
+use std::io::{self, ErrorKind, Write};
+use std::net::{Shutdown, TcpStream};
+use std::thread;
+
+/// Why the writer ends before its last line.
+enum Trouble {
+    /// The client is gone, or reads too slowly for its last line.
+    Write,
+    Failed(Error),
+}
+
+impl From<Error> for Trouble {
+    fn from(error: Error) -> Trouble {
+        Trouble::Failed(error)
+    }
+}
+
+/// Writes until the connection ends, and then ends the sending side of the socket.
+pub fn run(server: &Server<'_>, connection: &Connection, seat: &mut Seat<'_>) {
+    connection.outbox.set_writer(thread::current());
+    let mut writer = Writer {
+        server,
+        connection,
+        waiter: Waiter::new(),
+        line: Vec::new(),
+    };
+    if let Err(Trouble::Failed(error)) = writer.run(seat) {
+        connection.outbox.end(format_args!("error failed: {error}"));
+        // Without the last line, there is nothing left to do for this client.
+        let _ = writer.write(&connection.outbox.take().text);
+    }
+    connection.outbox.cut();
+    let _ = connection.socket.shutdown(Shutdown::Write);
+}
+
+struct Writer<'s, 'a> {
+    server: &'s Server<'a>,
+    connection: &'s Connection,
+    waiter: Waiter,
+    line: Vec<u8>,
+}
+
+impl Writer<'_, '_> {
+    fn run(&mut self, seat: &mut Seat<'_>) -> Result<(), Trouble> {
+        loop {
+            let due = self.connection.outbox.take();
+            self.write(&due.text)?;
+            if due.is_last {
+                return Ok(());
+            }
+            match due.stream {
+                Some(stream) => self.follow(seat, stream)?,
+                None => self.rest(),
+            }
+        }
+    }
+
+    /// Waits for a change of the outbox.
+    fn rest(&self) {
+        while !self.connection.outbox.is_changed() {
+            thread::park();
+        }
+    }
+
+    /// Writes the messages of a port, until the outbox changes.
+    fn follow(&mut self, seat: &mut Seat<'_>, stream: Stream) -> Result<(), Trouble> {
+        let (board, outbox) = (self.server.board, &self.connection.outbox);
+        let received = board.start_of(stream.port)? + board.got(stream.port)?;
+        let own = self.connection.name();
+        for number in received + 1.. {
+            match self.receive(seat, stream)? {
+                Some(Some(said)) => self.hand_over(number, &said, stream, own.as_ref())?,
+                // The port is closed, and what comes next is in the outbox.
+                Some(None) => {
+                    self.rest();
+                    return Ok(());
+                }
+                None => return Ok(()),
+            }
+            if outbox.is_changed() {
+                return Ok(());
+            }
+        }
+        Ok(())
+    }
+
+    /// The next message of the port, `Some(None)` if it is closed, or `None` if the outbox has changed before one came.
+    fn receive(&self, seat: &mut Seat<'_>, stream: Stream) -> Result<Option<Option<Said>>, Error> {
+        loop {
+            match self.waiter.wait(seat.recv_async(stream.port), || self.connection.outbox.is_changed()) {
+                None => return Ok(None),
+                Some(Err(Error::JournalFull)) => self.server.keeper.make_room()?,
+                Some(received) => {
+                    self.server.keeper.count_call()?;
+                    return received.map(Some);
+                }
+            }
+        }
+    }
+
+    fn hand_over(&mut self, number: u64, said: &Said, stream: Stream, own: Option<&Name>) -> Result<(), Trouble> {
+        if number > stream.seen {
+            let mut line = std::mem::take(&mut self.line);
+            line.clear();
+            // A list of bytes takes all that is written.
+            let _ = writeln!(line, "{number} {said}");
+            let written = self.write(&line);
+            self.line = line;
+            written?;
+        }
+        if number > stream.earlier && own == Some(&said.name) {
+            self.connection.outbox.note_returned();
+        }
+        Ok(())
+    }
+
+    /// Writes all of a text. The socket has a time limit, behind which the writer looks whether the connection has ended.
+    fn write(&self, mut text: &[u8]) -> Result<(), Trouble> {
+        let mut socket: &TcpStream = &self.connection.socket;
+        while !text.is_empty() {
+            match socket.write(text) {
+                Ok(0) => return Err(Trouble::Write),
+                Ok(count) => text = &text[count..],
+                Err(error) if error.kind() == ErrorKind::Interrupted => {}
+                Err(error) if is_timeout(&error) && !self.connection.outbox.is_over() => {}
+                Err(_) => return Err(Trouble::Write),
+            }
+        }
+        Ok(())
+    }
+}
+
+/// Whether a read or a write has failed since its time has passed.
+pub fn is_timeout(error: &io::Error) -> bool {
+    matches!(error.kind(), ErrorKind::WouldBlock | ErrorKind::TimedOut)
+}
