@@ -1,0 +1,45 @@
+//! A whole run.
+ghost use Rattle.std.specs.Prelude.{◌≡◌, IfOk, OnOk};
+ghost use Rattle.cml_queueing.specs.Station.{ServesInOrder};
+
+use crate::ending::Ending;
+use crate::figures::Figures;
+use crate::keeper::Keeper;
+use crate::simulation::Simulation;
+
+/// After so many events the journal is cut. Each event makes at most three calls.
+const PIECE: u64 = 16_384;
+
+/// Performs all events. Whenever the journal has a piece, it goes to the keeper. If it succeeds, the servers received the customers
+/// 0, 1, 2 and so on up to the last of so many, in this order, each once.
+pub(crate) fn simulate<K: Keeper>(
+    simulation: &mut Simulation,
+    customers: u64,
+    keeper: &mut K,
+) -> Result<Figures, Ending>
+    ensures { OnOk result (ServesInOrder simulation.new customers) }
+{
+    simulation.open()?;
+    for _ in 0..u64::MAX {
+        let is_over = perform_piece(simulation)?;
+        simulation.station_mut().cut(keeper)?;
+        if is_over {
+            break;
+        }
+    }
+    let figures = simulation.figures();
+    if figures.served != customers {
+        return Err(Ending::Unserved);
+    }
+    Ok(figures)
+}
+
+/// Performs a piece's events. Returns whether none is left.
+fn perform_piece(simulation: &mut Simulation) -> Result<bool, Ending> {
+    for _ in 0..PIECE {
+        if !simulation.step()? {
+            return Ok(true);
+        }
+    }
+    Ok(false)
+}
