@@ -1,0 +1,67 @@
+# The programs of bindings/c, with a library that bindings/install.sh has installed. Run it at the top of the repository:
+#
+#     cml_make -j4 -f examples/build_system/bindings_c.mk PREFIX="$HOME/.local"
+#
+# If the library for scripts is installed too, `replay` is a goal.
+
+PREFIX = /usr/local
+SOURCES = bindings/c
+OUT = out/bindings_c
+
+CC = cc
+CFLAGS = -O2 -pthread -Wall -Wextra -Werror -I$(PREFIX)/include
+COMPILE = mkdir -p $(OUT) && $(CC) $(CFLAGS) -c $< -o $@
+LINK = $(CC) -pthread $^ -o $@
+
+HEADER = $(PREFIX)/include/seryugo.h
+LIBRARY = $(PREFIX)/lib/libseryugo.a
+SCRIPT_HEADER = $(PREFIX)/include/seryugo_script.h
+SCRIPT_LIBRARY = $(PREFIX)/lib/libseryugo_script.a
+
+PROGRAMS = $(OUT)/calls $(OUT)/keep $(OUT)/messages $(OUT)/requests \
+           $(OUT)/threads
+
+.PHONY: all replay clean
+
+all: $(PROGRAMS)
+
+replay: $(OUT)/replay
+
+clean:
+	rm -rf $(OUT)
+
+$(OUT)/calls: $(OUT)/calls.o $(LIBRARY)
+	$(LINK)
+
+$(OUT)/keep: $(OUT)/keep.o $(LIBRARY)
+	$(LINK)
+
+$(OUT)/messages: $(OUT)/messages.o $(LIBRARY)
+	$(LINK)
+
+$(OUT)/requests: $(OUT)/requests.o $(LIBRARY)
+	$(LINK)
+
+$(OUT)/threads: $(OUT)/threads.o $(LIBRARY)
+	$(LINK)
+
+$(OUT)/replay: $(OUT)/replay.o $(SCRIPT_LIBRARY)
+	$(LINK)
+
+$(OUT)/calls.o: $(SOURCES)/calls.c $(HEADER)
+	$(COMPILE)
+
+$(OUT)/keep.o: $(SOURCES)/keep.c $(HEADER)
+	$(COMPILE)
+
+$(OUT)/messages.o: $(SOURCES)/messages.c $(HEADER)
+	$(COMPILE)
+
+$(OUT)/requests.o: $(SOURCES)/requests.c $(HEADER)
+	$(COMPILE)
+
+$(OUT)/threads.o: $(SOURCES)/threads.c $(HEADER)
+	$(COMPILE)
+
+$(OUT)/replay.o: $(SOURCES)/replay.c $(SCRIPT_HEADER)
+	$(COMPILE)
