@@ -1,8 +1,7 @@
 //! Requests of bytes: a client sends each to a server's mailbox, and the server answers to the client's mailbox.
 ghost use Rattle.std.specs.Prelude.{◌≡◌, [], IfOk};
 
-use crate::calls::Trouble;
-use crate::messages::{BoardOf, ask, fetch, make};
+use crate::calls::{BoardOf, Trouble, fetch, make, perform};
 use cml_board::{Bytes, Call, Entry, Reply, TooLong};
 use std::alloc::Global;
 
@@ -19,9 +18,9 @@ fn exchange(board: &mut BoardOf<Bytes>, request: Bytes) -> Result<Bytes, Trouble
 {
     let requests = make(board, Call::NewMailbox)?;
     let answers = make(board, Call::NewMailbox)?;
-    ask(board, Call::Send(requests, request))?;
+    perform(board, Call::Send(requests, request))?;
     let received = fetch(board, Call::Recv(requests))?;
-    ask(board, Call::Send(answers, received))?;
+    perform(board, Call::Send(answers, received))?;
     fetch(board, Call::Recv(answers))
 }
 

@@ -1,13 +1,16 @@
 //! Calls that must be answered, and the other ways in which they can end.
-ghost use Rattle.std.specs.Prelude.{◌≡◌, true, IfOk, OnErr, None, Some, unwrap_or};
+ghost use Rattle.std.specs.Prelude.{◌≡◌, IfOk, OnErr, None, Some, unwrap_or};
 ghost use Rattle.cml_board.specs.History.{answer, given};
 ghost use Rattle.cml_board.specs.Outcome.{AddsEntry, IsAsBefore, Refuses};
 
-use cml_board::{Answer, Board, BoardLog, Call, Name, Outcome, Refusal, Reply, Who};
+use cml_board::{Answer, Board, BoardLog, Call, Message, Name, Outcome, Refusal, Reply, Who};
 use std::alloc::AllocError;
 
+/// A board whose messages are of this type.
+pub type BoardOf<M> = Board<M, BoardLog<M>>;
+
 /// A board whose messages are numbers.
-pub type Numbers = Board<u64, BoardLog<u64>>;
+pub type Numbers = BoardOf<u64>;
 
 /// The seat that makes the calls here.
 pub const SEAT: Who = Who::Seat(1);
@@ -34,12 +37,12 @@ impl From<AllocError> for Trouble {
 }
 
 /// Makes a call that must be answered.
-pub fn ask(board: &mut Numbers, call: Call<u64>) -> Result<Answer<u64>, Trouble>
+pub fn ask<M: Message>(board: &mut BoardOf<M>, call: Call<M>) -> Result<Answer<M>, Trouble>
     ensures answered { IfOk result (λ told. answer board.old.history call ≡ Some told.reply) }
     ensures added { IfOk result (λ told. AddsEntry board.old board.new SEAT call told.reply) }
     ensures waits { result ≡ Err Trouble.WouldWait → answer board.old.history call ≡ None }
     ensures refused { (refusal : Refusal) → result ≡ Err (Trouble.Refused refusal)
-        → Refuses 4 true board.old call refusal }
+        → Refuses 4 M.SURE board.old call refusal }
     ensures unchanged { OnErr result (IsAsBefore board.old board.new) }
 {
     match board.apply(SEAT, call) {
@@ -50,49 +53,49 @@ pub fn ask(board: &mut Numbers, call: Call<u64>) -> Result<Answer<u64>, Trouble>
 }
 
 /// Makes a call that makes an object, and returns the object's name.
-pub fn make(board: &mut Numbers, call: Call<u64>) -> Result<Name, Trouble>
+pub fn make<M: Message>(board: &mut BoardOf<M>, call: Call<M>) -> Result<Name, Trouble>
     ensures made { IfOk result (λ name. answer board.old.history call ≡ Some (Reply.Made name)) }
     ensures added { IfOk result (λ name. AddsEntry board.old board.new SEAT call (Reply.Made name)) }
 {
-    match ask(board, call)?.reply() {
-        Reply::Made(name) => Ok(*name),
+    match ask(board, call)?.into_reply() {
+        Reply::Made(name) => Ok(name),
         _ => Err(Trouble::OtherReply),
     }
 }
 
 /// Makes a call that receives a message, and returns the message.
-pub fn fetch(board: &mut Numbers, call: Call<u64>) -> Result<u64, Trouble>
+pub fn fetch<M: Message>(board: &mut BoardOf<M>, call: Call<M>) -> Result<M, Trouble>
     ensures got { IfOk result (λ message. answer board.old.history call ≡ Some (Reply.Got message)) }
     ensures added { IfOk result (λ message. AddsEntry board.old board.new SEAT call (Reply.Got message)) }
 {
-    match ask(board, call)?.reply() {
-        Reply::Got(message) => Ok(*message),
+    match ask(board, call)?.into_reply() {
+        Reply::Got(message) => Ok(message),
         _ => Err(Trouble::OtherReply),
     }
 }
 
 /// Makes a poll, and returns the message, or `None` if there is none.
-pub fn poll(board: &mut Numbers, call: Call<u64>) -> Result<Option<u64>, Trouble>
+pub fn poll<M: Message>(board: &mut BoardOf<M>, call: Call<M>) -> Result<Option<M>, Trouble>
     ensures found { IfOk result (λ found. answer board.old.history call
         ≡ Some (unwrap_or (given found) Reply.Nothing)) }
     ensures added { IfOk result (λ found. AddsEntry board.old board.new SEAT call
         (unwrap_or (given found) Reply.Nothing)) }
     ensures refused { (refusal : Refusal) → result ≡ Err (Trouble.Refused refusal)
-        → Refuses 4 true board.old call refusal }
+        → Refuses 4 M.SURE board.old call refusal }
 {
-    match ask(board, call)?.reply() {
-        Reply::Got(message) => Ok(Some(*message)),
+    match ask(board, call)?.into_reply() {
+        Reply::Got(message) => Ok(Some(message)),
         Reply::Nothing => Ok(None),
         _ => Err(Trouble::OtherReply),
     }
 }
 
 /// Makes a call whose reply is `Done`, as a send.
-pub fn perform(board: &mut Numbers, call: Call<u64>) -> Result<(), Trouble>
+pub fn perform<M: Message>(board: &mut BoardOf<M>, call: Call<M>) -> Result<(), Trouble>
     ensures done { IfOk result (λ _. answer board.old.history call ≡ Some Reply.Done) }
     ensures added { IfOk result (λ _. AddsEntry board.old board.new SEAT call Reply.Done) }
 {
-    match ask(board, call)?.reply() {
+    match ask(board, call)?.into_reply() {
         Reply::Done => Ok(()),
         _ => Err(Trouble::OtherReply),
     }

@@ -1,8 +1,10 @@
 //! How threads end: a call fails in a stall, an answer that was kept is confirmed, and a seat that was dropped is missing.
-ghost use Rattle.std.specs.Prelude.{◌≡◌, ◌+◌, ◌^◌, length, IfOk};
+ghost use Rattle.std.specs.Prelude.{◌≡◌, ◌+◌, length, IfOk};
+ghost use Rattle.cml_guide.specs.Blanks.{IsBlankOf};
 
 use crate::calls::Trouble;
-use crate::threads::{Came, Shared, settled, with_both};
+use crate::examples::wait_in_vain;
+use crate::threads::{Came, Shared, with_both};
 use cml_board::{Answer, Call, Name, Refusal, Reply};
 use cml_threads::{Count, Left, PARTS, Seat};
 use std::alloc::Global;
@@ -15,9 +17,9 @@ use std::thread::Threads;
 /// The refusal of the waiting thread's call, and what is left at the end.
 #[derive(Clone, Copy, Debug)]
 pub struct Stall {
-    refusal: Option<Refusal>,
-    confirmed: bool,
-    count: Count,
+    pub refusal: Option<Refusal>,
+    pub confirmed: bool,
+    pub count: Count,
 }
 
 /// One thread waits for a message that the other never sends.
@@ -27,28 +29,8 @@ pub fn stalled<R: Threads + Wait + Sync>(rt: &R, alloc: Global) -> Result<Stall,
     wait_in_vain::<Brand, R>(rt, alloc, Blank::new(PARTS))
 }
 
-fn wait_in_vain<Led: Ledger + Send + Sync, R: Threads + Wait + Sync>(
-    rt: &R,
-    alloc: Global,
-    blank: Blank,
-) -> Result<Stall, Trouble>
-    requires name { blank.name ≡ Led.name }
-    requires parts { blank.parts ≡ Led.parts }
-    requires enough { blank.parts ≡ 2 ^ 63 }
-    ensures { IfOk result (λ stall. stall.count.total ≡ stall.count.seats + stall.count.rings) }
-{
-    let shared = Shared::<Led>::new(alloc, 100, blank)?;
-    let waited = wait_for_nobody(rt, alloc, &shared);
-    let ((kept, refusal), ended) = settled(shared, waited)?;
-    Ok(Stall {
-        refusal,
-        confirmed: ended.board().confirm(&kept),
-        count: ended.count(),
-    })
-}
-
 /// One thread waits, and the other leaves. Returns an answer that was kept, why the first thread's call failed, and both seats.
-fn wait_for_nobody<Led: Ledger + Send + Sync, R: Threads + Wait + Sync>(
+pub fn wait_for_nobody<Led: Ledger + Send + Sync, R: Threads + Wait + Sync>(
     rt: &R,
     alloc: Global,
     board: &Shared<Led>,
@@ -99,9 +81,7 @@ pub fn missed<R: Wait>(rt: &R, alloc: Global) -> Result<usize, Trouble>
 }
 
 fn miss<Led: Ledger, R: Wait>(rt: &R, alloc: Global, blank: Blank) -> Result<usize, Trouble>
-    requires name { blank.name ≡ Led.name }
-    requires parts { blank.parts ≡ Led.parts }
-    requires enough { blank.parts ≡ 2 ^ 63 }
+    requires { IsBlankOf blank Led.name Led.parts }
     ensures { IfOk result (λ back. back ≡ 1) }
 {
     let shared = Shared::<Led>::new(alloc, 100, blank)?;

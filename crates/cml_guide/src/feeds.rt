@@ -1,8 +1,9 @@
 //! A feed: a ticker multicasts prices, they go into a ring, and a display takes them from there without a lock.
-ghost use Rattle.std.specs.Prelude.{◌≡◌, ◌+◌, ◌^◌, [], ◌∷◌, ◌++◌, IfOk};
+ghost use Rattle.std.specs.Prelude.{◌≡◌, ◌+◌, IfOk};
 
 use crate::calls::Trouble;
-use crate::threads::{Came, Shared, counted, done, made, with_one};
+use crate::examples::tell_to_display;
+use crate::threads::{Came, Shared, done, made, with_one};
 use cml_board::Name;
 use cml_lanes::Feed;
 use cml_threads::{Count, Left, PARTS, Seat};
@@ -27,23 +28,8 @@ pub fn shown<R: Threads + Wait + Sync>(rt: &R, alloc: Global) -> Result<(u64, Co
     tell_to_display::<Brand, R>(rt, alloc, Blank::new(PARTS))
 }
 
-fn tell_to_display<Led: Ledger + Send + Sync, R: Threads + Wait + Sync>(
-    rt: &R,
-    alloc: Global,
-    blank: Blank,
-) -> Result<(u64, Count), Trouble>
-    requires name { blank.name ≡ Led.name }
-    requires parts { blank.parts ≡ Led.parts }
-    requires enough { blank.parts ≡ 2 ^ 63 }
-    ensures { IfOk result (λ found. found.1.total ≡ found.1.seats + found.1.rings) }
-{
-    let shared = Shared::<Led>::new(alloc, 100, blank)?;
-    let shown = tell_and_show(rt, alloc, &shared);
-    counted(shared, shown)
-}
-
 /// What was shown, and the ticker's seat. The display has no seat: it only needs the feed.
-fn tell_and_show<Led: Ledger + Send + Sync, R: Threads + Wait + Sync>(
+pub fn tell_and_show<Led: Ledger + Send + Sync, R: Threads + Wait + Sync>(
     rt: &R,
     alloc: Global,
     board: &Shared<Led>,

@@ -1,10 +1,11 @@
 //! A lane that cannot be served any more, and a thread that closes its lane before it waits: both end.
-ghost use Rattle.std.specs.Prelude.{◌≡◌, ◌+◌, ◌^◌, IfOk};
+ghost use Rattle.std.specs.Prelude.{◌≡◌, ◌+◌, IfOk};
 
 use crate::calls::Trouble;
 use crate::ending::wait_for;
+use crate::examples::{send_and_wait, stop};
 use crate::lanes::{close, receive_and_leave, send_all};
-use crate::threads::{Came, Shared, counted, made, with_one};
+use crate::threads::{Came, Shared, made, with_one};
 use cml_board::Refusal;
 use cml_lanes::LaneEnd;
 use cml_threads::{Count, PARTS};
@@ -32,23 +33,8 @@ pub fn stopped<R: Wait>(rt: &R, alloc: Global) -> Result<(GivenUp, Count), Troub
     stop::<Brand, R>(rt, alloc, Blank::new(PARTS))
 }
 
-fn stop<Led: Ledger, R: Wait>(
-    rt: &R,
-    alloc: Global,
-    blank: Blank,
-) -> Result<(GivenUp, Count), Trouble>
-    requires name { blank.name ≡ Led.name }
-    requires parts { blank.parts ≡ Led.parts }
-    requires enough { blank.parts ≡ 2 ^ 63 }
-    ensures { IfOk result (λ found. found.1.total ≡ found.1.seats + found.1.rings) }
-{
-    let shared = Shared::<Led>::new(alloc, 1, blank)?;
-    let given_up = send_in_vain(rt, alloc, &shared);
-    counted(shared, given_up)
-}
-
 /// The collector stops at the first reading. Then the sensor gives up once its lane is full.
-fn send_in_vain<Led: Ledger, R: Wait>(
+pub fn send_in_vain<Led: Ledger, R: Wait>(
     rt: &R,
     alloc: Global,
     board: &Shared<Led>,
@@ -85,23 +71,8 @@ pub fn closed_before_waiting<R: Wait>(
     send_and_wait::<Brand, R>(rt, alloc, Blank::new(PARTS))
 }
 
-fn send_and_wait<Led: Ledger, R: Wait>(
-    rt: &R,
-    alloc: Global,
-    blank: Blank,
-) -> Result<(Option<Refusal>, Count), Trouble>
-    requires name { blank.name ≡ Led.name }
-    requires parts { blank.parts ≡ Led.parts }
-    requires enough { blank.parts ≡ 2 ^ 63 }
-    ensures { IfOk result (λ found. found.1.total ≡ found.1.seats + found.1.rings) }
-{
-    let shared = Shared::<Led>::new(alloc, 100, blank)?;
-    let waited = close_and_wait(rt, alloc, &shared);
-    counted(shared, waited)
-}
-
 /// Sends a question by a lane, closes the lane, and only then waits for the answer.
-fn close_and_wait<Led: Ledger, R: Wait>(
+pub fn close_and_wait<Led: Ledger, R: Wait>(
     rt: &R,
     alloc: Global,
     board: &Shared<Led>,

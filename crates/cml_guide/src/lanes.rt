@@ -1,8 +1,9 @@
 //! A lane: a sensor sends without a lock, and another thread moves the messages into the journal and receives them.
-ghost use Rattle.std.specs.Prelude.{◌≡◌, ◌+◌, ◌^◌, [], ◌∷◌, ◌++◌, IfOk};
+ghost use Rattle.std.specs.Prelude.{◌≡◌, ◌+◌, IfOk};
 
 use crate::calls::Trouble;
-use crate::threads::{Came, Shared, counted, got, made, with_one};
+use crate::examples::collect;
+use crate::threads::{Came, Shared, got, made, with_one};
 use cml_board::Name;
 use cml_lanes::{Lane, LaneEnd};
 use cml_threads::{Count, Left, PARTS, Seat};
@@ -27,23 +28,8 @@ pub fn collected<R: Threads + Wait + Sync>(rt: &R, alloc: Global) -> Result<(u64
     collect::<Brand, R>(rt, alloc, Blank::new(PARTS))
 }
 
-fn collect<Led: Ledger + Send + Sync, R: Threads + Wait + Sync>(
-    rt: &R,
-    alloc: Global,
-    blank: Blank,
-) -> Result<(u64, Count), Trouble>
-    requires name { blank.name ≡ Led.name }
-    requires parts { blank.parts ≡ Led.parts }
-    requires enough { blank.parts ≡ 2 ^ 63 }
-    ensures { IfOk result (λ found. found.1.total ≡ found.1.seats + found.1.rings) }
-{
-    let shared = Shared::<Led>::new(alloc, 100, blank)?;
-    let collected = send_and_collect(rt, alloc, &shared);
-    counted(shared, collected)
-}
-
 /// What was collected, and the collector's seat. The sensor has no seat: it only needs the lane.
-fn send_and_collect<Led: Ledger + Send + Sync, R: Threads + Wait + Sync>(
+pub fn send_and_collect<Led: Ledger + Send + Sync, R: Threads + Wait + Sync>(
     rt: &R,
     alloc: Global,
     board: &Shared<Led>,

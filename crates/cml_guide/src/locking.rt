@@ -1,9 +1,10 @@
 //! A lock: a thread that takes the number out of an m-variable has it alone, until it puts one back.
-ghost use Rattle.std.specs.Prelude.{◌≡◌, ◌+◌, ◌*◌, ◌^◌, IfOk, OnOk};
+ghost use Rattle.std.specs.Prelude.{◌≡◌, ◌+◌, ◌*◌, IfOk, OnOk};
 ghost use Rattle.cml_threads.specs.Seating.{answers_in};
 
 use crate::calls::Trouble;
-use crate::threads::{Came, Shared, done, got, made, settle, with_both};
+use crate::examples::count_up;
+use crate::threads::{Came, Shared, done, got, made, with_both};
 use cml_board::Name;
 use cml_threads::{Count, Left, PARTS, Seat};
 use std::alloc::Global;
@@ -14,7 +15,7 @@ use std::thread;
 use std::thread::Threads;
 
 /// How often each thread raises the counter.
-const ROUNDS: u64 = 10;
+pub const ROUNDS: u64 = 10;
 
 /// The value to which two threads have raised a counter, and how many entries there are at the end.
 pub fn counted_by_two<R: Threads + Wait + Sync>(
@@ -27,28 +28,8 @@ pub fn counted_by_two<R: Threads + Wait + Sync>(
     count_up::<Brand, R>(rt, alloc, Blank::new(PARTS))
 }
 
-fn count_up<Led: Ledger + Send + Sync, R: Threads + Wait + Sync>(
-    rt: &R,
-    alloc: Global,
-    blank: Blank,
-) -> Result<(u64, Count), Trouble>
-    requires name { blank.name ≡ Led.name }
-    requires parts { blank.parts ≡ Led.parts }
-    requires enough { blank.parts ≡ 2 ^ 63 }
-    ensures counted { IfOk result (λ found. found.1.seats ≡ 4 * ROUNDS + 1) }
-    ensures total { IfOk result (λ found. found.1.total ≡ found.1.seats + found.1.rings) }
-{
-    let shared = Shared::<Led>::new(alloc, 100, blank)?;
-    let (counter, lefts) = raise_by_two(rt, alloc, &shared)?;
-    let ended = settle(shared, lefts)?;
-    match ended.board().held(counter) {
-        Some(Some(raised)) => Ok((*raised, ended.count())),
-        _ => Err(Trouble::OtherReply),
-    }
-}
-
 /// Two threads raise a counter. Returns its name, and the seats of both.
-fn raise_by_two<Led: Ledger + Send + Sync, R: Threads + Wait + Sync>(
+pub fn raise_by_two<Led: Ledger + Send + Sync, R: Threads + Wait + Sync>(
     rt: &R,
     alloc: Global,
     board: &Shared<Led>,

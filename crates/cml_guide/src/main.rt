@@ -7,6 +7,7 @@ mod channels;
 mod clients;
 mod cutting;
 mod ending;
+mod examples;
 mod feeds;
 mod giving_up;
 mod journals;
@@ -34,6 +35,14 @@ use std::io;
 use std::sync::Wait;
 use std::thread::Threads;
 
+/// Prints each example's name and its result.
+macro_rules! show_each {
+    ($rt:ident, $arguments:tt; $($module:ident::$example:ident),+) => {{
+        $(show($rt, concat!(stringify!($module), "::", stringify!($example)), &$module::$example $arguments)?;)+
+        Ok(())
+    }};
+}
+
 fn main(rt: HostRuntime) -> io::Result<()> {
     show_mailboxes(&rt)?;
     show_channels(&rt)?;
@@ -53,132 +62,51 @@ fn show<R: Print, T: Debug>(rt: &R, name: &str, outcome: &T) -> io::Result<()> {
 }
 
 fn show_mailboxes(rt: &HostRuntime) -> io::Result<()> {
-    let alloc = rt.alloc();
-    show(rt, "mailboxes::in_order", &mailboxes::in_order(alloc))?;
-    show(
-        rt,
-        "mailboxes::received_later",
-        &mailboxes::received_later(alloc),
-    )?;
-    show(rt, "mailboxes::polled", &mailboxes::polled(alloc))
+    show_each!(rt, (rt.alloc()); mailboxes::in_order, mailboxes::received_later, mailboxes::polled)
 }
 
 fn show_channels(rt: &HostRuntime) -> io::Result<()> {
-    let alloc = rt.alloc();
-    show(
-        rt,
-        "channels::told_to_each_port",
-        &channels::told_to_each_port(alloc),
-    )?;
-    show(rt, "channels::copied", &channels::copied(alloc))?;
-    show(rt, "channels::closed", &channels::closed(alloc))
+    show_each!(rt, (rt.alloc()); channels::told_to_each_port, channels::copied, channels::closed)
 }
 
 fn show_variables(rt: &HostRuntime) -> io::Result<()> {
-    let alloc = rt.alloc();
-    show(rt, "variables::filled_once", &variables::filled_once(alloc))?;
-    show(rt, "variables::counted", &variables::counted(alloc))?;
-    show(rt, "variables::swapped", &variables::swapped(alloc))?;
-    show(rt, "variables::polled", &variables::polled(alloc))
+    show_each!(rt, (rt.alloc());
+        variables::filled_once, variables::counted, variables::swapped, variables::polled)
 }
 
 fn show_refusals(rt: &HostRuntime) -> io::Result<()> {
-    let alloc = rt.alloc();
-    show(rt, "refusals::told_why", &refusals::told_why(alloc))?;
-    show(rt, "refusals::kept", &refusals::kept(alloc))?;
-    show(rt, "refusals::made_again", &refusals::made_again(alloc))?;
-    show(
-        rt,
-        "reserving::found_nothing",
-        &reserving::found_nothing(alloc),
-    )
+    show_each!(rt, (rt.alloc());
+        refusals::told_why, refusals::kept, refusals::made_again, reserving::found_nothing)
 }
 
 fn show_readers(rt: &HostRuntime) -> io::Result<()> {
-    let alloc = rt.alloc();
-    show(
-        rt,
-        "readers::journal_of_two_seats",
-        &readers::journal_of_two_seats(alloc),
-    )?;
-    show(rt, "readers::looked_at", &readers::looked_at(alloc))
+    show_each!(rt, (rt.alloc()); readers::journal_of_two_seats, readers::looked_at)
 }
 
 fn show_journals(rt: &HostRuntime) -> io::Result<()> {
-    let alloc = rt.alloc();
-    show(
-        rt,
-        "journals::own_is_lawful",
-        &journals::own_is_lawful(alloc),
-    )?;
-    show(rt, "journals::invented", &journals::invented(alloc))?;
-    show(rt, "journals::confirmed", &journals::confirmed(alloc))
+    show_each!(rt, (rt.alloc()); journals::own_is_lawful, journals::invented, journals::confirmed)
 }
 
 fn show_messages(rt: &HostRuntime) -> io::Result<()> {
-    let alloc = rt.alloc();
-    show(rt, "messages::greeted", &messages::greeted(alloc))?;
-    show(rt, "bytes::answered_each", &bytes::answered_each(alloc))?;
-    show(rt, "requests::kept", &requests::kept(alloc))?;
-    show(
-        rt,
-        "notices::noticed_by_three",
-        &notices::noticed_by_three(alloc),
-    )?;
-    show(rt, "notices::read_by_three", &notices::read_by_three(alloc))
+    show_each!(rt, (rt.alloc());
+        messages::greeted, bytes::answered_each, requests::kept,
+        notices::noticed_by_three, notices::read_by_three)
 }
 
 fn show_cutting(rt: &HostRuntime) -> io::Result<()> {
-    let alloc = rt.alloc();
-    show(
-        rt,
-        "cutting::received_after",
-        &cutting::received_after(alloc),
-    )?;
-    show(
-        rt,
-        "cutting::confirmed_after",
-        &cutting::confirmed_after(alloc),
-    )?;
-    show(
-        rt,
-        "cutting::checked_in_pieces",
-        &cutting::checked_in_pieces(alloc),
-    )?;
-    show(rt, "cutting::restored", &cutting::restored(alloc))
+    show_each!(rt, (rt.alloc());
+        cutting::received_after, cutting::confirmed_after,
+        cutting::checked_in_pieces, cutting::restored)
 }
 
 fn show_rooms(rt: &HostRuntime) -> io::Result<()> {
-    show(
-        rt,
-        "rooms::received_in_turn",
-        &rooms::received_in_turn(rt.alloc()),
-    )
+    show_each!(rt, (rt.alloc()); rooms::received_in_turn)
 }
 
 fn show_threads<R: Threads + Wait + Sync + Print>(rt: &R, alloc: Global) -> io::Result<()> {
-    show(rt, "passing::passed_on", &passing::passed_on(rt, alloc))?;
-    show(rt, "requests::passed_on", &requests::passed_on(rt, alloc))?;
-    show(rt, "pool::squares", &pool::squares(rt, alloc))?;
-    show(
-        rt,
-        "stream::read_by_three",
-        &stream::read_by_three(rt, alloc),
-    )?;
-    show(
-        rt,
-        "locking::counted_by_two",
-        &locking::counted_by_two(rt, alloc),
-    )?;
-    show(rt, "lanes::collected", &lanes::collected(rt, alloc))?;
-    show(rt, "giving_up::stopped", &giving_up::stopped(rt, alloc))?;
-    show(
-        rt,
-        "giving_up::closed_before_waiting",
-        &giving_up::closed_before_waiting(rt, alloc),
-    )?;
-    show(rt, "feeds::shown", &feeds::shown(rt, alloc))?;
-    show(rt, "ending::stalled", &ending::stalled(rt, alloc))?;
-    show(rt, "ending::missed", &ending::missed(rt, alloc))?;
-    show(rt, "server::ran_on", &server::ran_on(rt, alloc))
+    show_each!(rt, (rt, alloc);
+        passing::passed_on, requests::passed_on, pool::squares, stream::read_by_three,
+        locking::counted_by_two, lanes::collected, giving_up::stopped,
+        giving_up::closed_before_waiting, feeds::shown, ending::stalled, ending::missed,
+        server::ran_on)
 }

@@ -1,8 +1,7 @@
 //! Messages whose share allocates no memory: plain data, borrowed data, and data with several owners.
 ghost use Rattle.std.specs.Prelude.{◌≡◌, true, false, IfOk};
 
-use crate::calls::Trouble;
-use crate::messages::{BoardOf, ask, fetch, make};
+use crate::calls::{BoardOf, Trouble, fetch, make, perform};
 use cml_board::{Call, Message, Name};
 use std::alloc::{AllocError, Global};
 use std::marker::Model;
@@ -94,7 +93,7 @@ fn open_channel<M: Message>(board: &mut BoardOf<M>) -> Result<[Name; 4], Trouble
 /// Multicasts a message on a new channel. Returns what each of its three ports receives.
 fn tell_three<M: Message>(board: &mut BoardOf<M>, message: M) -> Result<(M, M, M), Trouble> {
     let [news, first, second, third] = open_channel(board)?;
-    ask(board, Call::Cast(news, message))?;
+    perform(board, Call::Cast(news, message))?;
     receive_each(board, [first, second, third])
 }
 

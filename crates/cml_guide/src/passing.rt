@@ -3,9 +3,9 @@ ghost use Rattle.std.specs.Prelude.{◌≡◌, ◌+◌, ◌^◌, IfOk, OnOk};
 ghost use Rattle.cml_threads.specs.Seating.{answers_in};
 
 use crate::calls::Trouble;
-use crate::threads::{Came, Shared, got, made, settle, with_both};
-use cml_board::{BoardLog, Message, Name, Reply};
-use cml_threads::{Count, Left, PARTS, Seat, Switchboard};
+use crate::threads::{Came, Shared, SharedOf, done, got, made, settle, with_both};
+use cml_board::{Message, Name};
+use cml_threads::{Count, Left, PARTS, Seat};
 use std::alloc::Global;
 use std::marker::Brand;
 use std::sync::Wait;
@@ -57,12 +57,12 @@ fn send_and_receive<Led: Ledger + Send + Sync, R: Threads + Wait + Sync>(
 }
 
 /// Receives a message, and leaves even if that fails.
-fn receive_and_leave<Led: Ledger, R: Wait>(
+pub fn receive_and_leave<M: Message, Led: Ledger, R: Wait>(
     rt: &R,
-    board: &Shared<Led>,
+    board: &SharedOf<M, Led>,
     mut receiver: Seat<Led>,
     letters: Name,
-) -> (Result<u64, Trouble>, Left<Led>)
+) -> (Result<M, Trouble>, Left<Led>)
     ensures { OnOk result.0 (result.1.share ≡ receiver.share + 1) }
 {
     let received = got(board.recv(rt, &mut receiver, letters));
@@ -72,17 +72,13 @@ fn receive_and_leave<Led: Ledger, R: Wait>(
 /// Sends a message, and leaves even if that fails.
 pub fn send_and_leave<M: Message, Led: Ledger, R: Wait>(
     rt: &R,
-    board: &Switchboard<M, BoardLog<M>, Led>,
+    board: &SharedOf<M, Led>,
     mut sender: Seat<Led>,
     letters: Name,
     message: M,
 ) -> (Result<(), Trouble>, Left<Led>)
     ensures { OnOk result.0 (result.1.share ≡ sender.share + 1) }
 {
-    let sent = match board.send(rt, &mut sender, letters, message) {
-        Ok(Reply::Done) => Ok(()),
-        Ok(_) => Err(Trouble::OtherReply),
-        Err((refusal, _)) => Err(Trouble::Refused(refusal)),
-    };
+    let sent = done(board.send(rt, &mut sender, letters, message));
     (sent, board.leave(rt, sender))
 }

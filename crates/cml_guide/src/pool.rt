@@ -1,17 +1,18 @@
 //! Workers round one mailbox: each takes a job, and sends its result to another mailbox.
-ghost use Rattle.std.specs.Prelude.{◌≡◌, ◌+◌, ◌^◌, IfOk};
+ghost use Rattle.std.specs.Prelude.{◌≡◌, ◌+◌, IfOk};
 
 use crate::calls::Trouble;
+use crate::examples::run_pool;
 use crate::lanes::receive;
-use crate::threads::{Came, Shared, counted, done, got, made};
+use crate::threads::{Came, Shared, done, got, join_all, made};
 use cml_board::Name;
 use cml_threads::{Count, Left, PARTS, Seat};
-use std::alloc::{AllocError, Global};
+use std::alloc::Global;
 use std::marker::Brand;
 use std::sync::Wait;
 use std::sync::ledger::{Blank, Ledger};
 use std::thread;
-use std::thread::{JoinHandle, Threads};
+use std::thread::Threads;
 
 /// How many workers there are.
 const WORKERS: u64 = 3;
@@ -22,13 +23,6 @@ const JOBS: u64 = 10;
 /// The message that stops a worker, in place of a job.
 const STOP: u64 = 0;
 
-/// The mailboxes for jobs and for results.
-#[derive(Clone, Copy)]
-pub struct Desk {
-    jobs: Name,
-    results: Name,
-}
-
 /// The sum of all results, and how many entries there are at the end.
 pub fn squares<R: Threads + Wait + Sync>(rt: &R, alloc: Global) -> Result<(u64, Count), Trouble>
     ensures { IfOk result (λ found. found.1.total ≡ found.1.seats + found.1.rings) }
@@ -36,23 +30,15 @@ pub fn squares<R: Threads + Wait + Sync>(rt: &R, alloc: Global) -> Result<(u64, 
     run_pool::<Brand, R>(rt, alloc, Blank::new(PARTS))
 }
 
-fn run_pool<Led: Ledger + Send + Sync, R: Threads + Wait + Sync>(
-    rt: &R,
-    alloc: Global,
-    blank: Blank,
-) -> Result<(u64, Count), Trouble>
-    requires name { blank.name ≡ Led.name }
-    requires parts { blank.parts ≡ Led.parts }
-    requires enough { blank.parts ≡ 2 ^ 63 }
-    ensures { IfOk result (λ found. found.1.total ≡ found.1.seats + found.1.rings) }
-{
-    let shared = Shared::<Led>::new(alloc, 100, blank)?;
-    let squared = square_all(rt, alloc, &shared);
-    counted(shared, squared)
+/// The mailboxes for jobs and for results.
+#[derive(Clone, Copy)]
+pub struct Desk {
+    jobs: Name,
+    results: Name,
 }
 
 /// The boss has the jobs done, and leaves even if that fails.
-fn square_all<Led: Ledger + Send + Sync, R: Threads + Wait + Sync>(
+pub fn square_all<Led: Ledger + Send + Sync, R: Threads + Wait + Sync>(
     rt: &R,
     alloc: Global,
     board: &Shared<Led>,
@@ -164,18 +150,6 @@ fn work_all<Led: Ledger + Send + Sync, R: Threads + Wait + Sync>(
         }
         join_all(rt, running, lefts)
     })
-}
-
-fn join_all<Led: Ledger, R: Threads>(
-    rt: &R,
-    running: Vec<JoinHandle<Left<Led>>>,
-    lefts: Vec<Left<Led>>,
-) -> Result<Vec<Left<Led>>, Trouble> {
-    let mut lefts = lefts;
-    for handle in running {
-        lefts.push(handle.join(rt))?;
-    }
-    Ok(lefts)
 }
 
 /// The sum of the results of all jobs.

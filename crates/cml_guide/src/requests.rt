@@ -1,14 +1,14 @@
 //! Your own type of messages that own memory: sharing one allocates memory too, and may fail.
-ghost use Rattle.std.specs.Prelude.{◌≡◌, ◌+◌, ◌^◌, false, IfOk, IfErr, Ok, OnErr, OnOk};
+ghost use Rattle.std.specs.Prelude.{◌≡◌, false, IfOk, IfErr, OnErr};
 ghost use Rattle.cml_board.specs.Outcome.{IsAsBefore};
 ghost use Rattle.cml_threads.specs.Seating.{answers_in};
 
-use crate::calls::{SEAT, Trouble};
-use crate::messages::{BoardOf, make};
-use crate::passing::send_and_leave;
-use crate::threads::{Came, settle, with_both};
-use cml_board::{BoardLog, Call, Message, Name, Outcome, Refusal, Reply};
-use cml_threads::{Count, Left, PARTS, Seat, Switchboard};
+use crate::calls::{BoardOf, SEAT, Trouble, make};
+use crate::examples::ask_on;
+use crate::passing::{receive_and_leave, send_and_leave};
+use crate::threads::{Came, SharedOf, made, with_both};
+use cml_board::{Call, Message, Name, Outcome, Refusal};
+use cml_threads::{Count, PARTS};
 use std::alloc::{AllocError, Global};
 use std::marker::{Brand, Model};
 use std::sync::Wait;
@@ -92,15 +92,6 @@ fn send_new(
     Ok(send_or_keep(board, requests, request))
 }
 
-/// A switchboard whose messages are requests.
-type Office<Led> = Switchboard<Request, BoardLog<Request>, Led>;
-
-impl From<(Refusal, Call<Request>)> for Trouble {
-    fn from(back: (Refusal, Call<Request>)) -> Trouble {
-        Trouble::Refused(back.0)
-    }
-}
-
 /// One thread sends a request and another receives it. Returns the request, and how many entries there are at the end.
 pub fn passed_on<R: Threads + Wait + Sync>(
     rt: &R,
@@ -108,37 +99,20 @@ pub fn passed_on<R: Threads + Wait + Sync>(
 ) -> Result<(Request, Count), Trouble>
     ensures counted { IfOk result (λ found. found.1.seats ≡ 3) }
 {
-    pass_on::<Brand, R>(rt, alloc, Blank::new(PARTS))
-}
-
-fn pass_on<Led: Ledger + Send + Sync, R: Threads + Wait + Sync>(
-    rt: &R,
-    alloc: Global,
-    blank: Blank,
-) -> Result<(Request, Count), Trouble>
-    requires name { blank.name ≡ Led.name }
-    requires parts { blank.parts ≡ Led.parts }
-    requires enough { blank.parts ≡ 2 ^ 63 }
-    ensures counted { IfOk result (λ found. found.1.seats ≡ 3) }
-{
-    let office = Office::<Led>::new(alloc, 100, blank)?;
-    let (request, lefts) = send_and_receive(rt, alloc, &office)?;
-    Ok((request, settle(office, lefts)?.count()))
+    ask_on::<Brand, R>(rt, alloc, Blank::new(PARTS))
 }
 
 /// What was received, and the seats of both threads.
-fn send_and_receive<Led: Ledger + Send + Sync, R: Threads + Wait + Sync>(
+pub fn send_and_receive<Led: Ledger + Send + Sync, R: Threads + Wait + Sync>(
     rt: &R,
     alloc: Global,
-    office: &Office<Led>,
+    office: &SharedOf<Request, Led>,
 ) -> Came<Request, Led>
     ensures { IfOk result (λ found. answers_in found.1.items ≡ 3) }
 {
     let coffee = Request::new(alloc, "coffee", 7)?;
     let mut client = office.seat(rt)?;
-    let Reply::Made(requests) = office.mailbox(rt, &mut client)? else {
-        return Err(Trouble::OtherReply);
-    };
+    let requests = made(office.mailbox(rt, &mut client))?;
     let clerk = office.seat(rt)?;
     let ((received, clerk), (sent, client)) = thread::join(
         rt,
@@ -146,27 +120,4 @@ fn send_and_receive<Led: Ledger + Send + Sync, R: Threads + Wait + Sync>(
         move || send_and_leave(rt, office, client, requests, coffee),
     );
     with_both(alloc, sent.and(received), clerk, client)
-}
-
-/// Receives a request, and leaves even if that fails.
-fn receive_and_leave<Led: Ledger, R: Wait>(
-    rt: &R,
-    office: &Office<Led>,
-    mut clerk: Seat<Led>,
-    requests: Name,
-) -> (Result<Request, Trouble>, Left<Led>)
-    ensures { OnOk result.0 (result.1.share ≡ clerk.share + 1) }
-{
-    let received = got(office.recv(rt, &mut clerk, requests));
-    (received, office.leave(rt, clerk))
-}
-
-/// The request that was got.
-fn got(replied: Result<Reply<Request>, (Refusal, Call<Request>)>) -> Result<Request, Trouble>
-    ensures { IfOk result (λ request. replied ≡ Ok (Reply.Got request)) }
-{
-    match replied? {
-        Reply::Got(request) => Ok(request),
-        _ => Err(Trouble::OtherReply),
-    }
 }

@@ -1,10 +1,11 @@
 //! A server that runs on. It hands out tickets, and takes its journal again and again, so that the journal is never full.
-ghost use Rattle.std.specs.Prelude.{◌≡◌, ◌+◌, ◌^◌, IfOk};
+ghost use Rattle.std.specs.Prelude.{◌≡◌, ◌+◌, IfOk};
 
 use crate::calls::Trouble;
 use crate::clients::{Client, Visit, Way, ask_and_leave};
+use crate::examples::run_on;
 use crate::keeper::Keeper;
-use crate::threads::{Came, Ended, Shared, made, settled};
+use crate::threads::{Came, Ended, Shared, join_all, made};
 use cml_board::{Call, Name, Refusal, Reply};
 use cml_threads::{Count, Left, PARTS, Seat};
 use std::alloc::Global;
@@ -19,7 +20,7 @@ use std::thread::{JoinHandle, Threads};
 const WAYS: [Way; 3] = [Way::BySeat, Way::BySeat, Way::ByLanes];
 
 /// How many entries the journal takes between two cuts: more than can come while a lane is open.
-const LIMIT: u64 = 100_000;
+pub const LIMIT: u64 = 100_000;
 
 /// The result of a server.
 #[derive(Clone, Copy, Debug)]
@@ -54,39 +55,8 @@ pub fn ran_on<R: Threads + Wait + Sync>(rt: &R, alloc: Global) -> Result<Served,
     run_on::<Brand, R>(rt, alloc, Blank::new(PARTS))
 }
 
-fn run_on<Led: Ledger + Send + Sync, R: Threads + Wait + Sync>(
-    rt: &R,
-    alloc: Global,
-    blank: Blank,
-) -> Result<Served, Trouble>
-    requires name { blank.name ≡ Led.name }
-    requires parts { blank.parts ≡ Led.parts }
-    requires enough { blank.parts ≡ 2 ^ 63 }
-    ensures { IfOk result (λ served. served.count.total ≡ served.count.seats + served.count.rings) }
-{
-    let mut keeper = Keeper::new(alloc)?;
-    run_with::<Led, R>(rt, alloc, blank, &mut keeper)
-}
-
-fn run_with<Led: Ledger + Send + Sync, R: Threads + Wait + Sync>(
-    rt: &R,
-    alloc: Global,
-    blank: Blank,
-    keeper: &mut Keeper,
-) -> Result<Served, Trouble>
-    requires name { blank.name ≡ Led.name }
-    requires parts { blank.parts ≡ Led.parts }
-    requires enough { blank.parts ≡ 2 ^ 63 }
-    ensures { IfOk result (λ served. served.count.total ≡ served.count.seats + served.count.rings) }
-{
-    let shared = Shared::<Led>::new(alloc, LIMIT, blank)?;
-    let day = open_and_close(rt, alloc, &shared, keeper);
-    let (tickets, ended) = settled(shared, day)?;
-    sum_up(&ended, tickets, keeper)
-}
-
 /// Checks what has come since the last piece was taken, and reports on all pieces.
-fn sum_up(ended: &Ended, tickets: u64, keeper: &mut Keeper) -> Result<Served, Trouble>
+pub fn sum_up(ended: &Ended, tickets: u64, keeper: &mut Keeper) -> Result<Served, Trouble>
     ensures { IfOk result (λ served. served.count.total ≡ served.count.seats + served.count.rings) }
 {
     let is_lawful = keeper.check(ended.board().journal())?;
@@ -100,7 +70,7 @@ fn sum_up(ended: &Ended, tickets: u64, keeper: &mut Keeper) -> Result<Served, Tr
 }
 
 /// Makes all seats, lets the clients in, and serves them until the last has left.
-fn open_and_close<Led: Ledger + Send + Sync, R: Threads + Wait + Sync>(
+pub fn open_and_close<Led: Ledger + Send + Sync, R: Threads + Wait + Sync>(
     rt: &R,
     alloc: Global,
     board: &Shared<Led>,
@@ -167,18 +137,6 @@ fn let_in<Led: Ledger + Send + Sync, R: Threads + Wait + Sync>(
         let shift = serve_and_leave(rt, board, shop, keeper);
         (join_all(rt, running, visits), shift)
     })
-}
-
-fn join_all<Led: Ledger, R: Threads>(
-    rt: &R,
-    running: Vec<JoinHandle<Visit<Led>>>,
-    visits: Vec<Visit<Led>>,
-) -> Result<Vec<Visit<Led>>, Trouble> {
-    let mut visits = visits;
-    for handle in running {
-        visits.push(handle.join(rt))?;
-    }
-    Ok(visits)
 }
 
 /// Serves, and leaves even if that fails, so that a call that still waits fails with `Stalled`.

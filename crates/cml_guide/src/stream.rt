@@ -1,8 +1,9 @@
 //! A stream: one thread multicasts, and each of three others receives all of it, in order.
-ghost use Rattle.std.specs.Prelude.{◌≡◌, ◌+◌, ◌^◌, IfOk};
+ghost use Rattle.std.specs.Prelude.{◌≡◌, ◌+◌, IfOk};
 
 use crate::calls::Trouble;
-use crate::threads::{Came, Shared, counted, done, got, made};
+use crate::examples::stream;
+use crate::threads::{Came, Shared, done, got, made};
 use cml_board::Name;
 use cml_threads::{Count, Left, PARTS, Seat};
 use std::alloc::Global;
@@ -25,23 +26,8 @@ pub fn read_by_three<R: Threads + Wait + Sync>(
     stream::<Brand, R>(rt, alloc, Blank::new(PARTS))
 }
 
-fn stream<Led: Ledger + Send + Sync, R: Threads + Wait + Sync>(
-    rt: &R,
-    alloc: Global,
-    blank: Blank,
-) -> Result<([u64; 3], Count), Trouble>
-    requires name { blank.name ≡ Led.name }
-    requires parts { blank.parts ≡ Led.parts }
-    requires enough { blank.parts ≡ 2 ^ 63 }
-    ensures { IfOk result (λ found. found.1.total ≡ found.1.seats + found.1.rings) }
-{
-    let shared = Shared::<Led>::new(alloc, 100, blank)?;
-    let told = tell_to_three(rt, alloc, &shared);
-    counted(shared, told)
-}
-
 /// What each of the three has read, and the seats of all.
-fn tell_to_three<Led: Ledger + Send + Sync, R: Threads + Wait + Sync>(
+pub fn tell_to_three<Led: Ledger + Send + Sync, R: Threads + Wait + Sync>(
     rt: &R,
     alloc: Global,
     board: &Shared<Led>,

@@ -8,15 +8,19 @@ use cml_lanes::LaneEnd;
 use cml_threads::{Count, Left, Settled, Switchboard};
 use std::alloc::{AllocFailed, Global};
 use std::sync::ledger::Ledger;
+use std::thread::{JoinHandle, Threads};
+
+/// A switchboard whose messages are of this type.
+pub type SharedOf<M, Led> = Switchboard<M, BoardLog<M>, Led>;
 
 /// A switchboard whose messages are numbers.
-pub type Shared<Led> = Switchboard<u64, BoardLog<u64>, Led>;
-
-/// The result of a call on one: the reply, or the refusal and the call that came back.
-pub type Replied = Result<Reply<u64>, (Refusal, Call<u64>)>;
+pub type Shared<Led> = SharedOf<u64, Led>;
 
 /// What is left of one at the end.
 pub type Ended = Settled<u64, BoardLog<u64>>;
+
+/// The result of a call on a switchboard: the reply, or the refusal and the call that came back.
+pub type Replied<M> = Result<Reply<M>, (Refusal, Call<M>)>;
 
 impl From<Refusal> for Trouble {
     fn from(refusal: Refusal) -> Trouble {
@@ -24,8 +28,8 @@ impl From<Refusal> for Trouble {
     }
 }
 
-impl From<(Refusal, Call<u64>)> for Trouble {
-    fn from(back: (Refusal, Call<u64>)) -> Trouble {
+impl<M: Message> From<(Refusal, Call<M>)> for Trouble {
+    fn from(back: (Refusal, Call<M>)) -> Trouble {
         Trouble::Refused(back.0)
     }
 }
@@ -43,7 +47,7 @@ impl<T: Drop> From<AllocFailed<T>> for Trouble {
 }
 
 /// The name of the object that was made.
-pub fn made(replied: Replied) -> Result<Name, Trouble>
+pub fn made<M: Message>(replied: Replied<M>) -> Result<Name, Trouble>
     ensures { IfOk result (λ name. replied ≡ Ok (Reply.Made name)) }
 {
     match replied? {
@@ -53,7 +57,7 @@ pub fn made(replied: Replied) -> Result<Name, Trouble>
 }
 
 /// The message that was got.
-pub fn got(replied: Replied) -> Result<u64, Trouble>
+pub fn got<M: Message>(replied: Replied<M>) -> Result<M, Trouble>
     ensures { IfOk result (λ message. replied ≡ Ok (Reply.Got message)) }
 {
     match replied? {
@@ -63,7 +67,7 @@ pub fn got(replied: Replied) -> Result<u64, Trouble>
 }
 
 /// Nothing, of a call whose reply must be `Done`.
-pub fn done(replied: Replied) -> Result<(), Trouble>
+pub fn done<M: Message>(replied: Replied<M>) -> Result<(), Trouble>
     ensures { IfOk result (λ _. replied ≡ Ok Reply.Done) }
 {
     match replied? {
@@ -74,7 +78,7 @@ pub fn done(replied: Replied) -> Result<(), Trouble>
 
 /// What is left of a switchboard that all seats have left.
 pub fn settle<M: Message, Led: Ledger>(
-    shared: Switchboard<M, BoardLog<M>, Led>,
+    shared: SharedOf<M, Led>,
     lefts: Vec<Left<Led>>,
 ) -> Result<Settled<M, BoardLog<M>>, Trouble>
     ensures { IfOk result (λ settled. settled.seats ≡ answers_in lefts.items) }
@@ -90,7 +94,7 @@ pub type Came<T, Led> = Result<(T, Vec<Left<Led>>), Trouble>;
 
 /// What an example found, and what is left of its switchboard once all seats have left.
 pub fn settled<T: Drop, M: Message, Led: Ledger>(
-    shared: Switchboard<M, BoardLog<M>, Led>,
+    shared: SharedOf<M, Led>,
     came: Came<T, Led>,
 ) -> Result<(T, Settled<M, BoardLog<M>>), Trouble>
     ensures { IfOk result (λ found. IfOk came (λ gave. found.1.seats ≡ answers_in gave.1.items)) }
@@ -101,7 +105,7 @@ pub fn settled<T: Drop, M: Message, Led: Ledger>(
 
 /// What an example found, and how many entries there are at the end.
 pub fn counted<T: Drop, M: Message, Led: Ledger>(
-    shared: Switchboard<M, BoardLog<M>, Led>,
+    shared: SharedOf<M, Led>,
     came: Came<T, Led>,
 ) -> Result<(T, Count), Trouble>
     ensures seats { IfOk result (λ found. IfOk came (λ gave. found.1.seats ≡ answers_in gave.1.items)) }
@@ -133,4 +137,17 @@ pub fn with_both<T: Drop, Led: Ledger>(
 {
     let lefts = vec![in alloc; one, two]?;
     Ok((found?, lefts))
+}
+
+/// Joins threads, and adds what each returned to what was done without a thread.
+pub fn join_all<T: Drop, R: Threads>(
+    rt: &R,
+    running: Vec<JoinHandle<T>>,
+    returned: Vec<T>,
+) -> Result<Vec<T>, Trouble> {
+    let mut returned = returned;
+    for handle in running {
+        returned.push(handle.join(rt))?;
+    }
+    Ok(returned)
 }
