@@ -1,4 +1,4 @@
-# Which report an order of the threads gives: `awk -f tests/plain.awk -f tests/rings.awk -f tests/interleaved.awk LIMIT
+# Which report an order of the threads gives: `awk -f tests/calls.awk -f tests/plain.awk -f tests/rings.awk -f tests/interleaved.awk LIMIT
 # SCRIPT REPORT..`.
 #
 # Of each report only the order is taken: each line of its first part names the thread that takes its next step there,

@@ -1,4 +1,4 @@
-# Changed journals: `awk -v to=FOLDER/NAME -f tests/journal_changes.awk JOURNAL` writes a file NAME.KIND.NUMBER for each text that is
+# Changed journals: `awk -v to=FOLDER/NAME -f tests/calls.awk -f tests/journal_changes.awk JOURNAL` writes a file NAME.KIND.NUMBER for each text that is
 # nearly this journal. Each byte becomes another, and in a short journal two others; each entry has each other reply, and some other
 # calls; each line is left out, doubled, or exchanged with the next; so is each piece; the text ends behind each byte. With
 # `-v step=7` bytes and ends are every seventh, and entries every fifth.
@@ -8,7 +8,8 @@ BEGIN {
     for (byte in character) number[character[byte]] = byte
     # What means something to a journal, and bytes that mean nothing.
     replies = split("done none put closed made", reply, " ")
-    calls = split("mailbox: channel: ivar: mvar: mvar send multicast port copy close recv poll put get getpoll take takepoll swap", call, " ")
+    choices = split("mvar", choice, " ")
+    for (at = 1; at <= calls; at++) choice[++choices] = word_of[at] (kinds_of[word_of[at]] == "" ? ":" : "")
     others = split("10 32 37 48 49 57 58 61 65 70 97 100 115 2 9 13 127 128 255", other, " ")
 }
 
@@ -50,7 +51,7 @@ function change_entry(at,    place, front, i, word) {
     change_line(at, front (line[1] == "journal 1" ? at % 7 : "=" at % 7))
     split(line[at], word, " ")
     front = substr(line[at], 1, length(word[1] " " word[2] " "))
-    for (i = 0; i < 3; i++) change_line(at, front call[(at + 6 * i) % calls + 1] substr(line[at], length(front word[3]) + 1))
+    for (i = 0; i < 3; i++) change_line(at, front choice[(at + 6 * i) % choices + 1] substr(line[at], length(front word[3]) + 1))
 }
 
 function change_line(at, new) { write_to("entry", before(at) new "\n" behind(at, NR)) }

@@ -1,7 +1,7 @@
-# The judge of journals: what docs/FORMATS.md says under "Journals", and what a lawful history is, written down once more. It
-# shares nothing with the crates, so what both say alike is said twice.
+# The judge of journals: what docs/FORMATS.md says under "Journals", and what a lawful history is, written down once more. With the
+# table of calls (tests/calls.awk) it shares nothing with the crates, so what both say alike is said twice.
 #
-#     awk -f tests/journal_judge.awk FILE..
+#     awk -f tests/calls.awk -f tests/journal_judge.awk FILE..
 #
 # For each file it prints `== FILE`, then what the program that checks journals writes to standard output, and then `status N`
 # with what the program writes to standard error. With `-v state=1` it prints the lines of the objects too.
@@ -17,22 +17,7 @@ BEGIN {
     }
 }
 
-# What each call's words are behind its own: `#` is an object's number, and `=` a message. Then the replies that it may have.
 function tables() {
-    makes["mailbox"] = makes["channel"] = makes["ivar"] = makes["mvar"] = " made "
-    takes["send"] = takes["multicast"] = takes["put"] = takes["swap"] = "# ="
-    takes["port"] = takes["copy"] = takes["close"] = takes["recv"] = takes["poll"] = "#"
-    takes["get"] = takes["getpoll"] = takes["take"] = takes["takepoll"] = "#"
-    takes["mvar"] = "="
-    replies["send"] = replies["multicast"] = " done "; replies["put"] = " done put "
-    replies["port"] = replies["mvar"] = " made "; replies["copy"] = " made closed "; replies["close"] = " done closed "
-    replies["recv"] = " message closed "; replies["poll"] = " message none closed "
-    replies["get"] = replies["take"] = replies["swap"] = " message "
-    replies["getpoll"] = replies["takepoll"] = " message none "
-    fits["send"] = " mailbox "; fits["multicast"] = fits["port"] = " channel "
-    fits["copy"] = fits["close"] = " port "; fits["recv"] = fits["poll"] = " mailbox port "
-    fits["put"] = fits["get"] = fits["getpoll"] = " ivar mvar "
-    fits["take"] = fits["takepoll"] = fits["swap"] = " mvar "
     most = "18446744073709551615"
     longest = 1114112
 }
@@ -124,21 +109,24 @@ function entry(line,    fault, who, number, call) {
     object = given = ""
     if (call ~ /:$/) {
         call = substr(call, 1, length(call) - 1)
-        if (!(call in makes)) return "unknown word"
+        if (!(call in kinds_of) || kinds_of[call] != "") return "unknown word"
     } else {
-        if (!(call in takes)) return "unknown word"
-        fault = operands(takes[call])
+        if (call != "mvar" && (!(call in kinds_of) || kinds_of[call] == "")) return "unknown word"
+        fault = operands(operands_of(call))
         if (fault != "") return fault
         if (call == "mvar") call = "mvar with a message"
     }
     fault = reply()
     if (fault != "") return fault
-    if (!index(may_reply(call), " " sort_of_reply " ")) return "wrong reply"
+    if (!is_among(sort_of_reply, replies_of[call == "mvar with a message" ? "mvar" : call])) return "wrong reply"
     entries++
     answer = answer_of(call)
     is_lawful = same(answer, rest)
     return ""
 }
+
+# What the words behind the call's own are: `#` is an object's number, and `=` a message. The call `mvar` is one with a message here.
+function operands_of(call) { return call == "mvar" ? "=" : gives[call] ? "# =" : "#" }
 
 # The words behind the call's own. The last has a colon.
 function operands(form) {
@@ -170,8 +158,6 @@ function reply() {
     return is_message(rest) ? "" : "bad message"
 }
 
-function may_reply(call) { return call == "mvar with a message" ? replies["mvar"] : call in makes ? makes[call] : replies[call] }
-
 # The word up to the next space goes into `word`. There is none where no space is left.
 function next_word(    space) {
     space = index(rest, " ")
@@ -200,9 +186,9 @@ function same(one, other) { return one "x" == other "x" }
 
 function answer_of(call) {
     if (call == "mvar with a message") return made("mvar", given)
-    if (call in makes) return made(call, "")
+    if (kinds_of[call] == "") return made(call, "")
     if (!(object in kind)) return "no such object"
-    if (!index(fits[call], " " kind[object] " ")) return "wrong kind"
+    if (!is_among(kind[object], kinds_of[call])) return "wrong kind"
     if (call == "send" || call == "multicast") {
         message[object, sent[object]++] = given
         return "done"

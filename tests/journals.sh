@@ -244,7 +244,7 @@ reads() {
 }
 
 # change NAME STEP: all that is nearly the journal on standard input.
-change() { awk -v to="$work/cases/$1" -v step="$2" -f tests/journal_changes.awk; }
+change() { awk -v to="$work/cases/$1" -v step="$2" -f tests/calls.awk -f tests/journal_changes.awk; }
 
 # Each changed journal is a file in the folder of cases.
 changed() {
@@ -255,7 +255,7 @@ changed() {
     script "$pieces" | change pieces "$step"
     script "$cut" | change cut "$step"
     for seed in 1 2; do
-        awk -v seed=$seed -v count=60 -f tests/journal_judge.awk -f tests/some_journals.awk > "$work/cases/random$seed"
+        awk -v seed=$seed -v count=60 -f tests/calls.awk -f tests/journal_judge.awk -f tests/some_journals.awk > "$work/cases/random$seed"
         change random$seed $((step * 29)) < "$work/cases/random$seed"
     done
 }
@@ -281,7 +281,7 @@ says='
 judged() {
     find "$work/cases" -type f > "$work/files"
     xargs -P "$(nproc 2> /dev/null || echo 2)" -n 200 sh -c "$says" says "$work/said" "$program" < "$work/files"
-    xargs -n 1000 awk -v state=1 -f tests/journal_judge.awk < "$work/files" > "$work/judged"
+    xargs -n 1000 awk -v state=1 -f tests/calls.awk -f tests/journal_judge.awk < "$work/files" > "$work/judged"
     cat "$work"/said.* | awk '
         /^== / { name = $2; next }
         FNR == NR { judged[name] = judged[name] " / " $0; next }

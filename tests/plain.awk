@@ -1,5 +1,6 @@
 # The plain program: what docs/FORMATS.md says of a script, written down once more, with lists that are gone through
-# from the first item on. It shares nothing with the crates, so what both say alike is said twice.
+# from the first item on. With the table of calls (tests/calls.awk) it shares nothing with the crates, so what both say alike is said
+# twice.
 #
 # Each line of input is a limit and then the bytes of one script, as numbers. For each script it prints the report, or
 # the line of its fault, and then the exit status.
@@ -14,11 +15,8 @@ BEGIN {
     declares["mailbox"] = "+mailbox"; declares["channel"] = "+channel"; declares["port"] = "channel +port"
     declares["ivar"] = "+ivar"; declares["mvar"] = "+mvar"; declares["thread"] = "+thread"
     declares["lane"] = "thread mailbox,channel #"; declares["feed"] = "thread +feed channel #"
-    steps["send"] = "mailbox ="; steps["multicast"] = "channel ="
-    steps["recv"] = "mailbox,port"; steps["poll"] = "mailbox,port,feed"
-    steps["port"] = "channel +port"; steps["copy"] = "port +port"; steps["close"] = "port"
-    steps["put"] = "ivar,mvar ="; steps["get"] = steps["getpoll"] = "ivar,mvar"
-    steps["take"] = steps["takepoll"] = "mvar"; steps["swap"] = "mvar ="
+    for (i = 1; i <= calls; i++) if (kinds_of[word_of[i]] != "") steps[word_of[i]] = places_of(word_of[i])
+    steps["poll"] = steps["poll"] ",feed"
 }
 
 {
@@ -34,6 +32,14 @@ BEGIN {
         print_report(ending)
         print "status " (ending ~ /^done/ ? 0 : ending ~ /^stalled/ ? 1 : 6)
     }
+}
+
+function places_of(word,    words) {
+    words = kinds_of[word]
+    gsub(" ", ",", words)
+    if (makes_an_object(word)) words = words " +port"
+    if (gives[word]) words = words " ="
+    return words
 }
 
 function forget_script() {

@@ -234,7 +234,7 @@ octal() { awk '{ printf "%s ", $1; for (i = 2; i <= NF; i++) printf "\\%03o", $i
 
 # agree CASE: for each text of $work/texts, the program and the plain program do the same.
 agree() {
-    awk -f tests/plain.awk "$work/texts" > "$work/want"
+    awk -f tests/calls.awk -f tests/plain.awk "$work/texts" > "$work/want"
     octal < "$work/texts" | while read -r limit text; do
         # shellcheck disable=SC2059
         printf "$text" | "$program" replay --limit "$limit" 2>&1
@@ -272,7 +272,7 @@ beginnings
 each_message
 other_versions
 # Some 2,000 of each version.
-awk -v scripts=4000 -f tests/some_scripts.awk > "$work/texts"
+awk -v scripts=4000 -f tests/calls.awk -f tests/some_scripts.awk > "$work/texts"
 agree 'scripts of all lines'
 runs
 

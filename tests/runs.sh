@@ -7,7 +7,7 @@ either_end='chat_room late_reader philosophers three_philosophers'
 # in_some_order LIMIT SCRIPT REPORT..: whether each of these reports is one that some order of the threads gives; where
 # `short` is set, one in which the pump of that message of feeds stopped there.
 in_some_order() {
-    awk -v short="${short:-0}" -f tests/plain.awk -f tests/rings.awk -f tests/interleaved.awk "$@" > "$work/want"
+    awk -v short="${short:-0}" -f tests/calls.awk -f tests/plain.awk -f tests/rings.awk -f tests/interleaved.awk "$@" > "$work/want"
     shift 2
     cat "$@" > "$work/got"
     [ -s "$work/want" ] && cmp -s "$work/want" "$work/got"
@@ -189,7 +189,7 @@ little_memory() {
 some_runs() {
     : > "$work/statuses"
     : > "$work/bad"
-    awk -v scripts=400 -v one_in=2 -f tests/some_scripts.awk | octal | while read -r limit text; do
+    awk -v scripts=400 -v one_in=2 -f tests/calls.awk -f tests/some_scripts.awk | octal | while read -r limit text; do
         # shellcheck disable=SC2059
         printf "$text" > "$work/in"
         run run --limit "$limit" < "$work/in"

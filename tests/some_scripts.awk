@@ -5,12 +5,9 @@
 
 BEGIN {
     for (byte = 32; byte <= 126; byte++) { character[byte] = sprintf("%c", byte); number[character[byte]] = byte }
-    verbs = split("send recv poll multicast recv poll port copy close recv poll put get getpoll take takepoll swap", verb, " ")
-    wanted["send"] = "mailbox"; wanted["multicast"] = "channel"; wanted["port"] = "channel"
-    wanted["copy"] = "port"; wanted["close"] = "port"
-    wanted["put"] = wanted["get"] = wanted["getpoll"] = "variable"
-    wanted["take"] = wanted["takepoll"] = wanted["swap"] = "mvar"
-    sends["send"] = sends["multicast"] = sends["put"] = sends["swap"] = 1
+    for (at = 1; at <= calls; at++) if (kinds_of[word_of[at]] != "") verb[++verbs] = word_of[at]
+    split("recv poll recv poll", more, " ")
+    for (at in more) verb[++verbs] = more[at]
     # Words from elsewhere in a script or a report, words that a shell or a format would read, and words like numbers.
     odds = split("= == =x =5 : :: a: :a a:b # #x / // /x | || ~ \" ' ` \\ \\n \\\\ % %s %d $x * - -- ! & ; ( [x] {} < > , . _ " \
         "none done put made closed empty full end: end sent got lane feed cml port mvar thread mailbox m0 T1 p0 v0 " \
@@ -32,21 +29,14 @@ function line(text,    i) {
 
 function give(name, its_kind, thread) { kind[++names] = its_kind; named[names] = name; owner[names] = thread }
 
-# A name of this kind; now and then another thread's, or of any kind.
+# A name of one of these kinds; now and then another thread's, or of any kind.
 function pick(its_kind, thread,    tries, i) {
     for (tries = 0; tries < 40; tries++) {
         i = 1 + below(names)
-        if (suits(kind[i], its_kind) && (owner[i] == "" || owner[i] == thread || below(40) == 0)) return named[i]
+        if (is_among(kind[i], its_kind) && (owner[i] == "" || owner[i] == thread || below(40) == 0)) return named[i]
         if (below(1000) == 0) return named[i]
     }
     return named[1 + below(names)]
-}
-
-function suits(one, other) {
-    if (other == "receiver") return one == "mailbox" || one == "port"
-    if (other == "variable") return one == "ivar" || one == "mvar"
-    if (other == "target") return one == "mailbox" || one == "channel"
-    return one == other
 }
 
 function print_script(    i, count, its_kind, name, threads) {
@@ -82,7 +72,7 @@ function print_rings(threads,    i, count, text) {
     split("", laid); split("", feed_of)
     count = 1 + below(4)
     for (i = 1; i <= count; i++) {
-        text = "lane T" (1 + below(threads)) " " pick("target")
+        text = "lane T" (1 + below(threads)) " " pick("mailbox channel")
         if ((text in laid) && below(30) > 0) continue
         laid[text] = 1
         line(text " " capacity())
@@ -119,13 +109,13 @@ function bytes(count,    i, text) {
 
 function print_step(thread, i,    v, text, own) {
     v = verb[1 + below(verbs)]
-    text = thread " " v " " pick((v in wanted) ? wanted[v] : "receiver", thread)
+    text = thread " " v " " pick(kinds_of[v], thread)
     if (rings && v == "poll" && (thread in feed_of) && below(2)) text = thread " poll " feed_of[thread]
-    if (v == "port" || v == "copy") {
+    if (makes_an_object(v)) {
         own = thread "q" i
         text = text " " own
     }
-    if (v in sends) text = text " " message(i)
+    if (gives[v]) text = text " " message(i)
     line(text)
     if (own != "") give(own, "port", thread)
 }
