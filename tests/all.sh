@@ -3,12 +3,12 @@
 # skips what it has passed on this machine before. Then the built programs are tried from outside, several steps at once: the
 # tables of calls, also with the journal cut behind each line; the guide's code against the sources; each request for memory
 # refused in turn; logs and journals that are cut, which are not to grow; threads that wait for each other; scripts, faults and
-# charts; journals as text; and the libraries for C, which are built, installed, and used from C, Rust and Python, also by a
-# program that is killed and goes on. The last line is `N passed, M failed`.
+# charts; journals as text; simulated queues; and the libraries for C, which are built, installed, and used from C, Rust and Python,
+# also by programs that are killed and go on. The last line is `N passed, M failed`.
 cd "$(dirname "$0")/.." || exit 1
 
 # The steps behind `rt ci`, those that take longest first.
-steps='libraries refused program waiting memory cuts calls guide chart journals'
+steps='libraries refused program waiting memory cuts calls guide chart journals queueing'
 
 step() {
     rows=crates/cml_rows/out/cml_rows
@@ -16,12 +16,7 @@ step() {
     cml=crates/cml/out/cml
     chart=crates/cml_chart/out/cml_chart
     case $1 in
-        libraries)
-            sh tests/archives.sh &&
-                sh tests/bindings.sh crates/cml_c/out/libcml_c.a crates/cml_script_c/out/libcml_script_c.a &&
-                sh tests/keep_journal.sh crates/cml_c/out/libcml_c.a "$cml" check &&
-                sh tests/install.sh crates/cml_c/out/libcml_c.a crates/cml_script_c/out/libcml_script_c.a
-            ;;
+        libraries) sh tests/archives.sh && sh tests/libraries.sh ;;
         refused) sh tests/refused.sh crates/cml_guide/out/cml_guide "$rows" "$cml" "$chart" ;;
         program) sh tests/program.sh "$cml" ;;
         chart) sh tests/chart.sh "$chart" ;;
@@ -30,6 +25,7 @@ step() {
         memory) sh tests/memory.sh "$bench" ;;
         waiting) sh tests/waiting.sh "$bench" "$cml" ;;
         guide) sh tests/guide.sh ;;
+        queueing) sh tests/queueing.sh crates/cml_queueing/out/cml_queueing "$cml" "$chart" ;;
     esac
 }
 
