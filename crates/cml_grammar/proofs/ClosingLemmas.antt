@@ -4,9 +4,7 @@ use Rattle.std.proofs.lemmas.List.{append-nil}
 use Rattle.std.proofs.Common.{false}
 use Rattle.std.specs.Global.{Global}
 use Rattle.std.specs.String.{string_eq}
-use Rattle.std.specs.declared.hash.FoldHasher.{FoldHasher}
-use Rattle.std.specs.declared.hash.BuildHasherDefault.{BuildHasherDefault}
-use Rattle.indexmap.specs.IndexMap.{IndexMap, insert_entry}
+use Rattle.indexmap.specs.IndexMap.{insert_entry}
 use Rattle.cml_grammar.specs.declared.names.Named.{Named}
 use Rattle.cml_grammar.specs.declared.names.Named.TheVariants as called
 use Rattle.cml_grammar.specs.declared.names.Users.TheVariants as users
@@ -16,50 +14,31 @@ use Rattle.cml_grammar.specs.declared.script.Declaration.{Declaration}
 use Rattle.cml_grammar.specs.declared.script.Lane.{Lane}
 use Rattle.cml_grammar.specs.declared.script.Step.{Step}
 use Rattle.cml_grammar.specs.Words.{words_of}
-use Rattle.cml_grammar.specs.Names.{Given, is_given}
-use Rattle.cml_grammar.specs.Forms.{declaration, step, form_of, declared_places, step_places, fresh_word, owner_of, named_by}
-use Rattle.cml_grammar.specs.Faults.{Ends, fault_in_words, after_words, given_as}
+use Rattle.cml_grammar.specs.Names.{is_given}
+use Rattle.cml_grammar.specs.Forms.{declaration, step, declared_places, step_places, fresh_word, owner_of, named_by}
+use Rattle.cml_grammar.specs.Faults.{Ends, after_words, given_as}
 use Rattle.cml_grammar.specs.Script.{Lines}
 use Rattle.cml_grammar.specs.Meaning.{scope_of, names_of, makes_by, action_by}
 use Rattle.cml_grammar.specs.Reading.{view_of, texts_of, UsesWell, IsMadeWell, IsReadSoFar, threads_by}
-use Rattle.cml_grammar.specs.Suiting.{AllSuit}
-use Rattle.cml_grammar.proofs.NameLemmas.{inserted_texts}
-use Rattle.cml_grammar.proofs.TableLemmas.{Passes, words_pass, all_suit-passes, fresh_suits}
+use Rattle.cml_grammar.proofs.NameLemmas.{Names, inserted_texts}
+use Rattle.cml_grammar.proofs.TableLemmas.{fresh_suits}
+use Rattle.cml_grammar.proofs.ReadingLemmas.{ReadFrom, kept_suits}
 use Rattle.cml_grammar.proofs.KeepingLemmas.{declared_scope, declared_so_far, asked_scope, asked_so_far}
-
-abbrev Names : Type 0
-Names = IndexMap (String Global) Named (BuildHasherDefault FoldHasher)
-
-pub declared_suits : (now : Lines) (words : List (List ℕ)) (what : Declares) (rest : List (List ℕ)) → fault_in_words (scope_of now) words ≡ None → form_of (names_of now) words ≡ declaration what rest → AllSuit (names_of now) (declared_places what rest) rest
-declared_suits now words what rest fits form =
-    all_suit-passes (scope_of now) (declaration what rest) (subst (Passes (scope_of now)) form (words_pass (scope_of now) words fits).1)
-
--- the same of the names that are kept
-pub kept_suits : (now script : Lines) (names : List Given) (words : List (List ℕ)) (what : Declares) (rest : List (List ℕ)) → script ≡ now → names ≡ names_of script → fault_in_words (scope_of now) words ≡ None → form_of (names_of now) words ≡ declaration what rest → AllSuit names (declared_places what rest) rest
-kept_suits now script names words what rest seen kept fits form =
-    subst (λ (gs : List Given). AllSuit gs (declared_places what rest) rest) (sym (kept ∙ ap names_of seen)) (declared_suits now words what rest fits form)
-
--- what a declaration was read from
-pub record Declared (now : Lines) (d : Declaration) (what : Declares) (rest : List (List ℕ)) : Type 0 where
-  pub fits : fault_in_words (scope_of now) (words_of (string_bytes d.line.text)) ≡ None
-  pub form : form_of (names_of now) (words_of (string_bytes d.line.text)) ≡ declaration what rest
 
 module _ (v : ℕ) (now : Lines) (m : Names) (ds ds' : List Declaration) (ls : List Lane) (cs : List (Ends × ℕ)) (ss : List Step) (threads : ℕ)
     (d : Declaration) (what : Declares) (rest : List (List ℕ)) (name : List ℕ)
     (seen : view_of v ds ls ss ≡ now)
     (so_far : IsReadSoFar (view_of v ds ls ss) m.entries ds ls cs ss threads)
-    (read : Declared now d what rest)
+    (read : ReadFrom now d.line (declaration what rest))
     (there : fresh_word (declared_places what rest) rest ≡ Some name)
     (makes : makes_by (texts_of m.entries) what rest ≡ Some d.makes)
     (well : IsMadeWell (texts_of m.entries) (length (texts_of m.entries)) d.makes)
     (pushed : ds' ≡ ds ++ d ∷ []) where
-  before : Declared (view_of v ds ls ss) d what rest
-  before = subst (λ (s : Lines). Declared s d what rest) (sym seen) read
+  before : ReadFrom (view_of v ds ls ss) d.line (declaration what rest)
+  before = subst (λ (s : Lines). ReadFrom s d.line (declaration what rest)) (sym seen) read
 
   fresh : is_given (texts_of m.entries) name ≡ false
-  fresh =
-      ap (λ gs. is_given gs name) so_far.names
-      ∙ (fresh_suits (names_of (view_of v ds ls ss)) (declared_places what rest) rest name (declared_suits (view_of v ds ls ss) (words_of (string_bytes d.line.text)) what rest before.fits before.form) there).1
+  fresh = (fresh_suits (texts_of m.entries) (declared_places what rest) rest name (kept_suits now (view_of v ds ls ss) (texts_of m.entries) d.line (declaration what rest) seen so_far.names read) there).1
 
   made : makes_by (names_of (view_of v ds ls ss)) what rest ≡ Some d.makes
   made = ap (λ gs. makes_by gs what rest) (sym so_far.names) ∙ makes
@@ -72,35 +51,26 @@ module _ (v : ℕ) (now : Lines) (m : Names) (ds ds' : List Declaration) (ls : L
       → IsReadSoFar (view_of v ds' ls ss) es' ds' ls cs ss threads'
   declared_closes es' threads' key n same named inserted counted =
       let entries = ap texts_of inserted ∙ inserted_texts m key n name same fresh ∙ ap (λ k. texts_of m.entries ++ (name, k) ∷ []) (named ∙ ap (λ gs. named_by what threads (owner_of gs rest)) so_far.names) in
-      let whole = declared_so_far v m.entries ds ls cs ss threads d what rest name so_far before.fits before.form there made made_well es' entries in
+      let whole = declared_so_far v m.entries ds ls cs ss threads d what rest name so_far before there made made_well es' entries in
       subst (λ (t : ℕ). IsReadSoFar (view_of v ds' ls ss) es' ds' ls cs ss t) (sym counted)
       (subst (λ (xs : List Declaration). IsReadSoFar (view_of v xs ls ss) es' xs ls cs ss (threads + threads_by what)) (sym pushed) whole)
 
   pub declared_scopes : scope_of (view_of v ds' ls ss) ≡ after_words (scope_of now) (words_of (string_bytes d.line.text))
   declared_scopes =
       ap (λ (xs : List Declaration). scope_of (view_of v xs ls ss)) pushed
-      ∙ declared_scope v m.entries ds ls cs ss threads d what rest name so_far before.fits before.form there made made_well
+      ∙ declared_scope v m.entries ds ls cs ss threads d what rest name so_far before there made made_well
       ∙ ap (λ (s : Lines). after_words (scope_of s) (words_of (string_bytes d.line.text))) seen
-
--- what a step was read from
-pub record Asked (now : Lines) (s : Step) (verb : Verb) (rest : List (List ℕ)) : Type 0 where
-  pub fits : fault_in_words (scope_of now) (words_of (string_bytes s.line.text)) ≡ None
-  pub form : form_of (names_of now) (words_of (string_bytes s.line.text)) ≡ step s.seat verb rest
-
-pub asked_suits : (now : Lines) (words : List (List ℕ)) (seat : ℕ) (verb : Verb) (rest : List (List ℕ)) → fault_in_words (scope_of now) words ≡ None → form_of (names_of now) words ≡ step seat verb rest → AllSuit (names_of now) (step_places verb) rest
-asked_suits now words seat verb rest fits form =
-    all_suit-passes (scope_of now) (step seat verb rest) (subst (Passes (scope_of now)) form (words_pass (scope_of now) words fits).1)
 
 module _ (v : ℕ) (now : Lines) (m : Names) (ds : List Declaration) (ls : List Lane) (cs : List (Ends × ℕ)) (ss ss' : List Step) (threads : ℕ)
     (s : Step) (verb : Verb) (rest : List (List ℕ))
     (seen : view_of v ds ls ss ≡ now)
     (so_far : IsReadSoFar (view_of v ds ls ss) m.entries ds ls cs ss threads)
-    (read : Asked now s verb rest)
+    (read : ReadFrom now s.line (step s.seat verb rest))
     (action : action_by (texts_of m.entries) verb rest ≡ Some s.action)
     (uses : UsesWell (texts_of m.entries) s.action)
     (pushed : ss' ≡ ss ++ s ∷ []) where
-  before_step : Asked (view_of v ds ls ss) s verb rest
-  before_step = subst (λ (x : Lines). Asked x s verb rest) (sym seen) read
+  before_step : ReadFrom (view_of v ds ls ss) s.line (step s.seat verb rest)
+  before_step = subst (λ (x : Lines). ReadFrom x s.line (step s.seat verb rest)) (sym seen) read
 
   means : action_by (names_of (view_of v ds ls ss)) verb rest ≡ Some s.action
   means = ap (λ gs. action_by gs verb rest) (sym so_far.names) ∙ action
@@ -111,7 +81,7 @@ module _ (v : ℕ) (now : Lines) (m : Names) (ds : List Declaration) (ls : List 
   closes : (es' : List (String Global × Named)) → texts_of es' ≡ texts_of m.entries ++ given_as (called.Port (users.One s.seat)) (fresh_word (step_places verb) rest) → IsReadSoFar (view_of v ds ls ss') es' ds ls cs ss' threads
   closes es' entries =
       subst (λ (xs : List Step). IsReadSoFar (view_of v ds ls xs) es' ds ls cs xs threads) (sym pushed)
-      (asked_so_far v m.entries ds ls cs ss threads s verb rest so_far before_step.fits before_step.form means uses_well es' entries)
+      (asked_so_far v m.entries ds ls cs ss threads s verb rest so_far before_step means uses_well es' entries)
 
   -- a step that gives no name, and one that does
   pub asked_closes : fresh_word (step_places verb) rest ≡ None → IsReadSoFar (view_of v ds ls ss') m.entries ds ls cs ss' threads
@@ -120,7 +90,8 @@ module _ (v : ℕ) (now : Lines) (m : Names) (ds : List Declaration) (ls : List 
   pub giving_closes : (name : List ℕ) → fresh_word (step_places verb) rest ≡ Some name → (es' : List (String Global × Named)) (key : String Global)
       → string_bytes key ≡ name → es' ≡ insert_entry string_eq m.entries key (called.Port (users.One s.seat)) → IsReadSoFar (view_of v ds ls ss') es' ds ls cs ss' threads
   giving_closes name there es' key same inserted =
-      let free : is_given (texts_of m.entries) name ≡ false = ap (λ gs. is_given gs name) so_far.names ∙ (fresh_suits (names_of (view_of v ds ls ss)) (step_places verb) rest name (asked_suits (view_of v ds ls ss) (words_of (string_bytes s.line.text)) s.seat verb rest before_step.fits before_step.form) there).1 in
+      let suits = kept_suits now (view_of v ds ls ss) (texts_of m.entries) s.line (step s.seat verb rest) seen so_far.names read in
+      let free = (fresh_suits (texts_of m.entries) (step_places verb) rest name suits there).1 in
       closes es' (
       ap texts_of inserted
       ∙ inserted_texts m key (called.Port (users.One s.seat)) name same free
@@ -129,5 +100,5 @@ module _ (v : ℕ) (now : Lines) (m : Names) (ds : List Declaration) (ls : List 
   pub asked_scopes : scope_of (view_of v ds ls ss') ≡ after_words (scope_of now) (words_of (string_bytes s.line.text))
   asked_scopes =
       ap (λ (xs : List Step). scope_of (view_of v ds ls xs)) pushed
-      ∙ asked_scope v m.entries ds ls cs ss threads s verb rest so_far before_step.fits before_step.form means uses_well
+      ∙ asked_scope v m.entries ds ls cs ss threads s verb rest so_far before_step means uses_well
       ∙ ap (λ (x : Lines). after_words (scope_of x) (words_of (string_bytes s.line.text))) seen

@@ -1,15 +1,14 @@
 -- What is said of names stays true where more names are given.
-use Rattle.std.proofs.Common.{◌≡◌, ℕ, ◌+◌, ◌≤◌, Bool, true, false, cond, List, [], ◌∷◌, ◌++◌, map, All, slice_get, Option, Some, None, is_some, string_bytes, refl, sym, ap, ◌∙◌, subst, inl, inr, arith}
+use Rattle.std.proofs.Common.{◌≡◌, ℕ, ◌+◌, ◌≤◌, Bool, true, false, cond, List, [], ◌∷◌, ◌++◌, map, All, Option, Some, None, is_some, string_bytes, refl, sym, ap, ◌∙◌, subst, inl, inr, arith}
 use Rattle.std.specs.Map.{keys_of, lookup}
 use Rattle.std.specs.Option.{option_map, option_map_or, option_and_then, option_to_list}
 use Rattle.std.specs.Str.Parse.{digits_value}
 use Rattle.std.proofs.lemmas.List.Elements.{All-head, All-tail, All-weaker}
 use Rattle.std.proofs.lemmas.List.Sums.{sum_by-append}
-use Rattle.std.proofs.lemmas.Option.{none-some, same_Some, option_and_then_some}
+use Rattle.std.proofs.lemmas.Option.{none-some}
 use Rattle.cml_calls.specs.declared.shape.Takers.{Takers}
 use Rattle.cml_calls.specs.declared.table.Ask.{Ask}
 use Rattle.cml_calls.specs.Table.{given, asked, names_one}
-use Rattle.cml_grammar.specs.declared.names.Named.{Named}
 use Rattle.cml_grammar.specs.declared.forms.Declares.{Declares}
 use Rattle.cml_grammar.specs.declared.forms.Declares.TheVariants as declares
 use Rattle.cml_grammar.specs.declared.forms.Makes.{Makes}
@@ -21,7 +20,6 @@ use Rattle.cml_grammar.specs.declared.forms.Action.TheVariants as action
 use Rattle.cml_grammar.specs.declared.forms.Place.{Place}
 use Rattle.cml_grammar.specs.declared.forms.Place.TheVariants.{Fresh, Object, Polled}
 use Rattle.cml_grammar.specs.declared.script.Declaration.{Declaration}
-use Rattle.cml_grammar.specs.declared.forms.FeedMaking.{FeedMaking}
 use Rattle.cml_grammar.specs.declared.script.Lane.{Lane}
 use Rattle.cml_grammar.specs.declared.script.Step.{Step}
 use Rattle.cml_grammar.specs.Words.{words_of}
@@ -35,25 +33,32 @@ use Rattle.cml_grammar.specs.Rings.{Laid, lane_by, lane_of, capacity_of}
 use Rattle.cml_grammar.specs.Reading.{source_of, IsMailboxAt, IsChannelAt, IsTargetAt, IsSeat, GivesAt, GivesNames, IsMadeWell, ReadsDeclaration, ReadsLane, ReadsStep, UsesWell, capacities_of, used_by, gives_name}
 use Rattle.cml_grammar.proofs.ListLemmas.{position-append, mapped_some, slice_get-append}
 
+-- what is found once is found again
+abbrev Kept : {X : Type 0} → Option X → Option X → Type 0
+Kept {X} one other = (x : X) → one ≡ Some x → other ≡ Some x
+
+kept_map : {X Y : Type 0} (f : X → Y) (one other : Option X) → Kept one other → Kept (option_map f one) (option_map f other)
+kept_map f None other kept y h = absurd (none-some y h)
+kept_map f (Some x) other kept y h = ap (option_map f) (kept x refl) ∙ h
+
+kept_then : {X Y : Type 0} (f g : X → Option Y) (one other : Option X) → Kept one other → ((x : X) → Kept (f x) (g x)) → Kept (option_and_then f one) (option_and_then g other)
+kept_then f g None other kept later y h = absurd (none-some y h)
+kept_then f g (Some x) other kept later y h = ap (option_and_then g) (kept x refl) ∙ later x y h
+
 -- a name keeps its position
-pub position_of-append : (names more : List Given) (word : List ℕ) (at : ℕ) → position_of names word ≡ Some at → position_of (names ++ more) word ≡ Some at
-position_of-append names more word at h = position-append (is_called word) names more at h
+position_of-append : (names more : List Given) (word : List ℕ) → Kept (position_of names word) (position_of (names ++ more) word)
+position_of-append names more word = position-append (is_called word) names more
 
-pub named-append : (names more : List Given) (word : List ℕ) (n : Named) → named names word ≡ Some n → named (names ++ more) word ≡ Some n
-named-append names more word n h =
-    option_and_then_some (λ i. option_map (λ g. g.1) (slice_get names i)) (position_of names word) n h (λ i at meant.
-    let found = mapped_some (λ (g : Given). g.1) (slice_get names i) n meant in
-    ap (option_and_then (λ j. option_map (λ g. g.1) (slice_get (names ++ more) j))) (position_of-append names more word i at)
-    ∙ ap (option_map (λ (g : Given). g.1)) (slice_get-append names more i found.0 found.1)
-    ∙ ap Some found.2)
+named-append : (names more : List Given) (word : List ℕ) → Kept (named names word) (named (names ++ more) word)
+named-append names more word =
+    kept_then _ _ _ _ (position_of-append names more word) (λ i. kept_map (λ g. g.1) _ _ (slice_get-append names more i))
 
-pub seat_of_step-append : (names more : List Given) (words : List (List ℕ)) (seat : ℕ) → seat_of_step names words ≡ Some seat → seat_of_step (names ++ more) words ≡ Some seat
+seat_of-append : (names more : List Given) (word : List ℕ) → Kept (seat_of names word) (seat_of (names ++ more) word)
+seat_of-append names more word = kept_then seat_in seat_in _ _ (named-append names more word) (λ n seat h. h)
+
+pub seat_of_step-append : (names more : List Given) (words : List (List ℕ)) → Kept (seat_of_step names words) (seat_of_step (names ++ more) words)
 seat_of_step-append names more [] seat h = absurd (none-some seat h)
-seat_of_step-append names more (thread ∷ rest) seat h =
-    option_and_then_some seat_in (named names thread) seat h (λ n found is. ap (option_and_then seat_in) (named-append names more thread n found) ∙ is)
-
-seat_of-append : (names more : List Given) (word : List ℕ) (seat : ℕ) → seat_of names word ≡ Some seat → seat_of (names ++ more) word ≡ Some seat
-seat_of-append names more word seat h = seat_of_step-append names more (word ∷ []) seat h
+seat_of_step-append names more (thread ∷ rest) seat h = seat_of-append names more thread seat h
 
 pub IsSeat-append : (names more : List Given) (seat : ℕ) → IsSeat names seat → IsSeat (names ++ more) seat
 IsSeat-append names more seat h =
@@ -79,42 +84,26 @@ IsMadeWell-append names more i (makes.MVarInit message) h = h
 IsMadeWell-append names more i (makes.Feed f) h = (IsChannelAt-append names more f.channel h.0, h.1, IsSeat-append names more f.seat h.2, h.3)
 IsMadeWell-append names more i _ h = tt
 
--- what a pair of look-ups found
-pub both_found : {X Y Z : Type 0} (f : X → Y → Z) (first : Option X) (second : Option Y) (z : Z) → option_and_then (λ x. option_map (f x) second) first ≡ Some z → (x : X) × (y : Y) × (first ≡ Some x) × (second ≡ Some y) × (f x y ≡ z)
-both_found f None second z h = absurd (none-some z h)
-both_found f (Some x) None z h = absurd (none-some z h)
-both_found f (Some x) (Some y) z h = (x, y, refl, refl, same_Some (f x y) z h)
-
+-- what a pair of look-ups finds
 pub both_same : {X Y Z : Type 0} (f : X → Y → Z) (first : Option X) (second : Option Y) (x : X) (y : Y) → first ≡ Some x → second ≡ Some y → option_and_then (λ x. option_map (f x) second) first ≡ Some (f x y)
 both_same f first second x y e g = ap (option_and_then (λ x. option_map (f x) second)) e ∙ ap (option_map (f x)) g
 
-feed_by-append : (names more : List Given) (rest : List (List ℕ)) (f : FeedMaking) → feed_by names rest ≡ Some f → feed_by (names ++ more) rest ≡ Some f
+feed_by-append : (names more : List Given) (rest : List (List ℕ)) → Kept (feed_by names rest) (feed_by (names ++ more) rest)
 feed_by-append names more (thread ∷ name ∷ channel ∷ capacity ∷ []) f h =
-    let said : ℕ → ℕ → FeedMaking = (λ seat at. record { seat = seat; channel = at; capacity = digits_value 10 capacity }) in
-    let found = both_found said (seat_of names thread) (position_of names channel) f h in
-    both_same said (seat_of (names ++ more) thread) (position_of (names ++ more) channel) found.0 found.1 (seat_of-append names more thread found.0 found.2) (position_of-append names more channel found.1 found.3)
-    ∙ ap Some found.4
+    kept_then _ _ _ _ (seat_of-append names more thread) (λ seat. kept_map _ _ _ (position_of-append names more channel)) f h
 feed_by-append names more _ f h = absurd (none-some f h)
 
-pub makes_by-append : (names more : List Given) (what : Declares) (rest : List (List ℕ)) (made : Makes) → makes_by names what rest ≡ Some made → makes_by (names ++ more) what rest ≡ Some made
+makes_by-append : (names more : List Given) (what : Declares) (rest : List (List ℕ)) → Kept (makes_by names what rest) (makes_by (names ++ more) what rest)
 makes_by-append names more declares.Port [] made h = absurd (none-some made h)
-makes_by-append names more declares.Port (channel ∷ rest) made h =
-    let found = mapped_some makes.Port (position_of names channel) made h in
-    ap (option_map makes.Port) (position_of-append names more channel found.0 found.1) ∙ ap Some found.2
+makes_by-append names more declares.Port (channel ∷ rest) made h = kept_map makes.Port _ _ (position_of-append names more channel) made h
 makes_by-append names more declares.MVar (name ∷ message ∷ []) made h = h
 makes_by-append names more declares.MVar _ made h = h
-makes_by-append names more declares.Feed rest made h =
-    let found = mapped_some makes.Feed (feed_by names rest) made h in
-    ap (option_map makes.Feed) (feed_by-append names more rest found.0 found.1) ∙ ap Some found.2
+makes_by-append names more declares.Feed rest made h = kept_map makes.Feed _ _ (feed_by-append names more rest) made h
 makes_by-append names more _ rest made h = h
 
-makes_of-append : (names more : List Given) (words : List (List ℕ)) (made : Makes) → makes_of names words ≡ Some made → makes_of (names ++ more) words ≡ Some made
+makes_of-append : (names more : List Given) (words : List (List ℕ)) → Kept (makes_of names words) (makes_of (names ++ more) words)
 makes_of-append names more [] made h = absurd (none-some made h)
-makes_of-append names more (word ∷ rest) made h = by (declares_of word) h
-  where
-    by : (o : Option Declares) → option_and_then (λ d. makes_by names d rest) o ≡ Some made → option_and_then (λ d. makes_by (names ++ more) d rest) o ≡ Some made
-    by None e = absurd (none-some made e)
-    by (Some d) e = makes_by-append names more d rest made e
+makes_of-append names more (word ∷ rest) made h = kept_then _ _ (declares_of word) _ (λ d e. e) (λ d. makes_by-append names more d rest) made h
 
 pub ReadsDeclaration-append : (names more : List Given) (d : Declaration) → ReadsDeclaration names d → ReadsDeclaration (names ++ more) d
 ReadsDeclaration-append names more d h = record { makes = makes_of-append names more (words_of (string_bytes d.line.text)) d.makes h.makes }
@@ -151,39 +140,33 @@ asks_from names verb object more a make uses gives asks h =
     }
 
 -- a place for an object gives no name
-gives_behind : (poll names : Bool) (takers : Takers) (object : List ℕ) (more : List (List ℕ)) (call : Ask) (at : Option ℕ) (a : Action) → asked_by names at call more ≡ Some a
-    → names ≡ is_some (fresh_word (cond poll Polled (Object takers) ∷ cond names (Fresh ∷ []) []) (object ∷ more))
-gives_behind true true takers object (name ∷ []) call at a h = refl
-gives_behind false true takers object (name ∷ []) call at a h = refl
-gives_behind true false takers object [] call at a h = refl
-gives_behind false false takers object [] call at a h = refl
-gives_behind poll true takers object [] call at a h = absurd (none-some a h)
-gives_behind poll true takers object (name ∷ word ∷ words) call at a h = absurd (none-some a h)
-gives_behind poll false takers object (name ∷ words) call at a h = absurd (none-some a h)
+object_first : (poll : Bool) (takers : Takers) (places : List Place) (object : List ℕ) (more : List (List ℕ)) → fresh_word (cond poll Polled (Object takers) ∷ places) (object ∷ more) ≡ fresh_word places more
+object_first true takers places object more = refl
+object_first false takers places object more = refl
 
--- the words behind the object decide alone whether a call asks for something
-asked_as : (names : Bool) (at : Option ℕ) (call : Ask) (more : List (List ℕ)) (a : Action) → asked_by names at call more ≡ Some a → (other : Option ℕ) → asked_by names other call more ≡ option_map (action.Ask call) other
-asked_as true at call (name ∷ []) a h other = refl
-asked_as false at call [] a h other = refl
-asked_as true at call [] a h other = absurd (none-some a h)
-asked_as true at call (name ∷ word ∷ words) a h other = absurd (none-some a h)
-asked_as false at call (name ∷ words) a h other = absurd (none-some a h)
+-- the words behind the object decide alone whether a call asks for something, and whether it gives a name
+asked_as : (names : Bool) (at : Option ℕ) (call : Ask) (more : List (List ℕ)) (a : Action) → asked_by names at call more ≡ Some a
+    → ((other : Option ℕ) → asked_by names other call more ≡ option_map (action.Ask call) other) × (names ≡ is_some (fresh_word (cond names (Fresh ∷ []) []) more))
+asked_as true at call (name ∷ []) a h = (λ other. refl, refl)
+asked_as false at call [] a h = (λ other. refl, refl)
+asked_as true at call [] a h = absurd (none-some a h)
+asked_as true at call (name ∷ word ∷ words) a h = absurd (none-some a h)
+asked_as false at call (name ∷ words) a h = absurd (none-some a h)
 
 pub step_asks : (names : List Given) (verb : Verb) (rest : List (List ℕ)) (a : Action) → action_by names verb rest ≡ Some a → Asks names verb rest a
 step_asks names (verb.Give call) (object ∷ message ∷ []) a h = asks_from names (verb.Give call) object (message ∷ []) a (λ at. action.Give call at message) (λ i. refl) (λ i. refl) (λ others. refl) h
 step_asks names (verb.Ask call) (object ∷ more) a h =
     let same = asked_as (names_one (asked call)) (position_of names object) call more a h in
-    asks_from names (verb.Ask call) object more a (action.Ask call) (λ i. refl) (λ i. gives_behind (is_poll call) (names_one (asked call)) (asked call).takers object more call (position_of names object) a h)
-    (λ others. same (position_of others object)) (sym (same (position_of names object)) ∙ h)
+    let gives = same.1 ∙ ap is_some (sym (object_first (is_poll call) (asked call).takers (cond (names_one (asked call)) (Fresh ∷ []) []) object more)) in
+    asks_from names (verb.Ask call) object more a (action.Ask call) (λ i. refl) (λ i. gives) (λ others. same.0 (position_of others object)) (sym (same.0 (position_of names object)) ∙ h)
 step_asks names _ _ a h = absurd (none-some a h)
 
-action_of-append : (names more : List Given) (words : List (List ℕ)) (a : Action) → action_of names words ≡ Some a → action_of (names ++ more) words ≡ Some a
+action_of-append : (names more : List Given) (words : List (List ℕ)) → Kept (action_of names words) (action_of (names ++ more) words)
 action_of-append names more [] a h = absurd (none-some a h)
 action_of-append names more (thread ∷ []) a h = absurd (none-some a h)
 action_of-append names more (thread ∷ word ∷ rest) a h =
-    option_and_then_some (λ v. action_by names v rest) (verb_of word) a h (λ v found is.
-    let asks = step_asks names v rest a is in
-    ap (option_and_then (λ w. action_by (names ++ more) w rest)) found ∙ asks.means (names ++ more) (position_of-append names more asks.object (used_by a) asks.stands))
+    kept_then _ _ (verb_of word) _ (λ v e. e) (λ v b is.
+    let asks = step_asks names v rest b is in asks.means (names ++ more) (position_of-append names more asks.object (used_by b) asks.stands)) a h
 
 IsSuitedAt-append : (names more : List Given) (place : Place) (at : ℕ) → IsSuitedAt names place at → IsSuitedAt (names ++ more) place at
 IsSuitedAt-append names more place at h = (h.0, h.1, slice_get-append names more at (h.0, h.1) h.2, h.3)
@@ -203,22 +186,17 @@ ReadsStep-append names more s same h = record {
 }
 
 -- ---- what a lane line says
-ends_by-append : (names more : List Given) (rest : List (List ℕ)) (ends : Ends) → ends_by names rest ≡ Some ends → ends_by (names ++ more) rest ≡ Some ends
+ends_by-append : (names more : List Given) (rest : List (List ℕ)) → Kept (ends_by names rest) (ends_by (names ++ more) rest)
 ends_by-append names more [] ends h = absurd (none-some ends h)
 ends_by-append names more (thread ∷ []) ends h = absurd (none-some ends h)
 ends_by-append names more (thread ∷ target ∷ rest) ends h =
-    let found = both_found (λ (seat at : ℕ). (seat, at)) (seat_of names thread) (position_of names target) ends h in
-    both_same (λ (seat at : ℕ). (seat, at)) (seat_of (names ++ more) thread) (position_of (names ++ more) target) found.0 found.1 (seat_of-append names more thread found.0 found.2) (position_of-append names more target found.1 found.3)
-    ∙ ap Some found.4
+    kept_then _ _ _ _ (seat_of-append names more thread) (λ seat. kept_map _ _ _ (position_of-append names more target)) ends h
 
-lane_by-append : (names more : List Given) (rest : List (List ℕ)) (l : Laid) → lane_by names rest ≡ Some l → lane_by (names ++ more) rest ≡ Some l
-lane_by-append names more (thread ∷ target ∷ capacity ∷ []) l h =
-    let said : Ends → Laid = (λ ends. (ends, digits_value 10 capacity)) in
-    let found = mapped_some said (ends_by names (thread ∷ target ∷ [])) l h in
-    ap (option_map said) (ends_by-append names more (thread ∷ target ∷ []) found.0 found.1) ∙ ap Some found.2
+lane_by-append : (names more : List Given) (rest : List (List ℕ)) → Kept (lane_by names rest) (lane_by (names ++ more) rest)
+lane_by-append names more (thread ∷ target ∷ capacity ∷ []) l h = kept_map _ _ _ (ends_by-append names more (thread ∷ target ∷ [])) l h
 lane_by-append names more _ l h = absurd (none-some l h)
 
-lane_of-append : (names more : List Given) (words : List (List ℕ)) (l : Laid) → lane_of names words ≡ Some l → lane_of (names ++ more) words ≡ Some l
+lane_of-append : (names more : List Given) (words : List (List ℕ)) → Kept (lane_of names words) (lane_of (names ++ more) words)
 lane_of-append names more [] l h = absurd (none-some l h)
 lane_of-append names more (word ∷ rest) l h = lane_by-append names more rest l h
 

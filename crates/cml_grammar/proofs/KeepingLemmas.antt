@@ -5,11 +5,12 @@ use Rattle.std.specs.Global.{Global}
 use Rattle.std.specs.Map.{keys_of}
 use Rattle.std.specs.Option.{option_map_or, option_and_then, option_map}
 use Rattle.std.specs.Str.Parse.{digits_value}
+use Rattle.std.proofs.Math.Bool.{or-false}
 use Rattle.std.proofs.lemmas.Bool.{or_right, or_parts, leb-false, ne_eqb, not-false, eqb-true}
 use Rattle.std.proofs.lemmas.List.{append-nil, length-append, length-map, map-append}
 use Rattle.std.proofs.lemmas.List.Sums.{sum_by_push}
 use Rattle.std.proofs.lemmas.List.Elements.{All-nil, All-push, All-weaker}
-use Rattle.std.proofs.lemmas.Option.{none-some, same_Some, slice_get_within}
+use Rattle.std.proofs.lemmas.Option.{none-some, same_Some, slice_get_within, option_and_then_some}
 use Rattle.cml_calls.specs.declared.shape.Takers.{Takers}
 use Rattle.cml_calls.specs.Table.{asked}
 use Rattle.cml_grammar.specs.declared.names.Named.{Named}
@@ -31,29 +32,27 @@ use Rattle.cml_grammar.specs.declared.script.Lane.{Lane}
 use Rattle.cml_grammar.specs.declared.script.Step.{Step}
 use Rattle.cml_grammar.specs.Words.{words_of}
 use Rattle.cml_grammar.specs.Names.{Given, thread_count, seat_in, seat_of, named, position_of}
-use Rattle.cml_grammar.specs.Forms.{declaration, step, form_of, declared_places, fresh_word, owner_of, named_by, is_poll, step_places, is_used, is_others}
+use Rattle.cml_grammar.specs.Forms.{declaration, step, declared_places, fresh_word, owner_of, named_by, is_poll, step_places, is_used, is_others}
 use Rattle.cml_grammar.specs.Faults.{Scope, Ends, fault_in_words, after_words, gives, given_as, is_step, declares_thread, any_word, is_not_yours}
 use Rattle.cml_grammar.specs.Script.{SourceLine}
 use Rattle.cml_grammar.specs.Meaning.{scope_of, names_of, feed_by, makes_by, makes_of, action_by, action_of, seat_of_step}
-use Rattle.cml_grammar.specs.Reading.{source_of, view_of, texts_of, IsSeatedWithin, IsSeat, GivesAt, Gives, GivesNames, IsMadeWell, ReadsDeclaration, ReadsLane, ReadsStep, UsesWell, UsesEarlier, MayUse, IsYours, used_by, IsReadSoFar, threads_by}
+use Rattle.cml_grammar.specs.Reading.{source_of, view_of, texts_of, IsSeatedWithin, IsSeat, GivesAt, Gives, GivesNames, IsMadeWell, ReadsDeclaration, ReadsLane, ReadsStep, UsesWell, UsesEarlier, MayUse, IsYours, used_by, IsReadSoFar, threads_by, with_words}
 use Rattle.cml_grammar.specs.Giving.{declared_word, asked_word, is_giving, names_before, NamesAreGiven}
 use Rattle.cml_grammar.proofs.ListLemmas.{mapped_some, slice_get-push, each-push}
-use Rattle.cml_grammar.proofs.GrowingLemmas.{both_found, GivesAt-append, IsMadeWell-append, ReadsDeclaration-append, GivesNames-append, ReadsStep-append, Asks, step_asks, ReadsLane-append, ends_kept, ends_same}
-use Rattle.cml_grammar.proofs.FormLemmas.{IsDeclarationLine, IsStepLine, declaration_line, step_line}
+use Rattle.cml_grammar.proofs.GrowingLemmas.{GivesAt-append, IsMadeWell-append, ReadsDeclaration-append, GivesNames-append, ReadsStep-append, Asks, step_asks, ReadsLane-append, ends_kept, ends_same}
+use Rattle.cml_grammar.proofs.FormLemmas.{IsLine, line_by}
 use Rattle.cml_grammar.proofs.SeatLemmas.{seated_from}
 use Rattle.cml_grammar.proofs.GivingLemmas.{given-declaration, before_same, before_last, given-step}
-use Rattle.cml_grammar.proofs.TableLemmas.{Passes, words_pass}
-use Rattle.cml_grammar.proofs.ReadingLemmas.{no_steps, scope_of-with_words, view-declaration, view-step}
+use Rattle.cml_grammar.proofs.TableLemmas.{Passes}
+use Rattle.cml_grammar.proofs.ReadingLemmas.{empty_list, no_steps, scope_of-with_words, view-declaration, view-step, ReadFrom, read_passes}
 
 -- ---- names with one more
-pub thread_count-push : (names : List Given) (word : List ℕ) (what : Declares) (threads owner : ℕ) → thread_count (names ++ (word, named_by what threads owner) ∷ []) ≡ thread_count names + threads_by what
-thread_count-push names word declares.Mailbox threads owner = sum_by_push _ names (word, called.Mailbox)
-thread_count-push names word declares.Channel threads owner = sum_by_push _ names (word, called.Channel)
-thread_count-push names word declares.Port threads owner = sum_by_push _ names (word, called.Port users.Every)
-thread_count-push names word declares.IVar threads owner = sum_by_push _ names (word, called.IVar)
-thread_count-push names word declares.MVar threads owner = sum_by_push _ names (word, called.MVar)
-thread_count-push names word declares.Thread threads owner = sum_by_push _ names (word, called.Thread (threads + 1))
-thread_count-push names word declares.Feed threads owner = sum_by_push _ names (word, called.Feed owner)
+thread_count-push : (names : List Given) (word : List ℕ) (what : Declares) (threads owner : ℕ) → thread_count (names ++ (word, named_by what threads owner) ∷ []) ≡ thread_count names + threads_by what
+thread_count-push names word what threads owner = sum_by_push _ names (word, named_by what threads owner) ∙ ap (λ n. thread_count names + n) (by what)
+  where
+    by : (w : Declares) → cond (is_some (seat_in (named_by w threads owner))) 1 0 ≡ threads_by w
+    by declares.Thread = refl
+    by _ = refl
 
 seated_more : (m n : ℕ) → m ≤ n → (k : Named) → IsSeatedWithin m k → IsSeatedWithin n k
 seated_more m n le (called.Thread seat) h = (h.0, omega (arith, h.1))
@@ -84,9 +83,8 @@ seats_push names word what owner owned seats =
 -- a feed's line names the seat that its making has
 owner_found : (names : List Given) (rest : List (List ℕ)) (f : FeedMaking) → feed_by names rest ≡ Some f → owner_of names rest ≡ f.seat
 owner_found names (thread ∷ name ∷ channel ∷ capacity ∷ []) f h =
-    let said : ℕ → ℕ → FeedMaking = (λ seat at. record { seat = seat; channel = at; capacity = digits_value 10 capacity }) in
-    let found = both_found said (seat_of names thread) (position_of names channel) f h in
-    ap (λ (o : Option ℕ). option_map_or (λ seat. seat) o 0) found.2 ∙ ap (λ (m : FeedMaking). m.seat) found.4
+    option_and_then_some (λ seat. option_map (λ at. record { seat = seat; channel = at; capacity = digits_value 10 capacity }) (position_of names channel)) (seat_of names thread) f h (λ seat found is.
+    ap (λ (o : Option ℕ). option_map_or (λ s. s) o 0) found ∙ ap (λ (m : FeedMaking). m.seat) (mapped_some _ (position_of names channel) f is).2)
 owner_found names _ f h = absurd (none-some f h)
 
 -- so it is owned where it is made well
@@ -98,65 +96,57 @@ owned_from names declares.Feed rest made i h well =
     subst (λ (seat : ℕ). IsSeat names seat) (sym (owner_found names rest found.0 found.1)) there.2
 owned_from names _ rest made i h well = tt
 
-mvar_new : (names : List Given) (word : List ℕ) (made given : Makes) → Some given ≡ Some made → GivesAt (names ++ (word, called.MVar) ∷ []) (length names) word given → GivesAt (names ++ (word, called.MVar) ∷ []) (length names) word made
-mvar_new names word made given h at = subst (GivesAt (names ++ (word, called.MVar) ∷ []) (length names) word) (same_Some _ _ h) at
+-- what is made is named so
+GivesAt-new : (names : List Given) (at : ℕ) (word : List ℕ) (what : Declares) (threads owner : ℕ) (made : Makes) (given : List Given) (rest : List (List ℕ)) → owner ≡ owner_of given rest → makes_by given what rest ≡ Some made
+    → slice_get names at ≡ Some (word, named_by what threads owner) → GivesAt names at word made
+GivesAt-new names at word declares.Port threads owner made given [] own h there = absurd (none-some made h)
+GivesAt-new names at word declares.Port threads owner made given (channel ∷ rest) own h there = subst (GivesAt names at word) (mapped_some makes.Port (position_of given channel) made h).2 there
+GivesAt-new names at word declares.Thread threads owner made given rest own h there = subst (GivesAt names at word) (same_Some _ _ h) (threads + 1, there)
+GivesAt-new names at word declares.Feed threads owner made given rest own h there =
+    let found = mapped_some makes.Feed (feed_by given rest) made h in
+    subst (GivesAt names at word) found.2 (there ∙ ap (λ (seat : ℕ). Some (word, called.Feed seat)) (own ∙ owner_found given rest found.0 found.1))
+GivesAt-new names at word declares.MVar threads owner made given (name ∷ message ∷ []) own h there = subst (GivesAt names at word) (same_Some _ _ h) there
+GivesAt-new names at word declares.MVar threads owner made given _ own h there = subst (GivesAt names at word) (same_Some _ _ h) there
+GivesAt-new names at word _ threads owner made given rest own h there = subst (GivesAt names at word) (same_Some _ _ h) there
 
-GivesAt-new : (names : List Given) (word : List ℕ) (what : Declares) (threads owner : ℕ) (made : Makes) (rest : List (List ℕ)) → owner ≡ owner_of names rest → makes_by names what rest ≡ Some made → GivesAt (names ++ (word, named_by what threads owner) ∷ []) (length names) word made
-GivesAt-new names word declares.Mailbox threads owner made rest own h = subst (GivesAt (names ++ (word, called.Mailbox) ∷ []) (length names) word) (same_Some _ _ h) (slice_get-push names (word, called.Mailbox))
-GivesAt-new names word declares.Channel threads owner made rest own h = subst (GivesAt (names ++ (word, called.Channel) ∷ []) (length names) word) (same_Some _ _ h) (slice_get-push names (word, called.Channel))
-GivesAt-new names word declares.Port threads owner made [] own h = absurd (none-some made h)
-GivesAt-new names word declares.Port threads owner made (channel ∷ rest) own h =
-    let found = mapped_some makes.Port (position_of names channel) made h in
-    subst (GivesAt (names ++ (word, called.Port users.Every) ∷ []) (length names) word) found.2 (slice_get-push names (word, called.Port users.Every))
-GivesAt-new names word declares.IVar threads owner made rest own h = subst (GivesAt (names ++ (word, called.IVar) ∷ []) (length names) word) (same_Some _ _ h) (slice_get-push names (word, called.IVar))
-GivesAt-new names word declares.MVar threads owner made [] own h = mvar_new names word made makes.MVar h (slice_get-push names (word, called.MVar))
-GivesAt-new names word declares.MVar threads owner made (name ∷ []) own h = mvar_new names word made makes.MVar h (slice_get-push names (word, called.MVar))
-GivesAt-new names word declares.MVar threads owner made (name ∷ message ∷ []) own h = mvar_new names word made (makes.MVarInit message) h (slice_get-push names (word, called.MVar))
-GivesAt-new names word declares.MVar threads owner made (name ∷ message ∷ more ∷ rest) own h = mvar_new names word made makes.MVar h (slice_get-push names (word, called.MVar))
-GivesAt-new names word declares.Thread threads owner made rest own h = subst (GivesAt (names ++ (word, called.Thread (threads + 1)) ∷ []) (length names) word) (same_Some _ _ h) (threads + 1, slice_get-push names (word, called.Thread (threads + 1)))
-GivesAt-new names word declares.Feed threads owner made rest own h =
-    let found = mapped_some makes.Feed (feed_by names rest) made h in
-    subst (GivesAt (names ++ (word, called.Feed owner) ∷ []) (length names) word) found.2
-    (slice_get-push names (word, called.Feed owner) ∙ ap (λ (seat : ℕ). Some (word, called.Feed seat)) (own ∙ owner_found names rest found.0 found.1))
-
-pub GivesNames-push : (names : List Given) (ds : List Declaration) (word : List ℕ) (what : Declares) (threads owner : ℕ) (d : Declaration) (rest : List (List ℕ))
+GivesNames-push : (names : List Given) (ds : List Declaration) (word : List ℕ) (what : Declares) (threads owner : ℕ) (d : Declaration) (rest : List (List ℕ))
     → owner ≡ owner_of names rest → length names ≡ length ds → GivesNames names ds → declared_word (words_of (string_bytes d.line.text)) ≡ Some word → makes_by names what rest ≡ Some d.makes → IsMadeWell names (length names) d.makes
     → GivesNames (names ++ (word, named_by what threads owner) ∷ []) (ds ++ d ∷ [])
 GivesNames-push names ds word what threads owner d rest own same h there makes well =
     let more : List Given = (word, named_by what threads owner) ∷ [] in
     record {
       each = each-push (Gives (names ++ more)) ds d (λ i x found. let g = h.each i x found in (g.0, g.1, GivesAt-append names more i g.0 x.makes g.2))
-          (subst (λ (n : ℕ). Gives (names ++ more) n d) same (word, there, GivesAt-new names word what threads owner d.makes rest own makes));
+          (subst (λ (n : ℕ). Gives (names ++ more) n d) same (word, there, GivesAt-new (names ++ more) (length names) word what threads owner d.makes names rest own makes (slice_get-push names (word, named_by what threads owner))));
       made = each-push (λ i (x : Declaration). IsMadeWell (names ++ more) i x.makes) ds d (λ i x found. IsMadeWell-append names more i x.makes (h.made i x found))
           (subst (λ (n : ℕ). IsMadeWell (names ++ more) n d.makes) same (IsMadeWell-append names more (length names) d.makes well));
     }
+
+-- ---- the scope behind the lines so far, and behind one more
+module _ (v : ℕ) (es : List (String Global × Named)) (ds : List Declaration) (ls : List Lane) (cs : List (Ends × ℕ)) (ss : List Step) (threads : ℕ)
+    (so_far : IsReadSoFar (view_of v ds ls ss) es ds ls cs ss threads) where
+  sources_started : (scope_of (view_of v ds ls ss)).started ≡ not (length (view_of v ds ls ss).steps == 0)
+  sources_started = so_far.started ∙ ap (λ n. not (n == 0)) (sym (length-map ss _))
+
+  pub next_scope : (k : ℕ) (line : List ℕ) → fault_in_words (scope_of (view_of v ds ls ss)) (words_of line) ≡ None → scope_of (with_words (view_of v ds ls ss) k line) ≡ after_words (scope_of (view_of v ds ls ss)) (words_of line)
+  next_scope k line none = scope_of-with_words (view_of v ds ls ss) k line sources_started (λ more. ends_same (names_of (view_of v ds ls ss)) more ls so_far.lanes) none
 
 -- ---- the lines so far, with one more declaration
 module _ (v : ℕ) (es : List (String Global × Named)) (ds : List Declaration) (ls : List Lane) (cs : List (Ends × ℕ)) (ss : List Step) (threads : ℕ)
     (d : Declaration) (what : Declares) (rest : List (List ℕ)) (name : List ℕ)
     (so_far : IsReadSoFar (view_of v ds ls ss) es ds ls cs ss threads)
-    (none : fault_in_words (scope_of (view_of v ds ls ss)) (words_of (string_bytes d.line.text)) ≡ None)
-    (form : form_of (names_of (view_of v ds ls ss)) (words_of (string_bytes d.line.text)) ≡ declaration what rest)
+    (read : ReadFrom (view_of v ds ls ss) d.line (declaration what rest))
     (there : fresh_word (declared_places what rest) rest ≡ Some name)
     (makes : makes_by (names_of (view_of v ds ls ss)) what rest ≡ Some d.makes)
     (well : IsMadeWell (names_of (view_of v ds ls ss)) (length (names_of (view_of v ds ls ss))) d.makes) where
-  pub declared_passes : Passes (scope_of (view_of v ds ls ss)) (declaration what rest)
-  declared_passes = subst (Passes (scope_of (view_of v ds ls ss))) form (words_pass (scope_of (view_of v ds ls ss)) (words_of (string_bytes d.line.text)) none).1
-
-  sources_started : (scope_of (view_of v ds ls ss)).started ≡ not (length (view_of v ds ls ss).steps == 0)
-  sources_started = so_far.started ∙ ap (λ n. not (n == 0)) (sym (length-map ss _))
+  declared_passes : Passes (scope_of (view_of v ds ls ss)) (declaration what rest)
+  declared_passes = read_passes (view_of v ds ls ss) d.line (declaration what rest) read
 
   no_step_seen : ss ≡ []
-  no_step_seen = by ss (no_steps (view_of v ds ls ss) (declaration what rest) sources_started declared_passes refl)
-    where
-      by : (xs : List Step) → map (λ (s : Step). source_of s.line) xs ≡ [] → xs ≡ []
-      by [] e = refl
-      by (x ∷ xs) e = absurd (let f : length (map (λ (s : Step). source_of s.line) (x ∷ xs)) ≡ 0 = ap length e in omega arith)
+  no_step_seen = empty_list ss (sym (length-map ss _) ∙ ap length (no_steps (view_of v ds ls ss) (declaration what rest) (sources_started v es ds ls cs ss threads so_far) declared_passes refl))
 
   pub declared_scope : scope_of (view_of v (ds ++ d ∷ []) ls ss) ≡ after_words (scope_of (view_of v ds ls ss)) (words_of (string_bytes d.line.text))
   declared_scope =
-      ap scope_of (view-declaration v ds ls ss d rest what form)
-      ∙ scope_of-with_words (view_of v ds ls ss) d.line.number (string_bytes d.line.text) sources_started (λ more. ends_same (names_of (view_of v ds ls ss)) more ls so_far.lanes) none
+      ap scope_of (view-declaration v ds ls ss d rest what read.is) ∙ next_scope v es ds ls cs ss threads so_far d.line.number (string_bytes d.line.text) read.fits
 
   abbrev owner : ℕ
   owner = owner_of (names_of (view_of v ds ls ss)) rest
@@ -164,19 +154,8 @@ module _ (v : ℕ) (es : List (String Global × Named)) (ds : List Declaration) 
   declared_names : names_of (view_of v (ds ++ d ∷ []) ls ss) ≡ names_of (view_of v ds ls ss) ++ (name, named_by what (thread_count (names_of (view_of v ds ls ss))) owner) ∷ []
   declared_names =
       ap (λ (s : Scope). s.names) declared_scope
-      ∙ ap (λ f. names_of (view_of v ds ls ss) ++ gives (names_of (view_of v ds ls ss)) f) form
+      ∙ ap (λ f. names_of (view_of v ds ls ss) ++ gives (names_of (view_of v ds ls ss)) f) read.is
       ∙ ap (λ w. names_of (view_of v ds ls ss) ++ given_as (named_by what (thread_count (names_of (view_of v ds ls ss))) owner) w) there
-
-  declared_started : (scope_of (view_of v (ds ++ d ∷ []) ls ss)).started ≡ not (length ss == 0)
-  declared_started =
-      ap (λ (s : Scope). s.started) declared_scope
-      ∙ ap (λ f. (scope_of (view_of v ds ls ss)).started || is_step f) form
-      ∙ or_false (scope_of (view_of v ds ls ss)).started
-      ∙ so_far.started
-    where
-      or_false : (b : Bool) → (b || false) ≡ b
-      or_false true = refl
-      or_false false = refl
 
   room : threads + threads_by what ≤ 64
   room = by what declared_passes.room
@@ -185,14 +164,14 @@ module _ (v : ℕ) (es : List (String Global × Named)) (ds : List Declaration) 
       by declares.Thread h = omega (arith, so_far.count, leb-false 64 (thread_count (names_of (view_of v ds ls ss))) h)
       by _ h = omega (arith, so_far.limit)
 
-  line : IsDeclarationLine (words_of (string_bytes d.line.text)) what rest
-  line = declaration_line (names_of (view_of v ds ls ss)) (words_of (string_bytes d.line.text)) what rest form
+  line : IsLine (names_of (view_of v ds ls ss)) (words_of (string_bytes d.line.text)) (declaration what rest)
+  line = line_by (names_of (view_of v ds ls ss)) (words_of (string_bytes d.line.text)) (declaration what rest) read.is
 
   reads : ReadsDeclaration (names_of (view_of v ds ls ss)) d
-  reads = record { makes = ap (makes_of (names_of (view_of v ds ls ss))) line.is ∙ ap (option_and_then (λ w. makes_by (names_of (view_of v ds ls ss)) w rest)) line.declares ∙ makes }
+  reads = record { makes = ap (makes_of (names_of (view_of v ds ls ss))) line.1 ∙ ap (option_and_then (λ w. makes_by (names_of (view_of v ds ls ss)) w rest)) line.2 ∙ makes }
 
   declared_there : declared_word (words_of (string_bytes d.line.text)) ≡ Some name
-  declared_there = ap declared_word line.is ∙ ap (option_and_then (λ w. fresh_word (declared_places w rest) rest)) line.declares ∙ there
+  declared_there = ap declared_word line.1 ∙ ap (option_and_then (λ w. fresh_word (declared_places w rest) rest)) line.2 ∙ there
 
   -- the lines of the declarations and of the steps
   abbrev declared_lines : List SourceLine
@@ -202,15 +181,6 @@ module _ (v : ℕ) (es : List (String Global × Named)) (ds : List Declaration) 
   same_length =
       let total : length (names_of (view_of v ds ls ss)) ≡ length declared_lines + 0 = so_far.given.total ∙ ap (λ (xs : List Step). length declared_lines + count_by is_giving (map (λ (x : Step). source_of x.line) xs)) no_step_seen in
       omega (arith, total, length-map ds (λ (x : Declaration). source_of x.line))
-
-  declared_given : NamesAreGiven (names_of (view_of v (ds ++ d ∷ []) ls ss)) (view_of v (ds ++ d ∷ []) ls ss).declarations (view_of v (ds ++ d ∷ []) ls ss).steps
-  declared_given =
-      let more : List Given = (name, named_by what (thread_count (names_of (view_of v ds ls ss))) owner) ∷ [] in
-      subst (λ (gs : List Given). NamesAreGiven gs (map (λ (x : Declaration). source_of x.line) (ds ++ d ∷ [])) (map (λ (x : Step). source_of x.line) ss)) (sym declared_names)
-      (subst (λ (lines : List SourceLine). NamesAreGiven (names_of (view_of v ds ls ss) ++ more) lines (map (λ (x : Step). source_of x.line) ss)) (sym (map-append (λ (x : Declaration). source_of x.line) ds (d ∷ [])))
-      (subst (λ (xs : List Step). NamesAreGiven (names_of (view_of v ds ls ss) ++ more) (declared_lines ++ source_of d.line ∷ []) (map (λ (x : Step). source_of x.line) xs)) (sym no_step_seen)
-      (given-declaration (names_of (view_of v ds ls ss)) declared_lines (source_of d.line) name (named_by what (thread_count (names_of (view_of v ds ls ss))) owner)
-      (subst (λ (xs : List Step). NamesAreGiven (names_of (view_of v ds ls ss)) declared_lines (map (λ (x : Step). source_of x.line) xs)) no_step_seen so_far.given) declared_there)))
 
   grown_lanes : All (ReadsLane (names_of (view_of v (ds ++ d ∷ []) ls ss))) ls
   grown_lanes =
@@ -222,7 +192,13 @@ module _ (v : ℕ) (es : List (String Global × Named)) (ds : List Declaration) 
     names = entries ∙ ap (λ gs. gs ++ (name, named_by what threads owner) ∷ []) so_far.names ∙ ap (λ n. names_of (view_of v ds ls ss) ++ (name, named_by what n owner) ∷ []) so_far.count ∙ sym declared_names;
     gives = subst (λ gs. GivesNames gs (ds ++ d ∷ [])) (sym declared_names)
         (GivesNames-push (names_of (view_of v ds ls ss)) ds name what (thread_count (names_of (view_of v ds ls ss))) owner d rest refl same_length so_far.gives declared_there makes well);
-    given = declared_given;
+    given =
+        let more : List Given = (name, named_by what (thread_count (names_of (view_of v ds ls ss))) owner) ∷ [] in
+        subst (λ (gs : List Given). NamesAreGiven gs (map (λ (x : Declaration). source_of x.line) (ds ++ d ∷ [])) (map (λ (x : Step). source_of x.line) ss)) (sym declared_names)
+        (subst (λ (lines : List SourceLine). NamesAreGiven (names_of (view_of v ds ls ss) ++ more) lines (map (λ (x : Step). source_of x.line) ss)) (sym (map-append (λ (x : Declaration). source_of x.line) ds (d ∷ [])))
+        (subst (λ (xs : List Step). NamesAreGiven (names_of (view_of v ds ls ss) ++ more) (declared_lines ++ source_of d.line ∷ []) (map (λ (x : Step). source_of x.line) xs)) (sym no_step_seen)
+        (given-declaration (names_of (view_of v ds ls ss)) declared_lines (source_of d.line) name (named_by what (thread_count (names_of (view_of v ds ls ss))) owner)
+        (subst (λ (xs : List Step). NamesAreGiven (names_of (view_of v ds ls ss)) declared_lines (map (λ (x : Step). source_of x.line) xs)) no_step_seen so_far.given) declared_there)));
     declarations = subst (λ gs. All (ReadsDeclaration gs) (ds ++ d ∷ [])) (sym declared_names)
         (All-weaker (ReadsDeclaration (names_of (view_of v ds ls ss))) (ReadsDeclaration (names_of (view_of v ds ls ss) ++ _)) (λ x h. ReadsDeclaration-append (names_of (view_of v ds ls ss)) _ x h) (ds ++ d ∷ [])
         (All-push (ReadsDeclaration (names_of (view_of v ds ls ss))) ds d so_far.declarations reads));
@@ -233,7 +209,11 @@ module _ (v : ℕ) (es : List (String Global × Named)) (ds : List Declaration) 
     count = ap (λ n. n + threads_by what) so_far.count ∙ sym (thread_count-push (names_of (view_of v ds ls ss)) name what (thread_count (names_of (view_of v ds ls ss))) owner) ∙ ap thread_count (sym declared_names);
     limit = room;
     seats = subst (λ gs. All (λ (g : Given). IsSeatedWithin (thread_count gs) g.1) gs) (sym declared_names) (seats_push (names_of (view_of v ds ls ss)) name what owner (owned_from (names_of (view_of v ds ls ss)) what rest d.makes (length (names_of (view_of v ds ls ss))) makes well) so_far.seats);
-    started = declared_started;
+    started =
+        ap (λ (s : Scope). s.started) declared_scope
+        ∙ ap (λ f. (scope_of (view_of v ds ls ss)).started || is_step f) read.is
+        ∙ or-false (scope_of (view_of v ds ls ss)).started
+        ∙ so_far.started;
     ends = ends_kept (names_of (view_of v (ds ++ d ∷ []) ls ss)) ls grown_lanes ∙ ap keys_of (sym so_far.capacities_are);
   }
 
@@ -276,17 +256,12 @@ seats-given names n whose (Some word) h = All-push (λ (g : Given). IsSeatedWith
 module _ (v : ℕ) (es : List (String Global × Named)) (ds : List Declaration) (ls : List Lane) (cs : List (Ends × ℕ)) (ss : List Step) (threads : ℕ)
     (s : Step) (verb : Verb) (rest : List (List ℕ))
     (so_far : IsReadSoFar (view_of v ds ls ss) es ds ls cs ss threads)
-    (none : fault_in_words (scope_of (view_of v ds ls ss)) (words_of (string_bytes s.line.text)) ≡ None)
-    (form : form_of (names_of (view_of v ds ls ss)) (words_of (string_bytes s.line.text)) ≡ step s.seat verb rest)
+    (read : ReadFrom (view_of v ds ls ss) s.line (step s.seat verb rest))
     (action : action_by (names_of (view_of v ds ls ss)) verb rest ≡ Some s.action)
     (uses : UsesWell (names_of (view_of v ds ls ss)) s.action) where
-  asked_sources_started : (scope_of (view_of v ds ls ss)).started ≡ not (length (view_of v ds ls ss).steps == 0)
-  asked_sources_started = so_far.started ∙ ap (λ n. not (n == 0)) (sym (length-map ss _))
-
   pub asked_scope : scope_of (view_of v ds ls (ss ++ s ∷ [])) ≡ after_words (scope_of (view_of v ds ls ss)) (words_of (string_bytes s.line.text))
   asked_scope =
-      ap scope_of (view-step v ds ls ss s s.seat verb rest form)
-      ∙ scope_of-with_words (view_of v ds ls ss) s.line.number (string_bytes s.line.text) asked_sources_started (λ more. ends_same (names_of (view_of v ds ls ss)) more ls so_far.lanes) none
+      ap scope_of (view-step v ds ls ss s s.seat verb rest read.is) ∙ next_scope v es ds ls cs ss threads so_far s.line.number (string_bytes s.line.text) read.fits
 
   abbrev pub given_more : List Given
   given_more = given_as (called.Port (users.One s.seat)) (fresh_word (step_places verb) rest)
@@ -294,42 +269,29 @@ module _ (v : ℕ) (es : List (String Global × Named)) (ds : List Declaration) 
   asked_names : names_of (view_of v ds ls (ss ++ s ∷ [])) ≡ names_of (view_of v ds ls ss) ++ given_more
   asked_names =
       ap (λ (x : Scope). x.names) asked_scope
-      ∙ ap (λ f. names_of (view_of v ds ls ss) ++ gives (names_of (view_of v ds ls ss)) f) form
+      ∙ ap (λ f. names_of (view_of v ds ls ss) ++ gives (names_of (view_of v ds ls ss)) f) read.is
 
-  asked_started : (scope_of (view_of v ds ls (ss ++ s ∷ []))).started ≡ not (length (ss ++ s ∷ []) == 0)
-  asked_started =
-      ap (λ (x : Scope). x.started) asked_scope
-      ∙ ap (λ f. (scope_of (view_of v ds ls ss)).started || is_step f) form
-      ∙ or_right (scope_of (view_of v ds ls ss)).started true refl
-      ∙ ap not (sym (ne_eqb (length (ss ++ s ∷ [])) 0 (λ e. omega (arith, length-append ss (s ∷ [])))))
-
-  asked_line : IsStepLine (names_of (view_of v ds ls ss)) (words_of (string_bytes s.line.text)) s.seat verb rest
-  asked_line = step_line (names_of (view_of v ds ls ss)) (words_of (string_bytes s.line.text)) s.seat verb rest form
+  asked_line : IsLine (names_of (view_of v ds ls ss)) (words_of (string_bytes s.line.text)) (step s.seat verb rest)
+  asked_line = line_by (names_of (view_of v ds ls ss)) (words_of (string_bytes s.line.text)) (step s.seat verb rest) read.is
 
   asks : Asks (names_of (view_of v ds ls ss)) verb rest s.action
   asks = step_asks (names_of (view_of v ds ls ss)) verb rest s.action action
 
-  asked_passes : Passes (scope_of (view_of v ds ls ss)) (step s.seat verb rest)
-  asked_passes = subst (Passes (scope_of (view_of v ds ls ss))) form (words_pass (scope_of (view_of v ds ls ss)) (words_of (string_bytes s.line.text)) none).1
-
   asked_there : asked_word (words_of (string_bytes s.line.text)) ≡ fresh_word (step_places verb) rest
-  asked_there = ap asked_word asked_line.is ∙ ap (option_and_then (λ w. fresh_word (step_places w) rest)) asked_line.does
+  asked_there = ap asked_word asked_line.2 ∙ ap (option_and_then (λ w. fresh_word (step_places w) rest)) asked_line.4
 
   asked_seat : seat_of_step (names_of (view_of v ds ls ss)) (words_of (string_bytes s.line.text)) ≡ Some s.seat
-  asked_seat = ap (seat_of_step (names_of (view_of v ds ls ss))) asked_line.is ∙ asked_line.seated
+  asked_seat = ap (seat_of_step (names_of (view_of v ds ls ss))) asked_line.2 ∙ asked_line.3
 
   reads_step : ReadsStep (names_of (view_of v ds ls ss)) s
   reads_step = record {
     seat = asked_seat;
-    seated = seated_from (names_of (view_of v ds ls ss)) (thread_count (names_of (view_of v ds ls ss))) asked_line.thread s.seat so_far.seats asked_line.seated;
-    action = ap (action_of (names_of (view_of v ds ls ss))) asked_line.is ∙ ap (option_and_then (λ w. action_by (names_of (view_of v ds ls ss)) w rest)) asked_line.does ∙ action;
+    seated = seated_from (names_of (view_of v ds ls ss)) (thread_count (names_of (view_of v ds ls ss))) asked_line.0 s.seat so_far.seats asked_line.3;
+    action = ap (action_of (names_of (view_of v ds ls ss))) asked_line.2 ∙ ap (option_and_then (λ w. action_by (names_of (view_of v ds ls ss)) w rest)) asked_line.4 ∙ action;
     uses = uses;
-    yours = is_yours (names_of (view_of v ds ls ss)) s.seat verb rest s.action asked_passes.yours asks uses;
+    yours = is_yours (names_of (view_of v ds ls ss)) s.seat verb rest s.action (read_passes (view_of v ds ls ss) s.line (step s.seat verb rest) read).yours asks uses;
     gives = asks.gives ∙ ap is_some (sym asked_there);
   }
-
-  asked_given : NamesAreGiven (names_of (view_of v ds ls ss) ++ given_more) (view_of v ds ls ss).declarations ((view_of v ds ls ss).steps ++ source_of s.line ∷ [])
-  asked_given = given-step (names_of (view_of v ds ls ss)) (view_of v ds ls ss).declarations (view_of v ds ls ss).steps (source_of s.line) s.seat (fresh_word (step_places verb) rest) so_far.given asked_there asked_seat
 
   asked_lines : (view_of v ds ls (ss ++ s ∷ [])).steps ≡ (view_of v ds ls ss).steps ++ source_of s.line ∷ []
   asked_lines = map-append (λ (x : Step). source_of x.line) ss (s ∷ [])
@@ -346,12 +308,6 @@ module _ (v : ℕ) (es : List (String Global × Named)) (ds : List Declaration) 
       ∙ ap (names_before (view_of v ds ls ss).declarations ((view_of v ds ls ss).steps ++ source_of s.line ∷ [])) (sym (length-map ss (λ (x : Step). source_of x.line)))
       ∙ before_last (names_of (view_of v ds ls ss)) [] (view_of v ds ls ss).declarations (view_of v ds ls ss).steps (source_of s.line) so_far.given
 
-  uses_earlier : UsesEarlier (view_of v ds ls (ss ++ s ∷ [])) (ss ++ s ∷ [])
-  uses_earlier =
-      each-push (λ k (x : Step). used_by x.action < names_before (view_of v ds ls ss).declarations (view_of v ds ls (ss ++ s ∷ [])).steps k) ss s
-      (λ k x found. subst (λ (n : ℕ). used_by x.action < n) (sym (before_same_step k (omega (arith, slice_get_within ss k x found)))) (so_far.earlier k x found))
-      (subst (λ (n : ℕ). used_by s.action < n) (sym before_this_step) (let there = used_stands (names_of (view_of v ds ls ss)) s.action uses in slice_get_within (names_of (view_of v ds ls ss)) (used_by s.action) there.0 there.1))
-
   same_count : thread_count (names_of (view_of v ds ls ss)) ≡ thread_count (names_of (view_of v ds ls ss) ++ given_more)
   same_count = thread_count-given (names_of (view_of v ds ls ss)) (users.One s.seat) (fresh_word (step_places verb) rest)
 
@@ -365,7 +321,8 @@ module _ (v : ℕ) (es : List (String Global × Named)) (ds : List Declaration) 
     names = entries ∙ ap (λ gs. gs ++ given_more) so_far.names ∙ sym asked_names;
     gives = subst (λ gs. GivesNames gs ds) (sym asked_names) (GivesNames-append (names_of (view_of v ds ls ss)) given_more ds so_far.gives);
     given = subst (λ gs. NamesAreGiven gs (view_of v ds ls ss).declarations (view_of v ds ls (ss ++ s ∷ [])).steps) (sym asked_names)
-        (subst (NamesAreGiven (names_of (view_of v ds ls ss) ++ given_more) (view_of v ds ls ss).declarations) (sym asked_lines) asked_given);
+        (subst (NamesAreGiven (names_of (view_of v ds ls ss) ++ given_more) (view_of v ds ls ss).declarations) (sym asked_lines)
+        (given-step (names_of (view_of v ds ls ss)) (view_of v ds ls ss).declarations (view_of v ds ls ss).steps (source_of s.line) s.seat (fresh_word (step_places verb) rest) so_far.given asked_there asked_seat));
     declarations = subst (λ gs. All (ReadsDeclaration gs) ds) (sym asked_names)
         (All-weaker (ReadsDeclaration (names_of (view_of v ds ls ss))) (ReadsDeclaration (names_of (view_of v ds ls ss) ++ given_more)) (λ x h. ReadsDeclaration-append (names_of (view_of v ds ls ss)) given_more x h) ds so_far.declarations);
     lanes = asked_lanes;
@@ -373,12 +330,19 @@ module _ (v : ℕ) (es : List (String Global × Named)) (ds : List Declaration) 
     steps = subst (λ gs. All (ReadsStep gs) (ss ++ s ∷ [])) (sym asked_names)
         (All-weaker (ReadsStep (names_of (view_of v ds ls ss))) (ReadsStep (names_of (view_of v ds ls ss) ++ given_more)) (λ x h. ReadsStep-append (names_of (view_of v ds ls ss)) given_more x same_count h) (ss ++ s ∷ [])
         (All-push (ReadsStep (names_of (view_of v ds ls ss))) ss s so_far.steps reads_step));
-    earlier = uses_earlier;
+    earlier =
+        each-push (λ k (x : Step). used_by x.action < names_before (view_of v ds ls ss).declarations (view_of v ds ls (ss ++ s ∷ [])).steps k) ss s
+        (λ k x found. subst (λ (n : ℕ). used_by x.action < n) (sym (before_same_step k (omega (arith, slice_get_within ss k x found)))) (so_far.earlier k x found))
+        (subst (λ (n : ℕ). used_by s.action < n) (sym before_this_step) (let there = used_stands (names_of (view_of v ds ls ss)) s.action uses in slice_get_within (names_of (view_of v ds ls ss)) (used_by s.action) there.0 there.1));
     count = so_far.count ∙ same_count ∙ ap thread_count (sym asked_names);
     limit = so_far.limit;
     seats = subst (λ gs. All (λ (g : Given). IsSeatedWithin (thread_count gs) g.1) gs) (sym asked_names)
         (subst (λ (n : ℕ). All (λ (g : Given). IsSeatedWithin n g.1) (names_of (view_of v ds ls ss) ++ given_more)) same_count
         (seats-given (names_of (view_of v ds ls ss)) (thread_count (names_of (view_of v ds ls ss))) (users.One s.seat) (fresh_word (step_places verb) rest) so_far.seats));
-    started = asked_started;
+    started =
+        ap (λ (x : Scope). x.started) asked_scope
+        ∙ ap (λ f. (scope_of (view_of v ds ls ss)).started || is_step f) read.is
+        ∙ or_right (scope_of (view_of v ds ls ss)).started true refl
+        ∙ ap not (sym (ne_eqb (length (ss ++ s ∷ [])) 0 (λ e. omega (arith, length-append ss (s ∷ [])))));
     ends = ends_kept (names_of (view_of v ds ls (ss ++ s ∷ []))) ls asked_lanes ∙ ap keys_of (sym so_far.capacities_are);
   }

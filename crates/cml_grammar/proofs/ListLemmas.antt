@@ -76,15 +76,12 @@ each-push P xs x before last i y found = elim (slice_get-push-cases xs x i y fou
 -- ---- how a list is split at the first item that passes
 pub slice_split-none : {X : Type 0} (p : X → Bool) (xs : List X) → position p xs ≡ None → slice_split p xs ≡ xs ∷ []
 slice_split-none p [] h = refl
-slice_split-none p (x ∷ xs) h = by (p x) refl (λ e. slice_split-none p xs e) (sym (position-cons p x xs) ∙ h)
+slice_split-none p (x ∷ xs) h = by (p x) (position p xs) refl refl (slice_split-none p xs) (sym (position-cons p x xs) ∙ h)
   where
-    inner : (r : Option ℕ) → position p xs ≡ r → option_map suc r ≡ None → position p xs ≡ None
-    inner None e f = e
-    inner (Some i) e f = absurd (none-some (suc i) (sym f))
-
-    by : (b : Bool) → p x ≡ b → (position p xs ≡ None → slice_split p xs ≡ xs ∷ []) → cond b (Some 0) (option_map suc (position p xs)) ≡ None → slice_split p (x ∷ xs) ≡ (x ∷ xs) ∷ []
-    by true e rest f = absurd (none-some 0 (sym f))
-    by false e rest f = slice_split-cons_no p x xs e ∙ ap (onto_first x) (rest (inner (position p xs) refl f))
+    by : (b : Bool) (r : Option ℕ) → p x ≡ b → position p xs ≡ r → (position p xs ≡ None → slice_split p xs ≡ xs ∷ []) → cond b (Some 0) (option_map suc r) ≡ None → slice_split p (x ∷ xs) ≡ (x ∷ xs) ∷ []
+    by true r e at rest f = absurd (none-some 0 (sym f))
+    by false (Some i) e at rest f = absurd (none-some (suc i) (sym f))
+    by false None e at rest f = slice_split-cons_no p x xs e ∙ ap (onto_first x) (rest at)
 
 pub slice_split-some : (p : ℕ → Bool) (xs : List ℕ) (i : ℕ) → position p xs ≡ Some i → slice_split p xs ≡ take i xs ∷ slice_split p (drop (i + 1) xs)
 slice_split-some p xs i h =

@@ -6,6 +6,7 @@ use Rattle.cml_text.proofs.TextLemmas.{number_is_text}
 use Rattle.std.specs.Fmt.{decimal}
 use Rattle.std.proofs.lemmas.Fmt.{decimal-digits_value, digits_decimal, digits_value-decimal, decimal_nonempty, first_decimal, decimal_digit}
 use Rattle.std.proofs.lemmas.Bool.{or_cases, cases_lt}
+use Rattle.std.proofs.Math.Bool.{and-true}
 use Rattle.std.specs.Global.{Global}
 use Rattle.std.specs.List.{list_all}
 use Rattle.std.specs.Option.{option_map, option_and_then}
@@ -21,14 +22,18 @@ use Rattle.std.specs.declared.hash.BuildHasherDefault.{BuildHasherDefault}
 use Rattle.std.proofs.lemmas.List.{map-append}
 use Rattle.indexmap.specs.IndexMap.{IndexMap, insert_entry}
 use Rattle.indexmap.proofs.CallerLemmas.{insert_entry-new}
+use Rattle.indexmap.proofs.MapLemmas.{some_index}
 use Rattle.cml_grammar.specs.declared.names.Named.{Named}
 use Rattle.cml_grammar.specs.Names.{Given, is_letter, is_name_byte, is_reserved, is_name, is_number, is_called, position_of, named, is_given}
 use Rattle.cml_grammar.specs.Reading.{texts_of}
 use Rattle.cml_grammar.proofs.ListLemmas.{position-cons}
 
--- the value of a word in a map of texts
+-- the entries of a map of names, and the map
 abbrev pub Entries : Type 0
 Entries = List (String Global × Named)
+
+abbrev pub Names : Type 0
+Names = IndexMap (String Global) Named (BuildHasherDefault FoldHasher)
 
 pub position-texts : (es : Entries) (word : List ℕ) → position (λ k. bytes_eq word (string_bytes k)) (keys_of es) ≡ position_of (texts_of es) word
 position-texts [] word = refl
@@ -40,9 +45,6 @@ position-texts (e ∷ es) word =
 named-cons : (g : Given) (gs : List Given) (word : List ℕ) → named (g ∷ gs) word ≡ cond (bytes_eq word g.0) (Some g.1) (named gs word)
 named-cons g gs word = ap (option_and_then (λ i. option_map (λ g. g.1) (slice_get (g ∷ gs) i))) (position-cons (is_called word) g gs) ∙ by (bytes_eq word g.0)
   where
-    at : Option ℕ → Option Named
-    at r = option_and_then (λ i. option_map (λ g. g.1) (slice_get (g ∷ gs) i)) r
-
     later : (r : Option ℕ) → option_and_then (λ i. option_map (λ g. g.1) (slice_get (g ∷ gs) i)) (option_map suc r) ≡ option_and_then (λ i. option_map (λ g. g.1) (slice_get gs i)) r
     later None = refl
     later (Some i) = refl
@@ -57,45 +59,27 @@ lookup-texts (e ∷ es) word =
     ap (cond (bytes_eq word (string_bytes e.0)) (Some e.1)) (lookup-texts es word)
     ∙ sym (named-cons (string_bytes e.0, e.1) (texts_of es) word)
 
--- a word that is given names something
-pub is_some-named : (names : List Given) (word : List ℕ) → is_some (named names word) ≡ is_given names word
-is_some-named [] word = refl
-is_some-named (g ∷ gs) word =
-    ap is_some (named-cons g gs word) ∙ by (bytes_eq word g.0) (is_some-named gs word)
-    ∙ sym (ap is_some (position-cons (is_called word) g gs))
-  where
-    kept : (r : Option ℕ) → is_some r ≡ is_some (option_map suc r)
-    kept None = refl
-    kept (Some i) = refl
-
-    by : (b : Bool) → is_some (named gs word) ≡ is_given gs word → is_some (cond b (Some g.1) (named gs word)) ≡ is_some (cond b (Some 0) (option_map suc (position (is_called word) gs)))
-    by true h = refl
-    by false h = h ∙ kept (position (is_called word) gs)
-
+-- and whether there is one
 pub is_some-lookup : (es : Entries) (word : List ℕ) → is_some (lookup (λ k. bytes_eq word (string_bytes k)) es) ≡ is_given (texts_of es) word
-is_some-lookup es word = ap is_some (lookup-texts es word) ∙ is_some-named (texts_of es) word
+is_some-lookup es word = sym (some_index (λ k. bytes_eq word (string_bytes k)) es) ∙ ap is_some (position-texts es word)
+
+pub absent : {X : Type 0} (r : Option X) → is_some r ≡ false → r ≡ None
+absent None h = refl
+absent (Some x) h = absurd (true≢false h)
 
 -- the texts with one more that was not given
-pub inserted_texts : (m : IndexMap (String Global) Named (BuildHasherDefault FoldHasher)) (key : String Global) (n : Named) (word : List ℕ) → string_bytes key ≡ word → is_given (texts_of m.entries) word ≡ false → texts_of (insert_entry string_eq m.entries key n) ≡ texts_of m.entries ++ (word, n) ∷ []
+pub inserted_texts : (m : Names) (key : String Global) (n : Named) (word : List ℕ) → string_bytes key ≡ word → is_given (texts_of m.entries) word ≡ false → texts_of (insert_entry string_eq m.entries key n) ≡ texts_of m.entries ++ (word, n) ∷ []
 inserted_texts m key n word same free =
     ap texts_of (insert_entry-new string_eq m key n (absent (lookup (string_eq key) m.entries) (is_some-lookup m.entries (string_bytes key) ∙ ap (is_given (texts_of m.entries)) same ∙ free)))
     ∙ map-append (λ (e : String Global × Named). (string_bytes e.0, e.1)) m.entries ((key, n) ∷ [])
     ∙ ap (λ w. texts_of m.entries ++ (w, n) ∷ []) same
-  where
-    absent : (r : Option Named) → is_some r ≡ false → r ≡ None
-    absent None h = refl
-    absent (Some x) h = absurd (true≢false h)
 
 -- a name is tested from its first byte on
 pub is_name_rest : (word : List ℕ) (b : ℕ) (bs : List ℕ) → word ≡ b ∷ bs → is_letter b ≡ true → length bs ≤ 31 → is_reserved word ≡ false → is_name word ≡ list_all is_name_byte bs
 is_name_rest word b bs e letter short free =
     ap is_name e
     ∙ (λ j. letter j && list_all is_name_byte bs && le-leb (length bs) 31 short j && not ((sym (ap is_reserved e) ∙ free) j))
-    ∙ all_true (list_all is_name_byte bs)
-  where
-    all_true : (t : Bool) → (true && t && true && true) ≡ t
-    all_true true = refl
-    all_true false = refl
+    ∙ and-true _ ∙ and-true _
 
 -- the number of a word, if it is one
 abbrev pub number_in : List ℕ → Option ℕ
@@ -113,12 +97,8 @@ number_from_parse {E} (b ∷ bs) r parses some zeroth plus =
     begins : (not (b == 48) || length bs == 0) ≡ true
     begins = ap (λ t. not t || length bs == 0) (ne_eqb b 48 zeroth)
 
-    dropped : (t : Bool) → (t && true && nat_lt (digits_value 10 word) (2 ^ 64)) ≡ (t && nat_lt (digits_value 10 word) (2 ^ 64))
-    dropped true = refl
-    dropped false = refl
-
     is_it : is_number word ≡ (all_ascii_digits word && nat_lt (digits_value 10 word) (2 ^ 64))
-    is_it = ap (λ t. all_ascii_digits word && t && nat_lt (digits_value 10 word) (2 ^ 64)) begins ∙ dropped (all_ascii_digits word)
+    is_it = ap (λ t. all_ascii_digits word && t && nat_lt (digits_value 10 word) (2 ^ 64)) begins ∙ ap (λ t. t && nat_lt (digits_value 10 word) (2 ^ 64)) (and-true (all_ascii_digits word))
 
     by : (q : Result ℕ E) → OkIff q ((all_ascii_digits word ≡ true) × (0 < length word) × (digits_value 10 word < 2 ^ 64)) (digits_value 10 word) → result_ok q ≡ number_in word
     by (Ok x) h =

@@ -1,10 +1,10 @@
 -- The words of a lane line and of a feed's, and what is looked up of lanes and feeds.
-use Rattle.std.proofs.Common.{◌≡◌, ℕ, ◌+◌, Bool, true, false, ◌||◌, cond, List, [], ◌∷◌, length, map, slice_index_or, Option, Some, None, is_some, string_bytes, All, Bor, refl, sym, ap}
-use Rattle.std.specs.Map.{keys_of, lookup}
-use Rattle.std.specs.List.{list_any, find}
-use Rattle.std.specs.Option.{option_map, option_map_or, option_and_then, IfSome}
+use Rattle.std.proofs.Common.{◌≡◌, ℕ, ◌+◌, Bool, true, false, cond, List, [], ◌∷◌, length, map, slice_index_or, Option, Some, None, is_some, string_bytes, All, Bor, refl, sym, ap, ◌∙◌}
+use Rattle.std.specs.Map.{lookup}
+use Rattle.std.specs.List.{find}
+use Rattle.std.specs.Option.{option_map, option_map_or, IfSome}
 use Rattle.std.proofs.lemmas.List.Elements.{All-head, All-tail}
-use Rattle.std.proofs.lemmas.Option.{none-some, same_Some}
+use Rattle.std.proofs.lemmas.Option.{none-some, same_Some, option_and_then_some}
 use Rattle.cml_grammar.specs.declared.forms.Declares.{Declares}
 use Rattle.cml_grammar.specs.declared.forms.Declares.TheVariants as declares
 use Rattle.cml_grammar.specs.declared.forms.Makes.{Makes}
@@ -54,14 +54,6 @@ lane_words names (a ∷ b ∷ x ∷ []) h = record { long = refl; thread = ap is
 lane_words names (a ∷ b ∷ x ∷ d ∷ words) h = absurd h.1.1.1
 
 -- ---- lanes by their ends
-pub has_ends : (ends : Ends) (es : List (Ends × ℕ)) → is_some (lookup (are_same ends) es) ≡ list_any (are_same ends) (keys_of es)
-has_ends ends [] = refl
-has_ends ends (e ∷ es) = by (are_same ends e.0) (has_ends ends es)
-  where
-    by : (b : Bool) → is_some (lookup (are_same ends) es) ≡ list_any (are_same ends) (keys_of es) → is_some (cond b (Some e.1) (lookup (are_same ends) es)) ≡ (b || list_any (are_same ends) (keys_of es))
-    by true later = refl
-    by false later = later
-
 pub kept_fits : (names : List Given) (ls : List Lane) (ends : Ends) → All (ReadsLane names) ls → IfSome (lookup (are_same ends) (capacities_of ls)) IsCapacity
 kept_fits names [] ends h = tt
 kept_fits names (l ∷ ls) ends h = by (are_same ends (l.seat, l.target)) (kept_fits names ls ends (All-tail (ReadsLane names) l ls h))
@@ -71,29 +63,19 @@ kept_fits names (l ∷ ls) ends h = by (are_same ends (l.seat, l.target)) (kept_
     by false later = later
 
 -- ---- the first feed
-made_as : (made given : Makes) → Some given ≡ Some made → makes_feed made ≡ makes_feed given
-made_as made given h = ap makes_feed (sym (same_Some _ _ h))
-
 feed_made : (names : List Given) (what : Declares) (rest : List (List ℕ)) (made : Makes) → makes_by names what rest ≡ Some made → makes_feed made ≡ is_feed what
-feed_made names declares.Mailbox rest made h = made_as made makes.Mailbox h
-feed_made names declares.Channel rest made h = made_as made makes.Channel h
 feed_made names declares.Port [] made h = absurd (none-some made h)
-feed_made names declares.Port (channel ∷ rest) made h = let found = mapped_some makes.Port (position_of names channel) made h in ap makes_feed (sym found.2)
-feed_made names declares.IVar rest made h = made_as made makes.IVar h
-feed_made names declares.MVar [] made h = made_as made makes.MVar h
-feed_made names declares.MVar (name ∷ []) made h = made_as made makes.MVar h
-feed_made names declares.MVar (name ∷ message ∷ []) made h = made_as made _ h
-feed_made names declares.MVar (name ∷ message ∷ word ∷ rest) made h = made_as made makes.MVar h
-feed_made names declares.Thread rest made h = made_as made makes.Thread h
-feed_made names declares.Feed rest made h = let found = mapped_some makes.Feed (feed_by names rest) made h in ap makes_feed (sym found.2)
+feed_made names declares.Port (channel ∷ rest) made h = ap makes_feed (sym (mapped_some makes.Port (position_of names channel) made h).2)
+feed_made names declares.Feed rest made h = ap makes_feed (sym (mapped_some makes.Feed (feed_by names rest) made h).2)
+feed_made names declares.MVar (name ∷ message ∷ []) made h = ap makes_feed (sym (same_Some _ _ h))
+feed_made names declares.MVar _ made h = ap makes_feed (sym (same_Some _ _ h))
+feed_made names _ rest made h = ap makes_feed (sym (same_Some _ _ h))
 
 feed_line : (names : List Given) (words : List (List ℕ)) (made : Makes) → makes_of names words ≡ Some made → makes_feed made ≡ declares_feed words
 feed_line names [] made h = absurd (none-some made h)
-feed_line names (word ∷ rest) made h = by (declares_of word) h
-  where
-    by : (o : Option Declares) → option_and_then (λ d. makes_by names d rest) o ≡ Some made → makes_feed made ≡ option_map_or is_feed o false
-    by None e = absurd (none-some made e)
-    by (Some d) e = feed_made names d rest made e
+feed_line names (word ∷ rest) made h =
+    option_and_then_some (λ d. makes_by names d rest) (declares_of word) made h (λ d found is.
+    feed_made names d rest made is ∙ sym (ap (λ (o : Option Declares). option_map_or is_feed o false) found))
 
 -- a line's number, looked up behind a reference
 pub behind : (o : Option (Bor Declaration)) → option_map (λ d. d.now.line.number) o ≡ option_map (λ (d : Declaration). d.line.number) (option_map (λ d. d.now) o)
@@ -106,14 +88,13 @@ pub feed_number : (names : List Given) (ds : List Declaration) → All (ReadsDec
     ≡ option_map (λ (line : SourceLine). line.number) (find (λ (line : SourceLine). declares_feed line.words) (map (λ (d : Declaration). source_of d.line) ds))
 feed_number names [] h = refl
 feed_number names (d ∷ ds) h =
-    by (makes_feed d.makes) (declares_feed (words_of (string_bytes d.line.text))) (feed_line names (words_of (string_bytes d.line.text)) d.makes (All-head (ReadsDeclaration names) d ds h).makes) (feed_number names ds (All-tail (ReadsDeclaration names) d ds h))
+    ap (λ t. option_map (λ (x : Declaration). x.line.number) (cond t (Some d) (find (λ (x : Declaration). makes_feed x.makes) ds))) (feed_line names (words_of (string_bytes d.line.text)) d.makes (All-head (ReadsDeclaration names) d ds h).makes)
+    ∙ by (declares_feed (words_of (string_bytes d.line.text))) (feed_number names ds (All-tail (ReadsDeclaration names) d ds h))
   where
-    by : (a b : Bool) → a ≡ b
+    by : (t : Bool)
         → option_map (λ (x : Declaration). x.line.number) (find (λ (x : Declaration). makes_feed x.makes) ds)
         ≡ option_map (λ (line : SourceLine). line.number) (find (λ (line : SourceLine). declares_feed line.words) (map (λ (x : Declaration). source_of x.line) ds))
-        → option_map (λ (x : Declaration). x.line.number) (cond a (Some d) (find (λ (x : Declaration). makes_feed x.makes) ds))
-        ≡ option_map (λ (line : SourceLine). line.number) (cond b (Some (source_of d.line)) (find (λ (line : SourceLine). declares_feed line.words) (map (λ (x : Declaration). source_of x.line) ds)))
-    by true true e later = refl
-    by true false e later = absurd (let f : true ≡ false = e in cc)
-    by false true e later = absurd (let f : false ≡ true = e in cc)
-    by false false e later = later
+        → option_map (λ (x : Declaration). x.line.number) (cond t (Some d) (find (λ (x : Declaration). makes_feed x.makes) ds))
+        ≡ option_map (λ (line : SourceLine). line.number) (cond t (Some (source_of d.line)) (find (λ (line : SourceLine). declares_feed line.words) (map (λ (x : Declaration). source_of x.line) ds)))
+    by true later = refl
+    by false later = later

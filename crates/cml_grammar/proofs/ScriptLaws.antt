@@ -1,18 +1,19 @@
 -- A text without fault is a script, and one script only.
-use Rattle.std.proofs.Common.{◌≡◌, ℕ, suc, ◌<◌, ◌≤◌, ◌==◌, Bool, true, false, not, ◌&&◌, nat_lt, List, [], ◌∷◌, ◌++◌, length, Option, Some, None, if◌then◌else◌, refl, sym, ap, ◌∙◌, subst, arith, inl, inr, ◌⊎◌, ⊎_elim}
+use Rattle.std.proofs.Common.{◌≡◌, ℕ, suc, ◌<◌, ◌≤◌, ◌==◌, Bool, true, false, not, ◌&&◌, nat_lt, List, [], ◌∷◌, length, Option, Some, None, if◌then◌else◌, refl, sym, ap, ◌∙◌, subst, arith, inl, inr, ◌⊎◌, ⊎_elim}
 use Rattle.std.specs.Option.{option_map_or}
-use Rattle.std.proofs.lemmas.List.{append-nil}
 use Rattle.std.proofs.lemmas.Option.{none-some}
 use Rattle.std.proofs.lemmas.Bool.{ne_eqb, eqb-false, le-ltb, ltb-false}
 use Rattle.cml_grammar.specs.declared.fault.What.TheVariants.{Memory, NoLineEnd, BadHeader, TooLong}
 use Rattle.cml_grammar.specs.declared.fault.Fault.{Fault}
+use Rattle.std.proofs.lemmas.List.Splits.{length-slice_split}
+use Rattle.std.proofs.lemmas.List.Sums.{count_by-le-length}
 use Rattle.cml_grammar.specs.Words.{parts_of, words_of}
 use Rattle.cml_grammar.specs.Forms.{form_of}
 use Rattle.cml_grammar.specs.Faults.{Scope, start, version_of, says, fault_in, after, at_line, fault_at_end, fault_from, fault_of, is_declaration, is_lane, is_step, IsFaultOf}
 use Rattle.cml_grammar.specs.Script.{SourceLine, Lines, source, with_line, Says, IsScript}
 use Rattle.cml_grammar.specs.Meaning.{scope_of}
 use Rattle.cml_grammar.specs.Laws.{ScriptsHaveNoFault, TextsAreOneScript, FaultlessTextsAreScripts}
-use Rattle.cml_grammar.proofs.PartsLemmas.{declared_from, laid_from, asked_from, some_part, ReadsOn}
+use Rattle.cml_grammar.proofs.PartsLemmas.{SaysThese, in_front, no_lines, behind-nothing, parts-some, ReadsOn}
 
 not_some : {A B : Type 0} (o : Option A) (f : A → B) (later : Option B) → option_map_or (λ a. Some (f a)) o later ≡ None → (o ≡ None) × (later ≡ None)
 not_some None f later h = (refl, h)
@@ -28,21 +29,15 @@ ends_well k [] low h = (by (k == 1) refl h, refl)
     by true e f = absurd (none-some (at_line k BadHeader) (sym f))
     by false e f = omega (arith, low, eqb-false k 1 e)
 
--- parts without fault say what they are read as
-pub says_from : (scope : Scope) (k : ℕ) (parts : List (List ℕ)) → 1 ≤ k → 0 < length parts → fault_from scope k parts ≡ None → Says scope k parts (declared_from scope k parts) (laid_from scope k parts) (asked_from scope k parts)
-says_from scope k [] low some h = absurd (omega arith)
-says_from scope k (part ∷ []) low some h = let e = ends_well k part low h in (e.0, e.1, refl, refl, refl)
-says_from scope k (line ∷ next ∷ more) low some h =
-    let e = not_some (fault_in scope k line) (at_line k) (fault_from (after scope k line) (suc k) (next ∷ more)) h in (
-      e.0,
-      declared_from (after scope k line) (suc k) (next ∷ more),
-      laid_from (after scope k line) (suc k) (next ∷ more),
-      asked_from (after scope k line) (suc k) (next ∷ more),
-      refl,
-      refl,
-      refl,
-      says_from (after scope k line) (suc k) (next ∷ more) (omega arith) (omega arith) e.1,
-    )
+-- parts without fault say something
+says_some : (scope : Scope) (k : ℕ) (parts : List (List ℕ)) → 1 ≤ k → 0 < length parts → fault_from scope k parts ≡ None → (these : Lines) × SaysThese scope k parts these
+says_some scope k [] low some h = absurd (omega arith)
+says_some scope k (part ∷ []) low some h = let e = ends_well k part low h in (no_lines scope.version, (e.0, e.1, refl, refl, refl))
+says_some scope k (line ∷ next ∷ more) low some h =
+    let e = not_some (fault_in scope k line) (at_line k) (fault_from (after scope k line) (suc k) (next ∷ more)) h in
+    let later = says_some (after scope k line) (suc k) (next ∷ more) (omega arith) (omega arith) e.1 in
+    let these : Lines = later.0 in
+    (in_front (says k line) (form_of scope.names (words_of line)) (source k line) these, (e.0, these.declarations, these.lanes, these.steps, refl, refl, refl, later.1))
 
 -- what parts say leaves them without fault
 no_fault : (scope : Scope) (k : ℕ) (parts : List (List ℕ)) (declared laid asked : List SourceLine) → Says scope k parts declared laid asked → fault_from scope k parts ≡ None
@@ -67,9 +62,6 @@ said_once scope k (line ∷ next ∷ more) d d' l l' s s' h g =
 pub fault_of-short : (text : List ℕ) → length text ≤ 1048576 → fault_of text ≡ fault_from (start (version_of text)) 1 (parts_of text)
 fault_of-short text short = ap (λ t. if t then Some (at_line 0 TooLong) else fault_from (start (version_of text)) 1 (parts_of text)) (le-ltb 1048576 (length text) short)
 
-parts-some : (text : List ℕ) → 0 < length (parts_of text)
-parts-some text = let p = some_part text in subst (λ (ps : List (List ℕ)). 0 < length ps) (sym p.2) (omega arith)
-
 pub script_without_fault : ScriptsHaveNoFault
 script_without_fault text script h = fault_of-short text h.short ∙ no_fault (start (version_of text)) 1 (parts_of text) script.declarations script.lanes script.steps h.says
 
@@ -83,25 +75,46 @@ faultless_script text h = by (nat_lt 1048576 (length text)) refl h
   where
     by : (t : Bool) → nat_lt 1048576 (length text) ≡ t → (if t then Some (at_line 0 TooLong) else fault_from (start (version_of text)) 1 (parts_of text)) ≡ None → (script : Lines) × IsScript text script
     by true e f = absurd (none-some (at_line 0 TooLong) (sym f))
-    by false e f = (
-      record { version = version_of text; declarations = declared_from (start (version_of text)) 1 (parts_of text); lanes = laid_from (start (version_of text)) 1 (parts_of text); steps = asked_from (start (version_of text)) 1 (parts_of text) },
-      record { short = ltb-false 1048576 (length text) e; version = refl; says = says_from (start (version_of text)) 1 (parts_of text) (omega arith) (parts-some text) f },
-    )
+    by false e f =
+        let some = says_some (start (version_of text)) 1 (parts_of text) (omega arith) (parts-some text) f in
+        let these : Lines = some.0 in (
+          record { version = version_of text; declarations = these.declarations; lanes = these.lanes; steps = these.steps },
+          record { short = ltb-false 1048576 (length text) e; version = refl; says = some.1 },
+        )
 
 -- ---- the end of the reading
 pub reads_all : (text : List ℕ) (script : Lines) (k : ℕ) (rest : List ℕ) → length text ≤ 1048576 → ReadsOn text script k rest → parts_of rest ≡ rest ∷ [] → fault_at_end k rest ≡ None → IsScript text script
 reads_all text script k rest short so_far last none =
-    let whole : fault_from (start (version_of text)) 1 (parts_of text) ≡ None = sym so_far.fault ∙ ap (fault_from (scope_of script) k) last ∙ none in
-    let declared : declared_from (start (version_of text)) 1 (parts_of text) ≡ script.declarations = sym so_far.declared ∙ ap (λ ps. script.declarations ++ declared_from (scope_of script) k ps) last ∙ append-nil script.declarations in
-    let laid : laid_from (start (version_of text)) 1 (parts_of text) ≡ script.lanes = sym so_far.laid ∙ ap (λ ps. script.lanes ++ laid_from (scope_of script) k ps) last ∙ append-nil script.lanes in
-    let asked : asked_from (start (version_of text)) 1 (parts_of text) ≡ script.steps = sym so_far.asked ∙ ap (λ ps. script.steps ++ asked_from (scope_of script) k ps) last ∙ append-nil script.steps in
+    let end = ends_well k rest so_far.low none in
+    let said : SaysThese (scope_of script) k (parts_of rest) (no_lines 0) = subst (λ ps. SaysThese (scope_of script) k ps (no_lines 0)) (sym last) (end.0, end.1, refl, refl, refl) in
     record {
       short = short;
       version = so_far.version;
-      says = subst (λ ds. Says (start (version_of text)) 1 (parts_of text) ds script.lanes script.steps) declared
-          (subst (λ ls. Says (start (version_of text)) 1 (parts_of text) (declared_from (start (version_of text)) 1 (parts_of text)) ls script.steps) laid
-          (subst (λ ss. Says (start (version_of text)) 1 (parts_of text) (declared_from (start (version_of text)) 1 (parts_of text)) (laid_from (start (version_of text)) 1 (parts_of text)) ss) asked (says_from (start (version_of text)) 1 (parts_of text) (omega arith) (parts-some text) whole)));
+      says = subst (SaysThese (start (version_of text)) 1 (parts_of text)) (behind-nothing script 0) (so_far.says (no_lines 0) said);
     }
+
+-- each line says one thing at most
+few_lines : (scope : Scope) (k : ℕ) (parts : List (List ℕ)) (declared laid asked : List SourceLine) → Says scope k parts declared laid asked → (length declared < length parts) × (length laid < length parts) × (length asked < length parts)
+few_lines scope k [] declared laid asked said = absurd said
+few_lines scope k (part ∷ []) declared laid asked said = (omega (arith, ap length said.2), omega (arith, ap length said.3), omega (arith, ap length said.4))
+few_lines scope k (line ∷ next ∷ more) declared laid asked said =
+    let few = few_lines (after scope k line) (suc k) (next ∷ more) said.1 said.2 said.3 said.7 in (
+      one_more _ said.1 declared few.0 said.4,
+      one_more _ said.2 laid few.1 said.5,
+      one_more _ said.3 asked few.2 said.6,
+    )
+  where
+    one_more : (t : Bool) (ls all : List SourceLine) → length ls < length (next ∷ more) → all ≡ with_line t (source k line) ls → length all < suc (length (next ∷ more))
+    one_more true ls all lt e = omega (arith, lt, ap length e)
+    one_more false ls all lt e = omega (arith, lt, ap length e)
+
+-- and a script has no more lines than its text has bytes
+pub script_short : (text : List ℕ) (script : Lines) → IsScript text script → (length script.declarations ≤ 1048576) × (length script.lanes ≤ 1048576) × (length script.steps ≤ 1048576)
+script_short text script is =
+    let lines = few_lines (start (version_of text)) 1 (parts_of text) script.declarations script.lanes script.steps is.says in
+    let parts = length-slice_split (λ b. b == 10) text in
+    let ends = count_by-le-length (λ b. b == 10) text in
+    (omega (arith, is.short, lines.0, parts, ends), omega (arith, is.short, lines.1, parts, ends), omega (arith, is.short, lines.2, parts, ends))
 
 pub fault_of_text : (text : List ℕ) (fault : Fault) → length text ≤ 1048576 → (fault ≡ at_line 0 Memory) ⊎ (fault_from (start (version_of text)) 1 (parts_of text) ≡ Some fault) → IsFaultOf text fault
 fault_of_text text fault short h = ⊎_elim (λ e. inl e) (λ e. inr (fault_of-short text short ∙ e)) h

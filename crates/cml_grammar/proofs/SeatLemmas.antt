@@ -1,5 +1,5 @@
 -- The seat of a thread that is named.
-use Rattle.std.proofs.Common.{◌≡◌, ℕ, ◌≤◌, true, List, slice_get, Option, Some, None, All, refl, sym, ap, ◌∙◌, subst, true≢false}
+use Rattle.std.proofs.Common.{◌≡◌, ℕ, ◌≤◌, true, List, slice_get, Option, Some, All, sym, ap, ◌∙◌, subst, true≢false}
 use Rattle.std.specs.Option.{option_map, option_and_then}
 use Rattle.std.proofs.lemmas.List.Elements.{All-get_or}
 use Rattle.std.proofs.lemmas.Option.{none-some, same_Some, slice_get_within, get_or_from_slice_get, option_and_then_some}
@@ -10,6 +10,7 @@ use Rattle.cml_grammar.specs.Names.{Given, seat_in, seat_of, named, position_of}
 use Rattle.cml_grammar.specs.Forms.{suits}
 use Rattle.cml_grammar.specs.Reading.{IsSeatedWithin}
 use Rattle.cml_grammar.specs.Suiting.{IsUsed}
+use Rattle.cml_grammar.proofs.ListLemmas.{mapped_some}
 
 -- a name that suits a thread's place has a seat
 pub used_seat : (names : List Given) (word : List ℕ) → IsUsed names Thread word → (seat : ℕ) × (seat_of names word ≡ Some seat)
@@ -28,14 +29,10 @@ pub seated_from : (names : List Given) (n : ℕ) (thread : List ℕ) (seat : ℕ
 seated_from names n thread seat seats h =
     option_and_then_some seat_in (named names thread) seat h (λ k found is.
     option_and_then_some (λ i. option_map (λ g. g.1) (slice_get names i)) (position_of names thread) k found (λ i at meant.
-    within (slice_get names i) i k refl meant is))
+    let g = mapped_some (λ (x : Given). x.1) (slice_get names i) k meant in
+    let here = All-get_or (λ (x : Given). IsSeatedWithin n x.1) names i g.0 (slice_get_within names i g.0 g.1) seats in
+    seat_within k is (subst (IsSeatedWithin n) g.2 (subst (λ (x : Given). IsSeatedWithin n x.1) (get_or_from_slice_get names i g.0 g.0 g.1) here))))
   where
     seat_within : (k : Named) → seat_in k ≡ Some seat → IsSeatedWithin n k → (1 ≤ seat) × (seat ≤ n)
     seat_within (called.Thread s) e w = subst (λ (m : ℕ). (1 ≤ m) × (m ≤ n)) (same_Some _ _ e) w
     seat_within _ e w = absurd (none-some seat e)
-
-    within : (r : Option Given) (i : ℕ) (k : Named) → slice_get names i ≡ r → option_map (λ g. g.1) r ≡ Some k → seat_in k ≡ Some seat → (1 ≤ seat) × (seat ≤ n)
-    within None i k at meant is = absurd (none-some k meant)
-    within (Some g) i k at meant is =
-        let here = All-get_or (λ (x : Given). IsSeatedWithin n x.1) names i g (slice_get_within names i g at) seats in
-        seat_within k is (subst (IsSeatedWithin n) (same_Some _ _ meant) (subst (λ (x : Given). IsSeatedWithin n x.1) (get_or_from_slice_get names i g g at) here))

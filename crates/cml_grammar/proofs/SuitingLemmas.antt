@@ -56,9 +56,9 @@ pub record MakesThis (names : List Given) (what : Declares) (rest : List (List �
   pub well : IsMadeWell names (length names) made
   pub gives : fresh_word (declared_places what rest) rest ≡ Some name
 
-makes_alone : (names : List Given) (what : Declares) (made : Makes) → IsMadeWell names (length names) made → ((w : List ℕ) → makes_by names what (w ∷ []) ≡ Some made)
+makes_alone : (names : List Given) (what : Declares) (made : Makes) → ((w : List ℕ) → makes_by names what (w ∷ []) ≡ Some made) → IsMadeWell names (length names) made
     → ((w : List ℕ) → declared_places what (w ∷ []) ≡ Fresh ∷ []) → (rest : List (List ℕ)) → AllSuit names (Fresh ∷ []) rest → MakesThis names what rest
-makes_alone names what made well makes places rest h =
+makes_alone names what made makes well places rest h =
     let w = one_word names Fresh rest h in
     subst (MakesThis names what) (sym w.1) (record {
       made = made;
@@ -69,10 +69,6 @@ makes_alone names what made well makes places rest h =
     })
 
 pub makes_this : (names : List Given) (what : Declares) (rest : List (List ℕ)) → All (λ g. IsSeatedWithin (thread_count names) g.1) names → AllSuit names (declared_places what rest) rest → MakesThis names what rest
-makes_this names declares.Mailbox rest seats h = makes_alone names declares.Mailbox makes.Mailbox tt (λ w. refl) (λ w. refl) rest h
-makes_this names declares.Channel rest seats h = makes_alone names declares.Channel makes.Channel tt (λ w. refl) (λ w. refl) rest h
-makes_this names declares.IVar rest seats h = makes_alone names declares.IVar makes.IVar tt (λ w. refl) (λ w. refl) rest h
-makes_this names declares.Thread rest seats h = makes_alone names declares.Thread makes.Thread tt (λ w. refl) (λ w. refl) rest h
 makes_this names declares.Port rest seats h =
     let w = two_words names (Object Channels) Fresh rest h in
     let at : ℕ = w.3.0 in
@@ -84,8 +80,6 @@ makes_this names declares.Port rest seats h =
       well = (is, slice_get_within names at _ is.1);
       gives = refl;
     })
-makes_this names declares.MVar [] seats h = absurd h
-makes_this names declares.MVar (w ∷ []) seats h = makes_alone names declares.MVar makes.MVar tt (λ w. refl) (λ w. refl) (w ∷ []) h
 makes_this names declares.MVar (w ∷ message ∷ []) seats h = record {
   made = makes.MVarInit message;
   name = w;
@@ -114,6 +108,7 @@ makes_this names declares.Feed (thread ∷ name ∷ channel ∷ capacity ∷ [])
       well = (is, slice_get_within names leads.0 _ is.1, seated_from names (thread_count names) thread seat.0 seats seat.1, capacity_fits capacity h.1.1.1.0);
       gives = refl;
     }
+makes_this names what rest seats h = makes_alone names what _ (λ w. refl) tt (λ w. refl) rest h
 
 -- what a declaration makes is made well
 pub made_well : (names : List Given) (what : Declares) (rest : List (List ℕ)) (made : Makes) → All (λ g. IsSeatedWithin (thread_count names) g.1) names → AllSuit names (declared_places what rest) rest → makes_by names what rest ≡ Some made → IsMadeWell names (length names) made

@@ -1,18 +1,20 @@
 -- What it means that a line fails each test of the table.
-use Rattle.std.proofs.Common.{◌≡◌, ℕ, ◌==◌, Bool, true, false, ◌&&◌, List, [], ◌∷◌, length, slice_get, Option, Some, None, if◌then◌else◌, nat_le, refl, sym, subst, arith}
+use Rattle.std.proofs.Common.{◌≡◌, ℕ, zero, suc, ◌==◌, Bool, true, false, ◌&&◌, List, [], ◌∷◌, length, slice_get, Option, Some, None, if◌then◌else◌, nat_le, refl, sym, ap, ◌∙◌, subst, arith}
 use Rattle.std.specs.List.{list_any, zip}
-use Rattle.std.specs.Option.{option_map, option_map_or, option_and_then}
+use Rattle.std.specs.Option.{option_map, option_map_or}
 use Rattle.std.proofs.lemmas.Bool.{or_parts, not-false, true≢false, eqb-true}
-use Rattle.std.proofs.lemmas.Option.{none-some, same_Some}
+use Rattle.std.proofs.lemmas.Option.{none-some, same_Some, option_and_then_some}
 use Rattle.cml_grammar.specs.declared.fault.What.{What}
+use Rattle.cml_grammar.specs.declared.names.Named.{Named}
 use Rattle.cml_grammar.specs.declared.forms.Place.{Place}
 use Rattle.cml_grammar.specs.declared.forms.Place.TheVariants.{Fresh, Message, Capacity}
 use Rattle.cml_grammar.specs.Names.{Given, thread_count, named, position_of}
 use Rattle.cml_grammar.specs.Words.{has_empty_word}
 use Rattle.cml_grammar.specs.Forms.{Form, form_of, places_of, rest_of, suits, fresh_word, seat_of_form}
 use Rattle.cml_grammar.specs.Faults.{Scope, first_of, tests_of_form, fault_in_words, any_word, is_unknown, is_late, is_no_step, is_bad_name, is_taken, is_unknown_name, is_wrong_kind, is_not_yours, is_bad_number, is_bad_text, is_lane_taken, declares_thread}
+use Rattle.cml_grammar.proofs.ListLemmas.{mapped_some}
 use Rattle.cml_grammar.proofs.NameLemmas.{message_word_is_text}
-use Rattle.cml_grammar.specs.Suiting.{IsSuitedAt, IsUsed, Suits, AllSuit}
+use Rattle.cml_grammar.specs.Suiting.{IsUsed, Suits, AllSuit}
 
 -- each test of the table fails
 pub record Passes (scope : Scope) (form : Form) : Type 0 where
@@ -34,35 +36,28 @@ pub not_first : (test : Bool) (what : What) (later : Option What) → (if test t
 not_first true what later h = absurd (none-some what (sym h))
 not_first false what later h = (refl, h)
 
-pub passes : (scope : Scope) (form : Form) → first_of (tests_of_form scope form) ≡ None → Passes scope form
+each_fails : (tests : List (Bool × What)) → first_of tests ≡ None → (i : ℕ) (test : Bool × What) → slice_get tests i ≡ Some test → test.0 ≡ false
+each_fails [] h i test at = absurd (none-some test at)
+each_fails (first ∷ tests) h zero test at = ap (λ (t : Bool × What). t.0) (sym (same_Some first test at)) ∙ (not_first _ _ _ h).0
+each_fails (first ∷ tests) h (suc i) test at = each_fails tests (not_first _ _ _ h).1 i test at
+
+passes : (scope : Scope) (form : Form) → first_of (tests_of_form scope form) ≡ None → Passes scope form
 passes scope form h =
-    let a = not_first _ _ _ h in
-    let b = not_first _ _ _ a.1 in
-    let d = not_first _ _ _ b.1 in
-    let e = not_first _ _ _ d.1 in
-    let f = not_first _ _ _ e.1 in
-    let g = not_first _ _ _ f.1 in
-    let i = not_first _ _ _ g.1 in
-    let j = not_first _ _ _ i.1 in
-    let k = not_first _ _ _ j.1 in
-    let l = not_first _ _ _ k.1 in
-    let m = not_first _ _ _ l.1 in
-    let n = not_first _ _ _ m.1 in
-    let o = not_first _ _ _ n.1 in
+    let fails = each_fails (tests_of_form scope form) h in
     record {
-      known = a.0;
-      in_time = b.0;
-      does_something = d.0;
-      count = eqb-true _ _ (not-false _ e.0);
-      names = f.0;
-      fresh = g.0;
-      given = i.0;
-      suited = j.0;
-      yours = k.0;
-      numbers = l.0;
-      texts = m.0;
-      unlaid = n.0;
-      room = o.0;
+      known = fails 0 _ refl;
+      in_time = fails 1 _ refl;
+      does_something = fails 2 _ refl;
+      count = eqb-true _ _ (not-false _ (fails 3 _ refl));
+      names = fails 4 _ refl;
+      fresh = fails 5 _ refl;
+      given = fails 6 _ refl;
+      suited = fails 7 _ refl;
+      yours = fails 8 _ refl;
+      numbers = fails 9 _ refl;
+      texts = fails 10 _ refl;
+      unlaid = fails 11 _ refl;
+      room = fails 12 _ refl;
     }
 
 -- a line of words without fault passes each test, and no word is empty
@@ -72,15 +67,13 @@ words_pass scope words h =
     (whole.0, passes scope (form_of scope.names words) whole.1)
 
 used_suits : (names : List Given) (place : Place) (word : List ℕ) → option_map_or (suits place) (named names word) false ≡ true → IsUsed names place word
-used_suits names place word h = by (position_of names word) refl h
+used_suits names place word h = by (named names word) refl h
   where
-    meant : (g : Option Given) (i : ℕ) → slice_get names i ≡ g → option_map_or (suits place) (option_map (λ g. g.1) g) false ≡ true → IsSuitedAt names place i
-    meant None i at t = absurd (true≢false (sym t))
-    meant (Some g) i at t = (g.0, g.1, at, t)
-
-    by : (r : Option ℕ) → position_of names word ≡ r → option_map_or (suits place) (option_and_then (λ i. option_map (λ g. g.1) (slice_get names i)) r) false ≡ true → IsUsed names place word
+    by : (o : Option Named) → named names word ≡ o → option_map_or (suits place) o false ≡ true → IsUsed names place word
     by None found t = absurd (true≢false (sym t))
-    by (Some i) found t = let m = meant (slice_get names i) i refl t in (i, found, m)
+    by (Some n) found t =
+        option_and_then_some (λ i. option_map (λ g. g.1) (slice_get names i)) (position_of names word) n found (λ i at meant.
+        let g = mapped_some (λ (x : Given). x.1) (slice_get names i) n meant in (i, at, (g.0.0, n, g.1 ∙ ap (λ k. Some (g.0.0, k)) g.2, t)))
 
 all_suit : (version : ℕ) (names : List Given) (places : List Place) (words : List (List ℕ)) → length words ≡ length places
     → list_any (λ p. is_bad_name p.0 p.1) (zip places words) ≡ false

@@ -2,7 +2,7 @@
 ghost use Rattle.std.specs.Prelude.{◌≡◌, ◌==◌, not, map, length};
 ghost use Rattle.std.specs.Option.{option_map};
 ghost use Rattle.cml_grammar.specs.Names.{seat_of};
-ghost use Rattle.cml_grammar.specs.Forms.{declares_of, declared_places, is_lane_word, lane_places, verb_of, step_places, step_form, form_of, places_of, rest_of, seat_of_form, is_name_place, is_fresh, is_used, suits, fresh_word};
+ghost use Rattle.cml_grammar.specs.Forms.{declares_of, declared_places, lane_places, verb_of, step_places, step_form, form_of, places_of, rest_of, seat_of_form, is_name_place, is_fresh, is_used, suits, fresh_word};
 ghost use Rattle.cml_grammar.specs.Faults.{is_unknown, is_declaring, is_no_step, declares_thread};
 ghost use Rattle.cml_grammar.specs.Reading.{texts_of};
 ghost use Rattle.cml_grammar.specs.Shown.{shown};
@@ -198,12 +198,6 @@ impl Place {
     }
 }
 
-fn is_lane_word(word: &str) -> bool
-    ensures { result ≡ is_lane_word word.now }
-{
-    word == "lane"
-}
-
 /// The word by which the line gives a name, if it gives one.
 pub(crate) fn fresh_word<'a>(places: &[Place], words: &'a [&'a str]) -> Option<&'a str>
     ensures { option_map (λ w. w.now) result ≡ fresh_word places.now (map (λ w. w.now) words.now) }
@@ -225,7 +219,7 @@ impl<'a> Form<'a> {
         if let Some(declares) = Declares::of_word(first) {
             return Form::Declaration(declares, rest);
         }
-        if is_lane_word(first) {
+        if *first == "lane" {
             return Form::Lane(rest);
         }
         match seat_of(names, first) {

@@ -2,21 +2,25 @@
 ghost use Rattle.cml_grammar.specs.Laws.{ScriptsHaveNoFault, TextsAreOneScript, FaultlessTextsAreScripts, NumbersArePrinted, PrintedNumbersAreRead, WordsMakeLines, NumbersAreTexts};
 
 /// A text that is a script has no fault.
+#[tactic(auto, using(crate::proofs::ScriptLaws::script_without_fault))]
 pub fn scripts_have_no_fault()
     ensures { ScriptsHaveNoFault }
 {}
 
 /// A text is at most one script.
+#[tactic(auto, using(crate::proofs::ScriptLaws::one_script))]
 pub fn texts_are_one_script()
     ensures { TextsAreOneScript }
 {}
 
 /// A text without fault is a script.
+#[tactic(auto, using(crate::proofs::ScriptLaws::faultless_script))]
 pub fn faultless_texts_are_scripts()
     ensures { FaultlessTextsAreScripts }
 {}
 
 /// A number's word is what the number prints as, and the other way round.
+#[tactic(auto, using(crate::proofs::NameLemmas::printed_number, crate::proofs::NameLemmas::read_number))]
 pub fn numbers_are_as_printed()
     ensures printed { NumbersArePrinted }
     ensures read { PrintedNumbersAreRead }
@@ -29,6 +33,7 @@ pub fn words_make_lines()
 
 /// A script of version 1 whose first line is changed to `cml 2` is one of version 2 with the same declarations, lanes and
 /// steps.
+#[tactic(auto, using(crate::proofs::VersionLemmas::numbers_are_texts))]
 pub fn numbers_are_texts()
     ensures { NumbersAreTexts }
 {}

@@ -179,13 +179,8 @@ pub(crate) fn threads_with(declares: Declares, threads: u64) -> u64
     ensures { result ≡ threads + threads_by declares }
 {
     match declares {
-        Declares::Mailbox
-        | Declares::Channel
-        | Declares::Port
-        | Declares::IVar
-        | Declares::MVar
-        | Declares::Feed => threads,
         Declares::Thread => threads + 1,
+        _ => threads,
     }
 }
 

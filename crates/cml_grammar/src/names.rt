@@ -138,12 +138,7 @@ pub(crate) fn seat_of(names: &IndexMap<String, Named>, word: &str) -> Option<u64
 {
     match find_named(names, word)? {
         Named::Thread(seat) => Some(seat),
-        Named::Mailbox
-        | Named::Channel
-        | Named::Port(_)
-        | Named::IVar
-        | Named::MVar
-        | Named::Feed(_) => None,
+        _ => None,
     }
 }
 

@@ -84,6 +84,7 @@ impl Reading {
         Reading { kept, threads: 0 }
     }
 
+    #[tactic(auto, using(crate::proofs::WordLemmas::text_from_bytes))]
     pub(crate) fn read_line(&mut self, alloc: Global, number: u64, line: &[u8]) -> Result<(), What>
         ensures fits { OnOk result (fault_in (scope_of self.old) number line.now ≡ None) }
         ensures lines { OnOk result (self.new ≡ with_next self.old number line.now) }

@@ -2,22 +2,21 @@ use Rattle.std.proofs.Common.{ℕ, List, [], ◌∷◌, ◌++◌, map, Bor, stri
 use Rattle.cml_grammar.specs.declared.script.Line.{Line}
 use Rattle.cml_grammar.specs.declared.script.Lane.{Lane}
 use Rattle.cml_grammar.specs.Words.{words_of}
+use Rattle.cml_grammar.specs.Forms.{lane}
 use Rattle.cml_grammar.specs.Faults.{after_words}
 use Rattle.cml_grammar.specs.Meaning.{scope_of}
-use Rattle.cml_grammar.proofs.LaneLemmas.{IsLaid, kept_lane_suits, laid_closes, laid_scopes}
+use Rattle.cml_grammar.proofs.ReadingLemmas.{ReadFrom, kept_suits}
+use Rattle.cml_grammar.proofs.LaneLemmas.{laid_closes, laid_scopes}
 use Rattle.cml_grammar.proofs.reading.Reading.lay.Goals.{After-lane_by-lane}
 use Rattle.cml_grammar.proofs.reading.Reading.lay.Goals as goal
 
 pub lane_by-lane-requires : goal.lane_by-lane-requires
 lane_by-lane-requires c =
-    let rest : List (List ℕ) = map (λ (w : Bor (List ℕ)). w.now) c.args.rest.now in
-    kept_lane_suits c.args.self.now _ _ (words_of (string_bytes c.args.line.text)) rest c.self.view_is c.self.invariant.names c.requires.fits c.requires.form
+    kept_suits c.args.self.now _ _ c.args.line (lane _) c.self.view_is c.self.invariant.names (record { fits = c.requires.fits; is = c.requires.form })
 
 -- what the lane was read from
-read : (c : After-lane_by-lane) → IsLaid c.args.self.now c.lane_by-lane.result (map (λ (w : Bor (List ℕ)). w.now) c.args.rest.now)
-read c =
-    let l : Lane = c.lane_by-lane.result in
-    subst (λ (line : Line). IsLaid c.args.self.now (record { line = line; seat = l.seat; target = l.target; capacity = l.capacity }) (map (λ (w : Bor (List ℕ)). w.now) c.args.rest.now)) (sym c.lane_by-lane.ensures.line) (record { fits = c.requires.fits; form = c.requires.form })
+read : (c : After-lane_by-lane) → ReadFrom c.args.self.now c.lane_by-lane.result.line (lane (map (λ (w : Bor (List ℕ)). w.now) c.args.rest.now))
+read c = subst (λ (line : Line). ReadFrom c.args.self.now line (lane (map (λ (w : Bor (List ℕ)). w.now) c.args.rest.now))) (sym c.lane_by-lane.ensures.line) (record { fits = c.requires.fits; is = c.requires.form })
 
 pub returns-clause-scope : goal.returns-clause-scope
 returns-clause-scope c =

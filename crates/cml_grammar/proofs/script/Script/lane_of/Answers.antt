@@ -5,26 +5,22 @@ use Rattle.cml_grammar.specs.Faults.{Ends, are_same}
 use Rattle.cml_grammar.specs.Script.{Lines}
 use Rattle.cml_grammar.specs.Meaning.{names_of}
 use Rattle.cml_grammar.specs.Rings.{capacity_of}
-use Rattle.cml_grammar.specs.Reading.{view_of, IsCapacity}
+use Rattle.cml_grammar.specs.Reading.{IsCapacity}
 use Rattle.cml_grammar.proofs.GrowingLemmas.{capacity_kept}
 use Rattle.cml_grammar.proofs.RingLemmas.{kept_fits}
 use Rattle.cml_grammar.proofs.script.Script.lane_of.Goals as goal
 
 pub returns-clause-capacity : goal.returns-clause-capacity
 returns-clause-capacity c =
-    let i = c.self.inside in
     let ends : Ends = (c.args.seat, c.args.target) in
-    let script : Lines = view_of i.kept.version i.kept.declarations.items i.kept.lanes.items i.kept.steps.items in
     c.copied.ensures
     ∙ c.get.ensures.value
     ∙ ap (lookup (are_same ends)) c.self.invariant.capacities_are
-    ∙ capacity_kept (names_of script) i.kept.lanes.items ends c.self.invariant.lanes
+    ∙ capacity_kept _ _ ends c.self.invariant.lanes
     ∙ ap (λ (s : Lines). capacity_of (names_of s) s.lanes ends) c.self.view_is
 
 pub returns-clause-fits : goal.returns-clause-fits
 returns-clause-fits c =
-    let i = c.self.inside in
     let ends : Ends = (c.args.seat, c.args.target) in
-    let script : Lines = view_of i.kept.version i.kept.declarations.items i.kept.lanes.items i.kept.steps.items in
     subst (λ (o : Option ℕ). IfSome o IsCapacity) (sym (c.copied.ensures ∙ c.get.ensures.value ∙ ap (lookup (are_same ends)) c.self.invariant.capacities_are))
-    (kept_fits (names_of script) i.kept.lanes.items ends c.self.invariant.lanes)
+    (kept_fits _ _ ends c.self.invariant.lanes)
