@@ -1,5 +1,5 @@
 -- What a call returns to C, and by which number.
-use Rattle.std.specs.Prelude.{ℕ, Result, Ok, Err, ⊤}
+use Rattle.std.specs.Prelude.{ℕ, Result, Ok, Err}
 use Rattle.cml_board.specs.declared.outcome.Refusal.{Refusal}
 use Rattle.cml_board.specs.declared.outcome.Refusal.TheVariants as refusal
 use Rattle.cml_c.specs.declared.code.Code.{Code}
@@ -38,16 +38,12 @@ of_refusal refusal.Stalled = code.Stalled
 of_refusal refusal.NoMemory = code.NoMemory
 of_refusal refusal.Unseen = code.Unseen
 
--- the code of a call that gives nothing
-abbrev pub told_outcome : Result ⊤ Refusal → Code
-told_outcome (Ok done) = code.Done
+-- the code of a call that is done, whatever it gives, or refused
+abbrev pub told_outcome : {X : Type 0} → Result X Refusal → Code
+told_outcome (Ok given) = code.Done
 told_outcome (Err refusal) = of_refusal refusal
 
--- the code of a call that gives a count, and the content then of the place where that is written
-abbrev pub told_count : Result ℕ Refusal → Code
-told_count (Ok count) = code.Done
-told_count (Err refusal) = of_refusal refusal
-
+-- the content then of the place where a count is written, if the call gives one
 abbrev pub written_count : ℕ → Result ℕ Refusal → ℕ
 written_count before (Ok count) = count
 written_count before (Err refusal) = before

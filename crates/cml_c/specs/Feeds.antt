@@ -1,5 +1,5 @@
 -- What the calls on feeds return to C.
-use Rattle.std.specs.Prelude.{ℕ, ◌≡◌, ◌⊎◌, [], ◌∷◌, ◌++◌, List, Option, Result, Ok, Err, Bool}
+use Rattle.std.specs.Prelude.{ℕ, ◌≡◌, ◌⊎◌, [], ◌∷◌, ◌++◌, List, Option, Result, Bool}
 use Rattle.cml_board.specs.declared.call.Name.{Name}
 use Rattle.cml_board.specs.declared.outcome.Refusal.{Refusal}
 use Rattle.cml_lanes.specs.Ends.{FeedShown, Ended}
@@ -11,7 +11,7 @@ use Rattle.cml_c.specs.declared.handle.Slot.{Slot}
 use Rattle.cml_c.specs.declared.kept.Kept.{Kept}
 use Rattle.cml_c.specs.declared.kept.Resource.{Resource}
 use Rattle.cml_c.specs.declared.kept.Resource.TheVariants.{Feed}
-use Rattle.cml_c.specs.Codes.{number, of_refusal}
+use Rattle.cml_c.specs.Codes.{number, told_outcome}
 use Rattle.cml_c.specs.Asking.{chunk}
 use Rattle.cml_c.specs.Lanes.{OpensIn}
 use Rattle.cml_c.specs.declared.messages.SeryugoBytes.{SeryugoBytes}
@@ -44,13 +44,9 @@ TakesBytes told from to old new =
 abbrev pub TellsPort : {M : Type 0} → ℕ → ℕ → FeedShown M → FeedShown M → Type 0
 TellsPort told after old new = (told ≡ number Done) × (after ≡ old.port.0) × (new ≡ old)
 
--- the code of the end of a feed
-abbrev pub told_ended : {M : Type 0} → Result (Option (Ended M)) Refusal → Code
-told_ended (Ok end) = Done
-told_ended (Err refusal) = of_refusal refusal
-
+-- the feed ends, and no seat's state is changed
 pub record EndsFeed {M : Type 0} (feed code : ℕ) (old new : RoomShown M) : Type 0 where
   pub outcome : Result (Option (Ended M)) Refusal
   pub floor : Ends feed (floor_of old) (floor_of new) outcome
   pub seats : new.seats ≡ old.seats
-  pub told : code ≡ number (told_ended outcome)
+  pub told : code ≡ number (told_outcome outcome)

@@ -3,7 +3,7 @@ use Rattle.std.specs.Prelude.{ℕ, ◌≡◌, Result, ⊤}
 use Rattle.cml_board.specs.declared.outcome.Refusal.{Refusal}
 use Rattle.cml_lanes.specs.Floor.{FloorShown}
 use Rattle.cml_room.specs.Room.{RoomShown, floor_of}
-use Rattle.cml_c.specs.Codes.{number, told_outcome, told_count, written_count}
+use Rattle.cml_c.specs.Codes.{number, told_outcome, written_count}
 
 -- this becomes of the floor, with the code that tells it, and no seat's state is changed
 pub record Does {M : Type 0} (becomes : FloorShown M → FloorShown M → Result ⊤ Refusal → Type 0) (code : ℕ) (old new : RoomShown M) : Type 0 where
@@ -17,5 +17,5 @@ pub record Counts {M : Type 0} (becomes : FloorShown M → FloorShown M → Resu
   pub outcome : Result ℕ Refusal
   pub floor : becomes (floor_of old) (floor_of new) outcome
   pub seats : new.seats ≡ old.seats
-  pub told : code ≡ number (told_count outcome)
+  pub told : code ≡ number (told_outcome outcome)
   pub written : after ≡ written_count before outcome

@@ -12,7 +12,7 @@ use Rattle.cml_c.specs.declared.handle.Slot.{Slot}
 use Rattle.cml_c.specs.declared.kept.Kept.{Kept}
 use Rattle.cml_c.specs.declared.kept.Resource.{Resource}
 use Rattle.cml_c.specs.declared.kept.Resource.TheVariants.{Lane, LaneEnd, Spent}
-use Rattle.cml_c.specs.Codes.{number, of_refusal}
+use Rattle.cml_c.specs.Codes.{number, of_refusal, told_outcome}
 use Rattle.cml_c.specs.Handles.{IsWrong, OnBytes, OnRoom, OnLane}
 use Rattle.cml_c.specs.Asking.{chunk}
 use Rattle.cml_c.specs.Messages.{CopiesNone}
@@ -21,11 +21,7 @@ use Rattle.cml_c.specs.Messages.{CopiesNone}
 abbrev pub IsCapacity : ℕ → Type 0
 IsCapacity capacity = (1 ≤ capacity) × (capacity ≤ 1024)
 
--- the code of an opening, and the number that is written
-abbrev pub told_opened : {X : Type 0} → Result (X × ℕ) Refusal → Code
-told_opened (Ok opened) = Done
-told_opened (Err refusal) = of_refusal refusal
-
+-- the number that is written of an opening
 abbrev pub written_opened : {X : Type 0} → ℕ → Result (X × ℕ) Refusal → ℕ
 written_opened before (Ok opened) = opened.1
 written_opened before (Err refusal) = before
@@ -40,7 +36,7 @@ pub record Opens {M X : Type 0} (wrap : X → Kept) (becomes : FloorShown M → 
   pub outcome : Result (X × ℕ) Refusal
   pub floor : becomes (floor_of old) (floor_of new) outcome
   pub seats : new.seats ≡ old.seats
-  pub told : code ≡ number (told_opened outcome)
+  pub told : code ≡ number (told_outcome outcome)
   pub written : after ≡ written_opened before outcome
   pub slot : LeavesOpened wrap from to outcome
 

@@ -1,19 +1,19 @@
 //! A seat's call that gives a number at most.
 ghost use Rattle.std.specs.Prelude.{◌≡◌, true};
 ghost use Rattle.cml_c.specs.Codes.{number};
-ghost use Rattle.cml_c.specs.Asking.{Names, NamesNothing, Gives, Calls, CallsPlain, Makes, told_outcome, named_outcome, written_outcome, told_reply};
+ghost use Rattle.cml_c.specs.Asking.{Names, NamesNothing, Calls, CallsPlain, Makes, told_outcome, named_outcome, written_outcome, told_reply};
 
 use crate::bare::Bare;
 use crate::code::Code;
 use crate::handle::Handle;
-use crate::kept::{Kept, Resource, RoomOf, for_both};
+use crate::kept::{Kept, Resource, RoomOf, on_either};
 use cml_board::{Call, Message, Outcome, Reply};
 
 /// Makes a call without a message, and writes the name of the object that it makes, if it makes one.
 pub(crate) fn make_bare_call(handle: &mut Handle, seat: u64, call: Bare, name: &mut u64) -> u32
     ensures { Names seat call handle.old.kept handle.new.kept result name.old name.new }
 {
-    for_both!(handle.as_mut(), resource => make_naming_call(resource, seat, call.into_call(), name))
+    on_either!(handle, Room(room) => tell_name(room.room.ask(seat, call.into_call()), name))
 }
 
 /// Makes one that makes no object.
@@ -24,25 +24,8 @@ pub(crate) fn make_nameless_call(handle: &mut Handle, seat: u64, call: Bare) -> 
     make_bare_call(handle, seat, call, &mut name)
 }
 
-/// Makes a call in a room of either kind, and writes the name that it gives.
-pub(crate) fn make_naming_call<M: Message>(
-    resource: &mut Resource<M>,
-    seat: u64,
-    call: Call<M>,
-    name: &mut u64,
-) -> u32
-    ensures { Gives M.SURE seat call name.old name.new (name.new ≡ name.old) result resource.old resource.new }
-{
-    let Resource::Room(room) = resource else {
-        drop(call);
-        return Code::WrongHandle.number();
-    };
-    let room = &mut room.room;
-    tell_name(room.ask(seat, call), name)
-}
-
 /// The code of what became of a call. A name that it gave is written.
-fn tell_name<M: Message>(outcome: Outcome<M>, name: &mut u64) -> u32
+pub(crate) fn tell_name<M: Message>(outcome: Outcome<M>, name: &mut u64) -> u32
     ensures code { result ≡ number (told_outcome outcome) }
     ensures written { name.new ≡ named_outcome name.old outcome }
 {

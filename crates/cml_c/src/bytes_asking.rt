@@ -4,7 +4,7 @@ ghost use Rattle.cml_c.specs.Codes.{number};
 ghost use Rattle.cml_c.specs.Asking.{told_outcome};
 ghost use Rattle.cml_c.specs.Messages.{CallsBytes, NamesBytes, NamesNoBytes, MakesBytes, HandsOutcome};
 
-use crate::asking::{code_of_outcome, code_of_reply, make_naming_call};
+use crate::asking::{code_of_outcome, code_of_reply, tell_name};
 use crate::code::Code;
 use crate::handle::Handle;
 use crate::keeper::Held;
@@ -93,8 +93,8 @@ pub(crate) fn make_bytes_naming_call(
     ensures { NamesBytes seat call handle.old.kept handle.new.kept result name.old name.new }
 {
     match handle.as_mut() {
-        Kept::Bytes(resource) => make_naming_call(resource, seat, call, name),
-        Kept::Numbers(_) => {
+        Kept::Bytes(Resource::Room(room)) => tell_name(room.room.ask(seat, call), name),
+        _ => {
             drop(call);
             Code::WrongHandle.number()
         }

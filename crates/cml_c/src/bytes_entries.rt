@@ -7,7 +7,7 @@ ghost use Rattle.cml_c.specs.Handles.{OnBytes, OnRoom};
 use crate::code::Code;
 use crate::entries::{SeryugoMaker, entry_at, kind_and_object, maker_of, reply_parts};
 use crate::handle::{Handle, Slot};
-use crate::kept::{Kept, Resource, RoomOf};
+use crate::kept::{Kept, Resource, RoomOf, on_one};
 use crate::messages::place_of;
 use cml_board::{Bytes, Call, Entry, Message, Reply};
 use std::alloc::{AllocError, Global};
@@ -60,10 +60,7 @@ pub extern "C" fn seryugo_bytes_entry(
 ) -> u32
     ensures { OnBytes (OnRoom (FindsBytesIn at result entry.old entry.new)) (entry.new ≡ entry.old) result room.old.kept room.new.kept }
 {
-    match room.as_mut() {
-        Kept::Bytes(Resource::Room(room)) => find_in(alloc, &mut room.room, at, entry),
-        _ => Code::WrongHandle.number(),
-    }
+    on_one!(room, Bytes(Room(room)) => find_in(alloc, &mut room.room, at, entry))
 }
 
 fn find_in(alloc: Global, room: &mut RoomOf<Bytes>, at: u64, entry: &mut SeryugoBytesEntry) -> u32

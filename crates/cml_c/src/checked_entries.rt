@@ -7,7 +7,7 @@ use crate::checkers::feed;
 use crate::code::Code;
 use crate::entries::{SeryugoEntry, SeryugoMaker};
 use crate::handle::Handle;
-use crate::kept::{Kept, Resource};
+use crate::kept::{Kept, Resource, on_one};
 use crate::messages::copied;
 use cml_board::{Ask, Bytes, Call, Checker, Entry, Give, Make, Message, Name, Reply, Who};
 use cml_calls::shape_of_filled;
@@ -18,10 +18,7 @@ use std::alloc::Global;
 pub extern "C" fn seryugo_checker_feed(checker: &mut Handle, entry: &SeryugoEntry) -> u32
     ensures { OnNumbers (OnChecker (FeedsEntry (entry_in entry.now) result)) ⊤ result checker.old.kept checker.new.kept }
 {
-    match checker.as_mut() {
-        Kept::Numbers(Resource::Checker(checker)) => feed_number(checker, entry_in(entry)),
-        _ => Code::WrongHandle.number(),
-    }
+    on_one!(checker, Numbers(Checker(checker)) => feed_number(checker, entry_in(entry)))
 }
 
 /// Copies an entry of bytes, and checks it behind those before. What its kind doesn't have is not read.

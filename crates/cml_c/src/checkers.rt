@@ -8,7 +8,7 @@ ghost use Rattle.cml_c.specs.Handles.{OnEither, OnBoth, OnChecker};
 
 use crate::code::Code;
 use crate::handle::{Handle, Slot};
-use crate::kept::{Kept, Resource, for_both};
+use crate::kept::{Kept, Resource, on_both, on_either};
 use crate::rooms::write_handle;
 use cml_board::{Checker, Entry, Message};
 use std::alloc::{AllocError, Global};
@@ -50,16 +50,7 @@ pub extern "C" fn seryugo_checker_feed_journal(
 ) -> u32
     ensures { OnBoth (λ M sure. FeedsJournal place) result checker.old.kept checker.new.kept journal.old.kept journal.new.kept }
 {
-    match checker.as_mut() {
-        Kept::Numbers(checker) => match journal.as_mut() {
-            Kept::Numbers(journal) => feed_journal(checker, journal, place),
-            Kept::Bytes(_) => Code::WrongHandle.number(),
-        },
-        Kept::Bytes(checker) => match journal.as_mut() {
-            Kept::Bytes(journal) => feed_journal(checker, journal, place),
-            Kept::Numbers(_) => Code::WrongHandle.number(),
-        },
-    }
+    on_both!(checker, journal => feed_journal(checker, journal, place))
 }
 
 fn feed_journal<M: Message>(checker: &mut Resource<M>, journal: &mut Resource<M>, place: u64) -> u32
@@ -119,19 +110,10 @@ pub(crate) fn feed<M: Message>(checker: &mut Checker<M>, entries: &[Entry<M>]) -
 pub extern "C" fn seryugo_checker_verdict(checker: &mut Handle, count: &mut u64) -> u32
     ensures { OnEither (λ M sure. OnChecker (TellsVerdict result count.new)) (count.new ≡ count.old) result checker.old.kept checker.new.kept }
 {
-    for_both!(checker.as_mut(), resource => tell_verdict(resource, count))
+    on_either!(checker, Checker(checker) => tell_verdict(checker, count))
 }
 
-fn tell_verdict<M: Message>(resource: &mut Resource<M>, count: &mut u64) -> u32
-    ensures { OnChecker (TellsVerdict result count.new) (count.new ≡ count.old) result resource.old resource.new }
-{
-    match resource {
-        Resource::Checker(checker) => tell_verdict_of(checker, count),
-        _ => Code::WrongHandle.number(),
-    }
-}
-
-fn tell_verdict_of<M: Message>(checker: &mut Checker<M>, count: &mut u64) -> u32
+fn tell_verdict<M: Message>(checker: &mut Checker<M>, count: &mut u64) -> u32
     ensures { TellsVerdict result count.new checker.old checker.new }
 {
     *count = checker.entries();

@@ -5,7 +5,7 @@ ghost use Rattle.cml_c.specs.Handles.{OnEither, OnRoom};
 
 use crate::code::Code;
 use crate::handle::Handle;
-use crate::kept::{Resource, RoomOf, for_both};
+use crate::kept::{Resource, RoomOf, for_both, on_either};
 use cml_board::Message;
 
 /// Writes the next seat that is due and was not given since it last asked. Wake its thread, and let it ask again. Returns
@@ -38,16 +38,7 @@ fn give_next<M: Message>(resource: &mut Resource<M>, seat: &mut u64) -> u32
 pub extern "C" fn seryugo_is_due(room: &mut Handle, seat: u64) -> u32
     ensures { OnEither (λ M sure. OnRoom (TellsDue seat result)) ⊤ result room.old.kept room.new.kept }
 {
-    for_both!(room.as_mut(), resource => is_due(resource, seat))
-}
-
-fn is_due<M: Message>(resource: &mut Resource<M>, seat: u64) -> u32
-    ensures { OnRoom (TellsDue seat result) ⊤ result resource.old resource.new }
-{
-    match resource {
-        Resource::Room(room) => tell_due(&mut room.room, seat),
-        _ => Code::WrongHandle.number(),
-    }
+    on_either!(room, Room(room) => tell_due(&mut room.room, seat))
 }
 
 fn tell_due<M: Message>(room: &mut RoomOf<M>, seat: u64) -> u32

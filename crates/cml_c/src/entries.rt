@@ -5,7 +5,7 @@ ghost use Rattle.cml_c.specs.Handles.{OnNumbers, OnRoom};
 
 use crate::code::Code;
 use crate::handle::Handle;
-use crate::kept::{Kept, Resource, RoomOf};
+use crate::kept::{RoomOf, on_one};
 use cml_board::{Call, Entry, Message, Reply, Who};
 
 /// Who made a call: a seat (0), a lane (1) or a feed (2), by its number.
@@ -48,10 +48,7 @@ pub struct SeryugoEntry {
 pub extern "C" fn seryugo_entry(room: &mut Handle, at: u64, entry: &mut SeryugoEntry) -> u32
     ensures { OnNumbers (OnRoom (FindsIn at result entry.old entry.new)) (entry.new ≡ entry.old) result room.old.kept room.new.kept }
 {
-    match room.as_mut() {
-        Kept::Numbers(Resource::Room(room)) => find_in(&mut room.room, at, entry),
-        _ => Code::WrongHandle.number(),
-    }
+    on_one!(room, Numbers(Room(room)) => find_in(&mut room.room, at, entry))
 }
 
 fn find_in(room: &mut RoomOf<u64>, at: u64, entry: &mut SeryugoEntry) -> u32

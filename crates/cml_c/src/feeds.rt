@@ -8,10 +8,12 @@ ghost use Rattle.cml_c.specs.Feeds.{OpensFeed, TakesNumber, TakesBytes, TellsPor
 
 use crate::code::Code;
 use crate::handle::{Handle, Slot};
-use crate::kept::{Kept, Resource, Sort, for_both};
+use crate::kept::{Kept, Resource, Sort, for_both, on_either, on_one};
 use crate::lanes::tell_count;
 use crate::messages::{SeryugoBytes, hand_over, new_block};
-use cml_board::{Bytes, Message, Name};
+use crate::rooms::code_of;
+use crate::telling::write_number;
+use cml_board::{Bytes, Name};
 use cml_lanes::{Feed, MAX_CAPACITY};
 use std::alloc::Global;
 
@@ -68,16 +70,7 @@ fn open<M: Sort>(
 pub extern "C" fn seryugo_feed_pump(room: &mut Handle, feed_number: u64, count: &mut u64) -> u32
     ensures { OnEither (λ M sure. OnRoom (Counts (Pumps chunk sure feed_number) result count.old count.new)) (count.new ≡ count.old) result room.old.kept room.new.kept }
 {
-    for_both!(room.as_mut(), resource => pump(resource, feed_number, count))
-}
-
-fn pump<M: Message>(resource: &mut Resource<M>, feed: u64, count: &mut u64) -> u32
-    ensures { OnRoom (Counts (Pumps chunk M.SURE feed) result count.old count.new) (count.new ≡ count.old) result resource.old resource.new }
-{
-    match resource {
-        Resource::Room(room) => tell_count(room.room.pump(feed), count),
-        _ => Code::WrongHandle.number(),
-    }
+    on_either!(room, Room(room) => tell_count(room.room.pump(feed_number), count))
 }
 
 /// Takes the next number that was pumped, without a lock. Returns `Nothing` if none is seen.
@@ -85,16 +78,10 @@ fn pump<M: Message>(resource: &mut Resource<M>, feed: u64, count: &mut u64) -> u
 pub extern "C" fn seryugo_feed_recv(feed: &mut Handle, message: &mut u64) -> u32
     ensures { OnNumbers (OnFeed (TakesNumber result message.old message.new)) (message.new ≡ message.old) result feed.old.kept feed.new.kept }
 {
-    match feed.as_mut() {
-        Kept::Numbers(Resource::Feed(feed)) => match feed.recv() {
-            Some(taken) => {
-                *message = taken;
-                Code::Done.number()
-            }
-            None => Code::Nothing.number(),
-        },
-        _ => Code::WrongHandle.number(),
-    }
+    on_one!(feed, Numbers(Feed(feed)) => match feed.recv() {
+        Some(taken) => write_number(taken, message),
+        None => Code::Nothing.number(),
+    })
 }
 
 /// Takes the next message of bytes that was pumped, without a lock, and hands it over.
@@ -106,10 +93,7 @@ pub extern "C" fn seryugo_bytes_feed_recv(
 ) -> u32
     ensures { OnBytes (OnFeed (TakesBytes result message.old message.new)) (message.new ≡ message.old) result feed.old.kept feed.new.kept }
 {
-    match feed.as_mut() {
-        Kept::Bytes(Resource::Feed(feed)) => take_bytes(alloc, feed, message),
-        _ => Code::WrongHandle.number(),
-    }
+    on_one!(feed, Bytes(Feed(feed)) => take_bytes(alloc, feed, message))
 }
 
 fn take_bytes(alloc: Global, feed: &mut Feed<Bytes>, message: &mut SeryugoBytes) -> u32
@@ -133,19 +117,7 @@ fn take_bytes(alloc: Global, feed: &mut Feed<Bytes>, message: &mut SeryugoBytes)
 pub extern "C" fn seryugo_feed_port(feed: &mut Handle, port: &mut u64) -> u32
     ensures { OnEither (λ M sure. OnFeed (TellsPort result port.new)) (port.new ≡ port.old) result feed.old.kept feed.new.kept }
 {
-    for_both!(feed.as_mut(), resource => tell_port(resource, port))
-}
-
-fn tell_port<M: Message>(resource: &mut Resource<M>, port: &mut u64) -> u32
-    ensures { OnFeed (TellsPort result port.new) (port.new ≡ port.old) result resource.old resource.new }
-{
-    match resource {
-        Resource::Feed(feed) => {
-            *port = feed.port().0;
-            Code::Done.number()
-        }
-        _ => Code::WrongHandle.number(),
-    }
+    on_either!(feed, Feed(feed) => write_number(feed.port().0, port))
 }
 
 /// Ends an open feed for good: nothing more is pumped into it. What is left in it can still be taken.
@@ -153,18 +125,5 @@ fn tell_port<M: Message>(resource: &mut Resource<M>, port: &mut u64) -> u32
 pub extern "C" fn seryugo_feed_end(room: &mut Handle, feed_number: u64) -> u32
     ensures { OnEither (λ M sure. OnRoom (EndsFeed feed_number result)) ⊤ result room.old.kept room.new.kept }
 {
-    for_both!(room.as_mut(), resource => end(resource, feed_number))
-}
-
-fn end<M: Message>(resource: &mut Resource<M>, feed: u64) -> u32
-    ensures { OnRoom (EndsFeed feed result) ⊤ result resource.old resource.new }
-{
-    let Resource::Room(room) = resource else {
-        return Code::WrongHandle.number();
-    };
-    let room = &mut room.room;
-    match room.end_feed(feed) {
-        Ok(_) => Code::Done.number(),
-        Err(refusal) => Code::of_refusal(refusal).number(),
-    }
+    on_either!(room, Room(room) => code_of(room.room.end_feed(feed_number)))
 }

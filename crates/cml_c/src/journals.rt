@@ -10,9 +10,8 @@ use crate::bytes_entries::{SeryugoBytesEntry, hand_over_found};
 use crate::code::Code;
 use crate::entries::{SeryugoEntry, entry_of_place, write_found};
 use crate::handle::{Handle, Slot};
-use crate::kept::{Kept, Resource, RoomOf, Sort, for_both};
+use crate::kept::{Kept, Resource, RoomOf, Sort, for_both, on_either, on_one};
 use crate::rooms::code_of;
-use cml_board::Message;
 use std::alloc::Global;
 
 /// Reserves memory for `entries` more entries.
@@ -20,16 +19,7 @@ use std::alloc::Global;
 pub extern "C" fn seryugo_reserve(room: &mut Handle, entries: usize) -> u32
     ensures { OnEither (λ M sure. OnRoom (Does (ReservesSome entries) result)) ⊤ result room.old.kept room.new.kept }
 {
-    for_both!(room.as_mut(), resource => reserve(resource, entries))
-}
-
-fn reserve<M: Message>(resource: &mut Resource<M>, entries: usize) -> u32
-    ensures { OnRoom (Does (ReservesSome entries) result) ⊤ result resource.old resource.new }
-{
-    match resource {
-        Resource::Room(room) => code_of(room.room.reserve(entries)),
-        _ => Code::WrongHandle.number(),
-    }
+    on_either!(room, Room(room) => code_of(room.room.reserve(entries)))
 }
 
 /// Cuts the journal: drops its entries, so that it takes as many again. Keeps the reserved memory.
@@ -37,16 +27,7 @@ fn reserve<M: Message>(resource: &mut Resource<M>, entries: usize) -> u32
 pub extern "C" fn seryugo_cut(room: &mut Handle) -> u32
     ensures { OnEither (λ M sure. OnRoom (Does CutsReserved result)) ⊤ result room.old.kept room.new.kept }
 {
-    for_both!(room.as_mut(), resource => cut(resource))
-}
-
-fn cut<M: Message>(resource: &mut Resource<M>) -> u32
-    ensures { OnRoom (Does CutsReserved result) ⊤ result resource.old resource.new }
-{
-    match resource {
-        Resource::Room(room) => code_of(room.room.cut()),
-        _ => Code::WrongHandle.number(),
-    }
+    on_either!(room, Room(room) => code_of(room.room.cut()))
 }
 
 /// Cuts the journal, and writes a handle to the entries that it had, and how many they are. The reserved memory goes with them.
@@ -103,12 +84,7 @@ pub extern "C" fn seryugo_taken_entry(
 ) -> u32
     ensures { OnNumbers (OnJournal (λ entries. Finds (slice_get entries place) result entry.old entry.new)) (entry.new ≡ entry.old) result journal.old.kept journal.new.kept }
 {
-    match journal.as_mut() {
-        Kept::Numbers(Resource::Journal(journal)) => {
-            write_found(entry_of_place(journal, place), entry)
-        }
-        _ => Code::WrongHandle.number(),
-    }
+    on_one!(journal, Numbers(Journal(journal)) => write_found(entry_of_place(journal, place), entry))
 }
 
 /// Hands over the entry of this place, from 0, of a journal that was taken. Fails with `NoSuch` behind the last one.
@@ -121,10 +97,5 @@ pub extern "C" fn seryugo_bytes_taken_entry(
 ) -> u32
     ensures { OnBytes (OnJournal (λ entries. FindsBytes (slice_get entries place) result entry.old entry.new)) (entry.new ≡ entry.old) result journal.old.kept journal.new.kept }
 {
-    match journal.as_mut() {
-        Kept::Bytes(Resource::Journal(journal)) => {
-            hand_over_found(alloc, entry_of_place(journal, place), entry)
-        }
-        _ => Code::WrongHandle.number(),
-    }
+    on_one!(journal, Bytes(Journal(journal)) => hand_over_found(alloc, entry_of_place(journal, place), entry))
 }

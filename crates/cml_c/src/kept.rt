@@ -57,7 +57,47 @@ macro_rules! for_both {
     };
 }
 
+/// Evaluates the expression for what a handle leads to, if it is such a resource, whatever its messages are. Else the call is wrong.
+macro_rules! on_either {
+    ($handle:expr, $sort:ident($resource:ident) => $result:expr) => {
+        match $handle.as_mut() {
+            $crate::kept::Kept::Numbers($crate::kept::Resource::$sort($resource)) => $result,
+            $crate::kept::Kept::Bytes($crate::kept::Resource::$sort($resource)) => $result,
+            _ => $crate::code::Code::WrongHandle.number(),
+        }
+    };
+}
+
+/// The same if its messages are of this kind alone.
+macro_rules! on_one {
+    ($handle:expr, $kind:ident($sort:ident($resource:ident)) => $result:expr) => {
+        match $handle.as_mut() {
+            $crate::kept::Kept::$kind($crate::kept::Resource::$sort($resource)) => $result,
+            _ => $crate::code::Code::WrongHandle.number(),
+        }
+    };
+}
+
+/// Evaluates the expression for the resources that two handles lead to, if their messages are of one type. Else the call is wrong.
+macro_rules! on_both {
+    ($one:ident, $other:ident => $result:expr) => {
+        match $one.as_mut() {
+            $crate::kept::Kept::Numbers($one) => match $other.as_mut() {
+                $crate::kept::Kept::Numbers($other) => $result,
+                $crate::kept::Kept::Bytes(_) => $crate::code::Code::WrongHandle.number(),
+            },
+            $crate::kept::Kept::Bytes($one) => match $other.as_mut() {
+                $crate::kept::Kept::Bytes($other) => $result,
+                $crate::kept::Kept::Numbers(_) => $crate::code::Code::WrongHandle.number(),
+            },
+        }
+    };
+}
+
 pub(crate) use for_both;
+pub(crate) use on_both;
+pub(crate) use on_either;
+pub(crate) use on_one;
 
 /// A type of messages that a room for C may have.
 pub trait Sort: Message {

@@ -1,17 +1,18 @@
 //! Lanes, on which a thread sends without the room's lock.
 ghost use Rattle.std.specs.Prelude.{◌≡◌, ⊤};
 ghost use Rattle.cml_lanes.specs.Lanes.{Drains, Abandons};
-ghost use Rattle.cml_c.specs.Codes.{number, told_count, written_count};
+ghost use Rattle.cml_c.specs.Codes.{number, told_outcome, written_count};
 ghost use Rattle.cml_c.specs.Asking.{chunk};
 ghost use Rattle.cml_c.specs.Floors.{Does, Counts};
 ghost use Rattle.cml_c.specs.Handles.{OnEither, OnEitherKept, OnNumbers, OnBytes, OnBoth, OnRoom};
-ghost use Rattle.cml_c.specs.Lanes.{OpensLane, Sends, SendsBytes, Finishes, Closes, ClosesLane, ClosesEnd, DropsLane};
+ghost use Rattle.cml_c.specs.Lanes.{OpensLane, Sends, SendsBytes, Finishes, Closes, ClosesLane, ClosesEnd, DropsLane, told_sent, told_dropped, written_dropped};
 
 use crate::code::Code;
 use crate::handle::{Handle, Slot};
-use crate::kept::{Kept, Resource, RoomOf, Sort, for_both};
+use crate::kept::{Kept, Resource, RoomOf, Sort, for_both, on_both, on_either, on_one};
 use crate::messages::copied;
 use crate::rooms::code_of;
+use crate::telling::write_number;
 use cml_board::{Bytes, Message, Name, Refusal};
 use cml_lanes::{LaneEnd, MAX_CAPACITY};
 use std::alloc::Global;
@@ -69,10 +70,7 @@ fn open<M: Sort>(
 pub extern "C" fn seryugo_lane_send(lane: &mut Handle, message: u64) -> u32
     ensures { OnNumbers (Sends message result) ⊤ result lane.old.kept lane.new.kept }
 {
-    match lane.as_mut() {
-        Kept::Numbers(resource) => send(resource, message),
-        Kept::Bytes(_) => Code::WrongHandle.number(),
-    }
+    on_one!(lane, Numbers(Lane(lane)) => tell_sent(lane.send(message)))
 }
 
 /// Copies a message, and sends it on a lane, which takes no lock. Fails with `Full` if no free slot is seen.
@@ -94,22 +92,19 @@ fn send_bytes(lane: &mut Kept, message: Bytes) -> u32
     ensures { OnBytes (Sends message result) ⊤ result lane.old lane.new }
 {
     match lane {
-        Kept::Bytes(resource) => send(resource, message),
-        Kept::Numbers(_) => {
+        Kept::Bytes(Resource::Lane(lane)) => tell_sent(lane.send(message)),
+        _ => {
             drop(message);
             Code::WrongHandle.number()
         }
     }
 }
 
-fn send<M: Message>(resource: &mut Resource<M>, message: M) -> u32
-    ensures { Sends message result ⊤ result resource.old resource.new }
+/// The code of a message that was sent on a lane, or is handed back.
+fn tell_sent<T: Drop>(outcome: Result<(), T>) -> u32
+    ensures { result ≡ number (told_sent outcome) }
 {
-    let Resource::Lane(lane) = resource else {
-        drop(message);
-        return Code::WrongHandle.number();
-    };
-    match lane.send(message) {
+    match outcome {
         Ok(()) => Code::Done.number(),
         Err(_) => Code::Full.number(),
     }
@@ -143,16 +138,7 @@ fn finish<M: Message>(resource: &mut Resource<M>) -> u32
 pub extern "C" fn seryugo_lane_close(room: &mut Handle, lane: &mut Handle) -> u32
     ensures { OnBoth (λ M sure. Closes sure) result room.old.kept room.new.kept lane.old.kept lane.new.kept }
 {
-    match room.as_mut() {
-        Kept::Numbers(room) => match lane.as_mut() {
-            Kept::Numbers(lane) => close(room, lane),
-            Kept::Bytes(_) => Code::WrongHandle.number(),
-        },
-        Kept::Bytes(room) => match lane.as_mut() {
-            Kept::Bytes(lane) => close(room, lane),
-            Kept::Numbers(_) => Code::WrongHandle.number(),
-        },
-    }
+    on_both!(room, lane => close(room, lane))
 }
 
 fn close<M: Message>(resource: &mut Resource<M>, lane: &mut Resource<M>) -> u32
@@ -190,16 +176,7 @@ fn close_end<M: Message>(room: &mut RoomOf<M>, end: LaneEnd<M>) -> (Resource<M>,
 pub extern "C" fn seryugo_lane_drain(room: &mut Handle, lane_number: u64, count: &mut u64) -> u32
     ensures { OnEither (λ M sure. OnRoom (Counts (Drains chunk sure lane_number) result count.old count.new)) (count.new ≡ count.old) result room.old.kept room.new.kept }
 {
-    for_both!(room.as_mut(), resource => drain(resource, lane_number, count))
-}
-
-fn drain<M: Message>(resource: &mut Resource<M>, lane: u64, count: &mut u64) -> u32
-    ensures { OnRoom (Counts (Drains chunk M.SURE lane) result count.old count.new) (count.new ≡ count.old) result resource.old resource.new }
-{
-    match resource {
-        Resource::Room(room) => tell_count(room.room.drain(lane), count),
-        _ => Code::WrongHandle.number(),
-    }
+    on_either!(room, Room(room) => tell_count(room.room.drain(lane_number), count))
 }
 
 /// Moves the messages that it sees on an open lane, writes how many, and closes it if none was refused. Fails with `StillOpen`
@@ -208,21 +185,16 @@ fn drain<M: Message>(resource: &mut Resource<M>, lane: u64, count: &mut u64) -> 
 pub extern "C" fn seryugo_lane_drop(room: &mut Handle, lane_number: u64, count: &mut u64) -> u32
     ensures { OnEither (λ M sure. OnRoom (DropsLane sure lane_number result count.old count.new)) (count.new ≡ count.old) result room.old.kept room.new.kept }
 {
-    for_both!(room.as_mut(), resource => drop_lane(resource, lane_number, count))
+    on_either!(room, Room(room) => tell_dropped(room.room.drop_lane(lane_number), count))
 }
 
-fn drop_lane<M: Message>(resource: &mut Resource<M>, lane: u64, count: &mut u64) -> u32
-    ensures { OnRoom (DropsLane M.SURE lane result count.old count.new) (count.new ≡ count.old) result resource.old resource.new }
+/// The code of the drop of a lane, and how many messages were moved, which is written.
+fn tell_dropped(outcome: Result<(usize, bool), Refusal>, count: &mut u64) -> u32
+    ensures code { result ≡ number (told_dropped outcome) }
+    ensures written { count.new ≡ written_dropped count.old outcome }
 {
-    let Resource::Room(room) = resource else {
-        return Code::WrongHandle.number();
-    };
-    let room = &mut room.room;
-    match room.drop_lane(lane) {
-        Ok((moved, true)) => {
-            *count = moved as u64;
-            Code::Done.number()
-        }
+    match outcome {
+        Ok((moved, true)) => write_number(moved as u64, count),
         Ok((moved, false)) => {
             *count = moved as u64;
             Code::StillOpen.number()
@@ -236,28 +208,16 @@ fn drop_lane<M: Message>(resource: &mut Resource<M>, lane: u64, count: &mut u64)
 pub extern "C" fn seryugo_lane_abandon(room: &mut Handle, lane_number: u64) -> u32
     ensures { OnEither (λ M sure. OnRoom (Does (Abandons lane_number) result)) ⊤ result room.old.kept room.new.kept }
 {
-    for_both!(room.as_mut(), resource => abandon(resource, lane_number))
-}
-
-fn abandon<M: Message>(resource: &mut Resource<M>, lane: u64) -> u32
-    ensures { OnRoom (Does (Abandons lane) result) ⊤ result resource.old resource.new }
-{
-    match resource {
-        Resource::Room(room) => code_of(room.room.abandon_lane(lane)),
-        _ => Code::WrongHandle.number(),
-    }
+    on_either!(room, Room(room) => code_of(room.room.abandon_lane(lane_number)))
 }
 
 /// The code of a call that gives a count, which is written.
 pub(crate) fn tell_count(outcome: Result<usize, Refusal>, count: &mut u64) -> u32
-    ensures code { result ≡ number (told_count outcome) }
+    ensures code { result ≡ number (told_outcome outcome) }
     ensures written { count.new ≡ written_count count.old outcome }
 {
     match outcome {
-        Ok(moved) => {
-            *count = moved as u64;
-            Code::Done.number()
-        }
+        Ok(moved) => write_number(moved as u64, count),
         Err(refusal) => Code::of_refusal(refusal).number(),
     }
 }

@@ -8,8 +8,9 @@ ghost use Rattle.cml_c.specs.ReadJournals.{OpensNumbers, OpensBytes, Takes, Take
 
 use crate::code::Code;
 use crate::handle::{Handle, Slot};
-use crate::kept::{Kept, Resource, for_both};
+use crate::kept::{Kept, Resource, on_either};
 use crate::rooms::write_handle;
+use crate::telling::write_number;
 use cml_board::Message;
 use cml_journal::{Check, Halt, Written};
 use std::alloc::{AllocError, Global};
@@ -47,16 +48,7 @@ fn new_reading<M: Message + Written>(alloc: Global) -> Result<Box<Check<M>>, All
 pub extern "C" fn seryugo_reading_take_from(reading: &mut Handle, text: &[u8]) -> u32
     ensures { TakesPart text.now result reading.old.kept reading.new.kept }
 {
-    for_both!(reading.as_mut(), resource => take(resource, text))
-}
-
-fn take<M: Message + Written>(resource: &mut Resource<M>, text: &[u8]) -> u32
-    ensures { OnReading (Takes M.VERSION M.meaning text.now result) ⊤ result resource.old resource.new }
-{
-    match resource {
-        Resource::Reading(reading) => take_part(reading, text),
-        _ => Code::WrongHandle.number(),
-    }
+    on_either!(reading, Reading(reading) => take_part(reading, text))
 }
 
 fn take_part<M: Message + Written>(reading: &mut Check<M>, text: &[u8]) -> u32
@@ -84,23 +76,7 @@ pub(crate) fn code_of_halt(halt: Halt) -> Code
 pub extern "C" fn seryugo_reading_entries(reading: &mut Handle, count: &mut u64) -> u32
     ensures { OnEither (λ M sure. OnReading (Tells entries_read result count.new)) (count.new ≡ count.old) result reading.old.kept reading.new.kept }
 {
-    for_both!(reading.as_mut(), resource => tell_entries(resource, count))
-}
-
-fn tell_entries<M: Message + Written>(resource: &mut Resource<M>, count: &mut u64) -> u32
-    ensures { OnReading (Tells entries_read result count.new) (count.new ≡ count.old) result resource.old resource.new }
-{
-    match resource {
-        Resource::Reading(reading) => write_entries(reading, count),
-        _ => Code::WrongHandle.number(),
-    }
-}
-
-fn write_entries<M: Message + Written>(reading: &mut Check<M>, count: &mut u64) -> u32
-    ensures { Tells entries_read result count.new reading.old reading.new }
-{
-    *count = reading.entries();
-    Code::Done.number()
+    on_either!(reading, Reading(reading) => write_number(reading.entries(), count))
 }
 
 /// Writes how many lines were read to their ends, modulo 2^64.
@@ -108,23 +84,7 @@ fn write_entries<M: Message + Written>(reading: &mut Check<M>, count: &mut u64) 
 pub extern "C" fn seryugo_reading_lines(reading: &mut Handle, lines: &mut u64) -> u32
     ensures { OnEither (λ M sure. OnReading (Tells lines_read result lines.new)) (lines.new ≡ lines.old) result reading.old.kept reading.new.kept }
 {
-    for_both!(reading.as_mut(), resource => tell_lines(resource, lines))
-}
-
-fn tell_lines<M: Message + Written>(resource: &mut Resource<M>, lines: &mut u64) -> u32
-    ensures { OnReading (Tells lines_read result lines.new) (lines.new ≡ lines.old) result resource.old resource.new }
-{
-    match resource {
-        Resource::Reading(reading) => write_lines(reading, lines),
-        _ => Code::WrongHandle.number(),
-    }
-}
-
-fn write_lines<M: Message + Written>(reading: &mut Check<M>, lines: &mut u64) -> u32
-    ensures { Tells lines_read result lines.new reading.old reading.new }
-{
-    *lines = reading.lines();
-    Code::Done.number()
+    on_either!(reading, Reading(reading) => write_number(reading.lines(), lines))
 }
 
 /// Whether the text so far is a whole journal. Fails with `Torn` if its last piece has no end, or with what the reading
@@ -133,16 +93,7 @@ fn write_lines<M: Message + Written>(reading: &mut Check<M>, lines: &mut u64) ->
 pub extern "C" fn seryugo_reading_end(reading: &mut Handle) -> u32
     ensures { OnEither (λ M sure. OnReading (EndsSo result)) ⊤ result reading.old.kept reading.new.kept }
 {
-    for_both!(reading.as_mut(), resource => end(resource))
-}
-
-fn end<M: Message + Written>(resource: &mut Resource<M>) -> u32
-    ensures { OnReading (EndsSo result) ⊤ result resource.old resource.new }
-{
-    match resource {
-        Resource::Reading(reading) => tell_end(reading),
-        _ => Code::WrongHandle.number(),
-    }
+    on_either!(reading, Reading(reading) => tell_end(reading))
 }
 
 fn tell_end<M: Message + Written>(reading: &mut Check<M>) -> u32

@@ -4,9 +4,8 @@ ghost use Rattle.cml_c.specs.declared.readers.Reading.TheVariants as reading;
 ghost use Rattle.cml_c.specs.Handles.{OnEither, OnNumbers, OnBytes, OnRoom};
 ghost use Rattle.cml_c.specs.Reading.{number_of_kind, bare, found_in, Reads, ReadsOn, Holds, HoldsBytes, TellsOpen, TellsFull};
 
-use crate::code::Code;
 use crate::handle::Handle;
-use crate::kept::{Kept, Resource, RoomOf, for_both};
+use crate::kept::{RoomOf, on_either, on_one};
 use crate::messages::{SeryugoBytes, hand_over_held};
 use crate::telling::{tell_found, tell_full, tell_held, tell_open};
 use cml_board::{Kind, Message, Name};
@@ -121,22 +120,7 @@ pub extern "C" fn seryugo_limit(room: &mut Handle, count: &mut u64) -> u32
 fn read(handle: &mut Handle, reading: Reading, number: &mut u64) -> u32
     ensures { ReadsOn reading handle.old.kept handle.new.kept result number.old number.new }
 {
-    for_both!(handle.as_mut(), resource => read_resource(resource, reading, number))
-}
-
-fn read_resource<M: Message>(resource: &mut Resource<M>, reading: Reading, number: &mut u64) -> u32
-    ensures { OnRoom (Reads reading result number.old number.new) (number.new ≡ number.old) result resource.old resource.new }
-{
-    match resource {
-        Resource::Room(room) => read_room(&mut room.room, reading, number),
-        _ => Code::WrongHandle.number(),
-    }
-}
-
-fn read_room<M: Message>(room: &mut RoomOf<M>, reading: Reading, number: &mut u64) -> u32
-    ensures { Reads reading result number.old number.new room.old room.new }
-{
-    tell_found(found_in(room, reading), number)
+    on_either!(handle, Room(room) => tell_found(found_in(&room.room, reading), number))
 }
 
 fn found_in<M: Message>(room: &RoomOf<M>, reading: Reading) -> Option<u64>
@@ -181,12 +165,7 @@ fn bare(name: Option<Name>) -> Option<u64>
 pub extern "C" fn seryugo_held(room: &mut Handle, variable: u64, message: &mut u64) -> u32
     ensures { OnNumbers (OnRoom (Holds variable result message.old message.new)) (message.new ≡ message.old) result room.old.kept room.new.kept }
 {
-    match room.as_mut() {
-        Kept::Numbers(Resource::Room(room)) => {
-            tell_held(room.room.board().held(Name(variable)), message)
-        }
-        _ => Code::WrongHandle.number(),
-    }
+    on_one!(room, Numbers(Room(room)) => tell_held(room.room.board().held(Name(variable)), message))
 }
 
 /// Hands over what a variable of a room of bytes holds. Fails with `NoSuch` if no variable has the name.
@@ -199,12 +178,7 @@ pub extern "C" fn seryugo_bytes_held(
 ) -> u32
     ensures { OnBytes (OnRoom (HoldsBytes variable result message.old message.new)) (message.new ≡ message.old) result room.old.kept room.new.kept }
 {
-    match room.as_mut() {
-        Kept::Bytes(Resource::Room(room)) => {
-            hand_over_held(alloc, room.room.board().held(Name(variable)), message)
-        }
-        _ => Code::WrongHandle.number(),
-    }
+    on_one!(room, Bytes(Room(room)) => hand_over_held(alloc, room.room.board().held(Name(variable)), message))
 }
 
 /// Returns `Done` if a port is open, `Closed` if it was closed, and `NoSuch` if no port has the name.
@@ -212,22 +186,7 @@ pub extern "C" fn seryugo_bytes_held(
 pub extern "C" fn seryugo_is_open(room: &mut Handle, port: u64) -> u32
     ensures { OnEither (λ M sure. OnRoom (TellsOpen port result)) ⊤ result room.old.kept room.new.kept }
 {
-    for_both!(room.as_mut(), resource => is_open(resource, port))
-}
-
-fn is_open<M: Message>(resource: &mut Resource<M>, port: u64) -> u32
-    ensures { OnRoom (TellsOpen port result) ⊤ result resource.old resource.new }
-{
-    match resource {
-        Resource::Room(room) => tell_open_port(&mut room.room, port),
-        _ => Code::WrongHandle.number(),
-    }
-}
-
-fn tell_open_port<M: Message>(room: &mut RoomOf<M>, port: u64) -> u32
-    ensures { TellsOpen port result room.old room.new }
-{
-    tell_open(room.board().is_open(Name(port)))
+    on_either!(room, Room(room) => tell_open(room.room.board().is_open(Name(port))))
 }
 
 /// Returns `Done` if the journal takes more entries, and else `JournalFull`.
@@ -235,20 +194,5 @@ fn tell_open_port<M: Message>(room: &mut RoomOf<M>, port: u64) -> u32
 pub extern "C" fn seryugo_is_full(room: &mut Handle) -> u32
     ensures { OnEither (λ M sure. OnRoom (TellsFull result)) ⊤ result room.old.kept room.new.kept }
 {
-    for_both!(room.as_mut(), resource => is_full(resource))
-}
-
-fn is_full<M: Message>(resource: &mut Resource<M>) -> u32
-    ensures { OnRoom (TellsFull result) ⊤ result resource.old resource.new }
-{
-    match resource {
-        Resource::Room(room) => tell_full_room(&mut room.room),
-        _ => Code::WrongHandle.number(),
-    }
-}
-
-fn tell_full_room<M: Message>(room: &mut RoomOf<M>) -> u32
-    ensures { TellsFull result room.old room.new }
-{
-    tell_full(room.board().is_full())
+    on_either!(room, Room(room) => tell_full(room.room.board().is_full()))
 }

@@ -6,16 +6,22 @@ ghost use Rattle.cml_c.specs.Reading.{told_found, written_found, told_held, writ
 
 use crate::code::Code;
 
+/// Writes a number.
+pub fn write_number(written: u64, given: &mut u64) -> u32
+    ensures code { result ≡ number Done }
+    ensures written { given.new ≡ written }
+{
+    *given = written;
+    Code::Done.number()
+}
+
 /// A number that was found is written.
 pub fn tell_found(found: Option<u64>, given: &mut u64) -> u32
     ensures code { result ≡ number (told_found found) }
     ensures written { given.new ≡ written_found given.old found }
 {
     match found {
-        Some(number) => {
-            *given = number;
-            Code::Done.number()
-        }
+        Some(number) => write_number(number, given),
         None => Code::NoSuch.number(),
     }
 }
@@ -26,10 +32,7 @@ pub fn tell_held(found: Option<Option<&u64>>, given: &mut u64) -> u32
     ensures written { given.new ≡ written_held given.old (option_map option_copied found.entry) }
 {
     match found {
-        Some(Some(message)) => {
-            *given = *message;
-            Code::Done.number()
-        }
+        Some(Some(message)) => write_number(*message, given),
         Some(None) => Code::Nothing.number(),
         None => Code::NoSuch.number(),
     }

@@ -1,11 +1,11 @@
 //! A journal as text.
 ghost use Rattle.std.specs.Prelude.{◌≡◌, ◌+◌, ◌<◌, ◌^◌, length, IfSome};
 ghost use Rattle.cml_journal.specs.Streams.{text_of, piece_lines};
-ghost use Rattle.cml_c.specs.Texts.{HandsText, HandsTaken, HandsJournal};
+ghost use Rattle.cml_c.specs.Texts.{HandsText, HandsJournal};
 
 use crate::code::Code;
 use crate::handle::Handle;
-use crate::kept::{Kept, Resource, for_both};
+use crate::kept::on_either;
 use crate::messages::{SeryugoBytes, hand_over_new};
 use cml_board::{Bytes, Entry, Message};
 use cml_journal::{Written, add_piece};
@@ -21,33 +21,7 @@ pub extern "C" fn seryugo_journal_text(
 ) -> u32
     ensures { HandsJournal from text.old text.new result journal.old.kept journal.new.kept }
 {
-    for_both!(journal.as_mut(), resource => hand_over_taken(alloc, resource, from, text))
-}
-
-fn hand_over_taken<M: Message + Written>(
-    alloc: Global,
-    resource: &mut Resource<M>,
-    from: u64,
-    text: &mut SeryugoBytes,
-) -> u32
-    ensures { HandsTaken M.VERSION M.text from text.old text.new result resource.old resource.new }
-{
-    match resource {
-        Resource::Journal(journal) => hand_over_entries(alloc, journal, from, text),
-        _ => Code::WrongHandle.number(),
-    }
-}
-
-fn hand_over_entries<M: Message + Written>(
-    alloc: Global,
-    journal: &mut Vec<Entry<M>>,
-    from: u64,
-    text: &mut SeryugoBytes,
-) -> u32
-    ensures journal { journal.new ≡ journal.old }
-    ensures hands { HandsText M.VERSION M.text from result text.old text.new journal.old.items }
-{
-    hand_over_text(alloc, journal, from, text)
+    on_either!(journal, Journal(journal) => hand_over_text(alloc, journal, from, text))
 }
 
 fn hand_over_text<M: Message + Written>(
