@@ -116,10 +116,6 @@ abbrev pub counts_or_not_made : (ℕ → List ℕ) → Option ℕ → List ℕ
 counts_or_not_made counts None = codes ": not made"
 counts_or_not_made counts (Some object) = counts object
 
-abbrev pub port_line : Lines → History → ℕ → List ℕ → List ℕ
-port_line script history at name =
-    codes "port " ++ name ++ counts_or_not_made (port_counts history) (made_of script history at) ++ line_end
-
 -- how many messages a thread took of its feed, and none where there is no feed
 abbrev pub taken_from : Tallied → Option ℕ → ℕ
 taken_from tally feed = option_map_or (λ taken. taken) (option_and_then (slice_get tally.taken) feed) 0
@@ -132,28 +128,33 @@ taken_by script tally at = taken_from tally (feed_at script at)
 abbrev pub feed_counts : Lines → History → Tallied → ℕ → ℕ → List ℕ
 feed_counts script history tally at object = port_counts history object ++ codes " taken " ++ decimal (taken_by script tally at)
 
-abbrev pub feed_line : Lines → History → Tallied → ℕ → List ℕ → List ℕ
-feed_line script history tally at name =
-    codes "feed " ++ name ++ counts_or_not_made (feed_counts script history tally at) (made_of script history at) ++ line_end
-
 abbrev pub held_text : ℕ → Option (List ℕ) → List ℕ
 held_text version None = codes ": empty"
 held_text version (Some message) = codes ": full " ++ message_word version message
 
-abbrev pub variable_line : Lines → History → ℕ → List ℕ → List ℕ → List ℕ
-variable_line script history at word name =
-    word ++ codes " " ++ name ++ counts_or_not_made (λ object. held_text script.version (held history object)) (made_of script history at) ++ line_end
+-- what the board has of an object that was made
+abbrev pub state_text : Lines → History → Tallied → ℕ → Named → ℕ → List ℕ
+state_text script history tally at (Thread seat) object = []
+state_text script history tally at Mailbox object = mailbox_counts history object
+state_text script history tally at Channel object = channel_counts history object
+state_text script history tally at (Port whose) object = port_counts history object
+state_text script history tally at IVar object = held_text script.version (held history object)
+state_text script history tally at MVar object = held_text script.version (held history object)
+state_text script history tally at (Feed owner) object = feed_counts script history tally at object
+
+-- the line of an object that this word declares
+abbrev pub word_line : Lines → History → Tallied → ℕ → List ℕ → List ℕ → Named → List ℕ
+word_line script history tally at word name named =
+    word ++ codes " " ++ name ++ counts_or_not_made (state_text script history tally at named) (made_of script history at) ++ line_end
 
 abbrev pub named_line : Lines → History → Tallied → ℕ → List ℕ → Named → List ℕ
 named_line script history tally at name (Thread seat) = []
-named_line script history tally at name Mailbox =
-    codes "mailbox " ++ name ++ counts_or_not_made (mailbox_counts history) (made_of script history at) ++ line_end
-named_line script history tally at name Channel =
-    codes "channel " ++ name ++ counts_or_not_made (channel_counts history) (made_of script history at) ++ line_end
-named_line script history tally at name (Port whose) = port_line script history at name
-named_line script history tally at name IVar = variable_line script history at (codes "ivar") name
-named_line script history tally at name MVar = variable_line script history at (codes "mvar") name
-named_line script history tally at name (Feed owner) = feed_line script history tally at name
+named_line script history tally at name Mailbox = word_line script history tally at (codes "mailbox") name Mailbox
+named_line script history tally at name Channel = word_line script history tally at (codes "channel") name Channel
+named_line script history tally at name (Port whose) = word_line script history tally at (codes "port") name (Port whose)
+named_line script history tally at name IVar = word_line script history tally at (codes "ivar") name IVar
+named_line script history tally at name MVar = word_line script history tally at (codes "mvar") name MVar
+named_line script history tally at name (Feed owner) = word_line script history tally at (codes "feed") name (Feed owner)
 
 -- the line of the name at this position
 abbrev pub object_line : Lines → History → Tallied → ℕ → Given → List ℕ

@@ -1,14 +1,16 @@
 //! The report's lines.
-ghost use Rattle.std.specs.Prelude.{◌≡◌, ◌++◌, [], reverse, slice_get, Some, IfOk, OnOk, string_bytes, codes};
+ghost use Rattle.std.specs.Prelude.{◌≡◌, ◌++◌, [], true, reverse, slice_get, Some, IfOk, OnOk, string_bytes, codes};
 ghost use Rattle.std.specs.Fmt.{decimal};
+ghost use Rattle.cml_calls.specs.declared.kind.Kind.{Kind};
 ghost use Rattle.cml_calls.specs.declared.kind.Kind.TheVariants as kind;
+ghost use Rattle.cml_calls.specs.Kinds.{is_variable};
+ghost use Rattle.cml_board.specs.Held.{held};
 ghost use Rattle.cml_board.specs.History.{no_entries, kind_of};
-ghost use Rattle.cml_grammar.specs.declared.names.Named.TheVariants as called;
 ghost use Rattle.cml_grammar.specs.Meaning.{names_of};
-ghost use Rattle.cml_grammar.specs.Reading.{IsPortAt, IsFeedAt, IsVariableAt};
+ghost use Rattle.cml_grammar.specs.Names.{kind_named};
 ghost use Rattle.cml_script.specs.Audit.{IsOfScript};
 ghost use Rattle.cml_script.specs.Trail.{history_of};
-ghost use Rattle.cml_script.specs.Report.{report, entry_lines, entry_line, sent_text, message_mark, reply_word, line_end, port_line, feed_line, owed_or_closed, variable_line, named_line, object_lines_from, end_line};
+ghost use Rattle.cml_script.specs.Report.{report, entry_lines, entry_line, sent_text, message_mark, reply_word, mailbox_counts, channel_counts, port_counts, held_text, state_text, word_line, named_line, object_lines_from, end_line};
 
 use crate::scene::Scene;
 use crate::stop::Stop;
@@ -142,6 +144,7 @@ fn write_objects(report: &mut String, scene: &Scene<'_>) -> Result<(), AllocErro
     Ok(())
 }
 
+/// Adds the line of an object. A thread has none.
 fn write_object(
     report: &mut String,
     scene: &Scene<'_>,
@@ -155,134 +158,109 @@ fn write_object(
 {
     match named {
         Named::Thread(_) => Ok(()),
-        Named::Mailbox => write_mailbox(report, scene, at, name),
-        Named::Channel => write_channel(report, scene, at, name),
-        Named::Port(_) => write_port(report, scene, at, name),
-        Named::IVar => write_variable(report, scene, at, "ivar", name),
-        Named::MVar => write_variable(report, scene, at, "mvar", name),
-        Named::Feed(_) => write_feed(report, scene, at, name),
+        Named::Mailbox => write_line(report, scene, at, "mailbox", name, named),
+        Named::Channel => write_line(report, scene, at, "channel", name, named),
+        Named::Port(_) => write_line(report, scene, at, "port", name, named),
+        Named::IVar => write_line(report, scene, at, "ivar", name, named),
+        Named::MVar => write_line(report, scene, at, "mvar", name, named),
+        Named::Feed(_) => write_line(report, scene, at, "feed", name, named),
     }
 }
 
-fn write_mailbox(
-    report: &mut String,
-    scene: &Scene<'_>,
-    at: usize,
-    name: &str,
-) -> Result<(), AllocError>
-    requires { slice_get (names_of scene.now.script) at ≡ Some (name.now, called.Mailbox) }
-    ensures { OnOk result (string_bytes report.new
-        ≡ string_bytes report.old ++ named_line scene.now.script scene.now.history scene.now.tally at name.now called.Mailbox) }
-{
-    let Some(object) = scene.object(at) else {
-        return writeln!(report, "mailbox {name}: not made");
-    };
-    let board = scene.board();
-    let sent = board.sent_count(object).unwrap();
-    let got = board.got_count(object).unwrap();
-    let waits = board.owed_count(object).unwrap();
-    writeln!(
-        report,
-        "mailbox {name}: sent {sent} got {got} waits {waits}"
-    )
-}
-
-fn write_channel(
-    report: &mut String,
-    scene: &Scene<'_>,
-    at: usize,
-    name: &str,
-) -> Result<(), AllocError>
-    requires { slice_get (names_of scene.now.script) at ≡ Some (name.now, called.Channel) }
-    ensures { OnOk result (string_bytes report.new
-        ≡ string_bytes report.old ++ named_line scene.now.script scene.now.history scene.now.tally at name.now called.Channel) }
-{
-    let Some(object) = scene.object(at) else {
-        return writeln!(report, "channel {name}: not made");
-    };
-    let board = scene.board();
-    let sent = board.sent_count(object).unwrap();
-    let kept = board.kept_count(object).unwrap();
-    let first = board.first_of(object).unwrap();
-    writeln!(
-        report,
-        "channel {name}: sent {sent} kept {kept} first {first}"
-    )
-}
-
-fn write_port(
-    report: &mut String,
-    scene: &Scene<'_>,
-    at: usize,
-    name: &str,
-) -> Result<(), AllocError>
-    requires { IsPortAt (names_of scene.now.script) at }
-    ensures { OnOk result (string_bytes report.new
-        ≡ string_bytes report.old ++ port_line scene.now.script scene.now.history at name.now) }
-{
-    let Some(object) = scene.object(at) else {
-        return writeln!(report, "port {name}: not made");
-    };
-    let board = scene.board();
-    let start = board.start_of(object).unwrap();
-    let got = board.got_count(object).unwrap();
-    match board.owed_count(object) {
-        Some(owed) => writeln!(report, "port {name}: start {start} got {got} owed {owed}"),
-        None => writeln!(report, "port {name}: start {start} got {got} closed"),
-    }
-}
-
-fn write_feed(
-    report: &mut String,
-    scene: &Scene<'_>,
-    at: usize,
-    name: &str,
-) -> Result<(), AllocError>
-    requires { IsFeedAt (names_of scene.now.script) at }
-    ensures { OnOk result (string_bytes report.new
-        ≡ string_bytes report.old ++ feed_line scene.now.script scene.now.history scene.now.tally at name.now) }
-{
-    let Some(object) = scene.object(at) else {
-        return writeln!(report, "feed {name}: not made");
-    };
-    let board = scene.board();
-    let start = board.start_of(object).unwrap();
-    let got = board.got_count(object).unwrap();
-    let taken = scene.taken(at);
-    write!(report, "feed {name}: start {start} got {got}")?;
-    write_owed(report, scene, object)?;
-    writeln!(report, " taken {taken}")
-}
-
-/// Adds what a port is owed, or that it is closed.
-fn write_owed(report: &mut String, scene: &Scene<'_>, port: Name) -> Result<(), AllocError>
-    requires { kind_of scene.now.history port.0 ≡ Some kind.Port }
-    ensures { OnOk result (string_bytes report.new ≡ string_bytes report.old ++ owed_or_closed scene.now.history port.0) }
-{
-    match scene.board().owed_count(port) {
-        Some(owed) => write!(report, " owed {owed}"),
-        None => report.push_str(" closed"),
-    }
-}
-
-fn write_variable(
+fn write_line(
     report: &mut String,
     scene: &Scene<'_>,
     at: usize,
     word: &str,
     name: &str,
+    named: Named,
 ) -> Result<(), AllocError>
-    requires { IsVariableAt (names_of scene.now.script) at }
+    requires named { slice_get (names_of scene.now.script) at ≡ Some (name.now, named) }
+    requires object { (k : Kind) × (kind_named named ≡ Some k) }
     ensures { OnOk result (string_bytes report.new
-        ≡ string_bytes report.old ++ variable_line scene.now.script scene.now.history at word.now name.now) }
+        ≡ string_bytes report.old ++ word_line scene.now.script scene.now.history scene.now.tally at word.now name.now named) }
 {
     let Some(object) = scene.object(at) else {
         return writeln!(report, "{word} {name}: not made");
     };
+    write!(report, "{word} {name}")?;
+    write_state(report, scene, at, named, object)?;
+    report.push_str("\n")
+}
+
+/// Adds what the board has of an object that was made.
+fn write_state(
+    report: &mut String,
+    scene: &Scene<'_>,
+    at: usize,
+    named: Named,
+    object: Name,
+) -> Result<(), AllocError>
+    requires { kind_of scene.now.history object.0 ≡ kind_named named }
+    ensures { OnOk result (string_bytes report.new
+        ≡ string_bytes report.old ++ state_text scene.now.script scene.now.history scene.now.tally at named object.0) }
+{
+    match named {
+        Named::Thread(_) => Ok(()),
+        Named::Mailbox => write_mailbox(report, scene, object),
+        Named::Channel => write_channel(report, scene, object),
+        Named::Port(_) => write_port(report, scene, object),
+        Named::IVar => write_held(report, scene, object),
+        Named::MVar => write_held(report, scene, object),
+        Named::Feed(_) => {
+            write_port(report, scene, object)?;
+            let taken = scene.taken(at);
+            write!(report, " taken {taken}")
+        }
+    }
+}
+
+fn write_mailbox(report: &mut String, scene: &Scene<'_>, mailbox: Name) -> Result<(), AllocError>
+    requires { kind_of scene.now.history mailbox.0 ≡ Some kind.Mailbox }
+    ensures { OnOk result (string_bytes report.new ≡ string_bytes report.old ++ mailbox_counts scene.now.history mailbox.0) }
+{
+    let board = scene.board();
+    let sent = board.sent_count(mailbox).unwrap();
+    let got = board.got_count(mailbox).unwrap();
+    let waits = board.owed_count(mailbox).unwrap();
+    write!(report, ": sent {sent} got {got} waits {waits}")
+}
+
+fn write_channel(report: &mut String, scene: &Scene<'_>, channel: Name) -> Result<(), AllocError>
+    requires { kind_of scene.now.history channel.0 ≡ Some kind.Channel }
+    ensures { OnOk result (string_bytes report.new ≡ string_bytes report.old ++ channel_counts scene.now.history channel.0) }
+{
+    let board = scene.board();
+    let sent = board.sent_count(channel).unwrap();
+    let kept = board.kept_count(channel).unwrap();
+    let first = board.first_of(channel).unwrap();
+    write!(report, ": sent {sent} kept {kept} first {first}")
+}
+
+fn write_port(report: &mut String, scene: &Scene<'_>, port: Name) -> Result<(), AllocError>
+    requires { kind_of scene.now.history port.0 ≡ Some kind.Port }
+    ensures { OnOk result (string_bytes report.new ≡ string_bytes report.old ++ port_counts scene.now.history port.0) }
+{
+    let board = scene.board();
+    let start = board.start_of(port).unwrap();
+    let got = board.got_count(port).unwrap();
+    write!(report, ": start {start} got {got}")?;
+    match board.owed_count(port) {
+        Some(owed) => write!(report, " owed {owed}"),
+        None => report.push_str(" closed"),
+    }
+}
+
+/// Adds what a variable holds.
+fn write_held(report: &mut String, scene: &Scene<'_>, variable: Name) -> Result<(), AllocError>
+    requires { (k : Kind) × (kind_of scene.now.history variable.0 ≡ Some k) × (is_variable k ≡ true) }
+    ensures { OnOk result (string_bytes report.new
+        ≡ string_bytes report.old ++ held_text scene.now.script.version (held scene.now.history variable.0)) }
+{
     let mark = message_mark(scene.script().version());
-    match scene.board().held(object).unwrap() {
-        Some(message) => writeln!(report, "{word} {name}: full {mark}{message}"),
-        None => writeln!(report, "{word} {name}: empty"),
+    match scene.board().held(variable).unwrap() {
+        Some(message) => write!(report, ": full {mark}{message}"),
+        None => report.push_str(": empty"),
     }
 }
 

@@ -1,24 +1,17 @@
-use Rattle.std.proofs.Common.{refl, arith}
-use Rattle.std.proofs.lemmas.Grind.{common_steps}
+use Rattle.std.proofs.Common.{refl}
 use Rattle.cml_calls.specs.declared.kind.Kind.TheVariants as kind
 use Rattle.cml_calls.specs.Kinds.{is_source, is_receiver}
-use Rattle.cml_grammar.specs.Meaning.{names_of}
-use Rattle.cml_script.proofs.FitLemmas.{mailbox_at}
 use Rattle.cml_script.proofs.CountLemmas.{some_count, some_owed, kind_there, open_there}
 use Rattle.cml_script.proofs.report.write_mailbox.Goals as goal
 
 pub unwrap-sent-requires : goal.unwrap-sent-requires
-unwrap-sent-requires c = some_count is_source _ kind.Mailbox _ c.sent_count.result c.sent_count.ensures (kind_there _ _ c.in-Some.object.0 kind.Mailbox c.board-board.ensures.history (c.in-Some.ensures.kind kind.Mailbox (mailbox_at (names_of c.args.scene.now.script) c.args.at (_, c.requires)))) refl
+unwrap-sent-requires c = some_count is_source _ kind.Mailbox _ c.sent_count.result c.sent_count.ensures (kind_there _ _ c.args.mailbox.0 kind.Mailbox c.board-board.ensures.history c.requires) refl
 
 pub unwrap-got-requires : goal.unwrap-got-requires
-unwrap-got-requires c = some_count is_receiver _ kind.Mailbox _ c.got_count.result c.got_count.ensures (kind_there _ _ c.in-Some.object.0 kind.Mailbox c.board-board.ensures.history (c.in-Some.ensures.kind kind.Mailbox (mailbox_at (names_of c.args.scene.now.script) c.args.at (_, c.requires)))) refl
+unwrap-got-requires c = some_count is_receiver _ kind.Mailbox _ c.got_count.result c.got_count.ensures (kind_there _ _ c.args.mailbox.0 kind.Mailbox c.board-board.ensures.history c.requires) refl
 
 pub unwrap-waits-requires : goal.unwrap-waits-requires
 unwrap-waits-requires c =
-    let is = c.in-Some.ensures.kind kind.Mailbox (mailbox_at (names_of c.args.scene.now.script) c.args.at (_, c.requires)) in
     some_owed is_receiver _ kind.Mailbox _ _ c.owed_count.result c.owed_count.ensures
-    (kind_there _ _ c.in-Some.object.0 kind.Mailbox c.board-board.ensures.history is) refl
-    (open_there _ _ c.in-Some.object.0 c.board-board.ensures.history c.board-board.ensures.lawful is)
-
-pub returns-in_default : goal.returns-in_default
-returns-in_default c = grind (arith, common_steps)
+    (kind_there _ _ c.args.mailbox.0 kind.Mailbox c.board-board.ensures.history c.requires) refl
+    (open_there _ _ c.args.mailbox.0 c.board-board.ensures.history c.board-board.ensures.lawful c.requires)
