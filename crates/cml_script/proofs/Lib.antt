@@ -28,7 +28,6 @@ pub mod StallingLemmas
 pub mod WaitingLemmas
 pub mod LeftLemmas
 pub mod ReplayLemmas
-pub mod KeepingLemmas
 pub mod GoingOnLemmas
 pub mod SendLemmas
 pub mod WorkLemmas

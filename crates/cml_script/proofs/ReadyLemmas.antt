@@ -51,11 +51,8 @@ module _ (script : Lines) (history : History) where
         },
       )
 
-  none_before : HasSeats script → (seat i : ℕ) (asked : Call (List ℕ)) → seat ≤ 0 → IsReady script history i seat asked → ⊥
-  none_before seats seat i asked le ready = absurd (omega (arith, (seats i ready.line seat ready.found (called_seated script seat ready.line ready.seated)).0))
-
   pub least_at_first : HasSeats script → IsLeastBelow script history 0 None
-  least_at_first seats = λ seat i asked le ready. none_before seats seat i asked le ready
+  least_at_first seats = λ seat i asked le ready. absurd (omega (arith, le, (seats i ready.line seat ready.found (called_seated script seat ready.line ready.seated)).0))
 
   -- one thread has one step at most that is ready
   same_step : (seat j other : ℕ) (asked call : Call (List ℕ)) → IsReady script history j seat asked → IsReady script history other seat call → other ≡ j

@@ -31,13 +31,6 @@ dropped (y ∷ ys) zero x found = ap (λ z. z ∷ ys) (same_Some y x found)
 dropped (y ∷ ys) (suc k) x found = let ih = rw add-one at (dropped ys k x found) in rw add-one ih
 
 module _ (script : Lines) where
-  -- nothing is reported of declarations
-  pub declared_lines : (history : History) → length history ≤ declared_count script → entry_lines script history ≡ []
-  declared_lines [] le = refl
-  declared_lines (entry ∷ before) le =
-      let test : ltb (length before) (declared_count script) ≡ true = lt-ltb _ _ (omega (arith, le)) in
-      rw test (declared_lines before (omega (arith, le)))
-
   -- the text of the caller's next step
   pub text_at : (history : History) (who : Who) (items : List Step) (i : ℕ) (s : Step) → next_position script history who ≡ Some i → map (λ x. source_of x.line) items ≡ script.steps → slice_get items i ≡ Some s → option_map_or line_text (next_step script history who) [] ≡ string_bytes s.line.text
   text_at history who items i s next lines found =

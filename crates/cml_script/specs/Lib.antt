@@ -11,6 +11,7 @@ pub mod Schedule
 pub mod Report
 pub mod Left
 pub mod Stalling
+pub mod Written
 pub mod Play
 pub mod Plan
 pub mod Bindings
@@ -27,6 +28,5 @@ pub mod Course
 pub mod Endings
 pub mod Replay
 pub mod Running
-pub mod Journals
 pub mod CommandLine
 pub mod Laws

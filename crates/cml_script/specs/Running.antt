@@ -1,19 +1,22 @@
 -- What a run reads and writes, by how it ends.
 use Rattle.std.specs.Prelude.{ℕ, ◌≡◌, ◌<◌, ◌≤◌, ◌⊎◌, List, length, reverse, Option, Some, unwrap_or, ⊤}
-use Rattle.std.specs.Io.KnownBytes.{Consumes, IsAtEnd, Appends, Keeps}
+use Rattle.std.specs.Io.KnownBytes.{Appends, Keeps}
 use Rattle.cml_board.specs.History.{entries_in, Lawful}
 use Rattle.cml_board.specs.Counts.{got_count}
 use Rattle.cml_grammar.specs.Script.{Lines, IsScript}
+use Rattle.cml_script.specs.declared.asked.Form.{Form}
+use Rattle.cml_script.specs.declared.asked.Form.TheVariants.{Report, Journal}
 use Rattle.cml_script.specs.declared.stop.Stop.{Stop}
 use Rattle.cml_script.specs.declared.stop.Stop.TheVariants as stop
 use Rattle.cml_script.specs.declared.ending.Ending.{Ending}
 use Rattle.cml_script.specs.declared.ending.Ending.TheVariants as ending
 use Rattle.cml_script.specs.Schedule.{History, apart_count, feed_count, feed_at, declared_object}
 use Rattle.cml_script.specs.Audit.{IsOfScript, IsFirstForeign}
-use Rattle.cml_script.specs.Report.{Tallied, taken_by, unperformed, report}
+use Rattle.cml_script.specs.Report.{Tallied, taken_by, unperformed}
+use Rattle.cml_script.specs.Written.{text_as}
 use Rattle.cml_script.specs.Left.{HasLeft}
 use Rattle.cml_script.specs.Stalling.{NobodyGoesOn}
-use Rattle.cml_script.specs.Replay.{IsFaulty}
+use Rattle.cml_script.specs.Replay.{AreAll, IsFaulty}
 use Rattle.cml_board.specs.Checking.{IsFirstUnlawful}
 
 -- what is left if a run ends like this. If it is done, no step is left. If it is stalled or held, at least one step is left; if
@@ -38,39 +41,48 @@ pub record MayEnd (script : Lines) (limit : ℕ) (history : History) (tally : Ta
   pub taken : (at : ℕ) → at < length script.declarations → IsTakenAt script history tally at
 
 -- the history is a lawful one of the script, within the limit: the declared objects, and then steps of its threads, each
--- thread's in order, and what lanes and feeds moved; it may end so, with what went by lanes and feeds; and this is its report
-pub record IsReportOf (script : Lines) (limit : ℕ) (history : History) (tally : Tallied) (stop : Stop) (text : List ℕ) : Type 0 where
+-- thread's in order, and what lanes and feeds moved; it may end so, with what went by lanes and feeds; and this is its text in
+-- this form
+pub record IsTextOf (form : Form) (script : Lines) (limit : ℕ) (history : History) (tally : Tallied) (stop : Stop) (text : List ℕ) : Type 0 where
   pub lawful : Lawful history
   pub room : entries_in history ≤ limit
   pub own : IsOfScript script history
   pub ends : MayEnd script limit history tally stop
-  pub reported : text ≡ report script history tally stop
+  pub written : text ≡ text_as form script history tally stop
 
--- all of the reader's bytes were read, they are a script, and this is the report of one of its histories
-pub record IsRunOf (limit : ℕ) (old new : Option (List ℕ)) (stop : Stop) (text : List ℕ) : Type 0 where
-  pub bytes : List ℕ
-  pub read : Consumes old new bytes
-  pub whole : IsAtEnd new
+-- the same, and the text is its report
+abbrev pub IsReportOf : Lines → ℕ → History → Tallied → Stop → List ℕ → Type 0
+IsReportOf script limit history tally stop text = IsTextOf Report script limit history tally stop text
+
+-- the bytes are a script, and this is the text of one of its histories
+pub record IsRunText (form : Form) (limit : ℕ) (stop : Stop) (text bytes : List ℕ) : Type 0 where
   pub script : Lines
   pub says : IsScript bytes script
   pub history : History
   pub tally : Tallied
-  pub told : IsReportOf script limit history tally stop text
+  pub told : IsTextOf form script limit history tally stop text
 
--- the same, and the report was written
-abbrev pub IsRun : ℕ → Option (List ℕ) → Option (List ℕ) → Option (List ℕ) → Option (List ℕ) → Stop → Type 0
-IsRun limit old new held holds stop = (text : List ℕ) × IsRunOf limit old new stop text × Appends held holds text
+-- the reader's bytes were run so, and the text was written
+abbrev pub IsRun : Form → ℕ → Option (List ℕ) → Option (List ℕ) → Option (List ℕ) → Option (List ℕ) → Stop → Type 0
+IsRun form limit old new held holds stop = (text : List ℕ) × AreAll old new (IsRunText form limit stop text) × Appends held holds text
 
+-- a run that writes in this form
+abbrev pub RunsAs : Form → ℕ → Option (List ℕ) → Option (List ℕ) → Option (List ℕ) → Option (List ℕ) → Ending → Type 0
+RunsAs form limit old new held holds ending.Done = IsRun form limit old new held holds stop.Done
+RunsAs form limit old new held holds ending.Stalled = IsRun form limit old new held holds stop.Stalled
+RunsAs form limit old new held holds ending.Full = IsRun form limit old new held holds stop.Full
+RunsAs form limit old new held holds ending.Held = IsRun form limit old new held holds stop.Held
+RunsAs form limit old new held holds (ending.Fault fault) = IsFaulty old new fault × Keeps held holds
+RunsAs form limit old new held holds ending.WriteFault = ⊤
+RunsAs form limit old new held holds _ = Keeps held holds
+
+-- it writes the report
 abbrev pub Runs : ℕ → Option (List ℕ) → Option (List ℕ) → Option (List ℕ) → Option (List ℕ) → Ending → Type 0
-Runs limit old new held holds ending.Done = IsRun limit old new held holds stop.Done
-Runs limit old new held holds ending.Stalled = IsRun limit old new held holds stop.Stalled
-Runs limit old new held holds ending.Full = IsRun limit old new held holds stop.Full
-Runs limit old new held holds ending.Held = IsRun limit old new held holds stop.Held
-Runs limit old new held holds (ending.Fault fault) = IsFaulty old new fault × Keeps held holds
-Runs limit old new held holds ending.ReadFault = Keeps held holds
-Runs limit old new held holds ending.NoMemory = Keeps held holds
-Runs limit old new held holds (ending.NotLawful at) = Keeps held holds
-Runs limit old new held holds ending.WriteFault = ⊤
+Runs limit old new held holds ended = RunsAs Report limit old new held holds ended
+
+-- it writes the journal
+abbrev pub RunsJournal : ℕ → Option (List ℕ) → Option (List ℕ) → Option (List ℕ) → Option (List ℕ) → Ending → Type 0
+RunsJournal limit old new held holds ended = RunsAs Journal limit old new held holds ended
 
 -- how it ends if nothing is written
 abbrev pub EndsUntold : Option (List ℕ) → Option (List ℕ) → Ending → Type 0
@@ -78,11 +90,7 @@ EndsUntold old new (ending.Fault fault) = IsFaulty old new fault
 EndsUntold old new ending.ReadFault = ⊤
 EndsUntold old new ending.NoMemory = ⊤
 EndsUntold old new (ending.NotLawful at) = ⊤
-EndsUntold old new ending.Done = ⊥
-EndsUntold old new ending.Stalled = ⊥
-EndsUntold old new ending.Full = ⊥
-EndsUntold old new ending.Held = ⊥
-EndsUntold old new ending.WriteFault = ⊥
+EndsUntold old new _ = ⊥
 
 -- what is not reported: what an audit refuses, there, and what may not end so, behind all of its entries
 abbrev pub IsRefused : Lines → ℕ → History → Tallied → Stop → Ending → Type 0

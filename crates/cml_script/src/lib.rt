@@ -7,7 +7,6 @@ mod binding;
 mod calls;
 mod command_line;
 mod ending;
-mod journaling;
 mod laws;
 mod objects;
 mod perform;
@@ -31,13 +30,12 @@ pub use auditing::audit;
 pub use cml_grammar::{Fault, Script, What, read_script};
 pub use command_line::order;
 pub use ending::{Ending, status_of};
-pub use journaling::replay_journal;
 pub use laws::{
     reports_tell_what_is_left, schedules_are_one, scripts_have_a_schedule, stalled_threads_wait,
 };
 pub use perform::{Played, play};
 pub use plan::Plan;
-pub use replaying::{replay, replay_text};
+pub use replaying::{replay, replay_journal, replay_text};
 pub use route::Route;
 pub use running::{
     Caller, Ended, Gate, OpenGate, Seated, conclude, declare, perform_in_threads, run, run_journal,

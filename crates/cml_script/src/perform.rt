@@ -3,12 +3,13 @@ ghost use Rattle.std.specs.Prelude.{◌≡◌, ◌≤◌, ◌^◌, None, IfOk, s
 ghost use Rattle.cml_board.specs.History.{no_entries, entries_in};
 ghost use Rattle.cml_grammar.specs.Rings.{first_ring};
 ghost use Rattle.cml_script.specs.Schedule.{declared_count, Ends};
-ghost use Rattle.cml_script.specs.Play.{IsPlayed};
+ghost use Rattle.cml_script.specs.Play.{IsPlayed, IsPlayedAs};
 
-use crate::report::report;
+use crate::asked::Form;
 use crate::stage::Stage;
 use crate::stop::Stop;
 use crate::tally::Tally;
+use crate::writing::text_as;
 use cml_grammar::Script;
 use std::alloc::{AllocError, Global};
 
@@ -26,15 +27,30 @@ pub fn play(alloc: Global, script: &Script, limit: u64) -> Result<Played, AllocE
     requires plain { first_ring script.now ≡ None }
     ensures { IfOk result (λ played. IsPlayed script.now limit played.stop (string_bytes played.report)) }
 {
+    play_as(alloc, script, limit, Form::Report)
+}
+
+/// Performs a script as [`play`] does, and writes its text in this form.
+pub(crate) fn play_as(
+    alloc: Global,
+    script: &Script,
+    limit: u64,
+    form: Form,
+) -> Result<Played, AllocError>
+    requires least { 1 ≤ limit }
+    requires most { limit ≤ 2 ^ 32 }
+    requires plain { first_ring script.now ≡ None }
+    ensures { IfOk result (λ played. IsPlayedAs form script.now limit played.stop (string_bytes played.report)) }
+{
     let mut stage = Stage::new(alloc, script, limit)?;
     let stop = perform(&mut stage)?;
     let tally = Tally::no_rings(alloc);
-    let report = report(alloc, script, stage.board(), &tally, stop)?;
+    let report = text_as(alloc, form, script, stage.board(), &tally, stop)?;
     Ok(Played { report, stop })
 }
 
 /// Makes the declared objects, and then performs the steps.
-pub(crate) fn perform(stage: &mut Stage<'_>) -> Result<Stop, AllocError>
+fn perform(stage: &mut Stage<'_>) -> Result<Stop, AllocError>
     requires { stage.old.history ≡ no_entries }
     ensures script { stage.new.script ≡ stage.old.script }
     ensures limit { stage.new.limit ≡ stage.old.limit }

@@ -1,33 +1,33 @@
-//! A script whose threads are real threads, from the reader's bytes to the report's.
+//! A script whose threads are real threads, from the reader's bytes to those of its report or its journal.
 ghost use Rattle.std.specs.Prelude.{◌≡◌, ◌≢◌, ◌≤◌, ◌^◌, true, IfOk, IfErr, string_bytes};
-ghost use Rattle.cml_script.specs.Running.{IsRunOf, IsUnsettled, EndsUntold, Runs};
+ghost use Rattle.cml_script.specs.Replay.{AreAll};
+ghost use Rattle.cml_script.specs.Running.{IsRunText, IsUnsettled, EndsUntold, Runs, RunsAs, RunsJournal};
 
 mod caller;
 mod concluding;
 mod crew;
 mod declaring;
 mod gate;
-mod keeping;
 mod rings;
 mod stalling;
 mod worker;
 
+use crate::asked::Form;
 use crate::ending::Ending;
 use crate::perform::Played;
 use crate::read::read_all;
 use crate::stop::Stop;
 use crate::tally::Tally;
-use crate::writing::write_report;
+use crate::writing::write_played;
 pub use caller::{Caller, Seated};
 use cml_board::{BoardLog, Text};
 use cml_grammar::{Script, read_script};
 use cml_threads::{PARTS, Settled, Switchboard};
 pub use concluding::conclude;
-use concluding::conclude_under;
+use concluding::conclude_as;
 pub use crew::{Ended, perform_in_threads};
 pub use declaring::declare;
 pub use gate::{Gate, OpenGate};
-pub use keeping::run_journal;
 use std::alloc::{AllocError, Global};
 use std::io::{Read, Write};
 use std::marker::Brand;
@@ -51,23 +51,60 @@ pub fn run<I: Read, W: Write, R: Threads + Wait + Sync, G: Gate + Sync>(
     ensures runs { Runs limit (I.remaining reader.old) (I.remaining reader.new) (W.contents writer.old) (W.contents writer.new) result }
     ensures open { G.opens gate.now ≡ true → result ≢ Ending.Held }
 {
-    match run_text(rt, alloc, reader, limit, gate) {
-        Ok(played) => write_report(writer, &played),
+    run_as(rt, alloc, reader, writer, limit, Form::Report, gate)
+}
+
+/// Runs a script, as [`run`] does, and writes its journal as text in the report's place. The journal has all entries, from
+/// those of the declared objects on. It doesn't tell how the run ended, nor what was taken from feeds.
+pub fn run_journal<I: Read, W: Write, R: Threads + Wait + Sync, G: Gate + Sync>(
+    rt: &R,
+    alloc: Global,
+    reader: &mut I,
+    writer: &mut W,
+    limit: u64,
+    gate: &G,
+) -> Ending
+    requires least { 1 ≤ limit }
+    requires most { limit ≤ 2 ^ 32 }
+    ensures runs { RunsJournal limit (I.remaining reader.old) (I.remaining reader.new) (W.contents writer.old) (W.contents writer.new) result }
+    ensures open { G.opens gate.now ≡ true → result ≢ Ending.Held }
+{
+    run_as(rt, alloc, reader, writer, limit, Form::Journal, gate)
+}
+
+/// Runs a script, and writes its text in this form.
+fn run_as<I: Read, W: Write, R: Threads + Wait + Sync, G: Gate + Sync>(
+    rt: &R,
+    alloc: Global,
+    reader: &mut I,
+    writer: &mut W,
+    limit: u64,
+    form: Form,
+    gate: &G,
+) -> Ending
+    requires least { 1 ≤ limit }
+    requires most { limit ≤ 2 ^ 32 }
+    ensures runs { RunsAs form limit (I.remaining reader.old) (I.remaining reader.new) (W.contents writer.old) (W.contents writer.new) result }
+    ensures open { G.opens gate.now ≡ true → result ≢ Ending.Held }
+{
+    match run_read(rt, alloc, reader, limit, form, gate) {
+        Ok(played) => write_played(writer, &played),
         Err(ending) => ending,
     }
 }
 
-/// Reads a script, runs it, and reports it.
-fn run_text<I: Read, R: Threads + Wait + Sync, G: Gate + Sync>(
+/// Reads a script, runs it, and returns its text in this form.
+fn run_read<I: Read, R: Threads + Wait + Sync, G: Gate + Sync>(
     rt: &R,
     alloc: Global,
     reader: &mut I,
     limit: u64,
+    form: Form,
     gate: &G,
 ) -> Result<Played, Ending>
     requires least { 1 ≤ limit }
     requires most { limit ≤ 2 ^ 32 }
-    ensures told { IfOk result (λ played. IsRunOf limit (I.remaining reader.old) (I.remaining reader.new) played.stop (string_bytes played.report)) }
+    ensures told { IfOk result (λ played. AreAll (I.remaining reader.old) (I.remaining reader.new) (IsRunText form limit played.stop (string_bytes played.report))) }
     ensures untold { IfErr result (λ ending. EndsUntold (I.remaining reader.old) (I.remaining reader.new) ending) }
     ensures open { IfOk result (λ played. G.opens gate.now ≡ true → played.stop ≢ Stop.Held) }
 {
@@ -76,7 +113,10 @@ fn run_text<I: Read, R: Threads + Wait + Sync, G: Gate + Sync>(
     let blank = Blank::new(PARTS);
     let ran = settle_script::<Brand, R, G>(rt, alloc, &script, limit, gate, blank)?;
     let board = ran.settled.board();
-    conclude_under(alloc, &script, board, limit, &ran.tally, ran.stop)
+    if board.limit() != limit || board.cut_at() != 0 {
+        return Err(Ending::NotLawful(board.journal().len()));
+    }
+    conclude_as(alloc, form, &script, board, &ran.tally, ran.stop)
 }
 
 /// What a run leaves.

@@ -1,15 +1,64 @@
-//! A report, to the writer.
-ghost use Rattle.std.specs.Prelude.{string_bytes};
-ghost use Rattle.cml_script.specs.Replay.{WritesReport};
+//! What is written of a script: its report, or its journal as text.
+ghost use Rattle.std.specs.Prelude.{◌≡◌, IfOk, string_bytes};
+ghost use Rattle.cml_board.specs.History.{no_entries};
+ghost use Rattle.cml_script.specs.Audit.{IsOfScript};
+ghost use Rattle.cml_script.specs.Replay.{Writes};
+ghost use Rattle.cml_script.specs.Written.{journal_text, text_as};
 
+use crate::asked::Form;
 use crate::ending::Ending;
 use crate::perform::Played;
-use cml_grammar::write_whole;
+use crate::report::report;
+use crate::stop::Stop;
+use crate::tally::Tally;
+use crate::whole::journal;
+use cml_board::{Board, BoardLog, Text};
+use cml_grammar::{Script, write_whole};
+use cml_journal::{ScriptWords, add_piece_in};
+use std::alloc::{AllocError, Global};
 use std::io::Write;
 
-/// Writes a whole report, and returns how the run ended.
-pub fn write_report<W: Write>(writer: &mut W, played: &Played) -> Ending
-    ensures { WritesReport (W.contents writer.old) (W.contents writer.new) played.now.stop (string_bytes played.now.report) result }
+/// What is written in a form of a script whose journal was never cut.
+pub fn text_as(
+    alloc: Global,
+    form: Form,
+    script: &Script,
+    board: &Board<Text, BoardLog<Text>>,
+    tally: &Tally,
+    stop: Stop,
+) -> Result<String, AllocError>
+    requires own { IsOfScript script.now board.now.history }
+    requires whole { board.now.past ≡ no_entries }
+    ensures { IfOk result (λ text. string_bytes text ≡ text_as form script.now board.now.history tally.now stop) }
+{
+    match form {
+        Form::Report => report(alloc, script, board, tally, stop),
+        Form::Journal => journal_text(alloc, script, board),
+    }
+}
+
+/// The text of a script's journal that was never cut.
+fn journal_text(
+    alloc: Global,
+    script: &Script,
+    board: &Board<Text, BoardLog<Text>>,
+) -> Result<String, AllocError>
+    requires { board.now.past ≡ no_entries }
+    ensures { IfOk result (λ text. string_bytes text ≡ journal_text script.now.version board.now.history) }
+{
+    // The contract of `limit` says that no journal has 2^64 entries.
+    let _limit = board.limit();
+    let words = ScriptWords {
+        version: script.version(),
+    };
+    let mut text = String::new(alloc);
+    add_piece_in(&mut text, &words, 0, journal(board))?;
+    Ok(text)
+}
+
+/// Writes the whole text, and returns how the run ended.
+pub fn write_played<W: Write>(writer: &mut W, played: &Played) -> Ending
+    ensures { Writes (W.contents writer.old) (W.contents writer.new) played.now.stop (string_bytes played.now.report) result }
 {
     match write_whole(writer, played.report.as_bytes()) {
         Ok(()) => Ending::from(played.stop),

@@ -1,28 +1,27 @@
 //! What a run told, before it is reported.
-ghost use Rattle.std.specs.Prelude.{◌≡◌, ◌↔◌, ◌<◌, ℕ, length, IsTrue, IfOk, OnOk, IfErr, string_bytes};
+ghost use Rattle.std.specs.Prelude.{◌≡◌, ◌↔◌, ◌<◌, ℕ, length, IsTrue, IfOk, IfErr, string_bytes};
 ghost use Rattle.cml_board.specs.History.{no_entries};
 ghost use Rattle.cml_script.specs.Audit.{IsOfScript};
 ghost use Rattle.cml_script.specs.Left.{HasLeft};
-ghost use Rattle.cml_script.specs.Report.{report};
-ghost use Rattle.cml_script.specs.Stalling.{NobodyGoesOn};
-ghost use Rattle.cml_script.specs.Running.{IsReportOf, IsRefused, IsUnsettled, IsTakenAt, Leaves, MayEnd};
+ghost use Rattle.cml_script.specs.Running.{IsReportOf, IsTextOf, IsRefused, IsTakenAt, Leaves, MayEnd};
 
 use super::stalling::nobody_goes_on;
+use crate::asked::Form;
 use crate::auditing::audit;
 use crate::ending::Ending;
 use crate::perform::Played;
 use crate::plan::{Plan, count_feeds};
-use crate::report::report;
 use crate::scene::{count_moved, unperformed};
 use crate::stop::Stop;
 use crate::tally::Tally;
 use crate::verdict::Verdict;
 use crate::whole::journal;
+use crate::writing::text_as;
 use cml_board::{Board, BoardLog, Text};
 use cml_grammar::Script;
 use std::alloc::{AllocError, Global};
 
-/// Audits a script's journal that was never cut, and writes its report if it may end like this with this tally.
+/// Audits a script's journal that was never cut, and reports it if it may end like this with this tally.
 pub fn conclude(
     alloc: Global,
     script: &Script,
@@ -35,61 +34,44 @@ pub fn conclude(
     ensures report { IfOk result (λ played. IsReportOf script.now board.now.limit board.now.history tally.now stop (string_bytes played.report)) }
     ensures refused { IfErr result (λ ending. IsRefused script.now board.now.limit board.now.history tally.now stop ending) }
 {
-    accept(alloc, script, board, tally, stop)?;
-    let report = report(alloc, script, board, tally, stop)?;
-    Ok(Played { report, stop })
+    conclude_as(alloc, Form::Report, script, board, tally, stop)
 }
 
-/// Audits a script's journal that was never cut. Fails if it may not end like this with this tally.
-pub(super) fn accept(
+/// Does as [`conclude`], and writes the journal's text in this form.
+pub(super) fn conclude_as(
     alloc: Global,
+    form: Form,
     script: &Script,
     board: &Board<Text, BoardLog<Text>>,
     tally: &Tally,
     stop: Stop,
-) -> Result<(), Ending>
+) -> Result<Played, Ending>
     requires { board.now.past ≡ no_entries }
-    ensures told { OnOk result (IsReportOf script.now board.now.limit board.now.history tally.now stop (report script.now board.now.history tally.now stop)) }
+    ensures stop { IfOk result (λ played. played.stop ≡ stop) }
+    ensures text { IfOk result (λ played. IsTextOf form script.now board.now.limit board.now.history tally.now stop (string_bytes played.report)) }
     ensures refused { IfErr result (λ ending. IsRefused script.now board.now.limit board.now.history tally.now stop ending) }
 {
     // That no journal has more entries than an audit takes is what the limit's reader tells.
     let _limit = board.limit();
     match audit(alloc, script, journal(board))? {
-        Verdict::Lawful => accept_own(alloc, script, board, tally, stop),
+        Verdict::Lawful => tell_own(alloc, form, script, board, tally, stop),
         Verdict::Unlawful(k) | Verdict::Foreign(k) => Err(Ending::NotLawful(k)),
     }
 }
 
-/// The same of a board whose journal has this limit, and no other, if it has all entries.
-pub(super) fn conclude_under(
+/// The text in this form of a script's journal, if it may end like this.
+fn tell_own(
     alloc: Global,
+    form: Form,
     script: &Script,
     board: &Board<Text, BoardLog<Text>>,
-    limit: u64,
     tally: &Tally,
     stop: Stop,
 ) -> Result<Played, Ending>
-    ensures stop { IfOk result (λ played. played.stop ≡ stop) }
-    ensures report { IfOk result (λ played. IsReportOf script.now limit board.now.history tally.now stop (string_bytes played.report)) }
-    ensures untold { IfErr result (λ ending. IsUnsettled ending) }
-{
-    if board.limit() != limit || board.cut_at() != 0 {
-        return Err(Ending::NotLawful(board.journal().len()));
-    }
-    conclude(alloc, script, board, tally, stop)
-}
-
-/// Fails if a script's journal may not end like this.
-fn accept_own(
-    alloc: Global,
-    script: &Script,
-    board: &Board<Text, BoardLog<Text>>,
-    tally: &Tally,
-    stop: Stop,
-) -> Result<(), Ending>
     requires own { IsOfScript script.now board.now.history }
     requires whole { board.now.past ≡ no_entries }
-    ensures told { OnOk result (IsReportOf script.now board.now.limit board.now.history tally.now stop (report script.now board.now.history tally.now stop)) }
+    ensures stop { IfOk result (λ played. played.stop ≡ stop) }
+    ensures text { IfOk result (λ played. IsTextOf form script.now board.now.limit board.now.history tally.now stop (string_bytes played.report)) }
     ensures refused { IfErr result (λ ending. IsRefused script.now board.now.limit board.now.history tally.now stop ending) }
 {
     // That the history is lawful and within the limit is what the journal's reader tells.
@@ -98,7 +80,8 @@ fn accept_own(
     if !may_end(alloc, &plan, board, tally, stop)? {
         return Err(Ending::NotLawful(entries));
     }
-    Ok(())
+    let report = text_as(alloc, form, script, board, tally, stop)?;
+    Ok(Played { report, stop })
 }
 
 /// Whether a run may end so with this journal and this tally.
@@ -112,16 +95,12 @@ fn may_end(
     requires { board.now.past ≡ no_entries }
     ensures { IfOk result (λ may. IsTrue may ↔ MayEnd plan.now board.now.limit board.now.history tally.now stop) }
 {
-    if !leaves(alloc, plan, board, tally, stop)? {
-        return Ok(false);
-    }
-    if tally.apart > plan.apart() {
-        return Ok(false);
-    }
-    if tally.taken.len() != count_feeds(plan.script()) {
-        return Ok(false);
-    }
-    Ok(takes_what_was_got(plan, board, tally))
+    Ok(
+        leaves(alloc, plan, board, tally, stop)?
+            && tally.apart <= plan.apart()
+            && tally.taken.len() == count_feeds(plan.script())
+            && takes_what_was_got(plan, board, tally),
+    )
 }
 
 /// Whether as much is left as after this stop. If it is stalled, no thread could go on.
@@ -138,27 +117,10 @@ fn leaves(
     let left = unperformed(plan.script(), board, tally);
     match stop {
         Stop::Done => Ok(left == 0),
-        Stop::Stalled => stalls(alloc, plan.script(), board, tally, left),
+        Stop::Stalled => Ok(0 < left && nobody_goes_on(alloc, plan.script(), board, tally)?),
         Stop::Held => Ok(0 < left),
         Stop::Full => Ok(board.entries() == board.limit() && has_left(plan, board, tally)),
     }
-}
-
-/// Whether a step is left, and no thread could go on.
-fn stalls(
-    alloc: Global,
-    script: &Script,
-    board: &Board<Text, BoardLog<Text>>,
-    tally: &Tally,
-    left: usize,
-) -> Result<bool, AllocError>
-    requires { board.now.past ≡ no_entries }
-    ensures { IfOk result (λ stalls. IsTrue stalls ↔ ((0 < left) × NobodyGoesOn script.now board.now.limit board.now.history tally.now)) }
-{
-    if left == 0 {
-        return Ok(false);
-    }
-    nobody_goes_on(alloc, script, board, tally)
 }
 
 /// Whether a declared object was not made, a step was not performed, or a message sent by a lane was not moved.

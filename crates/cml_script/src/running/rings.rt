@@ -103,7 +103,14 @@ impl Rings {
             None => Some(message),
         };
         if let Some(message) = unsent {
-            self.send_first(rt, switchboard, target, capacity, message)?;
+            if self.lanes.reserve(1).is_err() {
+                return Err(Refusal::NoMemory);
+            }
+            let (mut lane, _) = switchboard.open_lane(rt, target, capacity)?;
+            if lane.send(message).is_err() {
+                unreachable!();
+            }
+            self.lanes.push_reserved(OpenLane { target, lane });
         }
         self.performed = self.performed.saturating_add(1);
         Ok(())
@@ -130,29 +137,6 @@ impl Rings {
         let full = self.lanes.swap_remove(at);
         close(rt, switchboard, full.lane)?;
         Ok(Some(message))
-    }
-
-    /// Opens a lane, and sends its first message.
-    fn send_first<Led: Ledger, R: Wait>(
-        &mut self,
-        rt: &R,
-        switchboard: &Texts<Led>,
-        target: Name,
-        capacity: usize,
-        message: Text,
-    ) -> Result<(), Refusal>
-        requires least { 1 ≤ capacity }
-        requires most { capacity ≤ 1024 }
-    {
-        if self.lanes.reserve(1).is_err() {
-            return Err(Refusal::NoMemory);
-        }
-        let (mut lane, _) = switchboard.open_lane(rt, target, capacity)?;
-        if lane.send(message).is_err() {
-            unreachable!();
-        }
-        self.lanes.push_reserved(OpenLane { target, lane });
-        Ok(())
     }
 
     /// Polls a feed. If its ring has no message, pumps what the feed is owed once.

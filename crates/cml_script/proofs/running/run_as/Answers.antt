@@ -1,5 +1,5 @@
 use Rattle.std.proofs.Common.{rules}
-use Rattle.cml_script.proofs.running.run.Goals as goal
+use Rattle.cml_script.proofs.running.run_as.Goals as goal
 
 pub returns-in-Err : goal.returns-in-Err
 returns-in-Err g c = search rules

@@ -3,14 +3,15 @@ use Rattle.cml_grammar.specs.Script.{Lines}
 use Rattle.cml_grammar.specs.Rings.{first_ring}
 use Rattle.cml_script.specs.Schedule.{History, Schedule}
 use Rattle.cml_script.specs.Stage.{Play}
-use Rattle.cml_script.specs.Report.{Tallied, report}
-use Rattle.cml_script.specs.Play.{IsPlayed}
+use Rattle.cml_script.specs.Report.{Tallied}
+use Rattle.cml_script.specs.Written.{text_as}
+use Rattle.cml_script.specs.Play.{IsPlayedAs}
 use Rattle.cml_script.specs.Audit.{IsOfScript}
 use Rattle.cml_script.proofs.GivingLemmas.{follows_own}
-use Rattle.cml_script.proofs.perform.play.Goals as goal
+use Rattle.cml_script.proofs.perform.play_as.Goals as goal
 
-pub report-requires-clause-own : goal.report-requires-clause-own
-report-requires-clause-own c =
+pub text_as-requires-clause-own : goal.text_as-requires-clause-own
+text_as-requires-clause-own c =
     let stage = c.perform.new.stage in
     let script = c.perform.ensures.script ∙ ap (λ (p : Play). p.script) c.in_ok-stage.ensures in
     let own = subst (λ s. IsOfScript s stage.history) script (follows_own stage.script stage.history c.board.ensures.follows) in
@@ -29,8 +30,8 @@ returns c =
       follows = c.board.ensures.follows;
       ends = c.in_ok-stop.ensures.ends;
     } in
-    let text = c.in_ok-report.ensures ∙ ap (λ (h : History). report c.args.script.now h c.no_rings-tally.result stop) c.board.ensures.history
-    ∙ ap (λ (t : Tallied). report c.args.script.now stage.history t stop) c.no_rings-tally.ensures in
+    let text = c.in_ok-report.ensures ∙ ap (λ (h : History). text_as c.args.form c.args.script.now h c.no_rings-tally.result stop) c.board.ensures.history
+    ∙ ap (λ (t : Tallied). text_as c.args.form c.args.script.now stage.history t stop) c.no_rings-tally.ensures in
     let same = subst (λ s. Schedule s stage.limit stage.history stop) script scheduled in
-    subst (λ l. IsPlayed c.args.script.now l stop (string_bytes c.in_ok-report.report)) limit
-    (record { history = stage.history; scheduled = same; reported = text })
+    subst (λ l. IsPlayedAs c.args.form c.args.script.now l stop (string_bytes c.in_ok-report.report)) limit
+    (record { history = stage.history; scheduled = same; written = text })

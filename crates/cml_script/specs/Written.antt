@@ -1,0 +1,20 @@
+-- What is written of a script and its history: its report, or its journal's text.
+use Rattle.std.specs.Prelude.{ℕ, List, reverse}
+use Rattle.cml_grammar.specs.Script.{Lines}
+use Rattle.cml_journal.specs.Words.{script_word}
+use Rattle.cml_journal.specs.Streams.{text_of, piece_lines}
+use Rattle.cml_script.specs.declared.asked.Form.{Form}
+use Rattle.cml_script.specs.declared.asked.Form.TheVariants.{Report, Journal}
+use Rattle.cml_script.specs.declared.stop.Stop.{Stop}
+use Rattle.cml_script.specs.Schedule.{History}
+use Rattle.cml_script.specs.Report.{Tallied, report}
+
+-- the text of a journal that has all entries of a history, oldest first, in one piece; its messages are those of a script of
+-- this version
+abbrev pub journal_text : ℕ → History → List ℕ
+journal_text version history = text_of (piece_lines version (script_word version) 0 (reverse history))
+
+-- what is written in this form of a history that ended so
+abbrev pub text_as : Form → Lines → History → Tallied → Stop → List ℕ
+text_as Report script history tally stop = report script history tally stop
+text_as Journal script history tally stop = journal_text script.version history
