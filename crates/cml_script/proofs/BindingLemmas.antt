@@ -2,7 +2,7 @@
 use Rattle.std.proofs.Common.{◌≡◌, ◌≢◌, ℕ, ◌+◌, ◌<◌, ◌≤◌, Bool, true, false, cond, eqb, ltb, [], ◌∷◌, ◌++◌, length, take, slice_get, Option, Some, None, MatchBool, IsTrue, IsSome, IfSome, ◌⊎◌, refl, sym, ap, subst, ◌∙◌, arith, inl, inr, List}
 use Rattle.std.specs.Prelude.{⊤, not}
 use Rattle.std.specs.Option.{option_map, option_map_or, option_and_then}
-use Rattle.std.proofs.lemmas.Option.{same_Some, none-some}
+use Rattle.std.proofs.lemmas.Option.{same_Some, none-some, option_and_then_some}
 use Rattle.std.proofs.lemmas.Bool.{cases_lt, cases_eq, eq-eqb, ne_eqb, false≢true, true≢false}
 use Rattle.cml_calls.specs.declared.table.Give.TheVariants as give
 use Rattle.cml_calls.specs.declared.table.Ask.TheVariants as ask
@@ -15,7 +15,7 @@ use Rattle.cml_board.specs.declared.entry.Who.TheVariants.{Seat, Lane, Feed}
 use Rattle.cml_board.specs.declared.entry.Reply.{Reply}
 use Rattle.cml_board.specs.declared.entry.Reply.TheVariants as reply
 use Rattle.cml_board.specs.declared.entry.Entry.{Entry}
-use Rattle.cml_board.specs.Origins.{Origin, mailbox, channel, port, ivar, mvar, kind_by, copy_of}
+use Rattle.cml_board.specs.Origins.{Origin, channel, port, kind_by, copy_of}
 use Rattle.cml_calls.specs.Kinds.{is_port}
 use Rattle.cml_board.specs.History.{Lawful, Fits, made, begun_by, if_made, new_name, origin_of, kind_of, is_open, answer, sent, got}
 use Rattle.cml_board.proofs.Closing.{kind_kept}
@@ -31,7 +31,7 @@ use Rattle.cml_script.specs.Schedule.{History, IsDeclaration, maker, is_feed, ob
 use Rattle.cml_script.specs.Report.{is_of_thread}
 use Rattle.cml_script.specs.Plan.{HasSeats, AsksForPorts}
 use Rattle.cml_script.proofs.ListLemmas.{slice_get_pushed}
-use Rattle.cml_script.proofs.GivingLemmas.{giver, given_at, given_once, next_at, none_other, gives_as, gives_that}
+use Rattle.cml_script.proofs.GivingLemmas.{giver, given_at, given_line, given_once, next_at, none_other, gives_as, gives_that}
 use Rattle.cml_script.proofs.LineLemmas.{called_seated}
 use Rattle.cml_script.proofs.FitLemmas.{called_on}
 
@@ -50,14 +50,11 @@ call_asks (action.Ask ask at) name = refl
 
 step_asks : (script : Lines) (before : History) (i : ℕ) (c : Call (List ℕ)) (line : SourceLine) → AsksForPorts script → slice_get script.steps i ≡ Some line → step_call script before i ≡ Some c → is_giving line ≡ true → asks_port c ≡ true
 step_asks script before i c line asks found calls gives =
-    by_action (action_of (names_of script) line.words) refl
+    option_and_then_some (call_of (object_of script before)) (action_of (names_of script) line.words) c
     (sym (ap (option_and_then (λ (l : SourceLine). option_and_then (call_of (object_of script before)) (action_of (names_of script) l.words))) found) ∙ calls)
-  where
-    by_action : (a : Option Action) → action_of (names_of script) line.words ≡ a → option_and_then (call_of (object_of script before)) a ≡ Some c → asks_port c ≡ true
-    by_action None e calls = absurd (none-some c calls)
-    by_action (Some a) e calls =
-        let on = called_on (object_of script before) a c calls in
-        ap asks_port (sym on.1) ∙ call_asks a on.0 ∙ asks i line a found e ∙ gives
+    (λ a is called.
+    let on = called_on (object_of script before) a c called in
+    ap asks_port (sym on.1) ∙ call_asks a on.0 ∙ asks i line a found is ∙ gives)
 
 -- What a call that asks for a port gives.
 
@@ -68,12 +65,8 @@ record IsPortAt (history : History) (n : ℕ) : Type 0 where
   origin : origin_of history n ≡ Some (port channel start)
 
 port_origin : (o : Option Origin) → IsSome (option_map kind_by o) → IfSome (option_map kind_by o) (λ k. IsTrue (is_port k)) → (c : ℕ) × (s : ℕ) × (o ≡ Some (port c s))
-port_origin None some is = absurd (false≢true some)
-port_origin (Some mailbox) some is = absurd (false≢true is)
-port_origin (Some channel) some is = absurd (false≢true is)
-port_origin (Some ivar) some is = absurd (false≢true is)
-port_origin (Some mvar) some is = absurd (false≢true is)
 port_origin (Some (port c s)) some is = (c, s, refl)
+port_origin o some is = cc
 
 -- the reply binds a port
 record Binds (before : History) (asked : Call (List ℕ)) (r : Reply (List ℕ)) : Type 0 where
@@ -122,11 +115,8 @@ AreSteps script (entry ∷ before) = ((is_of_thread entry.who ≡ false) ⊎ (Is
 
 -- a declared object is made by no thread
 pub maker_is_none : (script : Lines) (k : ℕ) → is_of_thread (maker script k) ≡ false
-maker_is_none script k = by_test (option_map_or (is_feed script) (slice_get (objects_of script) k) false)
-  where
-    by_test : (t : Bool) → is_of_thread (cond t (Feed (how_many (is_feed script) (take k (objects_of script)))) (Seat 0)) ≡ false
-    by_test true = refl
-    by_test false = refl
+maker_is_none script k =
+    elim (option_map_or (is_feed script) (slice_get (objects_of script) k) false) as (λ t. is_of_thread (cond t (Feed (how_many (is_feed script) (take k (objects_of script)))) (Seat 0)) ≡ false) [ true ↦ refl | false ↦ refl ]
 
 pub lawful_gives : (before : History) (entry : Entry (List ℕ)) → Fits before entry.call → answer before entry.call ≡ Some entry.reply → GivesPort entry
 lawful_gives before entry fits answers = λ asks. subst IsSome (sym (binds before entry.call entry.reply asks fits answers).bound) refl
@@ -153,26 +143,14 @@ none_seated seat low (Seat s) other = ne_eqb s seat (λ same. true≢false (ap n
 -- the next step is of some thread
 next_seat : (script : Lines) (before : History) (who : Who) (i : ℕ) → next_position script before who ≡ Some i → (s : ℕ) × (who ≡ Seat s)
 next_seat script before (Seat s) i e = (s, refl)
-next_seat script before (Lane l) i e = absurd (none-some i e)
-next_seat script before (Feed f) i e = absurd (none-some i e)
+next_seat script before who i e = cc
 
 module _ (script : Lines) (asks : AsksForPorts script) (seats : HasSeats script) where
   -- a step that gives a name asks for a port
   next_asks : (before : History) (entry : Entry (List ℕ)) (at : ℕ) → IsNextOfThread script before entry → giver script before entry.who ≡ Some at → asks_port entry.call ≡ true
-  next_asks before entry at n gives = by_line (slice_get script.steps n.step) refl
-    where
-      given : given_by script n.step ≡ Some at
-      given = sym (ap (option_and_then (given_by script)) n.next) ∙ gives
-
-      by_gives : (line : SourceLine) (t : Bool) → slice_get script.steps n.step ≡ Some line → is_giving line ≡ t → asks_port entry.call ≡ true
-      by_gives line true found e = step_asks script before n.step entry.call line asks found n.calls e
-      by_gives line false found e =
-          absurd (none-some at (sym (given_at script n.step line found ∙ ap (λ t. cond t (Some (names_before script.declarations script.steps n.step)) None) e) ∙ given))
-
-      by_line : (l : Option SourceLine) → slice_get script.steps n.step ≡ l → asks_port entry.call ≡ true
-      by_line None e =
-          absurd (none-some at (sym (ap (λ (l : Option SourceLine). cond (option_map_or is_giving l false) (Some (names_before script.declarations script.steps n.step)) None) e) ∙ given))
-      by_line (Some line) e = by_gives line (is_giving line) e refl
+  next_asks before entry at n gives =
+      let line = given_line script n.step at (sym (ap (option_and_then (given_by script)) n.next) ∙ gives) in
+      step_asks script before n.step entry.call line.0 asks line.1 n.calls line.2
 
   other_gives_nothing : (before : History) (entry : Entry (List ℕ)) → is_of_thread entry.who ≡ false → giver script before entry.who ≡ None
   other_gives_nothing before entry by = ap (option_and_then (given_by script)) (none_other script before seats entry.who by)
@@ -241,16 +219,12 @@ module _ (script : Lines) (asks : AsksForPorts script) (seats : HasSeats script)
           fewer other =
               let by = next_seat script before entry.who next.step next.next in
               elim (cases_eq by.0 seat) [
-                | inl mine ↦ elim (cases_eq (earlier script seat i) (performed before seat)) [
-                  | inl equal ↦
+                | inl mine ↦ elim (cases_lt (earlier script seat i) (performed before seat)) [
+                  | inl lt ↦ lt
+                  | inr ge ↦
+                      let equal : earlier script seat i ≡ performed before seat = omega (arith, ge, done, counted by.0 by.1, ap one_if (eq-eqb by.0 seat mine)) in
                       let there : next_position script before (Seat seat) ≡ Some i = next_at script before seat i line found seated equal in
                       absurd (other (same_Some _ _ (sym next.next ∙ ap (next_position script before) by.1 ∙ ap (λ s. next_position script before (Seat s)) mine ∙ there)))
-                  | inr differs ↦
-                      let test : eqb by.0 seat ≡ true = eq-eqb by.0 seat mine in
-                      elim (cases_lt (earlier script seat i) (performed before seat)) [
-                        | inl lt ↦ lt
-                        | inr ge ↦ absurd (differs (omega (arith, ge, done, counted by.0 by.1, ap one_if test)))
-                      ]
                 ]
                 | inr theirs ↦
                     let test : eqb by.0 seat ≡ false = ne_eqb by.0 seat theirs in

@@ -1,6 +1,8 @@
 -- Which words the program understands.
-use Rattle.std.proofs.Common.{◌≡◌, ◌⊎◌, ◌∙◌, ◌++◌, ap, ap₂, subst, sym, refl, inl, inr, arith, ℕ, Bool, true, false, List, [], ◌∷◌, Option, Some, None, length, codes}
-use Rattle.std.specs.Prelude.{slice_get, ◌==◌, is_some, IfSome, ◌≤◌, ◌^◌}
+use Rattle.std.proofs.Common.{◌≡◌, ◌⊎◌, ◌∙◌, ◌++◌, ap, ap₂, subst, sym, refl, inl, inr, arith, ℕ, true, false, List, [], ◌∷◌, Option, Some, None, length, codes}
+use Rattle.std.specs.Prelude.{◌==◌, is_some, IfSome, ◌≤◌, ◌^◌}
+use Rattle.std.proofs.lemmas.Bool.{cases_Bool}
+use Rattle.std.proofs.lemmas.Option.{slice_get_cases}
 use Rattle.std.specs.List.{slice_index_or}
 use Rattle.std.specs.Str.{bytes_eq, chars}
 use Rattle.clap.specs.Walk.{Held, Names, Row, Text, Walk, bundle_met, finished, idle, long_or_other, nothing_held, rows_after, settled, short_or_plain, subcommand_met, walk, walk_from, walked}
@@ -21,11 +23,11 @@ use Rattle.cml_script.specs.CommandLine.{Asks, AsksFor, AsksHelp, HasOrder, aske
 use Rattle.cml_script.specs.declared.asked.Form.{Form}
 use Rattle.cml_script.specs.declared.asked.Order.{Order}
 use Rattle.cml_script.specs.declared.asked.Order.TheVariants.{Replay, Run, Check}
-use Rattle.cml_script.proofs.RefusalLemmas.{or_else-nil, or_else-refuses, refused_is_some, refuses, same_text}
+use Rattle.cml_script.proofs.RefusalLemmas.{or_else-nil, or_else-refuses, refused_is_some, refuses, same_or_other}
 use Rattle.cml_script.proofs.LimitLemmas.{below}
-use Rattle.cml_script.proofs.LimitWalks.{AsksBelow, understood_below}
+use Rattle.cml_script.proofs.LimitWalks.{understood_below}
 use Rattle.cml_script.proofs.LimitTaken.{taken_below}
-use Rattle.cml_script.proofs.StateLevel.{AsksStateBelow, below_check, state_taken_below, state_understood_below}
+use Rattle.cml_script.proofs.StateLevel.{below_check, state_taken_below, state_understood_below}
 
 -- the program's own level of words
 abbrev top : Shape
@@ -43,12 +45,8 @@ refusal long word = or_else (flag_word_fault top.rules false long word nothing_h
     (step_fault top 1 (long_or_other top.rules idle word long nothing_held).0 (long_or_other top.rules idle word long nothing_held).1)
 
 long_is_refused : (name : Text) (value : Option Text) (word : Text) → refuses (refusal (Some (name, value)) word) ≡ true
-long_is_refused name value word = go (bytes_eq (codes "help") name) refl value
-  where
-    go : (t : Bool) → bytes_eq (codes "help") name ≡ t → (v : Option Text) → refuses (refusal (Some (name, v)) word) ≡ true
-    go true t None = rw t refl
-    go true t (Some x) = rw t refl
-    go false t v = rw t refl
+long_is_refused name None word = elim (cases_Bool (bytes_eq (codes "help") name)) [ inl h ↦ rw h refl | inr h ↦ rw h refl ]
+long_is_refused name (Some x) word = elim (cases_Bool (bytes_eq (codes "help") name)) [ inl h ↦ rw h refl | inr h ↦ rw h refl ]
 
 abbrev bundle_refusal : Text → Text → Kinds
 bundle_refusal flags word = or_else (flags_fault top.rules false (length flags) flags 0 nothing_held)
@@ -57,15 +55,10 @@ bundle_refusal flags word = or_else (flags_fault top.rules false (length flags) 
 bundle_is_refused : (flags : Text) (word : Text) → refuses (bundle_refusal flags word) ≡ true
 unfolding flags_fault bundle_met
 bundle_is_refused [] word = refl
-bundle_is_refused (f ∷ fs) word = go (slice_get (chars (f ∷ fs)) 0) refl
-  where
-    with_first : (x : ℕ) → slice_get (chars (f ∷ fs)) 0 ≡ Some x → (t : Bool) → (104 == x) ≡ t → refuses (bundle_refusal (f ∷ fs) word) ≡ true
-    with_first x e true t = rw (e, t) refl
-    with_first x e false t = rw (e, t) refl
-
-    go : (c : Option ℕ) → slice_get (chars (f ∷ fs)) 0 ≡ c → refuses (bundle_refusal (f ∷ fs) word) ≡ true
-    go None e = rw e refl
-    go (Some x) e = with_first x e (104 == x) refl
+bundle_is_refused (f ∷ fs) word = elim (slice_get_cases (chars (f ∷ fs)) 0).1 [
+  | inr none ↦ rw none.1 refl
+  | inl some ↦ elim (cases_Bool (104 == some.0)) [ inl t ↦ rw (some.2, t) refl | inr t ↦ rw (some.2, t) refl ]
+]
 
 short_is_refused : (short : Option Text) (word : Text) → short_of word ≡ short → refuses (refusal None word) ≡ true
 short_is_refused None word e = rw e refl
@@ -81,11 +74,6 @@ word_is_refused word = go (long_of word) refl
 -- the level refuses each first word but a subcommand's name and `--`
 turn_is_refused : (word : Text) → subcommand_met names idle word ≡ None → bytes_eq word (codes "--") ≡ false → refuses (turn_fault top names start word) ≡ true
 turn_is_refused word e d = let h = word_is_refused word in rw (e, d) h
-
--- and each word after `--`
-after_dashes : (word : Text) (rest : List Text) → refuses (walk_fault top names start (codes "--" ∷ word ∷ rest)) ≡ true
-unfolding clap_on_literals
-after_dashes word rest = refl
 
 walk_is_refused : (word : Text) (rest : List Text) → refuses (turn_fault top names start word) ≡ true → refuses (walk_fault top names start (word ∷ rest)) ≡ true
 unfolding walk_fault
@@ -107,59 +95,6 @@ abbrev which_of : Order → Which
 which_of (Replay limit form) = replaying
 which_of (Run limit form) = running
 which_of (Check state) = looking
-
--- the words below a subcommand ask for this order
-abbrev AsksIn : List Text → Order → Type 0
-AsksIn rest (Replay limit form) = AsksBelow rest limit form
-AsksIn rest (Run limit form) = AsksBelow rest limit form
-AsksIn rest (Check state) = AsksStateBelow rest state
-
--- all words, where they ask for an order
-abbrev Parts : List Text → Order → Type 0
-Parts words order = (rest : List Text) × (asked_of words ≡ name_of (which_of order) ∷ rest) × AsksIn rest order
-
-script_parts : (name : Text) (words : List Text) (limit : ℕ) (form : Form) → Asks name words limit form
-    → (rest : List Text) × (asked_of words ≡ name ∷ rest) × AsksBelow rest limit form
-script_parts name words limit form asks = (
-  asks.options ++ asks.end,
-  asks.are,
-  record {
-    limits = asks.limits;
-    forms = asks.forms;
-    options = asks.options;
-    end = asks.end;
-    gives = asks.gives;
-    writes = asks.writes;
-    both = asks.both;
-    ends = asks.ends;
-    are = refl;
-  },
-)
-
-parts : (words : List Text) (order : Order) → AsksFor words order → Parts words order
-parts words (Replay limit form) asks = script_parts (codes "replay") words limit form asks
-parts words (Run limit form) asks = script_parts (codes "run") words limit form asks
-parts words (Check state) asks =
-    (asks.options ++ asks.end, asks.are, record { options = asks.options; end = asks.end; gives = asks.gives; ends = asks.ends; are = refl })
-
-script_whole : (name : Text) (words rest : List Text) (limit : ℕ) (form : Form) → asked_of words ≡ name ∷ rest → AsksBelow rest limit form → Asks name words limit form
-script_whole name words rest limit form are asks = record {
-  limits = asks.limits;
-  forms = asks.forms;
-  options = asks.options;
-  end = asks.end;
-  gives = asks.gives;
-  writes = asks.writes;
-  both = asks.both;
-  ends = asks.ends;
-  are = are ∙ ap (λ r. name ∷ r) asks.are;
-}
-
-whole : (words rest : List Text) (order : Order) → asked_of words ≡ name_of (which_of order) ∷ rest → AsksIn rest order → AsksFor words order
-whole words rest (Replay limit form) are asks = script_whole (codes "replay") words rest limit form are asks
-whole words rest (Run limit form) are asks = script_whole (codes "run") words rest limit form are asks
-whole words rest (Check state) are asks =
-    record { options = asks.options; end = asks.end; gives = asks.gives; ends = asks.ends; are = are ∙ ap (λ r. codes "check" ∷ r) asks.are }
 
 -- the words that follow the subcommand's name are left to it
 abbrev stopped_at : Which → List Text → Walk
@@ -245,9 +180,11 @@ nothing_is_refused : refuses (fault_at []) ≡ true
 unfolding clap_on_literals
 nothing_is_refused = refl
 
-dashes_are_refused : refuses (fault_at (codes "--" ∷ [])) ≡ true
+-- `--` alone is refused, and each word after it
+dashes_are_refused : (rest : List Text) → refuses (fault_at (codes "--" ∷ rest)) ≡ true
 unfolding clap_on_literals
-dashes_are_refused = refl
+dashes_are_refused [] = refl
+dashes_are_refused (word ∷ rest) = refl
 
 help_is_refused : refuses (turn_fault top names start (codes "help")) ≡ true
 unfolding clap_on_literals
@@ -265,91 +202,83 @@ NamesOne asked = (which : Which) × (rest : List Text) × (asked ≡ name_of whi
 
 names_one : (asked : List Text) → fault_at asked ≡ [] → NamesOne asked
 names_one [] none = absurd (refused_is_some _ none nothing_is_refused)
-names_one (word ∷ rest) none = is_replay (bytes_eq (codes "replay") word) refl
+names_one (word ∷ rest) none = elim (same_or_other (codes "replay") word) [
+  | inl is ↦ (replaying, rest, ap (λ w. w ∷ rest) (sym is))
+  | inr r ↦ elim (same_or_other (codes "run") word) [
+    | inl is ↦ (running, rest, ap (λ w. w ∷ rest) (sym is))
+    | inr u ↦ elim (same_or_other (codes "check") word) [
+      | inl is ↦ (looking, rest, ap (λ w. w ∷ rest) (sym is))
+      | inr k ↦ absurd (no_name r u k)
+    ]
+  ]
+]
   where
-    first : walk_fault top names start (word ∷ rest) ≡ []
-    first = (or_else-nil _ _ none).0
-
     refused : refuses (turn_fault top names start word) ≡ true → ⊥
-    refused h = refused_is_some _ first (walk_is_refused word rest h)
+    refused h = refused_is_some _ (or_else-nil _ _ none).0 (walk_is_refused word rest h)
 
-    is_dashes : (t : Bool) → bytes_eq (codes "replay") word ≡ false → bytes_eq (codes "run") word ≡ false → bytes_eq (codes "check") word ≡ false → bytes_eq (codes "help") word ≡ false
-        → bytes_eq word (codes "--") ≡ t → (more : List Text) → rest ≡ more → ⊥
-    is_dashes false r u k h t more same = refused (turn_is_refused word (rw (r, u, k, h) refl) t)
-    is_dashes true r u k h t [] same =
-        let d : word ≡ codes "--" = same_text word (codes "--") t in
-        let bad : fault_at (codes "--" ∷ []) ≡ [] = subst (λ w. fault_at w ≡ []) (ap₂ (λ w ws. w ∷ ws) d same) none in
-        refused_is_some _ bad dashes_are_refused
-    is_dashes true r u k h t (next ∷ more) same =
-        let d : word ≡ codes "--" = same_text word (codes "--") t in
-        let bad : walk_fault top names start (codes "--" ∷ next ∷ more) ≡ [] = subst (λ w. walk_fault top names start w ≡ []) (ap₂ (λ w ws. w ∷ ws) d same) first in
-        refused_is_some _ bad (after_dashes next more)
+    no_name : bytes_eq (codes "replay") word ≡ false → bytes_eq (codes "run") word ≡ false → bytes_eq (codes "check") word ≡ false → ⊥
+    no_name r u k = elim (same_or_other (codes "help") word) [
+      | inl is ↦ refused (subst (λ w. refuses (turn_fault top names start w) ≡ true) is help_is_refused)
+      | inr h ↦ elim (same_or_other word (codes "--")) [
+        | inl is ↦ refused_is_some _ (subst (λ w. fault_at (w ∷ rest) ≡ []) is none) (dashes_are_refused rest)
+        | inr d ↦ refused (turn_is_refused word (rw (r, u, k, h) refl) d)
+      ]
+    ]
 
-    is_help : (t : Bool) → bytes_eq (codes "replay") word ≡ false → bytes_eq (codes "run") word ≡ false → bytes_eq (codes "check") word ≡ false → bytes_eq (codes "help") word ≡ t → ⊥
-    is_help false r u k t = is_dashes (bytes_eq word (codes "--")) r u k t refl rest refl
-    is_help true r u k t =
-        let d : codes "help" ≡ word = same_text (codes "help") word t in
-        refused (subst (λ w. refuses (turn_fault top names start w) ≡ true) d help_is_refused)
+-- words below a subcommand are without fault only where all words ask for an order
+understood_in : (which : Which) (words rest : List Text) → asked_of words ≡ name_of which ∷ rest → fault_below which rest ≡ [] → (order : Order) × AsksFor words order
+understood_in replaying words rest are none = let asks = understood_below rest none in (Replay asks.0 asks.1, asks.2 (codes "replay") words are)
+understood_in running words rest are none = let asks = understood_below rest none in (Run asks.0 asks.1, asks.2 (codes "run") words are)
+understood_in looking words rest are none = let asks = state_understood_below rest none in (Check asks.0, asks.1 words are)
 
-    is_check : (t : Bool) → bytes_eq (codes "replay") word ≡ false → bytes_eq (codes "run") word ≡ false → bytes_eq (codes "check") word ≡ t → NamesOne (word ∷ rest)
-    is_check true r u t = (looking, rest, ap (λ w. w ∷ rest) (sym (same_text (codes "check") word t)))
-    is_check false r u t = absurd (is_help (bytes_eq (codes "help") word) r u t refl)
-
-    is_run : (t : Bool) → bytes_eq (codes "replay") word ≡ false → bytes_eq (codes "run") word ≡ t → NamesOne (word ∷ rest)
-    is_run true r t = (running, rest, ap (λ w. w ∷ rest) (sym (same_text (codes "run") word t)))
-    is_run false r t = is_check (bytes_eq (codes "check") word) r t refl
-
-    is_replay : (t : Bool) → bytes_eq (codes "replay") word ≡ t → NamesOne (word ∷ rest)
-    is_replay true t = (replaying, rest, ap (λ w. w ∷ rest) (sym (same_text (codes "replay") word t)))
-    is_replay false t = is_run (bytes_eq (codes "run") word) t refl
-
--- words below a subcommand are without fault only where they ask for an order
-understood_in : (which : Which) (rest : List Text) → fault_below which rest ≡ [] → (order : Order) × (which ≡ which_of order) × AsksIn rest order
-understood_in replaying rest none = let asks = understood_below rest none in (Replay asks.0 asks.1, refl, asks.2)
-understood_in running rest none = let asks = understood_below rest none in (Run asks.0 asks.1, refl, asks.2)
-understood_in looking rest none = let asks = state_understood_below rest none in (Check asks.0, refl, asks.1)
-
--- and so are all words
 understood : (words : List Text) → faults_of words ≡ [] → (order : Order) × AsksFor words order
 understood words none =
     let one = names_one (asked_of words) none in
-    let asks = understood_in one.0 one.1 (below_name one.0 one.1 (subst (λ w. fault_at w ≡ []) one.2 none)) in
-    (asks.0, whole words one.1 asks.0 (one.2 ∙ ap (λ w. name_of w ∷ one.1) asks.1) asks.2)
+    understood_in one.0 words one.1 one.2 (below_name one.0 one.1 (subst (λ w. fault_at w ≡ []) one.2 none))
 
-taken_in : (rest : List Text) (order : Order) → AsksIn rest order → fault_below (which_of order) rest ≡ []
-taken_in rest (Replay limit form) asks = (taken_below rest limit form asks).fault
-taken_in rest (Run limit form) asks = (taken_below rest limit form asks).fault
-taken_in rest (Check state) asks = (state_taken_below rest state asks).fault
+-- the level of the order's subcommand takes the words that follow its name, and finds the order
+record IsTaken (words : List Text) (order : Order) : Type 0 where
+  rest : List Text
+  are : asked_of words ≡ name_of (which_of order) ∷ rest
+  fault : fault_below (which_of order) rest ≡ []
+  finds : HasOrder (Some (found_below (which_of order) rest)) order
+
+taken : (words : List Text) (order : Order) → AsksFor words order → IsTaken words order
+taken words (Replay limit form) asks =
+    let below = taken_below (codes "replay") words limit form asks in
+    record { rest = asks.options ++ asks.end; are = asks.are; fault = below.fault; finds = (refl, (below.finds, below.writes)) }
+taken words (Run limit form) asks =
+    let below = taken_below (codes "run") words limit form asks in
+    record { rest = asks.options ++ asks.end; are = asks.are; fault = below.fault; finds = (refl, (below.finds, below.writes)) }
+taken words (Check state) asks =
+    let below = state_taken_below words state asks in
+    record { rest = asks.options ++ asks.end; are = asks.are; fault = below.fault; finds = (refl, below.finds) }
 
 pub order_has_no_fault : (words : List Text) (order : Order) → AsksFor words order → faults_of words ≡ []
 order_has_no_fault words order asks =
-    let by = parts words order asks in
-    subst (λ w. fault_at w ≡ []) (sym by.1) (fault_at_name (which_of order) by.0 (taken_in by.0 order by.2))
+    let by = taken words order asks in
+    subst (λ w. fault_at w ≡ []) (sym by.are) (fault_at_name (which_of order) by.rest by.fault)
 
 -- ---- a parse of the words finds their order
 
-has_order : (rest : List Text) (order : Order) → AsksIn rest order → HasOrder (Some (found_below (which_of order) rest)) order
-has_order rest (Replay limit form) asks = let taken = taken_below rest limit form asks in (refl, (taken.finds, taken.writes))
-has_order rest (Run limit form) asks = let taken = taken_below rest limit form asks in (refl, (taken.finds, taken.writes))
-has_order rest (Check state) asks = (refl, (state_taken_below rest state asks).finds)
-
-subcommand_is_found : (words : List Text) (order : Order) → Parts words order → HasOrder (subcommand_of usage words) order
-subcommand_is_found words order by =
-    let which = which_of order in
-    let is : Some (found_below which by.0) ≡ subcommand_of usage words =
-    sym (found_is which by.0) ∙ ap (λ (w : Walk). entered (built usage) w.stopped) (stops which by.0)
-    ∙ ap (λ asked. entered (built usage) (walk top.rules names nothing_held asked).stopped) (sym by.1) in
-    subst (λ found. HasOrder found order) is (has_order by.0 order by.2)
-
 pub order_is_found : (words : List Text) (found : Option (Text × List Row)) (order : Order) → found ≡ subcommand_of usage words → AsksFor words order → HasOrder found order
 order_is_found words found order same asks =
-    subst (λ f. HasOrder f order) (sym same) (subcommand_is_found words order (parts words order asks))
+    let by = taken words order asks in
+    let which = which_of order in
+    let is : Some (found_below which by.rest) ≡ subcommand_of usage words =
+    sym (found_is which by.rest) ∙ ap (λ (w : Walk). entered (built usage) w.stopped) (stops which by.rest)
+    ∙ ap (λ asked. entered (built usage) (walk top.rules names nothing_held asked).stopped) (sym by.are) in
+    subst (λ f. HasOrder f order) (is ∙ sym same) by.finds
 
-pub asked_and_found : (words : List Text) (found : Option (Text × List Row)) → faults_of words ≡ [] → found ≡ subcommand_of usage words
-    → (order : Order) × AsksFor words order × HasOrder found order
-asked_and_found words found none same =
+-- so what is read of it is the words' order
+pub order_is_read : (words : List Text) (found : Option (Text × List Row)) (read : Option Order) (order : Order) → found ≡ subcommand_of usage words → ((o : Order) → HasOrder found o → read ≡ Some o) → AsksFor words order → read ≡ Some order
+order_is_read words found read order same reads asks = reads order (order_is_found words found order same asks)
+
+pub asked_and_read : (words : List Text) (found : Option (Text × List Row)) (read : Option Order) → faults_of words ≡ [] → found ≡ subcommand_of usage words → ((o : Order) → HasOrder found o → read ≡ Some o)
+    → (order : Order) × AsksFor words order × (read ≡ Some order)
+asked_and_read words found read none same reads =
     let asks = understood words none in
-    (asks.0, asks.1, order_is_found words found asks.0 same asks.1)
+    (asks.0, asks.1, order_is_read words found read asks.0 same reads asks.1)
 
 limit_is_within : (name : Text) (words : List Text) (limit : ℕ) (form : Form) → Asks name words limit form → (1 ≤ limit) × (limit ≤ 2 ^ 32)
 limit_is_within name words limit form asks = elim asks.gives [
@@ -364,47 +293,16 @@ order_is_within words (Check state) asks = tt
 
 -- ---- help
 
-long_help : fault_at (codes "--help" ∷ []) ≡ kind.DisplayHelp ∷ []
-unfolding clap_on_literals
-long_help = refl
-
-short_help : fault_at (codes "-h" ∷ []) ≡ kind.DisplayHelp ∷ []
-unfolding clap_on_literals
-short_help = refl
-
-long_replay_help : fault_at (codes "replay" ∷ codes "--help" ∷ []) ≡ kind.DisplayHelp ∷ []
-unfolding clap_on_literals
-long_replay_help = refl
-
-short_replay_help : fault_at (codes "replay" ∷ codes "-h" ∷ []) ≡ kind.DisplayHelp ∷ []
-unfolding clap_on_literals
-short_replay_help = refl
-
-long_run_help : fault_at (codes "run" ∷ codes "--help" ∷ []) ≡ kind.DisplayHelp ∷ []
-unfolding clap_on_literals
-long_run_help = refl
-
-short_run_help : fault_at (codes "run" ∷ codes "-h" ∷ []) ≡ kind.DisplayHelp ∷ []
-unfolding clap_on_literals
-short_run_help = refl
-
-long_check_help : fault_at (codes "check" ∷ codes "--help" ∷ []) ≡ kind.DisplayHelp ∷ []
-unfolding clap_on_literals
-long_check_help = refl
-
-short_check_help : fault_at (codes "check" ∷ codes "-h" ∷ []) ≡ kind.DisplayHelp ∷ []
-unfolding clap_on_literals
-short_check_help = refl
-
 pub help_is_shown : (words : List Text) → AsksHelp words → faults_of words ≡ kind.DisplayHelp ∷ []
-help_is_shown words (help, inl long, inl h) = rw (h, long) long_help
-help_is_shown words (help, inr short, inl h) = rw (h, short) short_help
-help_is_shown words (help, inl long, inr (inl h)) = rw (h, long) long_replay_help
-help_is_shown words (help, inr short, inr (inl h)) = rw (h, short) short_replay_help
-help_is_shown words (help, inl long, inr (inr (inl h))) = rw (h, long) long_run_help
-help_is_shown words (help, inr short, inr (inr (inl h))) = rw (h, short) short_run_help
-help_is_shown words (help, inl long, inr (inr (inr h))) = rw (h, long) long_check_help
-help_is_shown words (help, inr short, inr (inr (inr h))) = rw (h, short) short_check_help
+unfolding clap_on_literals
+help_is_shown words (help, inl long, inl h) = rw (h, long) refl
+help_is_shown words (help, inr short, inl h) = rw (h, short) refl
+help_is_shown words (help, inl long, inr (inl h)) = rw (h, long) refl
+help_is_shown words (help, inr short, inr (inl h)) = rw (h, short) refl
+help_is_shown words (help, inl long, inr (inr (inl h))) = rw (h, long) refl
+help_is_shown words (help, inr short, inr (inr (inl h))) = rw (h, short) refl
+help_is_shown words (help, inl long, inr (inr (inr h))) = rw (h, long) refl
+help_is_shown words (help, inr short, inr (inr (inr h))) = rw (h, short) refl
 
 pub order_wants_memory : (words : List Text) (order : Order) (e : Error) → HasKind (faults_of words) e → AsksFor words order → kind_of e ≡ kind.OutOfMemory
 order_wants_memory words order e (inl memory) asks = memory

@@ -1,10 +1,10 @@
 -- What a board's readers tell of an object of a known kind.
 use Rattle.std.proofs.Common.{◌≡◌, ℕ, List, inl, inr, Bool, true, false, ◌&&◌, Option, Some, None, IsSome, refl, ap, ◌∙◌}
 use Rattle.std.specs.Option.{option_map, option_map_or}
-use Rattle.std.proofs.lemmas.Option.{none-some, same_Some}
+use Rattle.std.proofs.lemmas.Option.{none-some}
 use Rattle.cml_calls.specs.declared.kind.Kind.{Kind}
 use Rattle.cml_calls.specs.declared.kind.Kind.TheVariants as kind
-use Rattle.cml_board.specs.Origins.{Origin, mailbox, channel, port, ivar, mvar, kind_by}
+use Rattle.cml_board.specs.Origins.{Origin, port, kind_by}
 use Rattle.cml_calls.specs.Kinds.{is_variable}
 use Rattle.cml_board.specs.Counts.{only_if, start_in}
 use Rattle.cml_board.specs.History.{Lawful, kind_of, is_open}
@@ -29,12 +29,8 @@ some_held o k n f None told is passes = absurd (none-some n (told ∙ ap (λ x. 
 some_held o k n f (Some x) told is passes = refl
 
 pub some_start : (o : Option Origin) (r : Option ℕ) → r ≡ start_in o → option_map kind_by o ≡ Some kind.Port → IsSome r
-some_start None r told is = absurd (none-some kind.Port is)
-some_start (Some mailbox) r told is = absurd (let clash : kind.Mailbox ≡ kind.Port = same_Some _ _ is in cc)
-some_start (Some channel) r told is = absurd (let clash : kind.Channel ≡ kind.Port = same_Some _ _ is in cc)
-some_start (Some ivar) r told is = absurd (let clash : kind.IVar ≡ kind.Port = same_Some _ _ is in cc)
-some_start (Some mvar) r told is = absurd (let clash : kind.MVar ≡ kind.Port = same_Some _ _ is in cc)
 some_start (Some (port source start)) r told is = rw told refl
+some_start o r told is = cc
 
 -- the kind of an object of a board that shows this history
 pub kind_there : (a b : History) (name : ℕ) (k : Kind) → a ≡ b → kind_of b name ≡ Some k → kind_of a name ≡ Some k

@@ -1,10 +1,10 @@
 -- How the declared objects are made one after the other.
-use Rattle.std.proofs.Common.{◌≡◌, ℕ, zero, suc, ◌+◌, ◌<◌, ◌≤◌, Bool, true, false, cond, List, [], ◌∷◌, length, take, filter, slice_get, Option, Some, None, Ok, Err, Result, MatchBool, IfSome, IsSome, refl, sym, ap, ap₂, subst, ◌∙◌, arith, one-add, zero-add}
+use Rattle.std.proofs.Common.{◌≡◌, ℕ, ◌+◌, ◌<◌, ◌≤◌, Bool, true, false, cond, List, [], ◌∷◌, length, take, filter, slice_get, Option, Some, None, Ok, Err, Result, MatchBool, IfSome, IsSome, refl, sym, ap, ap₂, subst, ◌∙◌, arith}
 use Rattle.std.specs.Option.{option_map, option_map_or, option_and_then}
 use Rattle.std.specs.Result.{IsErrAnd}
-use Rattle.std.proofs.lemmas.Option.{same_Some, none-some}
+use Rattle.std.proofs.lemmas.Option.{IfSome_then, same_Some, none-some}
 use Rattle.std.proofs.lemmas.List.{take_all}
-use Rattle.std.proofs.lemmas.Bool.{lt-ltb, true≢false}
+use Rattle.std.proofs.lemmas.Bool.{lt-ltb}
 use Rattle.cml_board.specs.declared.call.Name.{Name}
 use Rattle.cml_board.specs.declared.call.Call.{Call}
 use Rattle.cml_board.specs.declared.call.Call.TheVariants as call
@@ -31,10 +31,11 @@ use Rattle.cml_script.specs.Makes.{IsMadeOfDeclared}
 use Rattle.cml_script.specs.Stage.{Play, IsNext, IsNextObject, IsNextPort}
 use Rattle.cml_script.specs.Working.{Made, with_call, with_feed, is_of_feed, with_refused, BeginsAt, capacity_made, feed_capacity, AreOpened, Declares}
 use Rattle.cml_script.specs.Declaring.{HasCapacity, HasMade, making}
-use Rattle.cml_script.proofs.ListLemmas.{count_taken, filter_at, taken_count}
-use Rattle.cml_script.proofs.LineLemmas.{declaration_object, declaration_feed, feed_object}
+use Rattle.cml_script.proofs.ListLemmas.{count_taken, filter_at, taken_all, told_more}
+use Rattle.cml_script.proofs.LineLemmas.{declaration_object, declaration_feed}
 use Rattle.cml_script.proofs.KindLemmas.{next_object}
 use Rattle.cml_script.proofs.StandLemmas.{declared_is}
+use Rattle.cml_script.proofs.ObjectLemmas.{feeds_before}
 
 -- what is kept is so of what was made
 pub record IsDeclaring (script : Lines) (i : ℕ) (made : Option Made) : Type 0 where
@@ -49,22 +50,6 @@ pub record IsDeclaring (script : Lines) (i : ℕ) (made : Option Made) : Type 0 
 
 pub nothing_declared : (script : Lines) (made : Option Made) → BeginsAt 0 made → IsDeclaring script 0 made
 nothing_declared script made none = record { entries = []; opened = []; told = none; count = refl; fed = refl; each = refl; so = tt; own = tt }
-
--- of the first of those that pass, as many pass a narrower test as of all up to there
-taken_of_filter : {X : Type 0} (p q : X → Bool) (xs : List X) (i : ℕ) → ((x : X) → q x ≡ true → p x ≡ true) → how_many q (take (how_many p (take i xs)) (filter p xs)) ≡ how_many q (take i xs)
-taken_of_filter p q [] zero implied = refl
-taken_of_filter p q [] (suc i) implied = refl
-taken_of_filter p q (x ∷ xs) zero implied = refl
-taken_of_filter p q (x ∷ xs) (suc i) implied = by_tests (p x) refl (taken_of_filter p q xs i implied)
-  where
-    by_tests : (s : Bool) → p x ≡ s → how_many q (take (how_many p (take i xs)) (filter p xs)) ≡ how_many q (take i xs)
-        → how_many q (take (one_if s + how_many p (take i xs)) (cond s (x ∷ filter p xs) (filter p xs))) ≡ one_if (q x) + how_many q (take i xs)
-    by_tests true is ih = rw (one-add (how_many p (take i xs))) (ap (λ n. one_if (q x) + n) ih)
-    by_tests false is ih = rw (zero-add (how_many p (take i xs))) (ih ∙ none (q x) refl)
-      where
-        none : (t : Bool) → q x ≡ t → how_many q (take i xs) ≡ one_if t + how_many q (take i xs)
-        none true passes = absurd (true≢false (sym (implied x passes) ∙ is))
-        none false passes = sym (zero-add (how_many q (take i xs)))
 
 next_port : (play : Play) (channel : ℕ) → IsNextPort play channel → IsNextObject play (call.NewPort (record { 0 = number_of play.script channel }))
 next_port play channel (is_channel, within, o, object, next) =
@@ -101,7 +86,7 @@ module _ (script : Lines) (known : IsKnown script) {i : ℕ} {made : Option Made
   maker_is object =
       let k = how_many (is_object script) (take i script.declarations) in
       let there : slice_get (objects_of script) k ≡ Some (source_of d.line) = filter_at (is_object script) script.declarations i (source_of d.line) line (declaration_object script d reads ∙ object) in
-      let feeds : how_many (is_feed script) (take k (objects_of script)) ≡ how_many (is_feed script) (take i script.declarations) = taken_of_filter (is_object script) (is_feed script) script.declarations i (feed_object script) in
+      let feeds : how_many (is_feed script) (take k (objects_of script)) ≡ how_many (is_feed script) (take i script.declarations) = feeds_before script i in
       sym (ap (maker script) so_far.count
       ∙ ap₂ (λ t n. cond t (Feed n) (Seat 0)) (ap (λ o. option_map_or (is_feed script) o false) there ∙ declaration_feed script d reads) (feeds ∙ sym so_far.fed))
 
@@ -157,19 +142,15 @@ module _ (script : Lines) (known : IsKnown script) {i : ℕ} {made : Option Made
   unfolding by_feed
   made_more later well has = by_makes d.makes refl has
     where
-      told_by : (entry : Entry (List ℕ)) (opened : List ℕ) (adds : Made → Made) → adds (record { seat = 0; entries = so_far.entries; opened = so_far.opened; apart = []; is_sending = false; refused = None }) ≡ record { seat = 0; entries = entry ∷ so_far.entries; opened = opened; apart = []; is_sending = false; refused = None } → later ≡ option_map adds made → IfSome later (λ tells. tells ≡ record { seat = 0; entries = entry ∷ so_far.entries; opened = opened; apart = []; is_sending = false; refused = None })
-      told_by entry opened adds one more = subst (λ (o : Option Made). IfSome o (λ tells. tells ≡ record { seat = 0; entries = entry ∷ so_far.entries; opened = opened; apart = []; is_sending = false; refused = None })) (sym more) (by_made made so_far.told)
-        where
-          by_made : (o : Option Made) → IfSome o (λ tells. tells ≡ record { seat = 0; entries = so_far.entries; opened = so_far.opened; apart = []; is_sending = false; refused = None }) → IfSome (option_map adds o) (λ tells. tells ≡ record { seat = 0; entries = entry ∷ so_far.entries; opened = opened; apart = []; is_sending = false; refused = None })
-          by_made None told = tt
-          by_made (Some tells) told = ap adds told ∙ one
+      told : Made
+      told = record { seat = 0; entries = so_far.entries; opened = so_far.opened; apart = []; is_sending = false; refused = None }
 
       called : (m : Makes) → d.makes ≡ m → makes_feed m ≡ false → (asked : Call (List ℕ)) × (answered : Reply (List ℕ)) × (making script m ≡ Some asked) × (later ≡ option_map (with_call asked answered) made) → IsDeclaring script (i + 1) later
       called m e unfed (asked, answered, is, more) =
           let plain : makes_feed d.makes ≡ false = ap makes_feed e ∙ unfed in
           let entry : Entry (List ℕ) = record { who = Seat 0; call = asked; reply = answered } in
           one_more asked entry so_far.opened later so_far.so (omega arith) well (ap (making script) e ∙ is) refl (sym (ap (λ t. by_feed t (how_many is_of_feed so_far.entries)) plain)) (sym (ap one_if plain))
-          (told_by entry so_far.opened (with_call asked answered) refl more)
+          (told_more told (with_call asked answered) made later so_far.told more)
 
       by_makes : (m : Makes) → d.makes ≡ m → HasMade script m made later → IsDeclaring script (i + 1) later
       by_makes makes.Thread e has = none_more later e has
@@ -179,36 +160,29 @@ module _ (script : Lines) (known : IsKnown script) {i : ℕ} {made : Option Made
           let asked : Call (List ℕ) = call.NewPort channel in
           let entry : Entry (List ℕ) = record { who = Feed (how_many is_of_feed so_far.entries); call = asked; reply = reply.Made port } in
           one_more asked entry (feed.capacity ∷ so_far.opened) later (capacity_is feed e, so_far.so) (omega arith) well (ap (making script) e) refl (sym (ap (λ t. by_feed t (how_many is_of_feed so_far.entries)) is_feed_one)) (sym (ap one_if is_feed_one))
-          (told_by entry (feed.capacity ∷ so_far.opened) (with_feed channel feed.capacity port) refl more)
+          (told_more told (with_feed channel feed.capacity port) made later so_far.told more)
       by_makes m e has = called m e refl has
 
 module _ (script : Lines) {i : ℕ} {made : Option Made} (so_far : IsDeclaring script i made) where
   few : length so_far.entries ≤ declared_count script
-  few =
-      let all = take_all (i + length script.declarations) script.declarations (omega arith) in
-      omega (arith, so_far.count, taken_count (is_object script) script.declarations i (i + length script.declarations) (omega arith), ap (how_many (is_object script)) all)
+  few = omega (arith, so_far.count, taken_all (is_object script) script.declarations i)
 
   -- all were made
   pub declares : length script.declarations ≤ i → IfSome made (λ m. Declares script m (Ok tt))
-  declares all = by_made made so_far.told
-    where
-      by_made : (o : Option Made) → IfSome o (λ tells. tells ≡ record { seat = 0; entries = so_far.entries; opened = so_far.opened; apart = []; is_sending = false; refused = None }) → IfSome o (λ m. Declares script m (Ok tt))
-      by_made None told = tt
-      by_made (Some tells) told = subst (λ (m : Made). Declares script m (Ok tt)) (sym told) (record { own = so_far.own; opened = so_far.so; fed = so_far.each; within = few; all = so_far.count ∙ ap (how_many (is_object script)) (take_all i script.declarations all); refused = refl })
+  declares all = IfSome_then made so_far.told (λ tells is. subst (λ (m : Made). Declares script m (Ok tt)) (sym is) (record {
+    own = so_far.own;
+    opened = so_far.so;
+    fed = so_far.each;
+    within = few;
+    all = so_far.count ∙ ap (how_many (is_object script)) (take_all i script.declarations all);
+    refused = refl;
+  }))
 
   -- or one was refused
   pub refuses : (ended : Result (Unit {0}) Refusal) (refusal : Refusal) (later : Option Made) → IsErrAnd ended (λ e. e ≡ refusal) → later ≡ option_map (with_refused refusal) made → IfSome later (λ m. Declares script m ended)
-  refuses ended refusal later is same =
-      subst (λ (e : Result (Unit {0}) Refusal). IfSome later (λ m. Declares script m e)) (sym (err_is ended is))
-      (subst (λ (o : Option Made). IfSome o (λ m. Declares script m (Err refusal))) (sym same) (by_made made so_far.told))
-    where
-      err_is : (e : Result (Unit {0}) Refusal) → IsErrAnd e (λ e. e ≡ refusal) → e ≡ Err refusal
-      err_is (Ok done) is = absurd is
-      err_is (Err e) is = ap Err is
-
-      by_made : (o : Option Made) → IfSome o (λ tells. tells ≡ record { seat = 0; entries = so_far.entries; opened = so_far.opened; apart = []; is_sending = false; refused = None }) → IfSome (option_map (with_refused refusal) o) (λ m. Declares script m (Err refusal))
-      by_made None told = tt
-      by_made (Some tells) told = subst (λ (m : Made). Declares script m (Err refusal)) (sym (ap (with_refused refusal) told)) (record { own = so_far.own; opened = so_far.so; fed = so_far.each; within = few; all = tt; refused = refl })
+  refuses (Ok done) refusal later is same = absurd is
+  refuses (Err e) refusal later is same = IfSome_then later (told_more _ (with_refused refusal) made later so_far.told same) (λ tells told.
+      subst (λ (m : Made). Declares script m (Err e)) (sym told) (record { own = so_far.own; opened = so_far.so; fed = so_far.each; within = few; all = tt; refused = ap Some (sym is) }))
 
 -- what is made well is made of declared names
 pub well_declared : (script : Lines) (i : ℕ) (m : Makes) → i < length script.declarations → IsMadeWell (names_of script) i m → IsMadeOfDeclared script m

@@ -1,8 +1,6 @@
 -- Names of objects of a kind, and the calls that these take.
-use Rattle.std.proofs.Common.{◌≡◌, ℕ, Bool, true, false, List, Option, Some, None, refl, ap, ◌∙◌}
-use Rattle.std.specs.Option.{option_map, option_map_or}
-use Rattle.std.proofs.lemmas.Bool.{false≢true}
-use Rattle.std.proofs.lemmas.Option.{none-some, same_Some}
+use Rattle.std.proofs.Common.{◌≡◌, ℕ, true, List, Option, Some, refl, ap, ◌∙◌}
+use Rattle.std.proofs.lemmas.Option.{none-some}
 use Rattle.cml_calls.specs.declared.kind.Kind.{Kind}
 use Rattle.cml_calls.specs.declared.kind.Kind.TheVariants as kind
 use Rattle.cml_calls.specs.declared.shape.Takers.{Takers}
@@ -28,6 +26,8 @@ use Rattle.cml_grammar.specs.Reading.{IsMailboxAt, IsChannelAt, IsPortAt, IsFeed
 use Rattle.cml_grammar.specs.Suiting.{IsSuitedAt}
 use Rattle.cml_script.specs.Schedule.{History, call_on, call_of}
 use Rattle.cml_script.specs.Plan.{IsObjectAt}
+use Rattle.cml_grammar.proofs.ListLemmas.{mapped_some}
+use Rattle.cml_script.proofs.ListLemmas.{passing}
 
 module _ (names : List Given) (at : ℕ) where
   pub mailbox_at : IsMailboxAt names at → IsObjectAt names at kind.Mailbox
@@ -72,19 +72,12 @@ want_is give name one other = refl
 
 -- the call is made on an object
 pub called_on : (object : ℕ → Option ℕ) (a : Action) (c : Call (List ℕ)) → call_of object a ≡ Some c → (name : Name) × (call_on a name ≡ c)
-called_on object a c = by_object (object (used_by a))
-  where
-    by_object : (o : Option ℕ) → option_map (λ n. call_on a (record { 0 = n })) o ≡ Some c → (name : Name) × (call_on a name ≡ c)
-    by_object None e = absurd (none-some c e)
-    by_object (Some n) e = (record { 0 = n }, same_Some _ _ e)
+called_on object a c called =
+    let is = mapped_some (λ n. call_on a (record { 0 = n })) (object (used_by a)) c called in (record { 0 = is.0 }, is.2)
 
 -- the name at this position is an object's that takes such calls
 abbrev pub IsTakerAt : List Given → Takers → ℕ → Type 0
 IsTakerAt names takers at = (k : Kind) × IsObjectAt names at k × (admits takers k ≡ true)
-
-some_kind : (test : Kind → Bool) (o : Option Kind) → option_map_or test o false ≡ true → (k : Kind) × (o ≡ Some k) × (test k ≡ true)
-some_kind test None e = absurd (false≢true e)
-some_kind test (Some k) e = (k, refl, e)
 
 with_feeds : (n : Named) (k : Kind) → kind_of_named n ≡ Some k → kind_named n ≡ Some k
 with_feeds (called.Feed owner) k e = absurd (none-some k e)
@@ -92,12 +85,12 @@ with_feeds n k e = e
 
 object_taker : (names : List Given) (takers : Takers) (at : ℕ) → IsSuitedAt names (Object takers) at → IsTakerAt names takers at
 object_taker names takers at (word, n, found, suits) =
-    let k = some_kind (admits takers) (kind_of_named n) suits in
+    let k = passing (admits takers) (kind_of_named n) suits in
     (k.0, (word, n, found, with_feeds n k.0 k.1), k.2)
 
 asked_taker : (names : List Given) (ask : Ask) (at : ℕ) → IsSuitedAt names (asked_place ask) at → IsTakerAt names (asked ask).takers at
 asked_taker names ask.Poll at (word, n, found, suits) =
-    let k = some_kind is_receiver (kind_named n) suits in
+    let k = passing is_receiver (kind_named n) suits in
     (k.0, (word, n, found, k.1), k.2)
 asked_taker names ask at suited = object_taker names (asked ask).takers at suited
 

@@ -2,9 +2,9 @@
 use Rattle.std.proofs.Common.{◌≡◌, ℕ, ◌+◌, ◌<◌, ◌≤◌, Bool, true, false, cond, eqb, ltb, List, [], ◌∷◌, length, take, slice_get, Option, Some, None, MatchBool, count_by, refl, sym, ap, subst, ◌∙◌, arith, inl, inr, zero-add}
 use Rattle.std.specs.Prelude.{not}
 use Rattle.std.specs.Option.{option_map_or, option_and_then}
-use Rattle.std.proofs.lemmas.Option.{same_Some, none-some}
+use Rattle.std.proofs.lemmas.Option.{cond_some}
 use Rattle.std.proofs.lemmas.List.Sums.{sum_by-cons}
-use Rattle.std.proofs.lemmas.Bool.{cases_lt, cases_eq, eqb-true, ne_eqb, true≢false}
+use Rattle.std.proofs.lemmas.Bool.{cases_eq, cases_order, eqb-true, ne_eqb, true≢false}
 use Rattle.cml_board.specs.declared.call.Call.{Call}
 use Rattle.cml_board.specs.declared.entry.Who.{Who}
 use Rattle.cml_board.specs.declared.entry.Who.TheVariants.{Seat, Lane, Feed}
@@ -15,7 +15,7 @@ use Rattle.cml_script.specs.Audit.{IsOfScript, IsOfCaller}
 use Rattle.cml_script.specs.Schedule.{History, IsReady, IsStep, IsDeclaration, Follows, declared_count, is_called, earlier, performed, positions_from, next_position, given_by, gives_next}
 use Rattle.cml_script.specs.Report.{is_of_thread}
 use Rattle.cml_script.specs.Plan.{HasSeats}
-use Rattle.cml_script.proofs.ListLemmas.{counted_mono, taken_count, count_taken}
+use Rattle.cml_script.proofs.ListLemmas.{counted_mono, taken_count, count_taken, none_unless, passing}
 use Rattle.cml_script.proofs.LineLemmas.{called_seated}
 use Rattle.cml_script.proofs.QueueLemmas.{position_is, position_of_step}
 
@@ -46,30 +46,23 @@ module _ (script : Lines) where
   pub given_at : (i : ℕ) (line : SourceLine) → slice_get script.steps i ≡ Some line → given_by script i ≡ cond (is_giving line) (Some (names_before script.declarations script.steps i)) None
   given_at i line found = ap (λ (l : Option SourceLine). cond (option_map_or is_giving l false) (Some (names_before script.declarations script.steps i)) None) found
 
+  -- the line of a step that gives this name
+  pub given_line : (i at : ℕ) → given_by script i ≡ Some at → (line : SourceLine) × (slice_get script.steps i ≡ Some line) × (is_giving line ≡ true) × (names_before script.declarations script.steps i ≡ at)
+  given_line i at given =
+      let is = cond_some (option_map_or is_giving (slice_get script.steps i) false) (names_before script.declarations script.steps i) at given in
+      let line = passing is_giving (slice_get script.steps i) is.0 in
+      (line.0, line.1, line.2, is.1)
+
   -- two steps give two names
   pub given_once : (i j at : ℕ) → given_by script i ≡ Some at → given_by script j ≡ Some at → i ≡ j
-  given_once i j at one two = by_lines (slice_get script.steps i) (slice_get script.steps j) refl refl
-    where
-      none : (k : ℕ) → slice_get script.steps k ≡ None → given_by script k ≡ None
-      none k e = ap (λ (l : Option SourceLine). cond (option_map_or is_giving l false) (Some (names_before script.declarations script.steps k)) None) e
-
-      gives : (k : ℕ) (line : SourceLine) (t : Bool) → slice_get script.steps k ≡ Some line → is_giving line ≡ t → given_by script k ≡ Some at → (is_giving line ≡ true) × (names_before script.declarations script.steps k ≡ at)
-      gives k line true found e given = (e, same_Some _ _ (sym (given_at k line found ∙ ap (λ (t : Bool). cond t (Some (names_before script.declarations script.steps k)) None) e) ∙ given))
-      gives k line false found e given = absurd (none-some at (sym (given_at k line found ∙ ap (λ (t : Bool). cond t (Some (names_before script.declarations script.steps k)) None) e) ∙ given))
-
-      by_lines : (a b : Option SourceLine) → slice_get script.steps i ≡ a → slice_get script.steps j ≡ b → i ≡ j
-      by_lines None b e f = absurd (none-some at (sym (none i e) ∙ one))
-      by_lines (Some a) None e f = absurd (none-some at (sym (none j f) ∙ two))
-      by_lines (Some a) (Some b) e f =
-          let first = gives i a (is_giving a) e refl one in
-          let second = gives j b (is_giving b) f refl two in
-          elim (cases_lt i j) [
-            | inl lt ↦ absurd (omega (arith, names_mono i j a lt e first.0, first.1, second.1))
-            | inr ge ↦ elim (cases_lt j i) [
-              | inl lt ↦ absurd (omega (arith, names_mono j i b lt f second.0, first.1, second.1))
-              | inr le ↦ omega (arith, ge, le)
-            ]
-          ]
+  given_once i j at one two =
+      let first = given_line i at one in
+      let second = given_line j at two in
+      elim (cases_order i j) [
+        | inl same ↦ same
+        | inr (inl lt) ↦ absurd (omega (arith, names_mono i j first.0 lt first.1 first.2, first.3, second.3))
+        | inr (inr gt) ↦ absurd (omega (arith, names_mono j i second.0 gt second.1 second.2, first.3, second.3))
+      ]
 
   module _ (history : History) where
     -- the step that is ready is its thread's next
@@ -84,13 +77,9 @@ module _ (script : Lines) where
 
     -- no step is the first seat's
     pub none_first : HasSeats script → next_position script history (Seat 0) ≡ None
-    none_first seats = by_next (next_position script history (Seat 0)) refl
-      where
-        by_next : (o : Option ℕ) → next_position script history (Seat 0) ≡ o → o ≡ None
-        by_next None e = refl
-        by_next (Some i) e =
-            let there = position_is (is_called script 0) 0 script.steps (performed history 0) i e in
-            absurd (omega (arith, (seats there.place there.line 0 there.found (called_seated script 0 there.line there.seated)).0))
+    none_first seats = none_unless _ (λ i e.
+        let there = position_is (is_called script 0) 0 script.steps (performed history 0) i e in
+        omega (arith, (seats there.place there.line 0 there.found (called_seated script 0 there.line there.seated)).0))
 
     -- nor another's that is no thread's
     pub none_other : HasSeats script → (who : Who) → is_of_thread who ≡ false → next_position script history who ≡ None
@@ -106,11 +95,8 @@ module _ (script : Lines) where
 
     -- a call that gives this name performs the step that gives it
     pub gives_that : (who : Who) (at : ℕ) → gives_next script history who at ≡ true → giver script history who ≡ Some at
-    gives_that who at gives = by_giver (giver script history who) refl
-      where
-        by_giver : (g : Option ℕ) → giver script history who ≡ g → g ≡ Some at
-        by_giver None e = absurd (true≢false (sym gives ∙ gives_as who at None e))
-        by_giver (Some n) e = ap Some (eqb-true n at (sym (gives_as who at (Some n) e) ∙ gives))
+    gives_that who at gives =
+        let given = passing (λ n. eqb n at) (giver script history who) gives in given.1 ∙ ap Some (eqb-true given.0 at given.2)
 
 -- a step that is the least that is ready is its thread's next, and so what follows the schedule is the script's
 pub follows_own : (script : Lines) (history : History) → Follows script history → IsOfScript script history

@@ -1,8 +1,6 @@
 -- Which ends are no hold of a gate.
-use Rattle.std.proofs.Common.{◌≡◌, Bool, true, false, Result, Ok, Err, sym, ap, ◌∙◌}
+use Rattle.std.proofs.Common.{◌≡◌, Result, Ok, Err, sym, ◌∙◌}
 use Rattle.std.specs.Prelude.{◌≢◌, IfOk}
-use Rattle.std.proofs.lemmas.Bool.{false≢true}
-use Rattle.std.specs.declared.alloc.AllocError.{AllocError}
 use Rattle.cml_board.specs.declared.outcome.Refusal.{Refusal}
 use Rattle.cml_board.specs.declared.outcome.Refusal.TheVariants as refusal
 use Rattle.cml_script.specs.declared.stop.Stop.{Stop}
@@ -11,15 +9,10 @@ use Rattle.cml_script.specs.declared.perform.Played.{Played}
 use Rattle.cml_script.specs.declared.ending.Ending.{Ending}
 use Rattle.cml_script.specs.Working.{IsUnheld, stop_of}
 
-is_held : Result Stop AllocError → Bool
-is_held (Ok Held) = true
-is_held stop = false
-
 -- no refusal is a hold
 pub stop_unheld : (r : Refusal) → IsUnheld (stop_of r)
-unfolding is_held
-stop_unheld refusal.JournalFull = λ is. false≢true (ap is_held is)
-stop_unheld r = λ is. false≢true (ap is_held is)
+stop_unheld refusal.JournalFull = λ is. cc
+stop_unheld r = λ is. cc
 
 -- what is played of a run that was not held tells no hold
 pub kept_unheld : (opens : Type 0) (stop : Stop) (r : Result Played Ending) → (opens → stop ≢ Held) → IfOk r (λ p. p.stop ≡ stop) → IfOk r (λ p. opens → p.stop ≢ Held)

@@ -1,5 +1,5 @@
 -- The declared objects are the first that are made, each of its kind.
-use Rattle.std.proofs.Common.{◌≡◌, ℕ, zero, suc, ◌+◌, ◌<◌, ◌≤◌, ◌⊎◌, Bool, true, false, cond, ltb, List, [], ◌∷◌, ◌++◌, length, take, filter, slice_get, Option, Some, None, MatchBool, refl, sym, ap, subst, ◌∙◌, arith, inl, inr}
+use Rattle.std.proofs.Common.{◌≡◌, ℕ, ◌+◌, ◌<◌, ◌≤◌, ◌⊎◌, Bool, true, false, cond, ltb, List, [], ◌∷◌, ◌++◌, length, take, filter, slice_get, Option, Some, None, MatchBool, refl, sym, ap, subst, ◌∙◌, arith, inl, inr}
 use Rattle.std.specs.Option.{option_map, option_map_or, option_and_then}
 use Rattle.std.proofs.lemmas.Option.{same_Some, none-some, slice_get_within}
 use Rattle.std.proofs.lemmas.List.{length_push, length-append}
@@ -11,6 +11,7 @@ use Rattle.cml_calls.specs.declared.kind.Kind.TheVariants as kind
 use Rattle.cml_board.specs.declared.entry.Entry.{Entry}
 use Rattle.cml_board.specs.Origins.{Origin, mailbox, channel, port, ivar, mvar, kind_by}
 use Rattle.cml_board.specs.History.{Lawful, made, begun_by, if_made, new_name, kind_of, answer, sent}
+use Rattle.cml_board.proofs.Received.{slice_get-append_within}
 use Rattle.cml_grammar.specs.declared.names.Named.TheVariants as called
 use Rattle.cml_grammar.specs.declared.forms.Makes.{Makes}
 use Rattle.cml_grammar.specs.declared.forms.Makes.TheVariants as makes
@@ -23,7 +24,7 @@ use Rattle.cml_script.specs.Stage.{Play, IsNextObject, IsNextPort, IsNext}
 use Rattle.cml_script.specs.Counting.{one_if, how_many}
 use Rattle.cml_script.specs.Audit.{IsOfScript, IsOfCaller}
 use Rattle.cml_script.specs.Schedule.{History, IsDeclaration, declared_count, objects_of, call_in, making_call, makes_object, is_object, declared_object}
-use Rattle.cml_script.proofs.ListLemmas.{slice_get-append_left, slice_get_pushed, filter_at, counted_mono}
+use Rattle.cml_script.proofs.ListLemmas.{slice_get_pushed, filter_at, counted_mono, taken_all}
 
 -- what is made behind a list of objects, by a call that makes one
 pub record MakesOne (before : History) (entry : Entry (List ℕ)) (k : Option Kind) : Type 0 where
@@ -77,7 +78,7 @@ pub record MakesDeclared (script : Lines) (history : History) : Type 0 where
 -- an object that was made stays of its kind
 kind_kept : (before : History) (entry : Entry (List ℕ)) (k : ℕ) → k < length (made before) → kind_of (entry ∷ before) k ≡ kind_of before k
 kind_kept before entry k lt =
-    ap (option_map kind_by) (slice_get-append_left (made before) (if_made entry.reply (begun_by (made before) before entry.call)) k lt)
+    ap (option_map kind_by) (slice_get-append_within (made before) (if_made entry.reply (begun_by (made before) before entry.call)) k lt)
 
 declared_next : (script : Lines) (before : History) (entry : Entry (List ℕ)) → length before < declared_count script → IsDeclaration script before entry → answer before entry.call ≡ Some entry.reply → MakesDeclared script before → MakesDeclared script (entry ∷ before)
 declared_next script before entry within declares answers m =
@@ -129,20 +130,15 @@ makes_declared script (entry ∷ before) own lawful =
 
 -- fewer objects are declared before an object's declaration than in all
 pub counted_below : (p : SourceLine → Bool) (xs : List SourceLine) (i : ℕ) (x : SourceLine) → slice_get xs i ≡ Some x → p x ≡ true → how_many p (take i xs) < how_many p xs
-counted_below p [] i x found passes = absurd (none-some x found)
-counted_below p (y ∷ ys) zero x found passes =
-    let yes : p y ≡ true = ap p (same_Some y x found) ∙ passes in
-    rw yes (omega arith)
-counted_below p (y ∷ ys) (suc i) x found passes =
-    let ih = counted_below p ys i x found passes in omega (arith, ih)
+counted_below p xs i x found passes =
+    let before = counted_mono p xs i (length xs) x (slice_get_within xs i x found) found passes in
+    omega (arith, before, taken_all p xs (length xs))
 
 pub length_filter : (p : SourceLine → Bool) (xs : List SourceLine) → length (filter p xs) ≡ how_many p xs
 length_filter p [] = refl
-length_filter p (x ∷ xs) = by_test (p x) (length_filter p xs)
-  where
-    by_test : (t : Bool) → length (filter p xs) ≡ how_many p xs → length (cond t (x ∷ filter p xs) (filter p xs)) ≡ one_if t + how_many p xs
-    by_test true ih = omega (arith, ih)
-    by_test false ih = omega (arith, ih)
+length_filter p (x ∷ xs) =
+    let ih = length_filter p xs in
+    elim (p x) as (λ t. length (cond t (x ∷ filter p xs) (filter p xs)) ≡ one_if t + how_many p xs) [ true ↦ omega (arith, ih) | false ↦ omega (arith, ih) ]
 
 -- what makes an object has a kind
 object_kind : (m : Option Makes) (k : Kind) → option_and_then kind_made m ≡ Some k → option_map_or makes_object m false ≡ true

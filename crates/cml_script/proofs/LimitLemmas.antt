@@ -1,12 +1,14 @@
 -- Which words the level of a subcommand that performs a script understands: the same below `replay` and below `run`.
-use Rattle.std.proofs.Common.{◌≡◌, ◌∙◌, ap, ap₂, subst, refl, ℕ, Bool, true, false, List, [], ◌∷◌, Option, Some, None, codes}
-use Rattle.std.specs.Prelude.{fold, slice_get, slice_index_or, ◌==◌}
+use Rattle.std.proofs.Common.{◌≡◌, ◌∙◌, ap, ap₂, subst, sym, refl, inl, inr, Bool, true, false, List, [], ◌∷◌, Option, Some, None, codes}
+use Rattle.std.specs.Prelude.{fold, slice_index_or, ◌==◌}
+use Rattle.std.proofs.lemmas.Bool.{cases_Bool}
+use Rattle.std.proofs.lemmas.Option.{slice_get_cases}
 use Rattle.std.specs.Str.{bytes_eq, chars}
-use Rattle.clap.specs.Walk.{Held, Row, Rule, Text, Waiting, Walk, arg_by_long, bundle_met, idle, long_or_other, option, positional, short_or_plain, used, walked}
+use Rattle.clap.specs.Walk.{Held, Row, Rule, Text, Waiting, Walk, arg_by_long, bundle_met, idle, long_or_other, nothing_held, option, positional, short_or_plain, used, walk_from, walked}
 use Rattle.clap.specs.Simple.{Shape, built, new_rule}
 use Rattle.clap.specs.Kinds.{Kinds, or_else}
 use Rattle.clap.specs.Lexer.{long_of, short_of}
-use Rattle.clap.specs.Faults.{bundle_fault, flag_word_fault, flags_fault, long_fault, settle_fault, step_fault, turn_fault, walk_fault}
+use Rattle.clap.specs.Faults.{bundle_fault, flag_word_fault, flags_fault, level_fault, long_fault, settle_fault, step_fault, turn_fault, walk_fault}
 use Rattle.cml_script.specs.CommandLine.{usage}
 use Rattle.cml_script.proofs.RefusalLemmas.{or_else-nil, or_else-refuses, or_else-refuses_next, refused_is_some, refuses, same_text}
 
@@ -21,18 +23,32 @@ abbrev pub standing : Waiting → Bool → Held → Walk
 standing waiting is_trailing held =
     record { held = held; waiting = waiting; position = 1; is_trailing = is_trailing; stopped = None }
 
--- what the words to come, and the end, find at fault
+module _ (level : Shape) where
+  -- what the words to come, and the end, find at fault
+  abbrev pub left_fault : Walk → List Text → Kinds
+  left_fault w words = or_else (walk_fault level [] w words) (settle_fault level.rules level.args_override_self (fold (walked level.rules []) w words).held)
+
+  pub turn_at : (w : Walk) (word : Text) (rest : List Text) → left_fault w (word ∷ rest) ≡ []
+      → (turn_fault level [] w word ≡ []) × (left_fault (walked level.rules [] w word) rest ≡ [])
+  unfolding walk_fault
+  turn_at w word rest none =
+      let all = or_else-nil (walk_fault level [] w (word ∷ rest)) _ none in
+      let words = or_else-nil (turn_fault level [] w word) _ all.0 in
+      (words.0, ap (λ k. or_else k (settle_fault level.rules level.args_override_self (fold (walked level.rules []) (walked level.rules [] w word) rest).held)) words.1 ∙ all.1)
+
+  -- so at the level's start
+  pub none_at_start : (rest : List Text) → level_fault level [] nothing_held rest false [] ≡ [] → left_fault (walk_from nothing_held) rest ≡ []
+  none_at_start rest none =
+      let words = or_else-nil _ _ none in
+      let settles = or_else-nil _ _ words.1 in
+      ap (λ k. or_else k (settle_fault level.rules level.args_override_self (fold (walked level.rules []) (walk_from nothing_held) rest).held)) words.0 ∙ settles.0
+
 abbrev pub rest_fault : Walk → List Text → Kinds
-rest_fault w words =
-    or_else (walk_fault below [] w words) (settle_fault below.rules false (fold (walked below.rules []) w words).held)
+rest_fault w words = left_fault below w words
 
 pub first_turn : (w : Walk) (word : Text) (rest : List Text) → rest_fault w (word ∷ rest) ≡ []
     → (turn_fault below [] w word ≡ []) × (rest_fault (walked below.rules [] w word) rest ≡ [])
-unfolding walk_fault
-first_turn w word rest none =
-    let all = or_else-nil (walk_fault below [] w (word ∷ rest)) _ none in
-    let words = or_else-nil (turn_fault below [] w word) _ all.0 in
-    (words.0, ap (λ k. or_else k (settle_fault below.rules false (fold (walked below.rules []) (walked below.rules [] w word) rest).held)) words.1 ∙ all.1)
+first_turn = turn_at below
 
 -- ---- after `--` there is no word
 
@@ -62,6 +78,14 @@ abbrev pub names : Text → Option (Text × Option Text) → Bool
 names flag None = false
 names flag (Some p) = bytes_eq flag p.0
 
+-- a word that names this option
+pub named : (flag word : Text) → names flag (long_of word) ≡ true → (value : Option Text) × (long_of word ≡ Some (flag, value))
+named flag word h = go (long_of word) refl h
+  where
+    go : (o : Option (Text × Option Text)) → long_of word ≡ o → names flag o ≡ true → (value : Option Text) × (long_of word ≡ Some (flag, value))
+    go None e n = cc
+    go (Some p) e n = (p.1, e ∙ ap (λ name. Some (name, p.1)) (sym (same_text flag p.0 n)))
+
 abbrev refusal : Held → Option (Text × Option Text) → Text → Kinds
 refusal h long word = or_else (flag_word_fault below.rules false long word h)
     (step_fault below 1 (long_or_other below.rules idle word long h).0 (long_or_other below.rules idle word long h).1)
@@ -83,16 +107,13 @@ bundle_refusal h flags word = or_else (bundle_fault below.rules false flags h)
 bundle_is_refused : (rows : List Row) (pending : Option (Text × List Text)) (flags word : Text) → refuses (bundle_refusal (holding rows pending) flags word) ≡ true
 unfolding flags_fault bundle_met
 bundle_is_refused rows pending [] word = refl
-bundle_is_refused rows pending (f ∷ fs) word = go (slice_get (chars (f ∷ fs)) 0) refl
-  where
-    with_first : (x : ℕ) → slice_get (chars (f ∷ fs)) 0 ≡ Some x → (t : Bool) → (104 == x) ≡ t → refuses (bundle_refusal (holding rows pending) (f ∷ fs) word) ≡ true
-    with_first x e true t =
-        rw (e, t) (or_else-refuses _ _ (or_else-refuses _ _ (or_else-refuses_next (settle_fault below.rules false (holding rows pending)) _ refl)))
-    with_first x e false t = rw (e, t) refl
-
-    go : (c : Option ℕ) → slice_get (chars (f ∷ fs)) 0 ≡ c → refuses (bundle_refusal (holding rows pending) (f ∷ fs) word) ≡ true
-    go None e = rw e refl
-    go (Some x) e = with_first x e (104 == x) refl
+bundle_is_refused rows pending (f ∷ fs) word = elim (slice_get_cases (chars (f ∷ fs)) 0).1 [
+  | inr none ↦ rw none.1 refl
+  | inl some ↦ elim (cases_Bool (104 == some.0)) [
+    | inl t ↦ rw (some.2, t) (or_else-refuses _ _ (or_else-refuses _ _ (or_else-refuses_next (settle_fault below.rules false (holding rows pending)) _ refl)))
+    | inr t ↦ rw (some.2, t) refl
+  ]
+]
 
 other_word_is_refused : (rows : List Row) (pending : Option (Text × List Text)) (word : Text) → names (codes "limit") (long_of word) ≡ false → names (codes "journal") (long_of word) ≡ false
     → refuses (refusal (holding rows pending) (long_of word) word) ≡ true

@@ -1,17 +1,16 @@
 -- The level of a subcommand that performs a script takes each limit and form, and finds them.
-use Rattle.std.proofs.Common.{◌≡◌, ◌⊎◌, ◌++◌, ap, refl, subst, inl, inr, arith, ℕ, true, false, List, [], ◌∷◌, Some, None, codes}
+use Rattle.std.proofs.Common.{◌≡◌, ◌++◌, refl, subst, inl, inr, arith, ℕ, false, List, [], ◌∷◌, Some, None, codes}
 use Rattle.std.specs.Str.{bytes_eq}
-use Rattle.clap.specs.Walk.{Row, Text, nothing_held, one_of, rows_after}
+use Rattle.clap.specs.Walk.{Text, nothing_held, one_of, rows_after}
 use Rattle.clap.specs.Kinds.{value_kinds}
 use Rattle.clap.specs.Lexer.{long_of, short_of}
 use Rattle.clap.specs.Faults.{level_fault}
 use Rattle.clap.proofs.OnLiterals.{clap_on_literals}
-use Rattle.cml_script.specs.CommandLine.{AreBoth, FindsForm, GivesForm, GivesLimit, FindsLimit, IsEnd}
+use Rattle.cml_script.specs.CommandLine.{AreBoth, Asks, FindsForm, GivesForm, FindsLimit, IsEnd}
 use Rattle.cml_script.specs.declared.asked.Form.{Form}
 use Rattle.cml_script.specs.declared.asked.Form.TheVariants.{Report, Journal}
 use Rattle.cml_script.proofs.LimitTexts.{limit_parser, number_is_no_flag, number_passes}
 use Rattle.cml_script.proofs.LimitLemmas.{below}
-use Rattle.cml_script.proofs.LimitWalks.{AsksBelow}
 
 -- what the level makes of options and their end: it finds no fault, this limit's text, and this form
 record Takes (options end : List Text) (text : Text) (form : Form) : Type 0 where
@@ -93,27 +92,27 @@ pub record Taken (rest : List Text) (limit : ℕ) (form : Form) : Type 0 where
   pub finds : FindsLimit (rows_after below.rules [] rest) limit
   pub writes : FindsForm (rows_after below.rules [] rest) form
 
-pub taken_below : (rest : List Text) (limit : ℕ) (form : Form) → AsksBelow rest limit form → Taken rest limit form
-taken_below rest limit form asks = rw asks.are (by asks.gives)
-  where
-    by : GivesLimit asks.limits limit → Taken (asks.options ++ asks.end) limit form
-    by (inl none) =
-        let both : AreBoth asks.options [] asks.forms = subst (λ l. AreBoth asks.options l asks.forms) none.0 asks.both in
-        let takes = no_limit asks.forms asks.options asks.end form asks.writes both asks.ends in
-        let is = none.1 in record {
-          fault = takes.fault;
-          finds = (codes "65536", ((omega arith, (omega arith, (omega arith, (omega arith, (omega arith, (omega arith, tt)))))), is), omega arith, takes.finds);
-          writes = takes.writes;
-        }
-    by (inr some) =
-        let text = some.0 in
-        let flag = number_is_no_flag text limit some.2 in
-        let passes = number_passes text limit some.2 some.3 some.4 in
-        let takes : Takes asks.options asks.end text form = elim some.1 [
-          | inl two ↦ in_two_words text asks.forms asks.options asks.end form (record { long = flag.0; short = flag.1; dashes = flag.2; passes = passes }) asks.writes (subst (λ l. AreBoth asks.options l asks.forms) two asks.both) asks.ends
-          | inr one ↦ in_one_word text asks.forms asks.options asks.end form passes asks.writes (subst (λ l. AreBoth asks.options l asks.forms) one asks.both) asks.ends
-        ] in record {
-          fault = takes.fault;
-          finds = (text, some.2, some.4, takes.finds);
-          writes = takes.writes;
-        }
+pub taken_below : (name : Text) (words : List Text) (limit : ℕ) (form : Form) (asks : Asks name words limit form) → Taken (asks.options ++ asks.end) limit form
+taken_below name words limit form asks = elim asks.gives [
+  | inl none ↦
+      let both = subst (λ l. AreBoth asks.options l asks.forms) none.0 asks.both in
+      let takes = no_limit asks.forms asks.options asks.end form asks.writes both asks.ends in
+      let is = none.1 in record {
+        fault = takes.fault;
+        finds = (codes "65536", ((omega arith, (omega arith, (omega arith, (omega arith, (omega arith, (omega arith, tt)))))), is), omega arith, takes.finds);
+        writes = takes.writes;
+      }
+  | inr some ↦
+      let text = some.0 in
+      let flag = number_is_no_flag text limit some.2 in
+      let passes = number_passes text limit some.2 some.3 some.4 in
+      let fits : Fits text = record { long = flag.0; short = flag.1; dashes = flag.2; passes = passes } in
+      let takes : Takes asks.options asks.end text form = elim some.1 [
+        | inl two ↦ in_two_words text asks.forms asks.options asks.end form fits asks.writes (subst (λ l. AreBoth asks.options l asks.forms) two asks.both) asks.ends
+        | inr one ↦ in_one_word text asks.forms asks.options asks.end form passes asks.writes (subst (λ l. AreBoth asks.options l asks.forms) one asks.both) asks.ends
+      ] in record {
+        fault = takes.fault;
+        finds = (text, some.2, some.4, takes.finds);
+        writes = takes.writes;
+      }
+]

@@ -1,9 +1,12 @@
 -- What the words of `--limit` look like, and which texts are its number.
-use Rattle.std.proofs.Common.{◌≡◌, ◌∙◌, ◌++◌, ◌<◌, ◌≤◌, ◌^◌, ap, ap₂, subst, sym, refl, arith, ℕ, Bool, true, false, [], ◌∷◌, Option, Some, None, Result, Ok, Err, length, get_or, take_all, eqb-true, ne_eqb, codes}
+use Rattle.std.proofs.lemmas.Bool.{cases_Bool, true_from_ne_false}
+use Rattle.std.proofs.lemmas.Option.{cond_some, option_and_then_some}
+use Rattle.std.proofs.Common.{◌≡◌, ◌∙◌, ◌++◌, ◌<◌, ◌≤◌, ◌^◌, ap, ap₂, subst, sym, refl, inl, inr, arith, ℕ, true, false, [], ◌∷◌, Option, Some, None, Result, Ok, Err, length, get_or, take_all, eqb-true, ne_eqb, codes}
 use Rattle.std.specs.Prelude.{◌==◌, option_and_then}
 use Rattle.std.specs.Str.{bytes_eq}
 use Rattle.std.specs.Str.Parse.{IsNumeral, ParsesUnsigned, without_leading_plus}
 use Rattle.std.specs.List.{list_any, before_first, after_first, position_or_len}
+use Rattle.std.proofs.lemmas.Grind.{common_steps}
 use Rattle.std.proofs.lemmas.List.Sums.{split_at_first, passes_at_first}
 use Rattle.clap.specs.Matches.{ReadsOne}
 use Rattle.clap.specs.Walk.{Text}
@@ -21,17 +24,8 @@ use Rattle.cml_script.specs.CommandLine.{ReadsAs}
 
 stripped : (c : ℕ) (text rest : Text) → strip_byte c text ≡ Some rest → text ≡ c ∷ rest
 stripped c [] rest h = cc
-stripped c (x ∷ xs) rest h = go (x == c) refl
-  where
-    go : (b : Bool) → (x == c) ≡ b → x ∷ xs ≡ c ∷ rest
-    go true t =
-        let same : x ≡ c = eqb-true x c t in
-        let left : Some xs ≡ Some rest = rw t at h in
-        let tail : xs ≡ rest = cc in
-        ap₂ (λ y ys. y ∷ ys) same tail
-    go false t =
-        let bad : None ≡ Some rest = rw t at h in
-        cc
+stripped c (x ∷ xs) rest h =
+    let is = cond_some (x == c) xs rest h in ap₂ (λ y ys. y ∷ ys) (eqb-true x c is.0) is.1
 
 -- a name and a value, with the `=` between them
 abbrev pub joined : Text → Option Text → Text
@@ -40,60 +34,32 @@ joined name (Some value) = name ++ 61 ∷ value
 
 met_within : (text : Text) → list_any (λ x. x == 61) text ≡ true → position_or_len (λ x. x == 61) text < length text
 met_within [] h = cc
-met_within (x ∷ xs) h = go (x == 61) refl (met_within xs)
-  where
-    go : (b : Bool) → (x == 61) ≡ b → (list_any (λ y. y == 61) xs ≡ true → position_or_len (λ y. y == 61) xs < length xs)
-        → position_or_len (λ y. y == 61) (x ∷ xs) < length (x ∷ xs)
-    go true t more = rw t (omega arith)
-    go false t more =
-        let left : list_any (λ y. y == 61) xs ≡ true = rw t at h in
-        let rest = more left in
-        rw t (omega arith)
+met_within (x ∷ xs) h = let more = met_within xs in grind (arith, common_steps, more)
 
 never_met : (text : Text) → list_any (λ x. x == 61) text ≡ false → position_or_len (λ x. x == 61) text ≡ length text
 never_met [] h = refl
-never_met (x ∷ xs) h = go (x == 61) refl (never_met xs)
-  where
-    go : (b : Bool) → (x == 61) ≡ b → (list_any (λ y. y == 61) xs ≡ false → position_or_len (λ y. y == 61) xs ≡ length xs)
-        → position_or_len (λ y. y == 61) (x ∷ xs) ≡ length (x ∷ xs)
-    go true t more =
-        let bad : true ≡ false = rw t at h in
-        cc
-    go false t more =
-        let left : list_any (λ y. y == 61) xs ≡ false = rw t at h in
-        let rest = more left in
-        rw t (omega arith)
+never_met (x ∷ xs) h = let more = never_met xs in grind (arith, common_steps, more)
 
 rejoined : (text : Text) → text ≡ joined (name_and_value text).0 (name_and_value text).1
-rejoined text = go (has_byte 61 text) refl
-  where
-    go : (b : Bool) → has_byte 61 text ≡ b → text ≡ joined (name_and_value text).0 (name_and_value text).1
-    go true t =
-        let within = met_within text t in
-        let is : get_or text (position_or_len (λ x. x == 61) text) 0 ≡ 61 = eqb-true _ _ (passes_at_first (λ x. x == 61) text 0 within) in
-        rw t (split_at_first (λ x. x == 61) text 0 within ∙ ap (λ x. before_first (λ y. y == 61) text ++ x ∷ after_first (λ y. y == 61) text) is)
-    go false t = rw t (sym (take_all (position_or_len (λ x. x == 61) text) text (let past = never_met text t in omega arith)))
+rejoined text = elim (cases_Bool (has_byte 61 text)) [
+  | inl t ↦
+      let within = met_within text t in
+      let is : get_or text (position_or_len (λ x. x == 61) text) 0 ≡ 61 = eqb-true _ _ (passes_at_first (λ x. x == 61) text 0 within) in
+      rw t (split_at_first (λ x. x == 61) text 0 within ∙ ap (λ x. before_first (λ y. y == 61) text ++ x ∷ after_first (λ y. y == 61) text) is)
+  | inr t ↦ rw t (sym (take_all (position_or_len (λ x. x == 61) text) text (let past = never_met text t in omega arith)))
+]
 
 pub long_word_is : (word name : Text) (value : Option Text) → long_of word ≡ Some (name, value) → word ≡ 45 ∷ 45 ∷ joined name value
-long_word_is word name value h = first (strip_byte 45 word) refl
+long_word_is word name value h =
+    option_and_then_some long_of_rest (option_and_then (strip_byte 45) (strip_byte 45 word)) (name, value) h (λ rest there named.
+    option_and_then_some (strip_byte 45) (strip_byte 45 word) rest there (λ more first second.
+    stripped 45 word more first ∙ ap (λ t. 45 ∷ t) (stripped 45 more rest second ∙ ap (λ t. 45 ∷ t) (whole rest named))))
   where
-    third : (rest : Text) → word ≡ 45 ∷ 45 ∷ rest → long_of_rest rest ≡ Some (name, value) → word ≡ 45 ∷ 45 ∷ joined name value
-    third [] is e = cc
-    third (x ∷ xs) is e =
+    whole : (rest : Text) → long_of_rest rest ≡ Some (name, value) → rest ≡ joined name value
+    whole [] e = cc
+    whole (x ∷ xs) e =
         let same : name_and_value (x ∷ xs) ≡ (name, value) = cc in
-        is ∙ ap (λ t. 45 ∷ 45 ∷ t) (rejoined (x ∷ xs) ∙ ap (λ (p : Text × Option Text). joined p.0 p.1) same)
-
-    second : (rest : Text) → word ≡ 45 ∷ rest → (o : Option Text) → strip_byte 45 rest ≡ o → option_and_then long_of_rest o ≡ Some (name, value) → word ≡ 45 ∷ 45 ∷ joined name value
-    second rest is None e f = cc
-    second rest is (Some more) e f = third more (is ∙ ap (λ t. 45 ∷ t) (stripped 45 rest more e)) f
-
-    first : (o : Option Text) → strip_byte 45 word ≡ o → word ≡ 45 ∷ 45 ∷ joined name value
-    first None e =
-        let bad : ◌≡◌ {A = Option (Text × Option Text)} None (Some (name, value)) = rw e at h in
-        cc
-    first (Some rest) e =
-        let left : option_and_then long_of_rest (strip_byte 45 rest) ≡ Some (name, value) = rw e at h in
-        second rest (stripped 45 word rest e) (strip_byte 45 rest) refl left
+        rejoined (x ∷ xs) ∙ ap (λ (p : Text × Option Text). joined p.0 p.1) same
 
 -- ---- the number
 
@@ -101,13 +67,9 @@ abbrev pub limit_parser : ValueParser
 limit_parser = parser.Unsigned 1 4294967296
 
 pub passed_number : (text : Text) → or_else (value_kinds false limit_parser text) [] ≡ [] → IsUnsignedIn 1 4294967296 text
-passed_number text none = accepts-Accepts false limit_parser text (go (accepts false limit_parser text) refl)
-  where
-    go : (b : Bool) → accepts false limit_parser text ≡ b → accepts false limit_parser text ≡ true
-    go true t = t
-    go false t =
-        let bad : refused_kind limit_parser ∷ [] ≡ [] = rw t at none in
-        cc
+passed_number text none = accepts-Accepts false limit_parser text (true_from_ne_false (accepts false limit_parser text) (λ t.
+    let bad : refused_kind limit_parser ∷ [] ≡ [] = rw t at none in
+    cc))
 
 pub number_passes : (text : Text) (limit : ℕ) → ReadsAs text limit → 1 ≤ limit → limit ≤ 2 ^ 32 → value_kinds false limit_parser text ≡ []
 number_passes text limit reads least most =

@@ -1,10 +1,10 @@
 -- What the lines of a script were read as.
-use Rattle.std.proofs.Common.{◌≡◌, ℕ, zero, suc, ◌<◌, ◌≤◌, Bool, true, false, ◌&&◌, eqb, [], ◌∷◌, arith, List, length, map, slice_get, Option, Some, None, cond, refl, sym, ap, subst, ◌∙◌}
+use Rattle.std.proofs.Common.{◌≡◌, ℕ, zero, suc, ◌+◌, ◌<◌, ◌≤◌, Bool, true, false, ◌&&◌, eqb, [], ◌∷◌, arith, List, length, map, take, get_or, slice_get, Option, Some, None, cond, refl, sym, ap, subst, ◌∙◌}
 use Rattle.std.specs.Prelude.{All, not}
 use Rattle.std.specs.Option.{option_and_then, option_map_or}
 use Rattle.std.specs.Bool.{then_some}
 use Rattle.std.proofs.lemmas.List.{length-map}
-use Rattle.std.proofs.lemmas.Bool.{eqb-true, false≢true}
+use Rattle.std.proofs.lemmas.Bool.{and_parts, and_right, eqb-true, false≢true}
 use Rattle.cml_grammar.specs.declared.forms.Makes.{Makes}
 use Rattle.cml_grammar.specs.declared.forms.Makes.TheVariants as makes
 use Rattle.cml_grammar.specs.declared.names.Named.{Named}
@@ -17,7 +17,7 @@ use Rattle.cml_script.specs.Plan.{NamesObjects, HasSeats, AsksForPorts, IsObject
 use Rattle.std.proofs.lemmas.List.Elements.{All-get_or}
 use Rattle.std.proofs.lemmas.Option.{slice_get_within, get_or_from_slice_get, same_Some, some_pair_parts}
 use mir.Val.{bool_byte}
-use Rattle.cml_script.specs.Counting.{one_if}
+use Rattle.cml_script.specs.Counting.{how_many, one_if}
 use Rattle.cml_grammar.specs.declared.script.Declaration.{Declaration}
 use Rattle.cml_grammar.specs.declared.script.Step.{Step}
 use Rattle.cml_grammar.specs.Names.{Given, kind_named, thread_count}
@@ -29,19 +29,28 @@ use Rattle.cml_script.specs.declared.route.Route.TheVariants as route
 use Rattle.cml_grammar.specs.declared.forms.Action.{Action}
 use Rattle.cml_grammar.specs.declared.forms.Action.TheVariants as action
 use Rattle.cml_script.specs.Schedule.{makes_object, is_object, is_feed, is_seated, is_called, is_apart, is_by_ring, route_of, route_of_line}
-use Rattle.cml_script.proofs.ListLemmas.{mapped_at}
+use Rattle.cml_script.proofs.ListLemmas.{count_taken, mapped_at, read_at}
 
 pub all_at : {X : Type 0} (P : X → Type 0) (xs : List X) (i : ℕ) (x : X) → All P xs → slice_get xs i ≡ Some x → P x
 all_at P xs i x all found =
     subst P (get_or_from_slice_get xs i x x found) (All-get_or P xs i x (slice_get_within xs i x found) all)
 
-and_true : (t : Bool) → (t && true) ≡ t
+-- a declaration or a step that a loop is at: its line, and what it is read as
+pub declaration_read : (script : Lines) (items : List Declaration) (i : ℕ) (d : Declaration) → map (λ x. source_of x.line) items ≡ script.declarations → All (ReadsDeclaration (names_of script)) items → i < length items → d ≡ get_or items i d
+    → (slice_get script.declarations i ≡ Some (source_of d.line)) × ReadsDeclaration (names_of script) d
+declaration_read script items i d lines reads within is =
+    let here = read_at items i d within is in
+    (mapped_at (λ x. source_of x.line) items script.declarations i d lines here, all_at (ReadsDeclaration (names_of script)) items i d reads here)
+
+pub step_read : (script : Lines) (items : List Step) (i : ℕ) (s : Step) → map (λ x. source_of x.line) items ≡ script.steps → All (ReadsStep (names_of script)) items → i < length items → s ≡ get_or items i s
+    → (slice_get script.steps i ≡ Some (source_of s.line)) × ReadsStep (names_of script) s
+step_read script items i s lines reads within is =
+    let here = read_at items i s within is in
+    (mapped_at (λ x. source_of x.line) items script.steps i s lines here, all_at (ReadsStep (names_of script)) items i s reads here)
+
+pub and_true : (t : Bool) → (t && true) ≡ t
 and_true true = refl
 and_true false = refl
-
-and_false : (t : Bool) → (t && false) ≡ false
-and_false true = refl
-and_false false = refl
 
 pub declaration_feed : (script : Lines) (d : Declaration) → ReadsDeclaration (names_of script) d → is_feed script (source_of d.line) ≡ makes_feed d.makes
 declaration_feed script d reads = ap (λ o. option_map_or makes_feed o false) reads.makes
@@ -52,8 +61,7 @@ feed_object script line = by_makes (makes_of (names_of script) line.words)
   where
     by_makes : (m : Option Makes) → option_map_or makes_feed m false ≡ true → option_map_or makes_object m false ≡ true
     by_makes (Some (makes.Feed feed)) e = refl
-    by_makes None e = absurd (false≢true e)
-    by_makes (Some m) e = absurd (false≢true e)
+    by_makes m e = cc
 
 pub declaration_object : (script : Lines) (d : Declaration) → ReadsDeclaration (names_of script) d → is_object script (source_of d.line) ≡ makes_object d.makes
 declaration_object script d reads = ap (λ o. option_map_or makes_object o false) reads.makes
@@ -76,15 +84,11 @@ step_called script s seat reads apart =
 pub step_apart : (script : Lines) (s : Step) (seat : ℕ) → ReadsStep (names_of script) s → is_by_ring (route_of script (Some s.seat) s.action) ≡ true → is_called script seat (source_of s.line) ≡ false
 step_apart script s seat reads apart =
     ap (λ t. is_seated script seat (source_of s.line) && not t) (ap is_by_ring (step_route script s reads) ∙ apart)
-    ∙ and_false (is_seated script seat (source_of s.line))
+    ∙ and_right (is_seated script seat (source_of s.line)) false refl
 
 -- a step that a seat performs is that seat's
 pub called_seated : (script : Lines) (seat : ℕ) (line : SourceLine) → is_called script seat line ≡ true → is_seated script seat line ≡ true
-called_seated script seat line called = by_test (is_seated script seat line) (is_apart script line) called
-  where
-    by_test : (t a : Bool) → (t && not a) ≡ true → t ≡ true
-    by_test true a e = refl
-    by_test false a e = absurd (false≢true e)
+called_seated script seat line called = (and_parts (is_seated script seat line) (not (is_apart script line)) called).0
 
 -- a step that gives a name is performed by its thread's seat
 pub giving_called : (script : Lines) (i seat : ℕ) (line : SourceLine) → AsksForPorts script → slice_get script.steps i ≡ Some line → is_giving line ≡ true → is_seated script seat line ≡ true → is_called script seat line ≡ true
@@ -108,6 +112,12 @@ pub stands : {X : Type 0} (xs : List X) (i : ℕ) → i < length xs → (x : X) 
 stands [] i lt = absurd (omega arith)
 stands (x ∷ xs) zero lt = (x, refl)
 stands (x ∷ xs) (suc i) lt = stands xs i (omega arith)
+
+-- and none past them
+pub none_within : {X : Type 0} (xs : List X) (i : ℕ) → slice_get xs i ≡ None → length xs ≤ i
+none_within [] i none = omega arith
+none_within (x ∷ xs) zero none = cc
+none_within (x ∷ xs) (suc i) none = let ih = none_within xs i none in omega (arith, ih)
 
 -- an object's name is given by the declaration of such an object
 gives_kind : (names : List Given) (at : ℕ) (k : Kind) (d : Declaration) → IsObjectAt names at k → Gives names at d → kind_made d.makes ≡ Some k
@@ -168,6 +178,17 @@ byte_one false = refl
 pub one_le : (t : Bool) → one_if t ≤ 1
 one_le true = omega arith
 one_le false = omega arith
+
+-- a count goes on by the byte of a test
+pub byte_more : (n all byte k : ℕ) (t b : Bool) → all ≡ n + one_if b → byte ≡ bool_byte t → t ≡ b → n ≤ k → (n + byte ≡ all) × (n + byte ≤ k + 1)
+byte_more n all byte k t b more is same few =
+    let one : byte ≡ one_if b = is ∙ ap bool_byte same ∙ byte_one b in
+    (omega (arith, more, one), omega (arith, one, one_le b, few))
+
+pub counted_more : {X : Type 0} (p : X → Bool) (xs : List X) (i n byte : ℕ) (x : X) (t : Bool) → slice_get xs i ≡ Some x → n ≡ how_many p (take i xs) → n ≤ i → byte ≡ bool_byte t → t ≡ p x
+    → (n + byte ≡ how_many p (take (i + 1) xs)) × (n + byte ≤ i + 1)
+counted_more p xs i n byte x t found so_far few is same =
+    byte_more n (how_many p (take (i + 1) xs)) byte i t (p x) (omega (arith, count_taken p xs i x found, so_far)) is same few
 
 pub then_is : (t : Bool) (n : ℕ) → then_some t n ≡ cond t (Some n) None
 then_is true n = refl

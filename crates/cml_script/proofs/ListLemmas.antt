@@ -1,9 +1,11 @@
 -- The element at a place, and what is counted, filtered and taken up to it.
-use Rattle.std.proofs.Common.{◌≡◌, ◌≢◌, slice_set, ℕ, zero, suc, ◌+◌, ◌<◌, ◌≤◌, inl, inr, Bool, true, false, cond, List, [], ◌∷◌, ◌++◌, length, get_or, one-add, zero-add, take, map, filter, slice_get, Some, refl, sym, ap, ◌∙◌, arith, add-one}
-use Rattle.std.specs.Option.{option_map}
+use Rattle.std.proofs.Common.{◌≡◌, ◌⊎◌, slice_set, ℕ, zero, suc, ◌+◌, ◌<◌, ◌≤◌, inl, inr, Bool, true, false, cond, List, [], ◌∷◌, ◌++◌, length, get_or, one-add, zero-add, take, take_all, map, filter, slice_get, Option, Some, None, IfSome, refl, sym, ap, ◌∙◌, arith, add-one}
+use Rattle.std.specs.Option.{option_map, option_map_or}
 use Rattle.std.proofs.lemmas.Option.{same_Some, none-some, slice_get-map, slice_get_read}
 use Rattle.std.proofs.lemmas.List.{length_push}
-use Rattle.std.proofs.lemmas.Bool.{cases_lt}
+use Rattle.std.proofs.lemmas.Bool.{cases_lt, false≢true}
+use Rattle.cml_board.proofs.ListLemmas.{slice_get_pushed as push_at}
+use Rattle.cml_board.proofs.Received.{slice_get-append_within}
 use Rattle.cml_script.specs.Counting.{one_if, how_many}
 
 module _ {X : Type 0} where
@@ -44,6 +46,12 @@ module _ {X : Type 0} where
   taken_count p (y ∷ ys) (suc i) (suc j) le =
       let ih = taken_count p ys i j (omega arith) in omega (arith, ih)
 
+  pub taken_all : (p : X → Bool) (xs : List X) (i : ℕ) → how_many p (take i xs) ≤ how_many p xs
+  taken_all p xs i =
+      let le = taken_count p xs i (i + length xs) (omega arith) in
+      let all = ap (how_many p) (take_all (i + length xs) xs (omega arith)) in
+      omega (arith, le, all)
+
   -- an item that passes is, among all that pass, behind those that passed before it
   pub filter_at : (p : X → Bool) (xs : List X) (i : ℕ) (x : X) → slice_get xs i ≡ Some x → p x ≡ true → slice_get (filter p xs) (how_many p (take i xs)) ≡ Some x
   filter_at p [] i x found passes = absurd (none-some x found)
@@ -51,64 +59,25 @@ module _ {X : Type 0} where
       let same = same_Some y x found in
       let yes : p y ≡ true = ap p same ∙ passes in
       rw yes (ap Some same)
-  filter_at p (y ∷ ys) (suc i) x found passes = by_test (p y) (filter_at p ys i x found passes)
-    where
-      by_test : (t : Bool) → slice_get (filter p ys) (how_many p (take i ys)) ≡ Some x → slice_get (cond t (y ∷ filter p ys) (filter p ys)) (one_if t + how_many p (take i ys)) ≡ Some x
-      by_test true there = rw (one-add (how_many p (take i ys))) there
-      by_test false there = rw (zero-add (how_many p (take i ys))) there
-
-  -- the element that passes behind as many that pass
-  pub record PassesThere (p : X → Bool) (xs : List X) (n : ℕ) : Type 0 where
-    pub place : ℕ
-    pub element : X
-    pub found : slice_get xs place ≡ Some element
-    pub passes : p element ≡ true
-    pub before : how_many p (take place xs) ≡ n
-
-  passes_later : (p : X → Bool) (x : X) (xs : List X) (n : ℕ) (t : Bool) → p x ≡ t → PassesThere p xs n → PassesThere p (x ∷ xs) (one_if t + n)
-  passes_later p x xs n t e there = record {
-    place = suc there.place;
-    element = there.element;
-    found = there.found;
-    passes = there.passes;
-    before = rw e (ap (λ m. one_if t + m) there.before);
-  }
-
-  pub passes_there : (p : X → Bool) (xs : List X) (n : ℕ) → n < how_many p xs → PassesThere p xs n
-  passes_there p [] n lt = absurd (omega (arith, lt))
-  passes_there p (x ∷ xs) n lt = by_test (p x) n refl lt (λ m. passes_there p xs m)
-    where
-      by_test : (t : Bool) (n : ℕ) → p x ≡ t → n < one_if t + how_many p xs → ((m : ℕ) → m < how_many p xs → PassesThere p xs m) → PassesThere p (x ∷ xs) n
-      by_test true zero e lt ih = record { place = 0; element = x; found = refl; passes = e; before = refl }
-      by_test true (suc n) e lt ih = rw (← one-add n) (passes_later p x xs n true e (ih n (omega (arith, lt))))
-      by_test false n e lt ih = rw (← zero-add n) (passes_later p x xs n false e (ih n (omega (arith, lt))))
-
-  pub slice_get-append_left : (xs ys : List X) (k : ℕ) → k < length xs → slice_get (xs ++ ys) k ≡ slice_get xs k
-  slice_get-append_left [] ys k within = absurd (omega arith)
-  slice_get-append_left (x ∷ xs) ys zero within = refl
-  slice_get-append_left (x ∷ xs) ys (suc k) within = slice_get-append_left xs ys k (omega arith)
+  filter_at p (y ∷ ys) (suc i) x found passes =
+      let there = filter_at p ys i x found passes in
+      elim (p y) as (λ t. slice_get (cond t (y ∷ filter p ys) (filter p ys)) (one_if t + how_many p (take i ys)) ≡ Some x) [
+        | true ↦ rw (one-add (how_many p (take i ys))) there
+        | false ↦ rw (zero-add (how_many p (take i ys))) there
+      ]
 
   pub slice_get_pushed : (xs : List X) (y : X) (k : ℕ) → k ≡ length xs → slice_get (xs ++ y ∷ []) k ≡ Some y
-  slice_get_pushed [] y k e = rw e refl
-  slice_get_pushed (x ∷ xs) y zero e = absurd (omega arith)
-  slice_get_pushed (x ∷ xs) y (suc k) e = slice_get_pushed xs y k (omega arith)
+  slice_get_pushed xs y k e = rw e (push_at xs y)
 
   pub set_at : (xs : List X) (i : ℕ) (y : X) → i < length xs → slice_get (slice_set xs i y) i ≡ Some y
   set_at [] i y lt = absurd (omega arith)
   set_at (x ∷ xs) zero y lt = refl
   set_at (x ∷ xs) (suc i) y lt = set_at xs i y (omega arith)
 
-  pub set_off : (xs : List X) (i j : ℕ) (y : X) → j ≢ i → slice_get (slice_set xs i y) j ≡ slice_get xs j
-  set_off [] i j y other = refl
-  set_off (x ∷ xs) zero zero y other = absurd (other refl)
-  set_off (x ∷ xs) zero (suc j) y other = refl
-  set_off (x ∷ xs) (suc i) zero y other = refl
-  set_off (x ∷ xs) (suc i) (suc j) y other = set_off xs i j y (λ e. other (ap suc e))
-
   -- a value at each place, and one more
   pub each_pushed : (f : ℕ → X) (xs : List X) (y : X) → ((k : ℕ) → k < length xs → slice_get xs k ≡ Some (f k)) → y ≡ f (length xs) → (k : ℕ) → k < length (xs ++ y ∷ []) → slice_get (xs ++ y ∷ []) k ≡ Some (f k)
   each_pushed f xs y each last k within = elim (cases_lt k (length xs)) [
-    | inl lt ↦ slice_get-append_left xs (y ∷ []) k lt ∙ each k lt
+    | inl lt ↦ slice_get-append_within xs (y ∷ []) k lt ∙ each k lt
     | inr ge ↦
         let here : k ≡ length xs = omega (arith, length_push xs y) in
         slice_get_pushed xs y k here ∙ ap Some (last ∙ ap f (sym here))
@@ -128,3 +97,25 @@ module _ {X : Type 0} where
 module _ {X Y : Type 0} where
   pub mapped_at : (f : X → Y) (xs : List X) (ys : List Y) (i : ℕ) (x : X) → map f xs ≡ ys → slice_get xs i ≡ Some x → slice_get ys i ≡ Some (f x)
   mapped_at f xs ys i x e found = ap (λ l. slice_get l i) (sym e) ∙ slice_get-map f xs i ∙ ap (option_map f) found
+
+-- Options.
+
+module _ {X : Type 0} where
+  pub cases_Option : (o : Option X) → ((x : X) × (o ≡ Some x)) ⊎ (o ≡ None)
+  cases_Option None = inr refl
+  cases_Option (Some x) = inl (x, refl)
+
+  -- nothing is there where no value can be
+  pub none_unless : (o : Option X) → ((x : X) → o ≡ Some x → ⊥) → o ≡ None
+  none_unless None none = refl
+  none_unless (Some x) none = absurd (none x refl)
+
+  -- what passes is there
+  pub passing : (p : X → Bool) (o : Option X) → option_map_or p o false ≡ true → (x : X) × (o ≡ Some x) × (p x ≡ true)
+  passing p None e = absurd (false≢true e)
+  passing p (Some x) e = (x, refl, e)
+
+  -- what is told, if anything, goes on like this
+  pub told_more : (told : X) (adds : X → X) (made later : Option X) → IfSome made (λ tells. tells ≡ told) → later ≡ option_map adds made → IfSome later (λ tells. tells ≡ adds told)
+  told_more told adds None later is more = rw more tt
+  told_more told adds (Some tells) later is more = rw more (ap adds is)

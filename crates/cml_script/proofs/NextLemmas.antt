@@ -21,11 +21,12 @@ use Rattle.cml_grammar.specs.Rings.{first_ring}
 use Rattle.cml_grammar.specs.Reading.{source_of, ReadsDeclaration, ReadsStep, used_by}
 use Rattle.cml_grammar.proofs.ReadableLemmas.{CanBeRead}
 use Rattle.cml_script.specs.declared.binding.Binding.{Binding}
-use Rattle.cml_script.specs.Schedule.{History, Follows, NoneReady, makes_object, is_object, declared_count, performed, next_position, step_call, call_on, binding_of}
+use Rattle.cml_script.specs.Schedule.{History, Follows, NoneReady, makes_object, is_object, declared_count, performed, next_position, positions_where, step_call, call_on, binding_of}
 use Rattle.cml_script.specs.Plan.{IsKnown}
 use Rattle.cml_script.specs.Stage.{Play, Stands, IsNextObject, IsNextPort, IsNext, IsReadyOf, NoneReadyOf, IsLeast, IsLeastBelow, earlier_of}
-use Rattle.cml_script.proofs.ListLemmas.{mapped_at, how_many-le, passes_there, listed}
+use Rattle.cml_script.proofs.ListLemmas.{mapped_at, how_many-le, listed}
 use Rattle.cml_script.proofs.LineLemmas.{all_at, stands, names_objects, has_seats, asks_for_ports, declaration_object}
+use Rattle.cml_script.proofs.QueueLemmas.{position_is, positions_count}
 use Rattle.cml_script.proofs.KindLemmas.{next_object}
 use Rattle.cml_script.proofs.ReadyLemmas.{none_queued, queued_within, waits_there, ready_there, least_at_first, least_more, least_of_all}
 use Rattle.cml_script.proofs.FitLemmas.{fits_kind, channel_at, fits_use}
@@ -143,13 +144,14 @@ module _ (script : Lines) (read : CanBeRead script) (plain : first_ring script �
 
   pub next_making : length history < declared_count script → IsMaking play
   next_making lt =
-      let there = passes_there (is_object script) script.declarations (length history) lt in
-      let given = stands read.declarations there.place (omega (arith, slice_get_within script.declarations there.place there.element there.found, ap length read.declared, length-map read.declarations (λ (x : Declaration). source_of x.line))) in
+      let place = stands (positions_where (is_object script) 0 script.declarations) (length history) (omega (arith, lt, positions_count (is_object script) 0 script.declarations)) in
+      let there = position_is (is_object script) 0 script.declarations (length history) place.0 place.1 in
+      let given = stands read.declarations there.place (omega (arith, slice_get_within script.declarations there.place there.line there.found, ap length read.declared, length-map read.declarations (λ (x : Declaration). source_of x.line))) in
       let d = given.0 in
       let line = mapped_at (λ (x : Declaration). source_of x.line) read.declarations script.declarations there.place d read.declared given.1 in
       let reads = all_at (ReadsDeclaration (names_of script)) read.declarations there.place d read.reading.declarations given.1 in
-      let object = sym (declaration_object script d reads) ∙ ap (is_object script) (same_Some _ _ (sym line ∙ there.found)) ∙ there.passes in
-      by_makes d.makes object (next_object play (known script read).named there.place d (sym there.before) line reads (read.reading.gives.made there.place d given.1))
+      let object = sym (declaration_object script d reads) ∙ ap (is_object script) (same_Some _ _ (sym line ∙ there.found)) ∙ there.seated in
+      by_makes d.makes object (next_object play (known script read).named there.place d (sym there.behind) line reads (read.reading.gives.made there.place d given.1))
     where
       by_port : (channel : ℕ) → IsNextPort play channel → IsMaking play
       by_port channel (is_channel, within, o, object, next) =

@@ -2,9 +2,9 @@
 use Rattle.std.proofs.Common.{◌≡◌, ℕ, zero, suc, ◌+◌, ◌<◌, ◌≤◌, ◌||◌, Bool, true, false, cond, eqb, List, [], ◌∷◌, ◌++◌, length, take, filter, slice_get, slice_set, Option, Some, refl, sym, ap, ◌∙◌, arith, inl, inr, one-add, zero-add}
 use Rattle.std.specs.Option.{option_map_or}
 use Rattle.std.specs.List.{list_any}
-use Rattle.std.proofs.lemmas.Option.{same_Some, slice_get_within}
-use Rattle.std.proofs.lemmas.List.{length_push, length-set, length-take-le, append-nil}
-use Rattle.std.proofs.lemmas.Bool.{cases_lt, cases_eq, eq-eqb, ne_eqb, true≢false}
+use Rattle.std.proofs.lemmas.Option.{same_Some}
+use Rattle.std.proofs.lemmas.List.{length_push, length-set}
+use Rattle.std.proofs.lemmas.Bool.{or_right, cases_lt, cases_eq, eq-eqb, ne_eqb, true≢false}
 use Rattle.cml_calls.specs.declared.kind.Kind.{Kind}
 use Rattle.cml_calls.specs.declared.kind.Kind.TheVariants as kind
 use Rattle.cml_board.specs.declared.entry.Who.{Who}
@@ -14,13 +14,13 @@ use Rattle.cml_grammar.specs.Script.{SourceLine, Lines}
 use Rattle.cml_grammar.specs.Meaning.{names_of}
 use Rattle.cml_grammar.specs.Reading.{source_of, ReadsLane}
 use Rattle.cml_script.specs.Counting.{one_if, how_many}
-use Rattle.cml_script.specs.Schedule.{is_object, is_feed, objects_of, declared_count, number_of, maker, positions_where}
+use Rattle.cml_script.specs.Schedule.{is_object, is_feed, objects_of, declared_count, number_of, maker}
 use Rattle.cml_script.specs.Audit.{leads_to}
 use Rattle.cml_script.specs.Plan.{IsKnown, IsObjectAt}
-use Rattle.cml_script.proofs.ListLemmas.{taken_more, count_taken, filter_at, each_pushed, set_at, set_off}
+use Rattle.cml_board.proofs.ListLemmas.{slice_get-set_other}
+use Rattle.cml_script.proofs.ListLemmas.{taken_more, count_taken, filter_at, each_pushed, set_at}
 use Rattle.cml_script.proofs.LineLemmas.{feed_object}
 use Rattle.cml_script.proofs.KindLemmas.{kind_object, counted_below}
-use Rattle.cml_script.proofs.QueueLemmas.{positions_pushed}
 use Rattle.cml_script.proofs.FitLemmas.{mailbox_at, channel_at}
 use Rattle.cml_script.proofs.UseLemmas.{given_port}
 
@@ -30,12 +30,12 @@ taken_filter : (p : SourceLine → Bool) (xs : List SourceLine) (i : ℕ) → ta
 taken_filter p [] zero = refl
 taken_filter p [] (suc i) = refl
 taken_filter p (x ∷ xs) zero = refl
-taken_filter p (x ∷ xs) (suc i) = by_test (p x) (taken_filter p xs i)
-  where
-    by_test : (t : Bool) → take (how_many p (take i xs)) (filter p xs) ≡ filter p (take i xs)
-        → take (one_if t + how_many p (take i xs)) (cond t (x ∷ filter p xs) (filter p xs)) ≡ cond t (x ∷ filter p (take i xs)) (filter p (take i xs))
-    by_test true ih = rw (one-add (how_many p (take i xs))) (ap (λ l. x ∷ l) ih)
-    by_test false ih = rw (zero-add (how_many p (take i xs))) ih
+taken_filter p (x ∷ xs) (suc i) =
+    let ih = taken_filter p xs i in
+    elim (p x) as (λ t. take (one_if t + how_many p (take i xs)) (cond t (x ∷ filter p xs) (filter p xs)) ≡ cond t (x ∷ filter p (take i xs)) (filter p (take i xs))) [
+      | true ↦ rw (one-add (how_many p (take i xs))) (ap (λ l. x ∷ l) ih)
+      | false ↦ rw (zero-add (how_many p (take i xs))) ih
+    ]
 
 pub counted_filter : (p q : SourceLine → Bool) → ((x : SourceLine) → q x ≡ true → p x ≡ true) → (xs : List SourceLine) → how_many q (filter p xs) ≡ how_many q xs
 counted_filter p q all [] = refl
@@ -47,39 +47,14 @@ counted_filter p q all (x ∷ xs) = by_test (p x) (q x) refl refl (counted_filte
     by_test false true e f ih = absurd (true≢false (sym (all x f) ∙ e))
 
 any_pushed : (p : SourceLine → Bool) (xs : List SourceLine) (x : SourceLine) → list_any p (xs ++ x ∷ []) ≡ (list_any p xs || p x)
-any_pushed p [] x = by_test (p x)
-  where
-    by_test : (t : Bool) → (t || false) ≡ (false || t)
-    by_test true = refl
-    by_test false = refl
-any_pushed p (y ∷ ys) x = by_test (p y) (any_pushed p ys x)
-  where
-    by_test : (t : Bool) → list_any p (ys ++ x ∷ []) ≡ (list_any p ys || p x) → (t || list_any p (ys ++ x ∷ [])) ≡ ((t || list_any p ys) || p x)
-    by_test true ih = refl
-    by_test false ih = ih
-
-or_true : (t : Bool) → (t || true) ≡ true
-or_true true = refl
-or_true false = refl
+any_pushed p [] x = elim (p x) as (λ t. (t || false) ≡ (false || t)) [ true ↦ refl | false ↦ refl ]
+any_pushed p (y ∷ ys) x =
+    let ih = any_pushed p ys x in
+    elim (p y) as (λ t. (t || list_any p (ys ++ x ∷ [])) ≡ ((t || list_any p ys) || p x)) [ true ↦ refl | false ↦ ih ]
 
 or_false : (t : Bool) → (t || false) ≡ t
 or_false true = refl
 or_false false = refl
-
--- one line more
-pub place_more : (test : SourceLine → Bool) (lines : List SourceLine) (i : ℕ) (line : SourceLine) → slice_get lines i ≡ Some line → positions_where test 0 (take (i + 1) lines) ≡ positions_where test 0 (take i lines) ++ cond (test line) (i ∷ []) []
-place_more test lines i line found =
-    let long : length (take i lines) ≡ i = length-take-le i lines (omega (arith, slice_get_within lines i line found)) in
-    ap (positions_where test 0) (taken_more lines i line found) ∙ positions_pushed test 0 (take i lines) line
-    ∙ ap (λ n. positions_where test 0 (take i lines) ++ cond (test line) (n ∷ []) []) (zero-add (length (take i lines)) ∙ long)
-
-pub place_added : (test : SourceLine → Bool) (lines : List SourceLine) (i : ℕ) (line : SourceLine) (list : List ℕ) → slice_get lines i ≡ Some line → test line ≡ true → list ≡ positions_where test 0 (take i lines) → list ++ i ∷ [] ≡ positions_where test 0 (take (i + 1) lines)
-place_added test lines i line list found passes so_far =
-    ap (λ l. l ++ i ∷ []) so_far ∙ sym (place_more test lines i line found ∙ ap (λ t. positions_where test 0 (take i lines) ++ cond t (i ∷ []) []) passes)
-
-pub place_kept : (test : SourceLine → Bool) (lines : List SourceLine) (i : ℕ) (line : SourceLine) (list : List ℕ) → slice_get lines i ≡ Some line → test line ≡ false → list ≡ positions_where test 0 (take i lines) → list ≡ positions_where test 0 (take (i + 1) lines)
-place_kept test lines i line list found fails so_far =
-    so_far ∙ sym (place_more test lines i line found ∙ ap (λ t. positions_where test 0 (take i lines) ++ cond t (i ∷ []) []) fails ∙ append-nil (positions_where test 0 (take i lines)))
 
 module _ (script : Lines) where
   -- Who makes what.
@@ -167,9 +142,9 @@ module _ (script : Lines) where
       | inl same ↦
           let there : slice_get (slice_set laid object true) k ≡ Some true = ap (slice_get (slice_set laid object true)) same ∙ set_at laid object true (omega (arith, lt, so_far.all)) in
           ap (λ (o : Option Bool). option_map_or (λ t. t) o false) there
-          ∙ sym (more k ∙ ap (λ t. list_any (leads_to script k) (take i script.lanes) || t) (leads k ∙ eq-eqb object k (sym same)) ∙ or_true (list_any (leads_to script k) (take i script.lanes)))
+          ∙ sym (more k ∙ ap (λ t. list_any (leads_to script k) (take i script.lanes) || t) (leads k ∙ eq-eqb object k (sym same)) ∙ or_right (list_any (leads_to script k) (take i script.lanes)) true refl)
       | inr other ↦
-          ap (λ (o : Option Bool). option_map_or (λ t. t) o false) (set_off laid object k true other) ∙ so_far.each k
+          ap (λ (o : Option Bool). option_map_or (λ t. t) o false) (slice_get-set_other laid object k true other) ∙ so_far.each k
           ∙ sym (more k ∙ ap (λ t. list_any (leads_to script k) (take i script.lanes) || t) (leads k ∙ ne_eqb object k (λ e. other (sym e))) ∙ or_false (list_any (leads_to script k) (take i script.lanes)))
     ];
   }

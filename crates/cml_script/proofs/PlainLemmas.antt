@@ -1,16 +1,15 @@
 -- What is so of a script without rings.
-use Rattle.std.proofs.Common.{◌≡◌, ℕ, zero, suc, ◌&&◌, Bool, true, false, cond, List, [], ◌∷◌, take, filter, slice_get, Option, Some, None, refl, sym, ap, ◌∙◌}
+use Rattle.std.proofs.Common.{◌≡◌, inl, inr, ℕ, zero, suc, ◌&&◌, Bool, true, false, cond, List, [], ◌∷◌, take, filter, slice_get, Option, Some, None, refl, sym, ap, ◌∙◌}
 use Rattle.std.specs.Prelude.{not, min}
 use Rattle.std.specs.Option.{option_map, option_map_or, option_and_then}
 use Rattle.std.specs.List.{find}
 use Rattle.std.proofs.lemmas.Option.{none-some, same_Some}
-use Rattle.std.proofs.lemmas.Bool.{true≢false, false≢true}
+use Rattle.std.proofs.lemmas.Bool.{true≢false, false≢true, false_from_ne_true}
 use Rattle.cml_calls.specs.declared.table.Give.TheVariants as give
 use Rattle.cml_calls.specs.declared.table.Ask.TheVariants as ask
 use Rattle.cml_board.specs.declared.entry.Who.TheVariants.{Seat, Feed}
 use Rattle.cml_grammar.specs.declared.forms.Declares.{Declares}
 use Rattle.cml_grammar.specs.declared.forms.Declares.TheVariants as declares
-use Rattle.cml_grammar.specs.declared.forms.Makes.TheVariants as makes
 use Rattle.cml_grammar.specs.declared.forms.Action.{Action}
 use Rattle.cml_grammar.specs.declared.forms.Action.TheVariants as action
 use Rattle.cml_grammar.specs.Names.{Given, position_of}
@@ -20,6 +19,8 @@ use Rattle.cml_grammar.specs.Meaning.{names_of, makes_of, makes_by, action_of, s
 use Rattle.cml_grammar.specs.Rings.{lesser, first_lane, first_feed, first_ring, declares_feed, makes_feed, is_feed as is_feed_word, capacity_of}
 use Rattle.cml_script.specs.declared.route.Route.TheVariants as route
 use Rattle.cml_script.specs.Counting.{how_many}
+use Rattle.cml_script.proofs.ListLemmas.{cases_Option, passing}
+use Rattle.cml_script.proofs.LineLemmas.{and_true}
 use Rattle.cml_script.specs.Schedule.{is_feed, is_seated, is_called, is_apart, is_by_ring, objects_of, is_object, maker, feed_at, feed_route, lane_route, route_of}
 
 -- neither of two is there where the lesser isn't
@@ -39,22 +40,19 @@ no_lines (line ∷ lines) e = absurd (none-some line (sym e))
 -- what is not found is nowhere
 none_found : (p : SourceLine → Bool) (lines : List SourceLine) → find p lines ≡ None → (i : ℕ) (line : SourceLine) → slice_get lines i ≡ Some line → p line ≡ false
 none_found p [] none i line found = absurd (none-some line found)
-none_found p (first ∷ lines) none i line found = by_test (p first) refl none i found (none_found p lines)
+none_found p (first ∷ lines) none i line found = by (p first) refl none i found (none_found p lines)
   where
-    by_test : (t : Bool) → p first ≡ t → cond t (Some first) (find p lines) ≡ None → (i : ℕ) → slice_get (first ∷ lines) i ≡ Some line
+    by : (t : Bool) → p first ≡ t → cond t (Some first) (find p lines) ≡ None → (i : ℕ) → slice_get (first ∷ lines) i ≡ Some line
         → (find p lines ≡ None → (i : ℕ) (line : SourceLine) → slice_get lines i ≡ Some line → p line ≡ false) → p line ≡ false
-    by_test true e none i found later = absurd (none-some first (sym none))
-    by_test false e none zero found later = ap p (sym (same_Some _ _ found)) ∙ e
-    by_test false e none (suc i) found later = later none i line found
+    by true e none i found later = cc
+    by false e none zero found later = ap p (sym (same_Some _ _ found)) ∙ e
+    by false e none (suc i) found later = later none i line found
 
 -- only the line of a feed makes a feed
 feed_made : (names : List Given) (d : Declares) (rest : List (List ℕ)) → option_map_or makes_feed (makes_by names d rest) false ≡ true → d ≡ declares.Feed
 feed_made names declares.Feed rest e = refl
-feed_made names declares.Port (channel ∷ rest) e = absurd (by_position (position_of names channel) e)
-  where
-    by_position : (o : Option ℕ) → option_map_or makes_feed (option_map makes.Port o) false ≡ true → ⊥
-    by_position None e = false≢true e
-    by_position (Some at) e = false≢true e
+feed_made names declares.Port (channel ∷ rest) e =
+    elim (cases_Option (position_of names channel)) [ inl there ↦ absurd (false≢true (rw there.1 at e)) | inr none ↦ absurd (false≢true (rw none at e)) ]
 feed_made names declares.MVar (name ∷ message ∷ []) e = absurd (false≢true e)
 feed_made names d rest e = absurd (false≢true e)
 
@@ -74,26 +72,18 @@ module _ (script : Lines) (plain : first_ring script ≡ None) where
   plain_lanes = no_lines script.lanes (none_mapped (λ (line : SourceLine). line.number) (slice_get script.lanes 0) both.0)
 
   pub plain_feed : (i : ℕ) (line : SourceLine) → slice_get script.declarations i ≡ Some line → is_feed script line ≡ false
-  plain_feed i line found = by_test (is_feed script line) refl
-    where
-      by_test : (t : Bool) → is_feed script line ≡ t → t ≡ false
-      by_test false e = refl
-      by_test true e =
-          let none = none_mapped (λ (line : SourceLine). line.number) (find (λ (line : SourceLine). declares_feed line.words) script.declarations) both.1 in
-          absurd (true≢false (sym (feed_declared (names_of script) line.words e) ∙ none_found (λ (line : SourceLine). declares_feed line.words) script.declarations none i line found))
+  plain_feed i line found = false_from_ne_true (is_feed script line) (λ feed.
+      let none = none_mapped (λ (line : SourceLine). line.number) (find (λ (line : SourceLine). declares_feed line.words) script.declarations) both.1 in
+      true≢false (sym (feed_declared (names_of script) line.words feed) ∙ none_found (λ (line : SourceLine). declares_feed line.words) script.declarations none i line found))
 
   no_capacity : (seat : Option ℕ) (at : ℕ) → option_and_then (λ (s : ℕ). capacity_of (names_of script) script.lanes (s, at)) seat ≡ None
   no_capacity None at = refl
   no_capacity (Some s) at = ap (λ l. capacity_of (names_of script) l (s, at)) plain_lanes
 
   no_feed : (at : ℕ) → feed_at script at ≡ None
-  no_feed at = by_line (slice_get script.declarations at) refl
-    where
-      by_line : (o : Option SourceLine) → slice_get script.declarations at ≡ o → feed_at script at ≡ None
-      by_line None e = ap (λ o. cond (option_map_or (is_feed script) o false) (Some (how_many (is_feed script) (take at script.declarations))) None) e
-      by_line (Some line) e =
-          ap (λ o. cond (option_map_or (is_feed script) o false) (Some (how_many (is_feed script) (take at script.declarations))) None) e
-          ∙ ap (λ t. cond t (Some (how_many (is_feed script) (take at script.declarations))) None) (plain_feed at line e)
+  no_feed at = ap (λ t. cond t (Some (how_many (is_feed script) (take at script.declarations))) None) (false_from_ne_true (option_map_or (is_feed script) (slice_get script.declarations at) false) (λ feed.
+      let line = passing (is_feed script) (slice_get script.declarations at) feed in
+      true≢false (sym line.2 ∙ plain_feed at line.0 line.1)))
 
   -- each step is performed by its thread's seat
   no_route : (seat : Option ℕ) (a : Action) → is_by_ring (route_of script seat a) ≡ false
@@ -110,11 +100,7 @@ module _ (script : Lines) (plain : first_ring script ≡ None) where
       by_action (Some a) = no_route (seat_of_step (names_of script) line.words) a
 
   pub plain_called : (seat : ℕ) (line : SourceLine) → is_called script seat line ≡ is_seated script seat line
-  plain_called seat line = by_test (is_seated script seat line) (is_apart script line) (none_apart line)
-    where
-      by_test : (t a : Bool) → a ≡ false → (t && not a) ≡ t
-      by_test true a e = ap not e
-      by_test false a e = refl
+  plain_called seat line = ap (λ t. is_seated script seat line && not t) (none_apart line) ∙ and_true (is_seated script seat line)
 
   pub plain_count : (seat : ℕ) (lines : List SourceLine) → how_many (is_called script seat) lines ≡ how_many (is_seated script seat) lines
   plain_count seat [] = refl

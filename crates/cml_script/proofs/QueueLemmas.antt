@@ -16,32 +16,27 @@ use Rattle.cml_grammar.specs.Script.{SourceLine, Lines}
 use Rattle.cml_script.specs.Counting.{one_if, how_many}
 use Rattle.cml_script.specs.Schedule.{positions_where}
 use Rattle.cml_script.specs.Plan.{AreQueues, items_of}
-use Rattle.cml_script.proofs.ListLemmas.{taken_more, mapped_at, set_at, set_off}
+use Rattle.cml_board.proofs.ListLemmas.{slice_get-set_other}
+use Rattle.cml_script.proofs.ListLemmas.{taken_more, mapped_at, set_at}
 
 module _ (test : SourceLine → Bool) where
   -- one more step at the end
   pub positions_pushed : (k : ℕ) (lines : List SourceLine) (line : SourceLine) → positions_where test k (lines ++ line ∷ []) ≡ positions_where test k lines ++ cond (test line) ((k + length lines) ∷ []) []
   positions_pushed k [] line = rw (add-zero k) refl
-  positions_pushed k (first ∷ lines) line = by_test (test first) (positions_pushed (suc k) lines line)
-    where
-      moved : positions_where test (suc k) lines ++ cond (test line) ((suc k + length lines) ∷ []) [] ≡ positions_where test (suc k) lines ++ cond (test line) ((k + suc (length lines)) ∷ []) []
-      moved =
-          let same : suc k + length lines ≡ k + suc (length lines) = omega arith in
-          ap (λ n. positions_where test (suc k) lines ++ cond (test line) (n ∷ []) []) same
-
-      by_test : (t : Bool) → positions_where test (suc k) (lines ++ line ∷ []) ≡ positions_where test (suc k) lines ++ cond (test line) ((suc k + length lines) ∷ []) []
-          → cond t (k ∷ positions_where test (suc k) (lines ++ line ∷ [])) (positions_where test (suc k) (lines ++ line ∷ [])) ≡ cond t (k ∷ positions_where test (suc k) lines) (positions_where test (suc k) lines) ++ cond (test line) ((k + suc (length lines)) ∷ []) []
-      by_test true there = ap (λ l. k ∷ l) (there ∙ moved)
-      by_test false there = there ∙ moved
+  positions_pushed k (first ∷ lines) line =
+      let same : suc k + length lines ≡ k + suc (length lines) = omega arith in
+      let there = positions_pushed (suc k) lines line ∙ ap (λ n. positions_where test (suc k) lines ++ cond (test line) (n ∷ []) []) same in
+      elim (test first) as (λ t. cond t (k ∷ positions_where test (suc k) (lines ++ line ∷ [])) (positions_where test (suc k) (lines ++ line ∷ [])) ≡ cond t (k ∷ positions_where test (suc k) lines) (positions_where test (suc k) lines) ++ cond (test line) ((k + suc (length lines)) ∷ []) []) [
+        | true ↦ ap (λ l. k ∷ l) there
+        | false ↦ there
+      ]
 
   -- as many as pass
   pub positions_count : (k : ℕ) (lines : List SourceLine) → length (positions_where test k lines) ≡ how_many (test) lines
   positions_count k [] = refl
-  positions_count k (line ∷ lines) = by_test (test line) (positions_count (suc k) lines)
-    where
-      by_test : (t : Bool) → length (positions_where test (suc k) lines) ≡ how_many (test) lines → length (cond t (k ∷ positions_where test (suc k) lines) (positions_where test (suc k) lines)) ≡ one_if t + how_many (test) lines
-      by_test true ih = omega (arith, ih)
-      by_test false ih = omega (arith, ih)
+  positions_count k (line ∷ lines) =
+      let ih = positions_count (suc k) lines in
+      elim (test line) as (λ t. length (cond t (k ∷ positions_where test (suc k) lines) (positions_where test (suc k) lines)) ≡ one_if t + how_many test lines) [ true ↦ omega (arith, ih) | false ↦ omega (arith, ih) ]
 
   -- the item at a place of the list: a line that passes, behind as many that do
   pub record StandsThere (k : ℕ) (lines : List SourceLine) (n i : ℕ) : Type 0 where
@@ -62,29 +57,16 @@ module _ (test : SourceLine → Bool) where
     behind = rw e (ap (λ n. one_if t + n) s.behind);
   }
 
-  here : (k : ℕ) (first : SourceLine) (lines : List SourceLine) (i : ℕ) → test first ≡ true → Some k ≡ Some i → StandsThere k (first ∷ lines) 0 i
-  here k first lines i e same = record {
-    place = 0;
-    line = first;
-    at = omega (arith, same_Some k i same);
-    found = refl;
-    seated = e;
-    behind = refl;
-  }
-
-  at_first : (k : ℕ) (first : SourceLine) (lines : List SourceLine) (n i : ℕ) → test first ≡ true → slice_get (k ∷ positions_where test (suc k) lines) n ≡ Some i → ((m : ℕ) → slice_get (positions_where test (suc k) lines) m ≡ Some i → StandsThere (suc k) lines m i) → StandsThere k (first ∷ lines) n i
-  at_first k first lines zero i e found ih = here k first lines i e found
-  at_first k first lines (suc n) i e found ih = rw (← one-add n) (later k first lines n i true e (ih n found))
-
-  by_first : (k : ℕ) (first : SourceLine) (lines : List SourceLine) (n i : ℕ) (t : Bool) → test first ≡ t → slice_get (cond t (k ∷ positions_where test (suc k) lines) (positions_where test (suc k) lines)) n ≡ Some i → ((m : ℕ) → slice_get (positions_where test (suc k) lines) m ≡ Some i → StandsThere (suc k) lines m i) → StandsThere k (first ∷ lines) n i
-  by_first k first lines n i true e found ih = at_first k first lines n i e found ih
-  by_first k first lines n i false e found ih = rw (← zero-add n) (later k first lines n i false e (ih n found))
-
   -- a position of the list is that of a line that passes, and as many that do are before it
   pub position_is : (k : ℕ) (lines : List SourceLine) (n i : ℕ) → slice_get (positions_where test k lines) n ≡ Some i → StandsThere k lines n i
   position_is k [] n i found = absurd (none-some i found)
-  position_is k (first ∷ lines) n i found =
-      by_first k first lines n i (test first) refl found (λ m. position_is (suc k) lines m i)
+  position_is k (first ∷ lines) n i found = by (test first) n refl found (λ m. position_is (suc k) lines m i)
+    where
+      by : (t : Bool) (n : ℕ) → test first ≡ t → slice_get (cond t (k ∷ positions_where test (suc k) lines) (positions_where test (suc k) lines)) n ≡ Some i
+          → ((m : ℕ) → slice_get (positions_where test (suc k) lines) m ≡ Some i → StandsThere (suc k) lines m i) → StandsThere k (first ∷ lines) n i
+      by true zero e same ih = record { place = 0; line = first; at = omega (arith, same_Some k i same); found = refl; seated = e; behind = refl }
+      by true (suc n) e found ih = rw (← one-add n) (later k first lines n i true e (ih n found))
+      by false n e found ih = rw (← zero-add n) (later k first lines n i false e (ih n found))
 
   -- and each line that passes is there
   pub position_of_step : (k : ℕ) (lines : List SourceLine) (j : ℕ) (line : SourceLine) → slice_get lines j ≡ Some line → test line ≡ true → slice_get (positions_where test k lines) (how_many (test) (take j lines)) ≡ Some (k + j)
@@ -92,11 +74,27 @@ module _ (test : SourceLine → Bool) where
   position_of_step k (first ∷ lines) zero line found seated =
       let first_passes : test first ≡ true = ap (test) (same_Some first line found) ∙ seated in
       rw (first_passes, add-zero k) refl
-  position_of_step k (first ∷ lines) (suc j) line found seated = by_test (test first) (position_of_step (suc k) lines j line found seated)
-    where
-      by_test : (t : Bool) → slice_get (positions_where test (suc k) lines) (how_many (test) (take j lines)) ≡ Some (suc k + j) → slice_get (cond t (k ∷ positions_where test (suc k) lines) (positions_where test (suc k) lines)) (one_if t + how_many (test) (take j lines)) ≡ Some (k + suc j)
-      by_test true there = rw (one-add (how_many (test) (take j lines))) (there ∙ ap Some (omega arith))
-      by_test false there = rw (zero-add (how_many (test) (take j lines))) (there ∙ ap Some (omega arith))
+  position_of_step k (first ∷ lines) (suc j) line found seated =
+      let there : slice_get (positions_where test (suc k) lines) (how_many test (take j lines)) ≡ Some (k + suc j) = position_of_step (suc k) lines j line found seated ∙ ap Some (omega arith) in
+      elim (test first) as (λ t. slice_get (cond t (k ∷ positions_where test (suc k) lines) (positions_where test (suc k) lines)) (one_if t + how_many test (take j lines)) ≡ Some (k + suc j)) [
+        | true ↦ rw (one-add (how_many test (take j lines))) there
+        | false ↦ rw (zero-add (how_many test (take j lines))) there
+      ]
+
+-- one line more
+pub place_more : (test : SourceLine → Bool) (lines : List SourceLine) (i : ℕ) (line : SourceLine) → slice_get lines i ≡ Some line → positions_where test 0 (take (i + 1) lines) ≡ positions_where test 0 (take i lines) ++ cond (test line) (i ∷ []) []
+place_more test lines i line found =
+    let long : length (take i lines) ≡ i = length-take-le i lines (omega (arith, slice_get_within lines i line found)) in
+    ap (positions_where test 0) (taken_more lines i line found) ∙ positions_pushed test 0 (take i lines) line
+    ∙ ap (λ n. positions_where test 0 (take i lines) ++ cond (test line) (n ∷ []) []) (zero-add (length (take i lines)) ∙ long)
+
+pub place_added : (test : SourceLine → Bool) (lines : List SourceLine) (i : ℕ) (line : SourceLine) (list : List ℕ) → slice_get lines i ≡ Some line → test line ≡ true → list ≡ positions_where test 0 (take i lines) → list ++ i ∷ [] ≡ positions_where test 0 (take (i + 1) lines)
+place_added test lines i line list found passes so_far =
+    ap (λ l. l ++ i ∷ []) so_far ∙ sym (place_more test lines i line found ∙ ap (λ t. positions_where test 0 (take i lines) ++ cond t (i ∷ []) []) passes)
+
+pub place_kept : (test : SourceLine → Bool) (lines : List SourceLine) (i : ℕ) (line : SourceLine) (list : List ℕ) → slice_get lines i ≡ Some line → test line ≡ false → list ≡ positions_where test 0 (take i lines) → list ≡ positions_where test 0 (take (i + 1) lines)
+place_kept test lines i line list found fails so_far =
+    so_far ∙ sym (place_more test lines i line found ∙ ap (λ t. positions_where test 0 (take i lines) ++ cond t (i ∷ []) []) fails ∙ append-nil (positions_where test 0 (take i lines)))
 
 empty_found : (xs : List (Vec ℕ Global)) (thread : ℕ) (queue : List ℕ) (o : Option (Vec ℕ Global)) → All (λ q. q.items ≡ []) xs → slice_get xs thread ≡ o → option_map (λ (q : Vec ℕ Global). q.items) o ≡ Some queue → queue ≡ []
 empty_found xs thread queue None none e f = absurd (none-some queue f)
@@ -115,12 +113,9 @@ module _ (script : Lines) (test : ℕ → SourceLine → Bool) where
   pub queues_kept : (queues : List (List ℕ)) (items : List Step) (i : ℕ) (s : Step) → map (λ x. source_of x.line) items ≡ script.steps → slice_get items i ≡ Some s → ((seat : ℕ) → test seat (source_of s.line) ≡ false) → AreQueues test (take i script.steps) queues → AreQueues test (take (i + 1) script.steps) queues
   queues_kept queues items i s lines found fails so_far =
       let line = mapped_at (λ (x : Step). source_of x.line) items script.steps i s lines found in
-      let more = taken_more script.steps i (source_of s.line) line in
       record {
         seats = so_far.seats;
-        each = λ thread queue at.
-            so_far.each thread queue at
-            ∙ sym (ap (positions_where (test (thread + 1)) 0) more ∙ positions_pushed (test (thread + 1)) 0 (take i script.steps) (source_of s.line) ∙ ap (λ t. positions_where (test (thread + 1)) 0 (take i script.steps) ++ cond t ((0 + length (take i script.steps)) ∷ []) []) (fails (thread + 1)) ∙ append-nil (positions_where (test (thread + 1)) 0 (take i script.steps)));
+        each = λ thread queue at. place_kept (test (thread + 1)) script.steps i (source_of s.line) queue line (fails (thread + 1)) (so_far.each thread queue at);
       }
 
   -- one more step, in its thread's queue
@@ -132,8 +127,6 @@ module _ (script : Lines) (test : ℕ → SourceLine → Bool) where
       let line = mapped_at (λ (x : Step). source_of x.line) items script.steps i s lines found in
       let within : s.seat - 1 < length vecs = omega (arith, reading.seated.0, reading.seated.1, few, queues.seats, length-map vecs items_at) in
       let set : items_of (slice_set vecs (s.seat - 1) now) ≡ slice_set (items_of vecs) (s.seat - 1) now.items = map-set items_at vecs (s.seat - 1) now in
-      let more = taken_more script.steps i (source_of s.line) line in
-      let long : length (take i script.steps) ≡ i = length-take-le i script.steps (omega (arith, slice_get_within script.steps i (source_of s.line) line)) in
       let was_at : slice_get (items_of vecs) (s.seat - 1) ≡ Some was.items = slice_get-map items_at vecs (s.seat - 1) ∙ ap (option_map items_at) (slice_get_read vecs (length vecs) (s.seat - 1) was refl within read) in
       rw set (record {
         seats = length-set (items_of vecs) (s.seat - 1) now.items ∙ queues.seats;
@@ -141,13 +134,11 @@ module _ (script : Lines) (test : ℕ → SourceLine → Bool) where
           | inl same ↦
               let here : slice_get (slice_set (items_of vecs) (s.seat - 1) now.items) thread ≡ Some now.items = ap (slice_get (slice_set (items_of vecs) (s.seat - 1) now.items)) same ∙ set_at (items_of vecs) (s.seat - 1) now.items (omega (arith, within, length-map vecs items_at)) in
               let own : test (thread + 1) (source_of s.line) ≡ true = passes (thread + 1) ∙ eq-eqb s.seat (thread + 1) (omega (arith, seat)) in
-              sym (same_Some _ _ (sym here ∙ at)) ∙ pushed
-              ∙ ap (λ l. l ++ i ∷ []) (queues.each (s.seat - 1) was.items was_at ∙ ap (λ t. positions_where (test (t + 1)) 0 (take i script.steps)) (sym same))
-              ∙ sym (ap (positions_where (test (thread + 1)) 0) more ∙ positions_pushed (test (thread + 1)) 0 (take i script.steps) (source_of s.line) ∙ ap (λ t. positions_where (test (thread + 1)) 0 (take i script.steps) ++ cond t ((0 + length (take i script.steps)) ∷ []) []) own ∙ ap (λ n. positions_where (test (thread + 1)) 0 (take i script.steps) ++ n ∷ []) (zero-add (length (take i script.steps)) ∙ long))
+              let so_far = queues.each (s.seat - 1) was.items was_at ∙ ap (λ t. positions_where (test (t + 1)) 0 (take i script.steps)) (sym same) in
+              sym (same_Some _ _ (sym here ∙ at)) ∙ pushed ∙ place_added (test (thread + 1)) script.steps i (source_of s.line) was.items line own so_far
           | inr other ↦
               let no : test (thread + 1) (source_of s.line) ≡ false = passes (thread + 1) ∙ ne_eqb s.seat (thread + 1) (λ e. other (omega (arith, e))) in
-              queues.each thread queue (sym (set_off (items_of vecs) (s.seat - 1) thread now.items other) ∙ at)
-              ∙ sym (ap (positions_where (test (thread + 1)) 0) more ∙ positions_pushed (test (thread + 1)) 0 (take i script.steps) (source_of s.line) ∙ ap (λ t. positions_where (test (thread + 1)) 0 (take i script.steps) ++ cond t ((0 + length (take i script.steps)) ∷ []) []) no ∙ append-nil (positions_where (test (thread + 1)) 0 (take i script.steps)))
+              place_kept (test (thread + 1)) script.steps i (source_of s.line) queue line no (queues.each thread queue (sym (slice_get-set_other (items_of vecs) (s.seat - 1) thread now.items other) ∙ at))
         ];
       })
 

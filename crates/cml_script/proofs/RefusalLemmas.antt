@@ -1,6 +1,7 @@
 -- Kinds of error that there are, and kinds that there are not.
-use Rattle.std.proofs.Common.{◌≡◌, Bool, true, false, refl, [], ◌∷◌}
+use Rattle.std.proofs.Common.{◌≡◌, ◌⊎◌, inl, inr, Bool, true, false, refl, [], ◌∷◌}
 use Rattle.std.specs.Str.{bytes_eq}
+use Rattle.std.proofs.lemmas.Bool.{cases_Bool}
 use Rattle.std.proofs.lemmas.Slice.Eq.{bytes_eq-Decides}
 use Rattle.clap.specs.Walk.{Text}
 use Rattle.clap.specs.Kinds.{Kinds, or_else}
@@ -27,3 +28,6 @@ or_else-nil (k ∷ ks) b none = cc
 
 pub same_text : (a b : Text) → bytes_eq a b ≡ true → a ≡ b
 same_text a b h = (bytes_eq-Decides a b).0 h
+
+pub same_or_other : (a b : Text) → (a ≡ b) ⊎ (bytes_eq a b ≡ false)
+same_or_other a b = elim (cases_Bool (bytes_eq a b)) [ inl same ↦ inl (same_text a b same) | inr other ↦ inr other ]

@@ -3,7 +3,7 @@ use Rattle.std.proofs.Common.{◌≡◌, ℕ, ◌+◌, ◌-◌, ◌<◌, ◌≤�
 use Rattle.std.specs.List.{IsDistinct, AllByRecursion, list_any}
 use Rattle.std.specs.Option.{option_map_or}
 use Rattle.std.proofs.lemmas.Option.{same_Some, slice_get_within}
-use Rattle.std.proofs.lemmas.Bool.{cases_lt, cases_eq, eqb-true, eq-eqb, ne_eqb, false≢true, lt-ltb, le-ltb}
+use Rattle.std.proofs.lemmas.Bool.{or_right, cases_lt, cases_eq, cases_order, eqb-true, eq-eqb, ne_eqb, false≢true, lt-ltb, le-ltb}
 use Rattle.std.proofs.lemmas.Map.Keys.{IsDistinct-cons}
 use Rattle.std.proofs.lemmas.Map.Steps.{length-le_from_distinct_below}
 use Rattle.cml_board.specs.declared.call.Call.{Call}
@@ -34,10 +34,6 @@ all_other (x ∷ xs) j other = (
   other x (ap (λ t. t || list_any (eqb x) xs) (eq-eqb x x refl)),
   all_other xs j (λ q there. other q (or_right (eqb q x) (list_any (eqb q) xs) there)),
 )
-  where
-    or_right : (a b : Bool) → b ≡ true → (a || b) ≡ true
-    or_right true b e = refl
-    or_right false b e = e
 
 with_step : Bool → Option ℕ → List ℕ → List ℕ
 with_step true next rest = rest
@@ -197,51 +193,32 @@ module _ (script : Lines) where
     | inl same ↦
         let here : one ≡ rest = shared one rest f l g.1 m.2 same in
         ended limit one stop e ends (subst (λ h. Follows script (e ∷ h)) (sym here) g) (omega (arith, room, same))
-    | inr differs ↦ no_longer limit one rest stop f l ends g.1 m.2 (omega (arith, room)) (shorter lt differs)
+    | inr differs ↦ no_longer limit one rest stop f l ends g.1 m.2 (omega (arith, room)) (omega (arith, lt, differs))
   ]
-    where
-      shorter : length one < length (e ∷ rest) → (length one ≡ length rest → ⊥) → length one < length rest
-      shorter lt differs = elim (cases_lt (length one) (length rest)) [
-        | inl less ↦ less
-        | inr ge ↦ absurd (differs (omega (arith, lt, ge)))
-      ]
+
+  -- something is left, or nothing is
+  left_over : (history : History) → ((0 < left script history) ⊎ (length history < declared_count script)) → (declared_count script ≤ length history) × (left script history ≡ 0) → ⊥
+  left_over history (inl more) (all, none) = absurd (omega (arith, more, none))
+  left_over history (inr few) (all, none) = absurd (omega (arith, few, all))
 
   one_stop : (limit : ℕ) (history : History) (first second : Stop) → Ends script limit history first → Ends script limit history second → first ≡ second
   one_stop limit history Held second a b = absurd a
-  one_stop limit history Full Held a b = absurd b
-  one_stop limit history Stalled Held a b = absurd b
-  one_stop limit history Done Held a b = absurd b
+  one_stop limit history first Held a b = absurd b
   one_stop limit history Full Full a b = refl
   one_stop limit history Stalled Stalled a b = refl
   one_stop limit history Done Done a b = refl
   one_stop limit history Full Stalled a b = absurd (omega (arith, a.0, b.0))
   one_stop limit history Stalled Full a b = absurd (omega (arith, a.0, b.0))
-  one_stop limit history Full Done a b = absurd (left_over a.1 b)
-    where
-      left_over : ((0 < left script history) ⊎ (length history < declared_count script)) → (declared_count script ≤ length history) × (left script history ≡ 0) → ⊥
-      left_over (inl more) (all, none) = absurd (omega (arith, more, none))
-      left_over (inr few) (all, none) = absurd (omega (arith, few, all))
-  one_stop limit history Done Full a b = absurd (left_over b.1 a)
-    where
-      left_over : ((0 < left script history) ⊎ (length history < declared_count script)) → (declared_count script ≤ length history) × (left script history ≡ 0) → ⊥
-      left_over (inl more) (all, none) = absurd (omega (arith, more, none))
-      left_over (inr few) (all, none) = absurd (omega (arith, few, all))
+  one_stop limit history Full Done a b = absurd (left_over history a.1 b)
+  one_stop limit history Done Full a b = absurd (left_over history b.1 a)
   one_stop limit history Stalled Done a b = absurd (omega (arith, a.2, b.1))
   one_stop limit history Done Stalled a b = absurd (omega (arith, a.1, b.2))
 
 pub one_schedule : SchedulesAreOne
-one_schedule script limit one other first second a b = elim (cases_eq (length one) (length other)) [
+one_schedule script limit one other first second a b = elim (cases_order (length one) (length other)) [
   | inl same ↦
       let equal : one ≡ other = shared script one other a.follows a.lawful b.follows b.lawful same in
       (equal, one_stop script limit one first second a.ends (subst (λ h. Ends script limit h second) (sym equal) b.ends))
-  | inr differs ↦ elim (cases_lt (length one) (length other)) [
-    | inl lt ↦ absurd (no_longer script limit one other first a.follows a.lawful a.ends b.follows b.lawful b.room lt)
-    | inr ge ↦ absurd (no_longer script limit other one second b.follows b.lawful b.ends a.follows a.lawful a.room (longer ge differs))
-  ]
+  | inr (inl lt) ↦ absurd (no_longer script limit one other first a.follows a.lawful a.ends b.follows b.lawful b.room lt)
+  | inr (inr gt) ↦ absurd (no_longer script limit other one second b.follows b.lawful b.ends a.follows a.lawful a.room gt)
 ]
-  where
-    longer : length other ≤ length one → (length one ≡ length other → ⊥) → length other < length one
-    longer ge differs = elim (cases_lt (length other) (length one)) [
-      | inl less ↦ less
-      | inr le ↦ absurd (differs (omega (arith, ge, le)))
-    ]

@@ -27,17 +27,13 @@ use Rattle.cml_script.proofs.LineLemmas.{all_at, called_seated}
 pub one_more : (P : ℕ → Type 0) (n : ℕ) → ((k : ℕ) → k < n → P k) → P n → (k : ℕ) → k < n + 1 → P k
 one_more P n each last k lt = elim (cases_lt k n) [ inl before ↦ each k before | inr ge ↦ let same : n ≡ k = omega (arith, lt, ge) in subst P same last ]
 
-pub all_moved : (script told : Lines) (history kept : History) (tally : Tallied) → told ≡ script → kept ≡ history → IsAllMoved told kept tally → IsAllMoved script history tally
-all_moved script told history kept tally one same moved =
-    subst (λ (h : History). IsAllMoved script h tally) same (subst (λ (s : Lines). IsAllMoved s kept tally) one moved)
-
 -- the tests that are made at a board's end
 pub stuck_iff : (script told : Lines) (limit : ℕ) (history kept : History) (tally : Tallied) (t : Bool) → told ≡ script → kept ≡ history → declared_count told ≤ length kept → length history < limit
     → IsAllMoved told kept tally → IsTrue t ↔ ((seat : ℕ) → WaitsOrIsDone told kept seat) → IsTrue t ↔ NobodyGoesOn script limit history tally
 stuck_iff script told limit history kept tally t one same made room moved test =
     let here = subst (λ (h : History). IsTrue t ↔ ((seat : ℕ) → WaitsOrIsDone script h seat)) same (subst (λ (s : Lines). IsTrue t ↔ ((seat : ℕ) → WaitsOrIsDone s kept seat)) one test) in
     let begun = subst (λ (h : History). declared_count script ≤ length h) same (subst (λ (s : Lines). declared_count s ≤ length kept) one made) in
-    let apart = all_moved script told history kept tally one same moved in
+    let apart = subst (λ (h : History). IsAllMoved script h tally) same (subst (λ (s : Lines). IsAllMoved s kept tally) one moved) in
     (λ yes. record { made = begun; room = room; waits = here.0 yes; apart = apart }, λ stuck. here.1 stuck.waits)
 
 -- one more step

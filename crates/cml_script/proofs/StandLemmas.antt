@@ -6,7 +6,7 @@ use Rattle.cml_grammar.specs.declared.script.Step.{Step}
 use Rattle.cml_grammar.specs.Names.{thread_count}
 use Rattle.cml_script.proofs.LineLemmas.{all_at, step_seated, called_seated}
 use Rattle.cml_script.proofs.PlainLemmas.{plain_maker}
-use Rattle.std.specs.Option.{option_map_or, option_and_then}
+use Rattle.std.specs.Option.{option_and_then}
 use Rattle.std.proofs.lemmas.Option.{same_Some, none-some, slice_get_within, slice_get_read, slice_get-get_or}
 use Rattle.std.proofs.lemmas.List.{length-set, length-map, length-replicate, get_or-replicate}
 use Rattle.std.proofs.lemmas.Bool.{eqb-true, eq-eqb, ne_eqb, cases_eq, cases_lt, le-ltb, lt-ltb, false≢true}
@@ -15,7 +15,7 @@ use Rattle.cml_calls.specs.declared.kind.Kind.{Kind}
 use Rattle.cml_board.specs.declared.entry.Who.TheVariants.{Seat}
 use Rattle.cml_board.specs.declared.entry.Entry.{Entry}
 use Rattle.cml_board.specs.History.{answer, Fits, kind_of}
-use Rattle.cml_grammar.specs.Script.{SourceLine, Lines}
+use Rattle.cml_grammar.specs.Script.{Lines}
 use Rattle.cml_grammar.specs.Meaning.{names_of}
 use Rattle.cml_grammar.specs.Reading.{source_of, ReadsStep}
 use Rattle.cml_script.specs.Counting.{one_if, how_many}
@@ -23,15 +23,16 @@ use Rattle.cml_script.specs.declared.binding.Binding.{Binding}
 use Rattle.cml_script.specs.declared.binding.Binding.TheVariants as binding
 use Rattle.cml_grammar.specs.declared.names.Named.TheVariants as called
 use Rattle.cml_grammar.specs.declared.names.Users.TheVariants as users
-use Rattle.cml_grammar.specs.Giving.{is_giving, names_before, NamesAreGiven}
+use Rattle.cml_grammar.specs.Giving.{names_before, NamesAreGiven}
 use Rattle.cml_script.specs.Schedule.{History, IsReady, IsStep, IsDeclaration, Follows, is_seated, is_seat, is_by, is_object, performed, next_position, step_call, declared_count, declared_object, object_of, made_of, given_by, bound_by, binding_of, port_bound, port_made}
 use Rattle.cml_script.specs.Audit.{IsOfScript}
 use Rattle.cml_board.specs.History.{Lawful}
 use Rattle.cml_script.specs.Plan.{IsKnown, NamesObjects, HasSeats, AsksForPorts, IsObject, IsObjectAt}
 use Rattle.cml_script.specs.Bindings.{AreBindings, with_binding}
 use Rattle.cml_script.specs.Stage.{Play, Stands, IsNextObject, AreCounts, with_entry, IsStepAt, IsLeast}
-use Rattle.cml_script.proofs.ListLemmas.{how_many-le, mapped_at, set_at, set_off}
-use Rattle.cml_script.proofs.GivingLemmas.{giver, given_at, next_is, none_first}
+use Rattle.cml_board.proofs.ListLemmas.{slice_get-set_other}
+use Rattle.cml_script.proofs.ListLemmas.{how_many-le, mapped_at, set_at}
+use Rattle.cml_script.proofs.GivingLemmas.{giver, given_line, next_is, none_first}
 use Rattle.cml_script.proofs.BindingLemmas.{bound_more}
 use Rattle.cml_script.proofs.KindLemmas.{object_made, object_kind_is, declared_made}
 
@@ -127,7 +128,7 @@ counts_performed history entry counts at n e lt same c = record {
     | inr other ↦
         let no : eqb (at + 1) (thread + 1) ≡ false = ne_eqb (at + 1) (thread + 1) (λ z. other (omega arith)) in
         let kept : performed (entry ∷ history) (thread + 1) ≡ performed history (thread + 1) = performed_by (thread + 1) entry history (at + 1) e ∙ ap (λ t. one_if t + performed history (thread + 1)) no ∙ omega arith in
-        set_off counts at thread (n + 1) other ∙ c.each thread within ∙ ap Some (sym kept)
+        slice_get-set_other counts at thread (n + 1) other ∙ c.each thread within ∙ ap Some (sym kept)
   ];
 }
 
@@ -158,7 +159,7 @@ bindings_more script before entry bindings (Some n) asks seats e b = record {
     | inr other ↦
         let within : at < length bindings = omega (arith, lt, length-set bindings n (bound_by entry.call entry.reply)) in
         let test : eqb n at ≡ false = ne_eqb n at other in
-        set_off bindings n at (bound_by entry.call entry.reply) (λ z. other (sym z)) ∙ b.each at within
+        slice_get-set_other bindings n at (bound_by entry.call entry.reply) (λ z. other (sym z)) ∙ b.each at within
         ∙ ap Some (sym (bound_more script asks seats before entry at (Some n) e ∙ ap (λ t. cond t (bound_by entry.call entry.reply) (binding_of script before at)) test))
   ];
 }
@@ -208,13 +209,6 @@ seat_is script history items i s lines reads found l =
     let same : source_of s.line ≡ l.ready.line = same_Some _ _ (sym (mapped_at (λ x. source_of x.line) items script.steps i s lines found) ∙ l.ready.found) in
     eqb-true s.seat l.seat (sym (step_seated script s l.seat read) ∙ ap (is_seated script l.seat) same ∙ called_seated script l.seat l.ready.line l.ready.seated)
 
-pub seat_low : (script : Lines) (items : List Step) (i : ℕ) (s : Step) → All (ReadsStep (names_of script)) items → slice_get items i ≡ Some s → 1 ≤ s.seat
-seat_low script items i s reads found = (all_at (ReadsStep (names_of script)) items i s reads found).seated.0
-
-pub seat_high : (script : Lines) (items : List Step) (i : ℕ) (s : Step) → All (ReadsStep (names_of script)) items → slice_get items i ≡ Some s → thread_count (names_of script) ≤ 64 → s.seat ≤ 64
-seat_high script items i s reads found few =
-    let read = all_at (ReadsStep (names_of script)) items i s reads found in omega (arith, read.seated.1, few)
-
 pub step_at : (script : Lines) (history : History) (i : ℕ) (seat : ℕ) (asked : Call (List ℕ)) (reply : Reply (List ℕ)) (l : IsLeast script history i) → seat ≡ l.seat → step_call script history i ≡ Some asked → IsStepAt script history (record { who = Seat seat; call = asked; reply = reply }) i
 step_at script history i seat asked reply l same calls = record {
   least = l;
@@ -250,9 +244,10 @@ is_performed p old items i d asked view lines reads few ready declared calls =
     let within : i < length items = omega (arith, slice_get_within p.script.steps i l.ready.line l.ready.found, ap length lines, length-map items (λ (x : Step). source_of x.line)) in
     let s = get_or items i d in
     let found = slice_get-get_or items i d within in
+    let read = all_at (ReadsStep (names_of p.script)) items i s reads found in
     record {
-      low = seat_low p.script items i s reads found;
-      high = seat_high p.script items i s reads found few;
+      low = read.seated.0;
+      high = omega (arith, read.seated.1, few);
       declared = subst (λ (r : Play). declared_count r.script ≤ length r.history) (sym view) declared;
       step = λ reply. step_at p.script p.history i s.seat asked reply l (seat_is p.script p.history items i s lines reads found l)
           (subst (λ (r : Play). step_call r.script r.history i ≡ Some asked) (sym view) calls);
@@ -267,17 +262,10 @@ performs p old new i s asked reply view e performed = (
 
 -- a name that a step gives is one of the script's
 pub given_within : (script : Lines) (i at : ℕ) → NamesAreGiven (names_of script) script.declarations script.steps → given_by script i ≡ Some at → at < length (names_of script)
-given_within script i at given by = by_line (slice_get script.steps i) refl
-  where
-    by_gives : (line : SourceLine) (t : Bool) → slice_get script.steps i ≡ Some line → is_giving line ≡ t → cond t (Some (names_before script.declarations script.steps i)) None ≡ Some at → at < length (names_of script)
-    by_gives line true found gives some =
-        let port = given.steps i line found gives in
-        omega (arith, slice_get_within (names_of script) (names_before script.declarations script.steps i) (port.0, called.Port (users.One port.1)) port.4, same_Some _ _ some)
-    by_gives line false found gives none = absurd (none-some at none)
-
-    by_line : (l : Option SourceLine) → slice_get script.steps i ≡ l → at < length (names_of script)
-    by_line None e = absurd (none-some at (sym (ap (λ (l : Option SourceLine). cond (option_map_or is_giving l false) (Some (names_before script.declarations script.steps i)) None) e) ∙ by))
-    by_line (Some line) e = by_gives line (is_giving line) e refl (sym (given_at script i line e) ∙ by)
+given_within script i at given by =
+    let line = given_line script i at by in
+    let port = given.steps i line.0 line.1 line.2 in
+    omega (arith, slice_get_within (names_of script) (names_before script.declarations script.steps i) (port.0, called.Port (users.One port.1)) port.4, line.3)
 
 pub bind_within : (script : Lines) (history : History) (bindings : List Binding) (i : ℕ) (g : Option ℕ) → IsKnown script → AreBindings script history bindings → g ≡ given_by script i → IfSome g (λ at. at < length bindings)
 bind_within script history bindings i None known bound given = tt

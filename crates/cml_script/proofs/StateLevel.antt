@@ -1,17 +1,19 @@
 -- Which words the level of `check` understands: `--state` or none.
-use Rattle.std.proofs.Common.{◌≡◌, ◌⊎◌, ◌∙◌, ◌++◌, ap, ap₂, subst, sym, refl, inl, inr, ℕ, Bool, true, false, List, [], ◌∷◌, Option, Some, None, codes}
-use Rattle.std.specs.Prelude.{fold, slice_get, slice_index_or, ◌==◌}
+use Rattle.std.proofs.Common.{◌≡◌, ◌∙◌, ◌++◌, ap, ap₂, subst, refl, inl, inr, Bool, true, false, List, [], ◌∷◌, Option, Some, None, codes}
+use Rattle.std.specs.Prelude.{slice_index_or, ◌==◌}
+use Rattle.std.proofs.lemmas.Bool.{cases_Bool}
+use Rattle.std.proofs.lemmas.Option.{slice_get_cases}
 use Rattle.std.specs.Str.{bytes_eq, chars}
-use Rattle.clap.specs.Walk.{Held, Row, Rule, Text, Walk, arg_by_long, bundle_met, idle, long_or_other, nothing_held, one_of, rows_after, short_or_plain, used, walked}
+use Rattle.clap.specs.Walk.{Held, Row, Rule, Text, Walk, arg_by_long, bundle_met, idle, long_or_other, nothing_held, rows_after, short_or_plain, used, walked}
 use Rattle.clap.specs.Simple.{Shape, built, new_rule}
 use Rattle.clap.specs.Kinds.{Kinds, or_else}
 use Rattle.clap.specs.Lexer.{long_of, short_of}
 use Rattle.clap.specs.Faults.{bundle_fault, flag_word_fault, flags_fault, level_fault, long_fault, settle_fault, step_fault, turn_fault, walk_fault}
 use Rattle.clap.proofs.OnLiterals.{clap_on_literals}
-use Rattle.cml_script.specs.CommandLine.{FindsFlag, GivesState, IsEnd, usage}
-use Rattle.cml_script.proofs.RefusalLemmas.{or_else-nil, or_else-refuses, or_else-refuses_next, refused_is_some, refuses, same_text}
+use Rattle.cml_script.specs.CommandLine.{AsksCheck, FindsFlag, IsEnd, asked_of, usage}
+use Rattle.cml_script.proofs.RefusalLemmas.{or_else-refuses, or_else-refuses_next, refused_is_some, refuses, same_text}
 use Rattle.cml_script.proofs.LimitTexts.{long_word_is}
-use Rattle.cml_script.proofs.LimitLemmas.{holding, names, standing}
+use Rattle.cml_script.proofs.LimitLemmas.{holding, left_fault, named, names, none_at_start, standing, turn_at}
 
 -- the level of words of `check`
 abbrev pub below_check : Shape
@@ -19,16 +21,11 @@ below_check = slice_index_or (built usage).subs 2 (built usage).top
 
 -- what the words to come, and the end, find at fault
 abbrev rest_fault : Walk → List Text → Kinds
-rest_fault w words =
-    or_else (walk_fault below_check [] w words) (settle_fault below_check.rules false (fold (walked below_check.rules []) w words).held)
+rest_fault w words = left_fault below_check w words
 
 first_turn : (w : Walk) (word : Text) (rest : List Text) → rest_fault w (word ∷ rest) ≡ []
     → (turn_fault below_check [] w word ≡ []) × (rest_fault (walked below_check.rules [] w word) rest ≡ [])
-unfolding walk_fault
-first_turn w word rest none =
-    let all = or_else-nil (walk_fault below_check [] w (word ∷ rest)) _ none in
-    let words = or_else-nil (turn_fault below_check [] w word) _ all.0 in
-    (words.0, ap (λ k. or_else k (settle_fault below_check.rules false (fold (walked below_check.rules []) (walked below_check.rules [] w word) rest).held)) words.1 ∙ all.1)
+first_turn = turn_at below_check
 
 -- between two words: these rows were found
 abbrev past : List Row → Walk
@@ -74,15 +71,10 @@ bundle_refusal h flags word = or_else (bundle_fault below_check.rules false flag
 bundle_is_refused : (rows : List Row) (flags word : Text) → refuses (bundle_refusal (holding rows None) flags word) ≡ true
 unfolding flags_fault bundle_met
 bundle_is_refused rows [] word = refl
-bundle_is_refused rows (f ∷ fs) word = go (slice_get (chars (f ∷ fs)) 0) refl
-  where
-    with_first : (x : ℕ) → slice_get (chars (f ∷ fs)) 0 ≡ Some x → (t : Bool) → (104 == x) ≡ t → refuses (bundle_refusal (holding rows None) (f ∷ fs) word) ≡ true
-    with_first x e true t = rw (e, t) refl
-    with_first x e false t = rw (e, t) refl
-
-    go : (c : Option ℕ) → slice_get (chars (f ∷ fs)) 0 ≡ c → refuses (bundle_refusal (holding rows None) (f ∷ fs) word) ≡ true
-    go None e = rw e refl
-    go (Some x) e = with_first x e (104 == x) refl
+bundle_is_refused rows (f ∷ fs) word = elim (slice_get_cases (chars (f ∷ fs)) 0).1 [
+  | inr none ↦ rw none.1 refl
+  | inl some ↦ elim (cases_Bool (104 == some.0)) [ inl t ↦ rw (some.2, t) refl | inr t ↦ rw (some.2, t) refl ]
+]
 
 other_word_is_refused : (rows : List Row) (word : Text) → names (codes "state") (long_of word) ≡ false
     → refuses (refusal (holding rows None) (long_of word) word) ≡ true
@@ -114,95 +106,76 @@ data Next (word : Text) : Type 0 where
   state : bytes_eq word (codes "--") ≡ false → long_of word ≡ Some (codes "state", None) → Next word
 
 next_word : (rows : List Row) (word : Text) → turn_fault below_check [] (past rows) word ≡ [] → Next word
-next_word rows word none = ends (bytes_eq word (codes "--")) refl
+next_word rows word none = elim (cases_Bool (bytes_eq word (codes "--"))) [
+  | inl d ↦ dashes d
+  | inr d ↦ elim (cases_Bool (names (codes "state") (long_of word))) [
+    | inl s ↦ let n = named (codes "state") word s in as_state d n.0 n.1
+    | inr s ↦ absurd (refused_is_some _ none (idle_refuses rows word d s))
+  ]
+]
   where
-    as_state : bytes_eq word (codes "--") ≡ false → (p : Text × Option Text) → long_of word ≡ Some p → bytes_eq (codes "state") p.0 ≡ true → Next word
-    as_state d (name, None) e n = state d (e ∙ ap (λ x. Some (x, None)) (sym (same_text (codes "state") name n)))
-    as_state d (name, Some text) e n =
-        let is : long_of word ≡ Some (codes "state", Some text) = e ∙ ap (λ x. Some (x, Some text)) (sym (same_text (codes "state") name n)) in
-        absurd (refused_is_some _ none (rw (d, is) refl))
-
-    is_state : (o : Option (Text × Option Text)) → bytes_eq word (codes "--") ≡ false → long_of word ≡ o → (t : Bool) → names (codes "state") o ≡ t → Next word
-    is_state o d e false t = absurd (refused_is_some _ none (idle_refuses rows word d (rw e t)))
-    is_state (Some p) d e true t = as_state d p e t
-    is_state None d e true t = cc
-
-    ends : (t : Bool) → bytes_eq word (codes "--") ≡ t → Next word
-    ends true t = dashes t
-    ends false t = is_state (long_of word) t refl (names (codes "state") (long_of word)) refl
+    as_state : bytes_eq word (codes "--") ≡ false → (value : Option Text) → long_of word ≡ Some (codes "state", value) → Next word
+    as_state d None e = state d e
+    as_state d (Some text) e = absurd (refused_is_some _ none (rw (d, e) refl))
 
 -- after `--state`
 after_state : (rest : List Text) → rest_fault (past with_state) rest ≡ [] → IsEnd rest
 after_state [] none = inl refl
-after_state (word ∷ rest) none = by (next_word with_state word turn)
-  where
-    turn : turn_fault below_check [] (past with_state) word ≡ []
-    turn = (first_turn (past with_state) word rest none).0
+after_state (word ∷ rest) none =
+    let turn = (first_turn (past with_state) word rest none).0 in
+    elim (next_word with_state word turn) [
+      | dashes t ↦ inr (dashes_end with_state word rest t none)
+      | state d e ↦ absurd (refused_is_some _ turn (rw (d, e) refl))
+    ]
 
-    by : Next word → IsEnd (word ∷ rest)
-    by (dashes t) = inr (dashes_end with_state word rest t none)
-    by (state d e) = absurd (refused_is_some _ turn (rw (d, e) refl))
-
--- the words of the subcommand's level, where it finds no fault
-pub record AsksStateBelow (rest : List Text) (state : Bool) : Type 0 where
-  pub options : List Text
-  pub end : List Text
-  pub gives : GivesState options state
-  pub ends : IsEnd end
-  pub are : rest ≡ options ++ end
+-- below the subcommand, the words ask for this
+abbrev AsksStateBelow : List Text → Bool → Type 0
+AsksStateBelow rest set = (words : List Text) → asked_of words ≡ codes "check" ∷ rest → AsksCheck words set
 
 abbrev Understood : List Text → Type 0
 Understood rest = (state : Bool) × AsksStateBelow rest state
 
 without : (rest : List Text) → IsEnd rest → Understood rest
-without rest end = (false, record { options = []; end = rest; gives = refl; ends = end; are = refl })
+without rest end = (false, λ words are. record { options = []; end = rest; gives = refl; ends = end; are = are })
 
 understood_words : (rest : List Text) → rest_fault (past []) rest ≡ [] → Understood rest
 unfolding walked
 understood_words [] none = without [] (inl refl)
-understood_words (word ∷ rest) none = by (next_word [] word turn.0)
-  where
-    turn : (turn_fault below_check [] (past []) word ≡ []) × (rest_fault (walked below_check.rules [] (past []) word) rest ≡ [])
-    turn = first_turn (past []) word rest none
-
-    then_state : bytes_eq word (codes "--") ≡ false → long_of word ≡ Some (codes "state", None) → walked below_check.rules [] (past []) word ≡ past with_state
-    then_state d e = rw (d, e) refl
-
-    by : Next word → Understood (word ∷ rest)
-    by (dashes t) = without (word ∷ rest) (inr (dashes_end [] word rest t none))
-    by (state d e) = (
-      true,
-      record {
-        options = codes "--state" ∷ [];
-        end = rest;
-        gives = refl;
-        ends = after_state rest (subst (λ w. rest_fault w rest ≡ []) (then_state d e) turn.1);
-        are = ap (λ w. w ∷ rest) (long_word_is word (codes "state") None e);
-      },
-    )
+understood_words (word ∷ rest) none =
+    let turn = first_turn (past []) word rest none in
+    elim (next_word [] word turn.0) [
+      | dashes t ↦ without (word ∷ rest) (inr (dashes_end [] word rest t none))
+      | state d e ↦ (
+        true,
+        λ words are. record {
+          options = codes "--state" ∷ [];
+          end = rest;
+          gives = refl;
+          ends = after_state rest (rw (d, e) at turn.1);
+          are = are ∙ ap (λ w. codes "check" ∷ w ∷ rest) (long_word_is word (codes "state") None e);
+        },
+      )
+    ]
 
 -- the level finds no fault only where it is asked for the option, or for none
 pub state_understood_below : (rest : List Text) → level_fault below_check [] nothing_held rest false [] ≡ [] → Understood rest
-state_understood_below rest none =
-    let words = or_else-nil _ _ none in
-    let settles = or_else-nil _ _ words.1 in
-    understood_words rest (ap (λ k. or_else k (settle_fault below_check.rules false (fold (walked below_check.rules []) (past []) rest).held)) words.0 ∙ settles.0)
+state_understood_below rest none = understood_words rest (none_at_start below_check rest none)
 
 -- the level takes the option, and finds it
 pub record StateTaken (rest : List Text) (state : Bool) : Type 0 where
   pub fault : level_fault below_check [] nothing_held rest false [] ≡ []
   pub finds : FindsFlag (codes "state") (rows_after below_check.rules [] rest) state
 
-none_taken : (end : List Text) → IsEnd end → StateTaken ([] ++ end) false
+none_taken : (end : List Text) → IsEnd end → StateTaken end false
 unfolding clap_on_literals
 none_taken end (inl e) = rw e (record { fault = refl; finds = refl })
 none_taken end (inr e) = rw e (record { fault = refl; finds = refl })
 
-one_taken : (end : List Text) → IsEnd end → StateTaken (codes "--state" ∷ [] ++ end) true
+one_taken : (end : List Text) → IsEnd end → StateTaken (codes "--state" ∷ end) true
 unfolding clap_on_literals
 one_taken end (inl e) = rw e (record { fault = refl; finds = refl })
 one_taken end (inr e) = rw e (record { fault = refl; finds = refl })
 
-pub state_taken_below : (rest : List Text) (state : Bool) → AsksStateBelow rest state → StateTaken rest state
-state_taken_below rest false asks = rw (asks.are, asks.gives) (none_taken asks.end asks.ends)
-state_taken_below rest true asks = rw (asks.are, asks.gives) (one_taken asks.end asks.ends)
+pub state_taken_below : (words : List Text) (state : Bool) (asks : AsksCheck words state) → StateTaken (asks.options ++ asks.end) state
+state_taken_below words false asks = rw asks.gives (none_taken asks.end asks.ends)
+state_taken_below words true asks = rw asks.gives (one_taken asks.end asks.ends)

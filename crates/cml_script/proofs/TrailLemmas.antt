@@ -1,10 +1,10 @@
 -- What a trail keeps of a journal, and how it goes on behind one more entry.
-use Rattle.std.proofs.Common.{◌≡◌, ℕ, ◌+◌, ◌-◌, ◌<◌, ◌≤◌, Bool, true, false, cond, List, ◌∷◌, length, take, map, slice_get, Option, Some, None, MatchBool, IfSome, refl, sym, ap, subst, ◌∙◌, arith, inl, inr}
+use Rattle.std.proofs.Common.{◌≡◌, ℕ, ◌+◌, ◌-◌, ◌<◌, ◌≤◌, true, false, cond, List, ◌∷◌, length, take, map, slice_get, Option, Some, None, MatchBool, IfSome, refl, sym, ap, subst, ◌∙◌, arith, inl, inr}
 use Rattle.std.specs.Prelude.{All}
 use Rattle.std.specs.Option.{option_map, option_map_or, option_and_then}
 use Rattle.std.proofs.lemmas.Option.{none-some, slice_get_within}
 use Rattle.std.proofs.lemmas.List.{length-map}
-use Rattle.std.proofs.lemmas.Bool.{le-ltb, lt-ltb, cases_lt, false≢true}
+use Rattle.std.proofs.lemmas.Bool.{le-ltb, lt-ltb, cases_Bool, cases_order}
 use Rattle.cml_board.specs.declared.entry.Who.{Who}
 use Rattle.cml_board.specs.declared.entry.Who.TheVariants.{Seat, Lane, Feed}
 use Rattle.cml_board.specs.declared.entry.Entry.{Entry}
@@ -28,11 +28,11 @@ use Rattle.cml_script.specs.Plan.{HasSeats}
 use Rattle.cml_script.specs.Bindings.{AreBindings, with_binding}
 use Rattle.cml_script.specs.Stage.{AreCounts}
 use Rattle.cml_script.specs.Trail.{Progress, history_of, with_next, IsFollowed, IsNoThread, CountsOneMore, next_given, next_call}
-use Rattle.cml_script.proofs.ListLemmas.{mapped_at, counted_mono}
+use Rattle.cml_script.proofs.ListLemmas.{mapped_at, counted_mono, none_unless, passing}
 use Rattle.cml_script.proofs.KindLemmas.{counted_below}
 use Rattle.cml_script.proofs.QueueLemmas.{position_is, positions_count}
 use Rattle.cml_script.proofs.StandLemmas.{given_within, bindings_more}
-use Rattle.cml_script.proofs.LineLemmas.{all_at, called_seated, feed_object, stands}
+use Rattle.cml_script.proofs.LineLemmas.{all_at, called_seated, feed_object, none_within}
 use Rattle.cml_script.proofs.ObjectLemmas.{maker_is, counted_filter}
 use Rattle.cml_script.proofs.ReportLemmas.{placed_line, placed_within}
 use Rattle.cml_script.proofs.JournalLemmas.{before_more}
@@ -70,11 +70,7 @@ thread_seat script history (Seat s) i seats e =
     (s - 1, omega (arith, bounds.0, bounds.1), ap Seat same, omega (arith, within, there.at))
 
 pub none_next : (script : Lines) (history : History) (who : Who) → HasSeats script → IsNoThread who → next_position script history who ≡ None
-none_next script history who seats none = by_next (next_position script history who) refl
-  where
-    by_next : (o : Option ℕ) → next_position script history who ≡ o → o ≡ None
-    by_next None e = refl
-    by_next (Some i) e = let t = thread_seat script history who i seats e in absurd (none t.0 t.1 t.2)
+none_next script history who seats none = none_unless _ (λ i e. let t = thread_seat script history who i seats e in none t.0 t.1 t.2)
 
 -- a name that the next step gives is one of the script's
 pub next_given_within : (script : Lines) (o g : Option ℕ) → NamesAreGiven (names_of script) script.declarations script.steps → g ≡ option_and_then (given_by script) o → IfSome g (λ at. at < length (names_of script))
@@ -119,11 +115,6 @@ step_calls script history items i used s r lines reads found uses is =
     ∙ on_name s.action (object_of script history (used_by s.action))
     ∙ ap (option_map (call_on s.action)) (sym (is ∙ ap (λ n. named (object_of script history n)) uses))
 
-pub next_calls : (script : Lines) (history : History) (who : Who) (items : List Step) (i used : ℕ) (s : Step) (r : Option Name) → next_position script history who ≡ Some i → map (λ x. source_of x.line) items ≡ script.steps → All (ReadsStep (names_of script)) items → slice_get items i ≡ Some s
-    → used ≡ used_by s.action → r ≡ named (object_of script history used) → next_call script history who ≡ option_map (call_on s.action) r
-next_calls script history who items i used s r next lines reads found uses is =
-    ap (option_and_then (step_call script history)) next ∙ step_calls script history items i used s r lines reads found uses is
-
 pub step_within : (p q : Progress) (kept : Objects) (counts : List ℕ) (bindings : List Binding) → p ≡ q → IsFollowed p kept counts bindings
     → (items : List Step) (who : Who) (i : ℕ) → map (λ x. source_of x.line) items ≡ p.script.steps → next_position q.script (history_of q) who ≡ Some i → i < length items
 step_within p q kept counts bindings e f items who i lines next =
@@ -137,7 +128,7 @@ used_at p q items i s e reads found =
 pub called_at : (p q : Progress) (who : Who) (items : List Step) (i used : ℕ) (s : Step) (r : Option Name) → p ≡ q → next_position q.script (history_of q) who ≡ Some i → map (λ x. source_of x.line) items ≡ p.script.steps → All (ReadsStep (names_of p.script)) items → slice_get items i ≡ Some s
     → used ≡ used_by s.action → r ≡ named (object_of q.script (history_of q) used) → next_call q.script (history_of q) who ≡ option_map (call_on s.action) r
 called_at p q who items i used s r e next lines reads found uses is =
-    next_calls q.script (history_of q) who items i used s r next (lines ∙ ap (λ (x : Progress). x.script.steps) e) (subst (λ (x : Progress). All (ReadsStep (names_of x.script)) items) e reads) found uses is
+    ap (option_and_then (step_call q.script (history_of q))) next ∙ step_calls q.script (history_of q) items i used s r (lines ∙ ap (λ (x : Progress). x.script.steps) e) (subst (λ (x : Progress). All (ReadsStep (names_of x.script)) items) e reads) found uses is
 
 -- what is the script's behind the entries that were followed
 pub own_at : (p : Progress) (script : Lines) (journal : List (Entry (List ℕ))) (k : ℕ) (entry : Entry (List ℕ)) → p.script ≡ script → p.journal ≡ journal → p.followed ≡ k → IsOwn script (before journal k) entry → IsOwn p.script (history_of p) entry
@@ -159,24 +150,6 @@ module _ (script : Lines) (history : History) where
   pub own_early : (entry : Entry (List ℕ)) → length history < declared_count script → IsOwn script history entry → IsDeclaration script history entry
   own_early entry lt = subst (λ t. MatchBool t (IsDeclaration script history entry) (IsOfCaller script history entry entry.who)) (lt-ltb (length history) (declared_count script) lt)
 
-is_fed : Who → Bool
-is_fed (Feed f) = true
-is_fed (Seat s) = false
-is_fed (Lane l) = false
-
-feed_in : Who → ℕ
-feed_in (Feed f) = f
-feed_in (Seat s) = s
-feed_in (Lane l) = l
-
-feed_number : {n m : ℕ} → Feed n ≡ Feed m → n ≡ m
-unfolding feed_in
-feed_number same = ap feed_in same
-
-not_feed : {s f : ℕ} → Seat s ≡ Feed f → ⊥
-unfolding is_fed
-not_feed same = false≢true (ap is_fed same)
-
 -- the port of a feed is the object that the feed makes
 module _ (script : Lines) where
   feed_there : (feed at : ℕ) → slice_get (positions_where (is_feed script) 0 script.declarations) feed ≡ Some at → (at < length script.declarations) × (maker script (number_of script at) ≡ Feed feed)
@@ -191,29 +164,24 @@ module _ (script : Lines) where
 
   -- the declaration there is made by that feed
   made_by : (k feed : ℕ) → maker script k ≡ Feed feed → (line : SourceLine) × (slice_get (objects_of script) k ≡ Some line) × (is_feed script line ≡ true) × (how_many (is_feed script) (take k (objects_of script)) ≡ feed)
-  made_by k feed made = by_line (slice_get (objects_of script) k) refl made
-    where
-      count : ℕ
-      count = how_many (is_feed script) (take k (objects_of script))
-
-      by_test : (line : SourceLine) (t : Bool) → slice_get (objects_of script) k ≡ Some line → is_feed script line ≡ t → cond t (Feed count) (Seat 0) ≡ Feed feed → (line : SourceLine) × (slice_get (objects_of script) k ≡ Some line) × (is_feed script line ≡ true) × (count ≡ feed)
-      by_test line true e f same = (line, e, f, feed_number same)
-      by_test line false e f same = absurd (not_feed same)
-
-      by_line : (o : Option SourceLine) → slice_get (objects_of script) k ≡ o → cond (option_map_or (is_feed script) o false) (Feed count) (Seat 0) ≡ Feed feed → (line : SourceLine) × (slice_get (objects_of script) k ≡ Some line) × (is_feed script line ≡ true) × (count ≡ feed)
-      by_line None e same = absurd (not_feed same)
-      by_line (Some line) e same = by_test line (is_feed script line) e refl same
+  made_by k feed made = elim (cases_Bool (option_map_or (is_feed script) (slice_get (objects_of script) k) false)) [
+    | inl fed ↦
+        let line = passing (is_feed script) (slice_get (objects_of script) k) fed in
+        let same : Feed (how_many (is_feed script) (take k (objects_of script))) ≡ Feed feed = sym (ap (λ t. cond t (Feed (how_many (is_feed script) (take k (objects_of script)))) (Seat 0)) fed) ∙ made in
+        (line.0, line.1, line.2, cc)
+    | inr unfed ↦
+        let other : Seat 0 ≡ Feed feed = sym (ap (λ t. cond t (Feed (how_many (is_feed script) (take k (objects_of script)))) (Seat 0)) unfed) ∙ made in
+        cc
+  ]
 
   one_maker : (j k feed : ℕ) → maker script j ≡ Feed feed → maker script k ≡ Feed feed → j ≡ k
   one_maker j k feed one other =
       let a = made_by j feed one in
       let b = made_by k feed other in
-      elim (cases_lt j k) [
-        | inl lt ↦ absurd (omega (arith, counted_mono (is_feed script) (objects_of script) j k a.0 lt a.1 a.2, a.3, b.3))
-        | inr ge ↦ elim (cases_lt k j) [
-          | inl lt ↦ absurd (omega (arith, counted_mono (is_feed script) (objects_of script) k j b.0 lt b.1 b.2, a.3, b.3))
-          | inr le ↦ omega (arith, ge, le)
-        ]
+      elim (cases_order j k) [
+        | inl same ↦ same
+        | inr (inl lt) ↦ absurd (omega (arith, counted_mono (is_feed script) (objects_of script) j k a.0 lt a.1 a.2, a.3, b.3))
+        | inr (inr gt) ↦ absurd (omega (arith, counted_mono (is_feed script) (objects_of script) k j b.0 gt b.1 b.2, a.3, b.3))
       ]
 
   -- there are as many feeds as lines that declare one
@@ -233,6 +201,5 @@ module _ (script : Lines) where
 
   pub no_feed_there : (feed : ℕ) (asked : Call (List ℕ)) → slice_get (positions_where (is_feed script) 0 script.declarations) feed ≡ None → IsOfFeed script feed asked → ⊥
   no_feed_there feed asked none own =
-      let lt : feed < length (positions_where (is_feed script) 0 script.declarations) = omega (arith, feed_counted own.object feed own.made, positions_count (is_feed script) 0 script.declarations) in
-      let there = stands (positions_where (is_feed script) 0 script.declarations) feed lt in
-      absurd (none-some there.0 (sym none ∙ there.1))
+      let past = none_within (positions_where (is_feed script) 0 script.declarations) feed none in
+      omega (arith, past, feed_counted own.object feed own.made, positions_count (is_feed script) 0 script.declarations)

@@ -1,9 +1,7 @@
 -- A thread's turns, one after the other.
 use Rattle.std.proofs.Common.{◌≡◌, ℕ, zero, suc, ◌+◌, ◌<◌, ◌≤◌, Bool, true, false, List, [], ◌∷◌, length, take, slice_get, Option, Some, None, inl, inr, refl, sym, ap, ◌∙◌, arith}
-use Rattle.std.specs.Prelude.{◌&&◌}
-use Rattle.std.proofs.lemmas.Option.{none-some}
 use Rattle.std.proofs.lemmas.List.{take_all}
-use Rattle.std.proofs.lemmas.Bool.{false≢true, cases_lt}
+use Rattle.std.proofs.lemmas.Bool.{and_parts, false≢true, cases_lt}
 use Rattle.cml_grammar.specs.Script.{SourceLine, Lines}
 use Rattle.cml_script.specs.declared.running.worker.Course.{Course}
 use Rattle.cml_script.specs.Counting.{one_if, how_many}
@@ -11,8 +9,8 @@ use Rattle.cml_script.specs.Schedule.{is_seated, is_called, is_apart, positions_
 use Rattle.cml_script.specs.Apart.{goes_apart}
 use Rattle.cml_script.specs.Working.{Made, IsTurn}
 use Rattle.cml_script.specs.Course.{IsUnderWay, HasTaken}
-use Rattle.cml_script.proofs.ListLemmas.{how_many-le, count_taken, taken_count}
-use Rattle.cml_script.proofs.LineLemmas.{stands, called_seated}
+use Rattle.cml_script.proofs.ListLemmas.{how_many-le, count_taken, taken_all, taken_count}
+use Rattle.cml_script.proofs.LineLemmas.{none_within, called_seated}
 use Rattle.cml_script.proofs.QueueLemmas.{positions_count, position_is}
 use Rattle.cml_script.proofs.WorkLemmas.{turn_within}
 
@@ -34,11 +32,7 @@ narrower p q (x ∷ xs) (suc a) zero implied le = absurd (omega arith)
 narrower p q (x ∷ xs) (suc a) (suc b) implied le = let ih = narrower p q xs a b implied (omega arith) in omega (arith, ih)
 
 apart_seated : (script : Lines) (seat : ℕ) (line : SourceLine) → goes_apart script seat line ≡ true → is_seated script seat line ≡ true
-apart_seated script seat line goes = by_test (is_seated script seat line) (is_apart script line) goes
-  where
-    by_test : (t a : Bool) → (t && a) ≡ true → t ≡ true
-    by_test true a e = refl
-    by_test false a e = absurd (false≢true e)
+apart_seated script seat line goes = (and_parts (is_seated script seat line) (is_apart script line) goes).0
 
 -- between two places with no turn between them there is nothing of the thread
 none_between : (script : Lines) (seat : ℕ) (q : SourceLine → Bool) (a b : ℕ) → ((line : SourceLine) → q line ≡ true → is_seated script seat line ≡ true)
@@ -53,9 +47,6 @@ none_between script seat q a b implied same = elim (cases_lt a b) [
         let fewer = narrower (is_seated script seat) q script.steps a b implied le in
         let more = taken_count q script.steps a b le in
         omega (arith, same, fewer, more)
-
-all_taken : {X : Type 0} (p : X → Bool) (xs : List X) → how_many p (take (length xs) xs) ≡ how_many p xs
-all_taken p xs = ap (how_many p) (take_all (length xs) xs (omega arith))
 
 module _ (script : Lines) (seat taken : ℕ) {course : Course} {made : Option Made} (so : HasTaken script seat taken course made) where
   -- it is under way at any such place
@@ -77,18 +68,14 @@ module _ (script : Lines) (seat taken : ℕ) {course : Course} {made : Option Ma
   -- as where the text ends, when all were taken
   past_there : how_many (is_seated script seat) script.steps ≤ taken → IsUnderWay script seat (length script.steps) course made
   past_there all =
-      let few = taken_count (is_seated script seat) script.steps so.place (so.place + length script.steps) (omega arith) in
-      let whole = ap (how_many (is_seated script seat)) (take_all (so.place + length script.steps) script.steps (omega arith)) in
-      under_way_at (length script.steps) (all_taken (is_seated script seat) script.steps ∙ omega (arith, all, few, whole, so.behind))
+      let few = taken_all (is_seated script seat) script.steps so.place in
+      let whole = ap (how_many (is_seated script seat)) (take_all (length script.steps) script.steps (omega arith)) in
+      under_way_at (length script.steps) (omega (arith, all, few, whole, so.behind))
 
   -- since there is no more turn
   pub past_turns : slice_get (positions_where (is_seated script seat) 0 script.steps) taken ≡ None → IsUnderWay script seat (length script.steps) course made
-  past_turns none = elim (cases_lt taken (length (positions_where (is_seated script seat) 0 script.steps))) [
-    | inl lt ↦
-        let there = stands (positions_where (is_seated script seat) 0 script.steps) taken lt in
-        absurd (none-some there.0 (sym none ∙ there.1))
-    | inr ge ↦ past_there (omega (arith, ge, positions_count (is_seated script seat) 0 script.steps))
-  ]
+  past_turns none =
+      past_there (omega (arith, none_within (positions_where (is_seated script seat) 0 script.steps) taken none, positions_count (is_seated script seat) 0 script.steps))
 
   -- or as many were taken as the script has steps
   pub past_steps : length script.steps ≤ taken → IsUnderWay script seat (length script.steps) course made

@@ -1,13 +1,12 @@
 -- If a script's history ends stalled, or no thread could go on, some thread has steps left.
-use Rattle.std.proofs.Common.{◌≡◌, ℕ, zero, suc, ◌+◌, ◌-◌, ◌<◌, ◌≤◌, ◌⊎◌, Bool, true, false, eqb, List, [], ◌∷◌, length, map, slice_get, Option, Some, None, refl, sym, ap, subst, ◌∙◌, arith, inl, inr}
+use Rattle.std.proofs.Common.{◌≡◌, ℕ, zero, suc, ◌+◌, ◌-◌, ◌<◌, ◌≤◌, ◌⊎◌, Bool, true, false, eqb, List, [], ◌∷◌, length, map, slice_get, Some, None, refl, sym, ap, subst, ◌∙◌, arith, inl, inr}
 use Rattle.std.specs.Prelude.{All}
 use Rattle.std.proofs.lemmas.List.{length-map}
 use Rattle.std.proofs.lemmas.List.Elements.{All-head, All-tail}
 use Rattle.std.proofs.lemmas.Bool.{cases_lt, cases_eq, eq-eqb, ne_eqb, false≢true}
-use Rattle.std.proofs.lemmas.Option.{none-some, slice_get_within}
+use Rattle.std.proofs.lemmas.Option.{slice_get_within}
 use Rattle.cml_board.specs.declared.entry.Who.{Who}
 use Rattle.cml_board.specs.declared.entry.Who.TheVariants.{Seat, Lane, Feed}
-use Rattle.cml_board.specs.declared.entry.Entry.{Entry}
 use Rattle.cml_grammar.specs.declared.script.Step.{Step}
 use Rattle.cml_grammar.specs.Names.{thread_count}
 use Rattle.cml_grammar.specs.Script.{Lines}
@@ -19,11 +18,12 @@ use Rattle.cml_script.specs.Schedule.{History, Follows, is_apart, is_by_ring, is
 use Rattle.cml_script.specs.Stalling.{is_passed, passed_count}
 use Rattle.cml_script.specs.Laws.{steps_of_seat, SomeThreadIsStuck}
 use Rattle.cml_script.specs.Report.{Tallied, is_of_thread, is_step_entry, unperformed}
-use Rattle.cml_script.proofs.LineLemmas.{all_at, stands, step_called, step_route, step_seated}
+use Rattle.cml_script.proofs.ListLemmas.{cases_Option}
+use Rattle.cml_script.proofs.LineLemmas.{all_at, none_within, one_le, stands, step_called, step_route, step_seated}
 use Rattle.cml_script.proofs.QueueLemmas.{position_is, positions_count}
 use Rattle.cml_script.proofs.StallingLemmas.{passed_is}
 use Rattle.cml_script.proofs.BindingLemmas.{none_seated, maker_is_none}
-use Rattle.cml_script.proofs.ScheduleLemmas.{declares, steps}
+use Rattle.cml_script.proofs.ScheduleLemmas.{declares}
 
 -- the total of the seats from 1 to n
 abbrev total : (ℕ → ℕ) → ℕ → ℕ
@@ -54,11 +54,8 @@ total_least : (seat n : ℕ) → 1 ≤ seat → seat ≤ n → 1 ≤ total (λ s
 total_least seat zero low high = absurd (omega (arith, low, high))
 total_least seat (suc n) low high = elim (cases_eq seat (suc n)) [
   | inl same ↦ omega (arith, ap one_if (eq-eqb seat (suc n) same))
-  | inr differs ↦ omega (arith, total_least seat n low (below differs))
+  | inr differs ↦ omega (arith, total_least seat n low (omega (arith, high, differs)))
 ]
-  where
-    below : (seat ≡ suc n → ⊥) → seat ≤ n
-    below differs = elim (cases_lt seat (suc n)) [ inl lt ↦ omega (arith, lt) | inr ge ↦ absurd (differs (omega (arith, ge, high))) ]
 
 module _ (script : Lines) where
   -- the last seat; opaque, so that no sum over the seats is written out
@@ -82,32 +79,30 @@ module _ (script : Lines) where
         total_least x.seat threads read.seated.0 read.seated.1,
       )
 
-  performed_by : (before : History) (entry : Entry (List ℕ)) (seat : ℕ) → entry.who ≡ Seat seat → total (performed (entry ∷ before)) threads ≤ total (performed before) threads + 1
-  performed_by before entry seat by =
-      let own = λ (s : ℕ). one_if (is_seat s entry.who) in
-      omega (
-        arith,
-        total_sum own (performed before) threads,
-        total_same own (λ s. one_if (eqb seat s)) threads (λ s. ap (λ w. one_if (is_seat s w)) by),
-        total_most seat threads,
-      )
-
-  performed_first : (before : History) (entry : Entry (List ℕ)) → is_of_thread entry.who ≡ false → (n : ℕ) → total (performed (entry ∷ before)) n ≡ total (performed before) n
-  performed_first before entry by zero = refl
-  performed_first before entry by (suc n) =
-      omega (arith, performed_first before entry by n, ap one_if (none_seated (suc n) (omega arith) entry.who by))
-
   none_performed : (n : ℕ) → total (performed []) n ≡ 0
   none_performed zero = refl
   none_performed (suc n) = omega (arith, none_performed n)
 
+  -- no entry is of two seats
+  none_of : (who : Who) → is_of_thread who ≡ false → (n : ℕ) → total (λ s. one_if (is_seat s who)) n ≡ 0
+  none_of who none zero = refl
+  none_of who none (suc n) = omega (arith, none_of who none n, ap one_if (none_seated (suc n) (omega arith) who none))
+
+  one_of : (who : Who) (n : ℕ) (t : Bool) → is_of_thread who ≡ t → total (λ s. one_if (is_seat s who)) n ≤ one_if t
+  one_of who n false e = omega (arith, none_of who e n)
+  one_of (Seat seat) n true e = total_most seat n
+  one_of (Lane lane) n true e = absurd (false≢true e)
+  one_of (Feed feed) n true e = absurd (false≢true e)
+
   -- each seat's entries are steps
   all_performed : (history : History) → Follows script history → total (performed history) threads ≤ length history - declared_count script
   all_performed [] follows = omega (arith, none_performed threads)
-  all_performed (entry ∷ before) follows = elim (cases_lt (length before) (declared_count script)) [
-    | inl lt ↦ omega (arith, all_performed before follows.1, performed_first before entry (ap is_of_thread (declares script before entry follows lt).by ∙ maker_is_none script (length before)) threads)
-    | inr ge ↦ let step = steps script before entry follows ge in omega (arith, ge, all_performed before follows.1, performed_by before entry step.seat step.by)
-  ]
+  all_performed (entry ∷ before) follows =
+      let more = total_sum (λ s. one_if (is_seat s entry.who)) (performed before) threads in
+      elim (cases_lt (length before) (declared_count script)) [
+        | inl lt ↦ omega (arith, all_performed before follows.1, more, none_of entry.who (ap is_of_thread (declares script before entry follows lt).by ∙ maker_is_none script (length before)) threads)
+        | inr ge ↦ omega (arith, ge, all_performed before follows.1, more, one_of entry.who threads (is_of_thread entry.who) refl, one_le (is_of_thread entry.who))
+      ]
 
   -- a seat with steps left, or each performed as many as it has
   behind_or_all : (history : History) (n : ℕ) → ((seat : ℕ) × (performed history seat < steps_of_seat script seat)) ⊎ (total (steps_of_seat script) n ≤ total (performed history) n)
@@ -157,17 +152,6 @@ module _ (script : Lines) where
       let others = λ (s : ℕ). how_many (is_called script s) (map (λ (y : Step). source_of y.line) xs) in
       omega (arith, later, total_sum own others threads, one_asks x (All-head (ReadsStep (names_of script)) x xs reads))
 
-  -- no entry is of two seats
-  none_of : (who : Who) → is_of_thread who ≡ false → (n : ℕ) → total (λ s. one_if (is_seat s who)) n ≡ 0
-  none_of who none zero = refl
-  none_of who none (suc n) = omega (arith, none_of who none n, ap one_if (none_seated (suc n) (omega arith) who none))
-
-  one_of : (who : Who) (n : ℕ) (t : Bool) → is_of_thread who ≡ t → total (λ s. one_if (is_seat s who)) n ≤ one_if t
-  one_of who n false e = omega (arith, none_of who e n)
-  one_of (Seat seat) n true e = total_most seat n
-  one_of (Lane lane) n true e = absurd (false≢true e)
-  one_of (Feed feed) n true e = absurd (false≢true e)
-
   seats_performed : (n : ℕ) (history : History) → total (performed history) n ≤ how_many is_step_entry history
   seats_performed n [] = omega (arith, none_performed n)
   seats_performed n (entry ∷ before) =
@@ -176,12 +160,8 @@ module _ (script : Lines) where
 
   -- a seat that has no next step performed all that it has
   all_called : (history : History) (seat : ℕ) → next_position script history (Seat seat) ≡ None → how_many (is_called script seat) script.steps ≤ performed history seat
-  all_called history seat none = elim (cases_lt (performed history seat) (how_many (is_called script seat) script.steps)) [
-    | inl lt ↦
-        let there = stands (positions_from script seat 0 script.steps) (performed history seat) (omega (arith, lt, positions_count (is_called script seat) 0 script.steps)) in
-        absurd (none-some there.0 (sym none ∙ there.1))
-    | inr ge ↦ ge
-  ]
+  all_called history seat none =
+      omega (arith, none_within (positions_from script seat 0 script.steps) (performed history seat) none, positions_count (is_called script seat) 0 script.steps)
 
   all_by_seats : (history : History) (n : ℕ) → ((s : ℕ) → s ≤ n → next_position script history (Seat s) ≡ None) → total (λ s. how_many (is_called script s) script.steps) n ≤ total (performed history) n
   all_by_seats history zero none = omega arith
@@ -208,34 +188,25 @@ module _ (script : Lines) where
       ∙ positions_count (is_apart script) 0 script.steps
 
   -- some thread has a next step, or none has
-  decided : (history : History) (seat : ℕ) → ((step : ℕ) × (next_position script history (Seat seat) ≡ Some step)) ⊎ (next_position script history (Seat seat) ≡ None)
-  decided history seat = by_option (next_position script history (Seat seat)) refl
-    where
-      by_option : (o : Option ℕ) → next_position script history (Seat seat) ≡ o → ((step : ℕ) × (next_position script history (Seat seat) ≡ Some step)) ⊎ (next_position script history (Seat seat) ≡ None)
-      by_option None e = inr e
-      by_option (Some step) e = inl (step, e)
-
-  next_or_none : (history : History) (n : ℕ) → ((seat : ℕ) × (step : ℕ) × (next_position script history (Seat seat) ≡ Some step)) ⊎ ((s : ℕ) → s ≤ n → next_position script history (Seat s) ≡ None)
-  next_or_none history zero = elim (decided history zero) [
-    | inl next ↦ inl (zero, next.0, next.1)
-    | inr none ↦ inr (λ s le. let same : zero ≡ s = omega (arith, le) in subst (λ k. next_position script history (Seat k) ≡ None) same none)
-  ]
-  next_or_none history (suc n) = elim (decided history (suc n)) [
-    | inl next ↦ inl (suc n, next.0, next.1)
+  next_or_none : (history : History) (n : ℕ) → ((seat : ℕ) × (step : ℕ) × (next_position script history (Seat seat) ≡ Some step)) ⊎ ((s : ℕ) → s < n → next_position script history (Seat s) ≡ None)
+  next_or_none history zero = inr (λ s lt. absurd (omega (arith, lt)))
+  next_or_none history (suc n) = elim (cases_Option (next_position script history (Seat n))) [
+    | inl next ↦ inl (n, next.0, next.1)
     | inr none ↦ elim (next_or_none history n) [
       | inl some ↦ inl some
-      | inr all ↦ inr (λ s le. elim (cases_lt s (suc n)) [
-        | inl lt ↦ all s (omega (arith, lt))
-        | inr ge ↦ let same : suc n ≡ s = omega (arith, le, ge) in subst (λ k. next_position script history (Seat k) ≡ None) same none
+      | inr all ↦ inr (λ s lt. elim (cases_eq s n) [
+        | inl same ↦ subst (λ k. next_position script history (Seat k) ≡ None) (sym same) none
+        | inr other ↦ all s (omega (arith, lt, other))
       ])
     ]
   ]
 
   some_next : CanBeRead script → (history : History) (tally : Tallied) → tally.apart ≡ passed_count (is_apart script) script history → 0 < unperformed script history tally
       → (seat : ℕ) × (step : ℕ) × (next_position script history (Seat seat) ≡ Some step)
-  some_next read history tally apart more = elim (next_or_none history threads) [
+  some_next read history tally apart more = elim (next_or_none history (suc threads)) [
     | inl next ↦ next
-    | inr none ↦
+    | inr all ↦
+        let none = λ (s : ℕ) (le : s ≤ threads). all s (omega (arith, le)) in
         absurd (omega (
           arith,
           more,

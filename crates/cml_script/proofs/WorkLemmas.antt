@@ -3,9 +3,8 @@ use Rattle.std.proofs.Common.{◌≡◌, ℕ, zero, suc, ◌+◌, ◌<◌, ◌�
 use Rattle.std.specs.Prelude.{All, ◌&&◌, ◌||◌, not, OnOk}
 use Rattle.std.specs.Option.{option_map, option_map_or, option_and_then}
 use Rattle.std.specs.declared.alloc.AllocError.{AllocError}
-use Rattle.std.proofs.lemmas.Option.{slice_get_within}
-use Rattle.std.proofs.lemmas.List.{take_all}
-use Rattle.std.proofs.lemmas.Bool.{false≢true, eq-eqb}
+use Rattle.std.proofs.lemmas.Option.{IfSome_then, slice_get_within}
+use Rattle.std.proofs.lemmas.Bool.{and_right, not_from_true, false≢true, eq-eqb}
 use Rattle.cml_board.specs.declared.call.Call.{Call}
 use Rattle.cml_board.specs.declared.call.Call.TheVariants as call
 use Rattle.cml_board.specs.declared.entry.Who.TheVariants.{Seat}
@@ -23,7 +22,7 @@ use Rattle.cml_script.specs.declared.binding.Binding.TheVariants as binding
 use Rattle.cml_script.specs.declared.route.Route.{Route}
 use Rattle.cml_script.specs.declared.route.Route.TheVariants as route
 use Rattle.cml_script.specs.declared.running.worker.Course.{Course}
-use Rattle.cml_script.specs.Counting.{one_if, how_many}
+use Rattle.cml_script.specs.Counting.{one_if}
 use Rattle.cml_script.specs.Schedule.{History, declared_count, maker, performed, is_seat, is_called, is_by_ring, route_of_line, earlier, next_position, given_by, step_call, bound_by, binding_of, port_bound}
 use Rattle.cml_script.specs.Apart.{Apart, is_by_lane, goes_apart, earlier_apart, act_of_line}
 use Rattle.cml_script.specs.Report.{is_of_thread}
@@ -31,7 +30,7 @@ use Rattle.cml_script.specs.Plan.{IsKnown, HasSeats, AsksForPorts, route_at}
 use Rattle.cml_script.specs.Bindings.{AreBindings, with_binding}
 use Rattle.cml_script.specs.Working.{Made, with_call, with_apart, with_closed, waits, MayCall, BeginsAt, AreBySeat, AreByMakers, IsOpening, AreNextSteps, IsTurn, IsUnrefused, IsStop, Works, with_refused, stop_of, ending_with}
 use Rattle.cml_script.specs.Course.{closed_if, IsRefusedSo, AreSuiting, IsUnderWay, HasTaken}
-use Rattle.cml_script.proofs.ListLemmas.{how_many-le, count_taken, taken_count}
+use Rattle.cml_script.proofs.ListLemmas.{how_many-le, count_taken, taken_all, told_more}
 use Rattle.cml_script.proofs.GivingLemmas.{giver, next_at, none_other}
 use Rattle.cml_script.proofs.BindingLemmas.{AreSteps, asks_port, bound_more, maker_is_none, none_seated}
 use Rattle.cml_script.proofs.StandLemmas.{bindings_more}
@@ -86,11 +85,9 @@ opening_steps script (entry ∷ first) by = (inl (none_first script first entry 
 -- a call that asks for a port is given one
 suits_gives : (c : Call (List ℕ)) (r : Reply (List ℕ)) → suits c r ≡ true → asks_port c ≡ true → IsSome (port_bound (bound_by c r))
 suits_gives (call.NewPort name) (reply.Made made) suit asks = refl
-suits_gives (call.NewPort name) r suit asks = absurd (false≢true suit)
 suits_gives (call.CopyPort name) (reply.Made made) suit asks = refl
 suits_gives (call.CopyPort name) reply.Closed suit asks = refl
-suits_gives (call.CopyPort name) r suit asks = absurd (false≢true suit)
-suits_gives c r suit asks = absurd (false≢true asks)
+suits_gives c r suit asks = cc
 
 pub begins : (script : Lines) (seat : ℕ) (course : Course) (made : Option Made) → IsKnown script → BeginsAt seat made → course.made ≡ declared_count script → AreBindings script [] course.bindings.items → course.is_sending ≡ false → HasTaken script seat 0 course made
 begins script seat course made known none count bound sends = record {
@@ -197,23 +194,13 @@ module _ (script : Lines) (seat i : ℕ) (turn : IsTurn script seat i) where
 -- no more was made than a script may have
 pub under_way_few : (script : Lines) (seat place : ℕ) {course : Course} {made : Option Made} → IsUnderWay script seat place course made → course.made ≤ declared_count script + length script.steps
 under_way_few script seat place under =
-    let le = taken_count (is_called script seat) script.steps place (place + length script.steps) (omega arith) in
-    let all = ap (how_many (is_called script seat)) (take_all (place + length script.steps) script.steps (omega arith)) in
-    omega (arith, under.count, under.called, le, all, how_many-le (is_called script seat) script.steps)
+    omega (arith, under.count, under.called, taken_all (is_called script seat) script.steps place, how_many-le (is_called script seat) script.steps)
 
 -- How it goes on.
 
--- what the caller says goes on like this
-told_more : (told : Made) (adds : Made → Made) (made later : Option Made) → IfSome made (λ tells. tells ≡ told) → later ≡ option_map adds made → IfSome later (λ tells. tells ≡ adds told)
-told_more told adds made later is more = subst (λ (o : Option Made). IfSome o (λ tells. tells ≡ adds told)) (sym more) (by_made made is)
-  where
-    by_made : (o : Option Made) → IfSome o (λ tells. tells ≡ told) → IfSome (option_map adds o) (λ tells. tells ≡ adds told)
-    by_made None is = tt
-    by_made (Some tells) is = ap adds is
-
 -- the lanes may have been closed
 told_closed : (t : Bool) (told : Made) (made now : Option Made) → IfSome made (λ tells. tells ≡ told) → now ≡ closed_if t made → IfSome now (λ tells. tells ≡ record told { is_sending = cond t false told.is_sending })
-told_closed true told made now is same = told_more told with_closed made now is same
+told_closed true told made now is same = told_more {X = Made} told with_closed made now is same
 told_closed false told made now is same = subst (λ (o : Option Made). IfSome o (λ tells. tells ≡ told)) (sym same) is
 
 -- nothing more was made
@@ -245,16 +232,8 @@ closed_before script seat place {course} w later now under same is =
 
 -- so that none is open at a call that may
 pub may_call : (script : Lines) (seat place : ℕ) {course : Course} {made : Option Made} (sending : Bool) (asked : Call (List ℕ)) → IsUnderWay script seat place course made → course.is_sending ≡ (sending && not (waits asked)) → MayCall asked made
-may_call script seat place {course} {made} sending asked under closed = by_made made under.told
-  where
-    none_open : (s w : Bool) → w ≡ true → (s && not w) ≡ false
-    none_open true true e = refl
-    none_open false true e = refl
-    none_open s false e = absurd (false≢true e)
-
-    by_made : (o : Option Made) → IfSome o (λ tells. tells ≡ record { seat = seat; entries = under.entries; opened = []; apart = under.apart; is_sending = course.is_sending; refused = None }) → MayCall asked o
-    by_made None told = tt
-    by_made (Some tells) told = λ wait. ap (λ (m : Made). m.is_sending) told ∙ closed ∙ none_open sending (waits asked) wait
+may_call script seat place {course} {made} sending asked under closed = IfSome_then made under.told (λ tells told wait.
+    ap (λ (m : Made). m.is_sending) told ∙ closed ∙ and_right sending (not (waits asked)) (not_from_true (waits asked) wait))
 
 -- a turn that is the seat's was performed
 pub more_made : (script : Lines) (seat : ℕ) (low : 1 ≤ seat) (i : ℕ) {course : Course} {made : Option Made} (under : IsUnderWay script seat i course made) (known : IsKnown script) (turn : IsTurn script seat i) (asked : Call (List ℕ)) (r : Reply (List ℕ)) (g : Option ℕ) (next : Course) (later : Option Made)
@@ -266,7 +245,7 @@ more_made script seat low i {course} {made} under known turn asked r g next late
   entries = entry ∷ under.entries;
   apart = under.apart;
   told = subst (λ t. IfSome later (λ tells. tells ≡ record { seat = seat; entries = entry ∷ under.entries; opened = []; apart = under.apart; is_sending = t; refused = None })) (sym sends)
-      (told_more (record { seat = seat; entries = under.entries; opened = []; apart = under.apart; is_sending = course.is_sending; refused = None }) (with_call asked r) made later under.told more);
+      (told_more {X = Made} (record { seat = seat; entries = under.entries; opened = []; apart = under.apart; is_sending = course.is_sending; refused = None }) (with_call asked r) made later under.told more);
   by = (refl, under.by);
   count = omega (arith, count, under.count);
   called = omega (arith, under.called, called_more script seat i turn true called);
@@ -301,7 +280,7 @@ more_gone script seat i {course} {made} under turn done next later by_ring does 
   entries = under.entries;
   apart = done ∷ under.apart;
   told = subst (λ t. IfSome later (λ tells. tells ≡ record { seat = seat; entries = under.entries; opened = []; apart = done ∷ under.apart; is_sending = t; refused = None })) (sym sends)
-      (told_more (record { seat = seat; entries = under.entries; opened = []; apart = under.apart; is_sending = course.is_sending; refused = None }) (with_apart done) made later under.told more);
+      (told_more {X = Made} (record { seat = seat; entries = under.entries; opened = []; apart = under.apart; is_sending = course.is_sending; refused = None }) (with_apart done) made later under.told more);
   by = under.by;
   count = count ∙ under.count;
   called = omega (arith, under.called, called_more script seat i turn false (turn_called script seat i turn true by_ring));
@@ -330,11 +309,8 @@ more_gone script seat i {course} {made} under turn done next later by_ring does 
 -- what the caller says then
 pub ends_with : (script : Lines) (seat : ℕ) → 1 ≤ seat → (place : ℕ) {course : Course} {made : Option Made} (under : IsUnderWay script seat place course made) (stop : Result Stop AllocError) (sending : Bool) (refused : Option Refusal) (now : Option Made)
     → IfSome now (λ tells. tells ≡ record { seat = seat; entries = under.entries; opened = []; apart = under.apart; is_sending = sending; refused = refused }) → IsStop script seat place sending refused stop → (first : History) → IsOpening script first → IfSome now (λ m. Works script seat m stop first)
-ends_with script seat low place under stop sending refused now told stops first opening = by_made now told
-  where
-    by_made : (o : Option Made) → IfSome o (λ tells. tells ≡ record { seat = seat; entries = under.entries; opened = []; apart = under.apart; is_sending = sending; refused = refused }) → IfSome o (λ m. Works script seat m stop first)
-    by_made None told = tt
-    by_made (Some tells) told = subst (λ (m : Made). Works script seat m stop first) (sym told) (works script seat low first opening under stop sending refused stops)
+ends_with script seat low place under stop sending refused now told stops first opening = IfSome_then now told (λ tells is.
+    subst (λ (m : Made). Works script seat m stop first) (sym is) (works script seat low first opening under stop sending refused stops))
 
 -- a step was refused, before which lanes may have been closed
 pub refused_at : (script : Lines) (seat : ℕ) → 1 ≤ seat → (place : ℕ) {course : Course} {made : Option Made} (under : IsUnderWay script seat place course made) (r : Refusal) (result : Result Stop AllocError) (now : Option Made) → result ≡ stop_of r → IsRefusedSo r made now → IsTurn script seat place
@@ -342,7 +318,7 @@ pub refused_at : (script : Lines) (seat : ℕ) → 1 ≤ seat → (place : ℕ) 
 refused_at script seat low place {course} {made} under r result now is (closes, same) turn =
     let told : Made = record { seat = seat; entries = under.entries; opened = []; apart = under.apart; is_sending = course.is_sending; refused = None } in
     ends_with script seat low place under result (cond closes false course.is_sending) (Some r) now
-    (told_more (record told { is_sending = cond closes false course.is_sending }) (with_refused r) (closed_if closes made) now (told_closed closes told made (closed_if closes made) under.told refl) same)
+    (told_more {X = Made} (record told { is_sending = cond closes false course.is_sending }) (with_refused r) (closed_if closes made) now (told_closed closes told made (closed_if closes made) under.told refl) same)
     (inl (turn, is))
 
 -- a gate says no at a turn, or all steps are performed, and closing the lanes may be refused
@@ -354,7 +330,7 @@ closes_with script seat low place {course} {made} under stop result now ends clo
       ends_with script seat low place under result (cond course.is_sending false course.is_sending) None now (told_closed course.is_sending told made now under.told as_told.1)
       (subst (IsUnrefused script seat place) (sym as_told.0) ends, none_open course.is_sending)
   | inr refused ↦
-      ends_with script seat low place under result course.is_sending (Some refused.1.0) now (told_more told (with_refused refused.1.0) made now under.told refused.1.1)
+      ends_with script seat low place under result course.is_sending (Some refused.1.0) now (told_more {X = Made} told (with_refused refused.1.0) made now under.told refused.1.1)
       (inr (refused.0, (stop, ends, refused.1.2)))
 ]
   where

@@ -1,4 +1,4 @@
-use Rattle.std.proofs.Common.{ap₂, ◌≡◌, ℕ, Option, Some, None}
+use Rattle.std.proofs.Common.{ap₂, ◌≡◌, ℕ, Some, None}
 use Rattle.cml_script.specs.declared.asked.Form.{Form}
 use Rattle.cml_script.proofs.command_line.options_in.Goals as goal
 

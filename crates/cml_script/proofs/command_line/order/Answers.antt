@@ -1,56 +1,48 @@
 use Rattle.std.specs.Prelude.{IfSome}
-use Rattle.std.proofs.Common.{rules, map, subst, sym, ◌≡◌, ◌⊎◌, ◌≤◌, ◌^◌, None, Some, Option}
+use Rattle.std.proofs.lemmas.Option.{none-some, same_Some}
+use Rattle.std.proofs.Common.{rules, map, subst, sym, ◌≡◌, ◌⊎◌, ◌≤◌, ◌^◌, None, Some}
 use Rattle.clap.specs.Words.{HasKind, kind_of, subcommand_rows_of}
 use Rattle.clap.specs.declared.error.kind.ErrorKind.TheVariants as kind
 use Rattle.cml_script.specs.CommandLine.{AsksFor, faults_of, limit_of}
-use Rattle.cml_script.specs.declared.asked.Order.{Order}
 use Rattle.cml_script.specs.declared.asked.Order.TheVariants.{Replay, Run, Check}
-use Rattle.cml_script.proofs.CommandLineLemmas.{asked_and_found, help_or_memory, order_is_found, order_is_within, order_wants_memory, usage_or_help}
+use Rattle.cml_script.proofs.CommandLineLemmas.{asked_and_read, help_or_memory, order_is_read, order_is_within, order_wants_memory, usage_or_help}
 use Rattle.cml_script.proofs.command_line.order.Goals as goal
 
 pub unreachable-requires : goal.unreachable-requires
 unreachable-requires g c =
     let words = map g.S.AsStr.text c.args.words.now in
-    let asks = asked_and_found words (subcommand_rows_of c.in_ok-matches.matches) c.in_ok-matches.ensures.fails c.in_ok-matches.ensures.found in
-    let bad : ◌≡◌ {A = Option Order} None (Some asks.0) = c.in-None.ensures asks.0 asks.2 in
-    cc
+    let asks = asked_and_read words (subcommand_rows_of c.in_ok-matches.matches) None c.in_ok-matches.ensures.fails c.in_ok-matches.ensures.found c.in-None.ensures in
+    none-some asks.0 asks.2
 
 pub returns-clause-understood : goal.returns-clause-understood
 returns-clause-understood g c =
     let words = map g.S.AsStr.text c.args.words.now in
-    let asks = asked_and_found words (subcommand_rows_of c.in_ok-matches.matches) c.in_ok-matches.ensures.fails c.in_ok-matches.ensures.found in
-    let found : ◌≡◌ {A = Option Order} (Some c.in-Some.order) (Some asks.0) = c.in-Some.ensures asks.0 asks.2 in
-    let same : c.in-Some.order ≡ asks.0 = cc in
-    subst (AsksFor words) (sym same) asks.1
+    let asks = asked_and_read words (subcommand_rows_of c.in_ok-matches.matches) (Some c.in-Some.order) c.in_ok-matches.ensures.fails c.in_ok-matches.ensures.found c.in-Some.ensures in
+    subst (AsksFor words) (sym (same_Some _ _ asks.2)) asks.1
 
 pub returns-clause-replay : goal.returns-clause-replay
 returns-clause-replay g c = λ limit form asks.
     let words = map g.S.AsStr.text c.args.words.now in
-    let has = order_is_found words (subcommand_rows_of c.in_ok-matches.matches) (Replay limit form) c.in_ok-matches.ensures.found asks in
-    let found : ◌≡◌ {A = Option Order} (Some c.in-Some.order) (Some (Replay limit form)) = c.in-Some.ensures (Replay limit form) has in
-    cc
+    let read = order_is_read words (subcommand_rows_of c.in_ok-matches.matches) (Some c.in-Some.order) (Replay limit form) c.in_ok-matches.ensures.found c.in-Some.ensures asks in
+    same_Some _ _ read
 
 pub returns-clause-run : goal.returns-clause-run
 returns-clause-run g c = λ limit form asks.
     let words = map g.S.AsStr.text c.args.words.now in
-    let has = order_is_found words (subcommand_rows_of c.in_ok-matches.matches) (Run limit form) c.in_ok-matches.ensures.found asks in
-    let found : ◌≡◌ {A = Option Order} (Some c.in-Some.order) (Some (Run limit form)) = c.in-Some.ensures (Run limit form) has in
-    cc
+    let read = order_is_read words (subcommand_rows_of c.in_ok-matches.matches) (Some c.in-Some.order) (Run limit form) c.in_ok-matches.ensures.found c.in-Some.ensures asks in
+    same_Some _ _ read
 
 pub returns-clause-check : goal.returns-clause-check
 returns-clause-check g c = λ state asks.
     let words = map g.S.AsStr.text c.args.words.now in
-    let has = order_is_found words (subcommand_rows_of c.in_ok-matches.matches) (Check state) c.in_ok-matches.ensures.found asks in
-    let found : ◌≡◌ {A = Option Order} (Some c.in-Some.order) (Some (Check state)) = c.in-Some.ensures (Check state) has in
-    cc
+    let read = order_is_read words (subcommand_rows_of c.in_ok-matches.matches) (Some c.in-Some.order) (Check state) c.in_ok-matches.ensures.found c.in-Some.ensures asks in
+    same_Some _ _ read
 
 pub returns-clause-range : goal.returns-clause-range
 returns-clause-range g c =
     let words = map g.S.AsStr.text c.args.words.now in
-    let asks = asked_and_found words (subcommand_rows_of c.in_ok-matches.matches) c.in_ok-matches.ensures.fails c.in_ok-matches.ensures.found in
-    let found : ◌≡◌ {A = Option Order} (Some c.in-Some.order) (Some asks.0) = c.in-Some.ensures asks.0 asks.2 in
-    let same : c.in-Some.order ≡ asks.0 = cc in
-    subst (λ order. IfSome (limit_of order) (λ limit. (1 ≤ limit) × (limit ≤ 2 ^ 32))) (sym same) (order_is_within words asks.0 asks.1)
+    let asks = asked_and_read words (subcommand_rows_of c.in_ok-matches.matches) (Some c.in-Some.order) c.in_ok-matches.ensures.fails c.in_ok-matches.ensures.found c.in-Some.ensures in
+    subst (λ order. IfSome (limit_of order) (λ limit. (1 ≤ limit) × (limit ≤ 2 ^ 32))) (sym (same_Some _ _ asks.2)) (order_is_within words asks.0 asks.1)
 
 pub returns-in_err-matches-clause-asked : goal.returns-in_err-matches-clause-asked
 returns-in_err-matches-clause-asked g c = λ order asks.
@@ -71,7 +63,7 @@ returns-in_err-matches-clause-help g c = λ asks.
 pub returns-clause-others : goal.returns-clause-others
 returns-clause-others g c = λ none.
     let words = map g.S.AsStr.text c.args.words.now in
-    let asks = asked_and_found words (subcommand_rows_of c.in_ok-matches.matches) c.in_ok-matches.ensures.fails c.in_ok-matches.ensures.found in
+    let asks = asked_and_read words (subcommand_rows_of c.in_ok-matches.matches) (Some c.in-Some.order) c.in_ok-matches.ensures.fails c.in_ok-matches.ensures.found c.in-Some.ensures in
     none asks.0 asks.1
 
 pub returns-in_err-matches-clause-others : goal.returns-in_err-matches-clause-others

@@ -1,4 +1,4 @@
-use Rattle.std.proofs.Common.{refl, subst, sym, ◌≡◌, ◌∙◌, ap, List, Option, Some, None}
+use Rattle.std.proofs.Common.{refl, subst, sym, ◌≡◌, ◌∙◌, List, Option, Some, None}
 use Rattle.std.specs.Prelude.{option_map}
 use Rattle.clap.specs.Words.{Row, Text, found_of, rows_of, subcommand_rows_of}
 use Rattle.cml_script.specs.CommandLine.{HasOrder}

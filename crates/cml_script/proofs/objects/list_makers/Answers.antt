@@ -1,11 +1,9 @@
 use Rattle.std.proofs.Common.{ℕ, ◌+◌, List, sym, subst, ◌∙◌}
 use Rattle.std.specs.Prelude.{Vec}
 use Rattle.std.specs.Global.{Global}
-use Rattle.cml_grammar.specs.Meaning.{names_of}
-use Rattle.cml_grammar.specs.Reading.{source_of, ReadsDeclaration}
-use Rattle.cml_script.proofs.ListLemmas.{read_at, mapped_at}
+use Rattle.cml_grammar.specs.Reading.{source_of}
 use Rattle.cml_board.specs.declared.entry.Who.{Who}
-use Rattle.cml_script.proofs.LineLemmas.{all_at, declaration_object, declaration_feed}
+use Rattle.cml_script.proofs.LineLemmas.{declaration_feed, declaration_object, declaration_read}
 use Rattle.cml_script.proofs.ObjectLemmas.{AreListed, feed_listed, object_listed, none_listed}
 use Rattle.cml_script.proofs.objects.list_makers.Goals as goal
 use Rattle.cml_script.proofs.objects.list_makers.Goals.{then-makes_feed+in_ok-push, else-makes_feed+then-makes_object+in_ok-push-2, else-makes_feed+else-makes_object}
@@ -13,14 +11,12 @@ use Rattle.cml_script.proofs.objects.list_makers.Goals.{then-makes_feed+in_ok-pu
 pub loop-declaration-preserved : goal.loop-declaration-preserved
 loop-declaration-preserved c =
     let script = c.args.script.now in
-    let items = c.declarations-declaration-items.result.now in
     let told = c.declarations-declaration-items.ensures in
     let i = c.loop-declaration.declaration-index in
     let d = c.declaration-item.result in
-    let here = read_at items i d c.loop-declaration-test.true c.declaration-item.is in
-    let line = mapped_at _ items script.declarations i d told.lines here in
-    let reads = all_at (ReadsDeclaration (names_of script)) items i d told.makes here in
-    let is = declaration_feed script d reads ∙ sym c.makes_feed.ensures in
+    let read = declaration_read script c.declarations-declaration-items.result.now i d told.lines told.makes c.loop-declaration-test.true c.declaration-item.is in
+    let line = read.0 in
+    let is = declaration_feed script d read.1 ∙ sym c.makes_feed.ensures in
     let so_far = c.loop-declaration.invariant in
     let onward = λ (v : Vec Who Global) (n : ℕ). AreListed script (i + 1) v.items n in
     elim c.if-makes_feed.branch [
@@ -31,9 +27,9 @@ loop-declaration-preserved c =
       | else-makes_feed+then-makes_object+in_ok-push-2 w ↦
           subst (λ v. onward v c.if-makes_feed.feeds) (sym w.makers-is)
           (subst (onward w.push-then-makes_object.new.self) (sym w.feeds-is)
-          (subst (λ (l : List Who). AreListed script (i + 1) l c.loop-declaration.feeds) (sym w.in_ok-push-2.ensures.items) (object_listed script so_far (source_of d.line) line (is ∙ w.if-makes_feed.false) (declaration_object script d reads ∙ sym w.makes_object.ensures ∙ w.if-makes_object.true))))
+          (subst (λ (l : List Who). AreListed script (i + 1) l c.loop-declaration.feeds) (sym w.in_ok-push-2.ensures.items) (object_listed script so_far (source_of d.line) line (is ∙ w.if-makes_feed.false) (declaration_object script d read.1 ∙ sym w.makes_object.ensures ∙ w.if-makes_object.true))))
       | else-makes_feed+else-makes_object w ↦
           subst (λ v. onward v c.if-makes_feed.feeds) (sym w.makers-is)
           (subst (onward c.loop-declaration.makers) (sym w.feeds-is)
-          (none_listed script so_far (source_of d.line) line (is ∙ w.if-makes_feed.false) (declaration_object script d reads ∙ sym w.makes_object.ensures ∙ w.if-makes_object.false)))
+          (none_listed script so_far (source_of d.line) line (is ∙ w.if-makes_feed.false) (declaration_object script d read.1 ∙ sym w.makes_object.ensures ∙ w.if-makes_object.false)))
     ]

@@ -1,31 +1,29 @@
-use Rattle.std.proofs.Common.{◌≡◌, ◌++◌, ◌∷◌, [], ◌+◌, length, take, ap, ◌∙◌, arith, sym}
-use Rattle.std.proofs.lemmas.List.{length_push, length-take}
-use Rattle.cml_grammar.specs.Meaning.{names_of}
-use Rattle.cml_grammar.specs.Reading.{source_of, ReadsDeclaration}
-use mir.Val.{bool_byte}
-use Rattle.cml_script.specs.Counting.{how_many, one_if}
+use Rattle.std.proofs.Common.{◌≡◌, ◌++◌, ◌∷◌, [], length, take, ap, ◌∙◌, arith, sym}
+use Rattle.std.proofs.lemmas.List.{length_push}
+use Rattle.cml_grammar.specs.Reading.{source_of}
+use Rattle.cml_script.specs.Counting.{how_many}
 use Rattle.cml_script.specs.Schedule.{is_object}
-use Rattle.cml_script.proofs.ListLemmas.{read_at, mapped_at, count_taken, how_many-le, each_pushed}
-use Rattle.cml_script.proofs.LineLemmas.{byte_one, all_at, declaration_object, names_objects}
+use Rattle.cml_script.proofs.ListLemmas.{each_pushed}
+use Rattle.cml_script.proofs.LineLemmas.{counted_more, declaration_object, declaration_read, names_objects}
 use Rattle.cml_script.proofs.plan.number_objects.Goals as goal
 
 pub loop-declaration-preserved : goal.loop-declaration-preserved
 loop-declaration-preserved c =
-    let items = c.declarations-declarations.result.now in
+    let script = c.args.script.now in
+    let told = c.declarations-declarations.ensures in
+    let so_far = c.loop-declaration.invariant in
     let i = c.loop-declaration.declaration-index in
     let d = c.declaration-item.result in
-    let here = read_at items i d c.loop-declaration-test.true c.declaration-item.is in
-    let line = mapped_at _ items c.args.script.now.declarations i d c.declarations-declarations.ensures.lines here in
-    let object = declaration_object c.args.script.now d (all_at (ReadsDeclaration (names_of c.args.script.now)) items i d c.declarations-declarations.ensures.makes here) in
-    let counted = count_taken (is_object c.args.script.now) c.args.script.now.declarations i (source_of d.line) line in
-    let pushed : c.push.new.self.items ≡ c.loop-declaration.numbers.items ++ c.loop-declaration.objects ∷ [] = c.in_ok-push.ensures.items in
-    let one : c.from-objects.result ≡ one_if (is_object c.args.script.now (source_of d.line)) = c.from-objects.ensures ∙ ap bool_byte (c.makes_object.ensures ∙ sym object) ∙ byte_one (is_object c.args.script.now (source_of d.line)) in
-    let objects : c.loop-declaration.objects + c.from-objects.result ≡ how_many (is_object c.args.script.now) (take (i + 1) c.args.script.now.declarations) = omega (arith, counted, c.loop-declaration.invariant.objects, one) in
+    let numbers = c.loop-declaration.numbers.items in
+    let read = declaration_read script c.declarations-declarations.result.now i d told.lines told.makes c.loop-declaration-test.true c.declaration-item.is in
+    let so = c.makes_object.ensures ∙ sym (declaration_object script d read.1) in
+    let more = counted_more (is_object script) script.declarations i _ _ (source_of d.line) _ read.0 so_far.objects so_far.few c.from-objects.ensures so in
+    let pushed : c.push.new.self.items ≡ numbers ++ c.loop-declaration.objects ∷ [] = c.in_ok-push.ensures.items in
     record {
-      short = omega (arith, ap length pushed, length_push c.loop-declaration.numbers.items c.loop-declaration.objects, c.loop-declaration.invariant.short);
-      objects = objects;
-      few = omega (arith, objects, how_many-le (is_object c.args.script.now) (take (i + 1) c.args.script.now.declarations), length-take (i + 1) c.args.script.now.declarations);
-      each = rw pushed (each_pushed (λ at. how_many (is_object c.args.script.now) (take at c.args.script.now.declarations)) c.loop-declaration.numbers.items c.loop-declaration.objects c.loop-declaration.invariant.each (c.loop-declaration.invariant.objects ∙ ap (λ n. how_many (is_object c.args.script.now) (take n c.args.script.now.declarations)) (sym c.loop-declaration.invariant.short)));
+      short = omega (arith, ap length pushed, length_push numbers c.loop-declaration.objects, so_far.short);
+      objects = more.0;
+      few = more.1;
+      each = rw pushed (each_pushed (λ at. how_many (is_object script) (take at script.declarations)) numbers c.loop-declaration.objects so_far.each (so_far.objects ∙ ap (λ n. how_many (is_object script) (take n script.declarations)) (sym so_far.short)));
     }
 
 pub returns-clause-named : goal.returns-clause-named

@@ -2,9 +2,9 @@ use Rattle.std.proofs.Common.{length, ap, arith}
 use Rattle.std.proofs.lemmas.List.{length-map}
 use Rattle.cml_grammar.specs.declared.script.Declaration.{Declaration}
 use Rattle.cml_grammar.specs.Meaning.{names_of}
-use Rattle.cml_grammar.specs.Reading.{source_of, ReadsDeclaration}
-use Rattle.cml_script.proofs.ListLemmas.{read_at, mapped_at}
-use Rattle.cml_script.proofs.LineLemmas.{all_at}
+use Rattle.cml_grammar.specs.Reading.{source_of}
+use Rattle.cml_script.proofs.ListLemmas.{read_at}
+use Rattle.cml_script.proofs.LineLemmas.{declaration_read}
 use Rattle.cml_script.proofs.DeclareLemmas.{nothing_declared, made_more, well_declared, well_fitted, declares, refuses}
 use Rattle.cml_script.proofs.running.declaring.declare.Goals as goal
 
@@ -46,11 +46,10 @@ loop-declaration-preserved g c =
     let i = c.loop-declaration.declaration-index in
     let d = c.declaration-item.result in
     let here = read_at items i d c.loop-declaration-test.true c.declaration-item.is in
-    let line = mapped_at _ items script.declarations i d told.lines here in
-    let reads = all_at (ReadsDeclaration (names_of script)) items i d told.makes here in
+    let read = declaration_read script items i d told.lines told.makes c.loop-declaration-test.true c.declaration-item.is in
     record {
       goes_on = c.in_ok-make.ensures.goes_on;
-      declaring = made_more script c.requires.known c.loop-declaration.invariant.declaring d line reads (g.C.Caller.made c.make.new.caller) (told.names.made i d here) c.in_ok-make.ensures.made;
+      declaring = made_more script c.requires.known c.loop-declaration.invariant.declaring d read.0 read.1 (g.C.Caller.made c.make.new.caller) (told.names.made i d here) c.in_ok-make.ensures.made;
     }
 
 pub returns : goal.returns
