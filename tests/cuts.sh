@@ -85,7 +85,7 @@ same() {
 
 # random SEED: a table of random calls, performed in each way.
 random() {
-    awk -v seed="$1" -f some_calls.awk > "$work/strewn"
+    awk -v seed="$1" -f calls.awk -f some_calls.awk > "$work/strewn"
     grep -v -x 'cut\|take' "$work/strewn" > "$work/plain"
     "$program" < "$work/strewn" > "$work/told"
     grep -v '^\(cut\|take\): ' "$work/told" > "$work/with"

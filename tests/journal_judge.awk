@@ -1,5 +1,5 @@
 # The judge of journals: what docs/FORMATS.md says under "Journals", and what a lawful history is, written down once more. With the
-# table of calls (tests/calls.awk) it shares nothing with the crates, so what both say alike is said twice.
+# calls (tests/calls.awk) it shares nothing with the crates, so what both say alike is said twice.
 #
 #     awk -f tests/calls.awk -f tests/journal_judge.awk FILE..
 #
@@ -56,8 +56,8 @@ function unlike(entry) {
 }
 
 function forget() {
-    split("", kind); split("", message); split("", sent); split("", got)
-    split("", channel_of); split("", start); split("", closed); split("", held); split("", full)
+    split("", kind); split("", numbers)
+    forget_objects()
     stage = "none"
     version = ""
     entries = objects = 0
@@ -184,62 +184,26 @@ function same(one, other) { return one "x" == other "x" }
 
 # The calls: the reply that a call has behind the entries before it.
 
-function answer_of(call) {
+function answer_of(call,    reply_here) {
     if (call == "mvar with a message") return made("mvar", given)
     if (kinds_of[call] == "") return made(call, "")
     if (!(object in kind)) return "no such object"
     if (!is_among(kind[object], kinds_of[call])) return "wrong kind"
-    if (call == "send" || call == "multicast") {
-        message[object, sent[object]++] = given
-        return "done"
-    }
-    if (call == "port") return port_of(object, sent[object])
-    if (kind[object] == "port" && closed[object]) return "closed"
-    if (call == "copy") return port_of(channel_of[object], got[object])
-    if (call == "close") {
-        closed[object] = 1
-        return "done"
-    }
-    if (call == "recv" || call == "poll") return received(call == "poll")
-    return of_variable(call)
+    reply_here = reply_to(call, object, given, objects)
+    return makes_an_object(call) && reply_here == "made" ? named("port") : reply_here
 }
 
 function made(sort, first) {
+    if (first == "") begin_object(objects)
+    else begin_full(objects, first)
+    return named(sort)
+}
+
+# The next number is that of an object of this kind.
+function named(sort) {
+    numbers[objects] = objects
     kind[objects] = sort
-    sent[objects] = got[objects] = 0
-    if (first != "") {
-        full[objects] = 1
-        held[objects] = first
-    }
     return "made " objects++
-}
-
-# A port's place is how many messages of its channel are behind it.
-function port_of(channel, place,    name) {
-    name = made("port", "")
-    channel_of[objects - 1] = channel
-    start[objects - 1] = got[objects - 1] = place
-    return name
-}
-
-function received(may_be_none,    source) {
-    source = kind[object] == "port" ? channel_of[object] : object
-    if (got[object] < sent[source]) return message[source, got[object]++]
-    return may_be_none ? "none" : "waits"
-}
-
-function of_variable(call,    old) {
-    old = held[object]
-    if (call == "put") {
-        if (full[object]) return "put"
-        full[object] = 1
-        held[object] = given
-        return "done"
-    }
-    if (!full[object]) return call ~ /poll$/ ? "none" : "waits"
-    if (call ~ /^take/) full[object] = 0
-    if (call == "swap") held[object] = given
-    return old
 }
 
 # The objects, behind the last entry.
@@ -247,16 +211,9 @@ function of_variable(call,    old) {
 function state_of(which,    first) {
     if (kind[which] == "mailbox") return "sent " sent[which] " got " got[which] " waits " sent[which] - got[which]
     if (kind[which] == "channel") {
-        first = first_kept(which)
+        first = first_kept(which, numbers)
         return "sent " sent[which] " kept " sent[which] - first " first " first
     }
-    if (kind[which] == "port") return "start " start[which] " got " got[which] - start[which] (closed[which] ? " closed" : " owed " sent[channel_of[which]] - got[which])
+    if (kind[which] == "port") return "start " start[which] " got " got[which] - start[which] (closed[which] ? " closed" : " owed " owed(which))
     return full[which] ? "full " held[which] : "empty"
-}
-
-# Messages are kept in chunks of four.
-function first_kept(channel,    least, k) {
-    least = sent[channel]
-    for (k = 0; k < objects; k++) if (kind[k] == "port" && channel_of[k] == channel && !closed[k] && got[k] < least) least = got[k]
-    return least - least % 4
 }

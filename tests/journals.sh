@@ -34,7 +34,7 @@ left() {
 mkdir "$work/cases"
 cases=0
 
-# Every call, by a seat, a lane and a feed, with every reply that it may have.
+# Calls of all kinds, by a seat, a lane and a feed.
 all='journal 1 / seat 0 mailbox: made 0 / seat 0 channel: made 1 / seat 0 ivar: made 2 / seat 0 mvar: made 3 / seat 0 mvar 9: made 4
  / seat 1 send 0 5: done / lane 0 send 0 18446744073709551615: done / seat 2 recv 0: 5 / seat 2 poll 0: 18446744073709551615
  / seat 2 poll 0: none / seat 1 port 1: made 5 / feed 0 port 1: made 6 / seat 1 multicast 1 7: done / lane 3 multicast 1 8: done
@@ -55,8 +55,17 @@ pieces='journal 2 / seat 0 mailbox: made 0 / seat 0 channel: made 1 / seat 0 iva
 pieces=$(printf '%s' "$pieces" | tr -d '\n')
 cut='journal 1 / from 10 / seat 0 recv 2: 5 / end 11'
 
+# each_call VERSION: a journal of each call of the table on each kind of object that takes it, with each reply.
+each_call() { awk -v part=journal -v version="$1" -f tests/calls.awk -f tests/each_call.awk; }
+
 lawful() {
-    told 'every call' 0 'lawful 33' none "$all"
+    told 'all kinds of calls' 0 'lawful 33' none "$all"
+    for version in 1 2; do
+        each_call "$version" > "$work/in"
+        run check < "$work/in"
+        expect "each call with each reply, in version $version" 0 "lawful $(($(wc -l < "$work/in") - 2))" none
+        cp "$work/in" "$work/cases/each$version"
+    done
     told 'no entry' 0 'lawful 0' none 'journal 1 / end 0'
     told 'two pieces' 0 'lawful 3' none \
         'journal 1 / seat 0 mailbox: made 0 / end 1 / journal 1 / from 1 / seat 1 send 0 5: done / seat 0 recv 0: 5 / end 3'
@@ -252,6 +261,7 @@ changed() {
     [ -z "$few" ] || step=7
     change requests "$step" < examples/requests.journal
     script "$all" | change all "$step"
+    each_call 1 | change each $((step * 29))
     script "$pieces" | change pieces "$step"
     script "$cut" | change cut "$step"
     for seed in 1 2; do

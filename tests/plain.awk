@@ -1,6 +1,5 @@
 # The plain program: what docs/FORMATS.md says of a script, written down once more, with lists that are gone through
-# from the first item on. With the table of calls (tests/calls.awk) it shares nothing with the crates, so what both say alike is said
-# twice.
+# from the first item on. With the calls (tests/calls.awk) it shares nothing with the crates, so what both say alike is said twice.
 #
 # Each line of input is a limit and then the bytes of one script, as numbers. For each script it prints the report, or
 # the line of its fault, and then the exit status.
@@ -49,8 +48,8 @@ function forget_script() {
 }
 
 function forget_board() {
-    split("", object); split("", message); split("", sent); split("", got)
-    split("", channel_of); split("", start); split("", closed); split("", held); split("", full)
+    split("", object); split("", objects)
+    forget_objects()
     entries = lines_out = 0
 }
 
@@ -209,17 +208,13 @@ function ending_here(limit,    left) {
 
 function make(name) {
     entries++
-    object[name] = name
-    if (is_reader(name)) begin_port(name, form["channel", name], sent[form["channel", name]] + 0)
-    if (name in first_held) { full[name] = 1; held[name] = first_held[name] }
+    add(name)
+    if (is_reader(name)) begin_reader(name, form["channel", name], sent[form["channel", name]])
+    else if (name in first_held) begin_full(name, shown(first_held[name]))
+    else begin_object(name)
 }
 
-function begin_port(name, channel, at) {
-    object[name] = name
-    channel_of[name] = channel
-    start[name] = at
-    got[name] = 0
-}
+function add(name) { objects[name] = object[name] = name }
 
 function first_ready(done,    i, met) {
     split("", met)
@@ -231,53 +226,21 @@ function first_ready(done,    i, met) {
     return 0
 }
 
-function waits(k,    word, o) {
+function waits(k,    word) {
     split(step_words[k], word, " ")
-    o = object[word[2]]
-    if (word[1] == "recv") return !(o in closed) && owed(o) == 0
-    if (word[1] == "get" || word[1] == "take" || word[1] == "swap") return !(o in full)
-    return 0
+    return would_wait(word[1], object[word[2]])
 }
 
-function is_reader(name) { return kind[name] == "port" || kind[name] == "feed" }
-
-function stream(o) { return is_reader(o) ? channel_of[o] : o }
-
-function place(o) { return start[o] + got[o] }
-
-function owed(o) { return sent[stream(o)] - place(o) }
-
-function answer(k,    word, o, old) {
+# If the reply is that a port is closed, the name that the step gives is another one of that port.
+function answer(k,    word, o, reply) {
     split(step_words[k], word, " ")
     o = object[word[2]]
-    if (word[1] == "send" || word[1] == "multicast") { sent[o]++; message[o, sent[o]] = word[3]; return "done" }
-    if (word[1] == "recv" || word[1] == "poll") {
-        if (o in closed) return "closed"
-        if (owed(o) == 0) return "none"
-        got[o]++
-        return shown(message[stream(o), place(o)])
+    reply = reply_to(word[1], o, shown(word[3]), word[3])
+    if (makes_an_object(word[1])) {
+        if (reply == "made") add(word[3])
+        else object[word[3]] = o
     }
-    if (word[1] == "port") { begin_port(word[3], o, sent[o] + 0); return "made" }
-    if (word[1] == "copy") {
-        if (o in closed) { object[word[3]] = o; return "closed" }
-        begin_port(word[3], channel_of[o], place(o))
-        return "made"
-    }
-    if (word[1] == "close") {
-        if (o in closed) return "closed"
-        closed[o] = 1
-        return "done"
-    }
-    if (word[1] == "put") {
-        if (o in full) return "put"
-        full[o] = 1; held[o] = word[3]
-        return "done"
-    }
-    if (!(o in full)) return "none"
-    old = held[o]
-    if (word[1] == "take" || word[1] == "takepoll") delete full[o]
-    if (word[1] == "swap") held[o] = word[3]
-    return shown(old)
+    return reply
 }
 
 # A message as a report has it. A text may be any word, also one that is a reply, so `=` tells that it is none.
@@ -293,27 +256,18 @@ function print_report(ending,    i) {
 
 function told(name,    first) {
     if (object[name] != name) return "not made"
-    if (kind[name] == "mailbox") return "sent " sent[name] + 0 " got " got[name] + 0 " waits " sent[name] - got[name]
+    if (kind[name] == "mailbox") return "sent " sent[name] " got " got[name] " waits " owed(name)
     if (kind[name] == "channel") {
-        first = first_kept(name)
-        return "sent " sent[name] + 0 " kept " sent[name] - first " first " first
+        first = first_kept(name, objects)
+        return "sent " sent[name] " kept " sent[name] - first " first " first
     }
     if (is_reader(name)) {
-        return "start " start[name] " got " got[name] ((name in closed) ? " closed" : " owed " owed(name)) taken_from(name)
+        return "start " start[name] " got " received(name) (closed[name] ? " closed" : " owed " owed(name)) taken_from(name)
     }
-    return (name in full) ? "full " shown(held[name]) : "empty"
+    return full[name] ? "full " held[name] : "empty"
 }
+
+function received(name) { return got[name] - start[name] }
 
 # A thread takes all that its feed got, at the latest when it ends the feed.
-function taken_from(name) { return kind[name] == "feed" ? " taken " got[name] : "" }
-
-# Messages lie in chunks of four, and those before the chunk of the least place are gone.
-function first_kept(channel,    least, i, name) {
-    least = sent[channel] + 0
-    for (i = 1; i <= names; i++) {
-        name = given[i]
-        if (!is_reader(name) || object[name] != name || channel_of[name] != channel || name in closed) continue
-        if (place(name) < least) least = place(name)
-    }
-    return least - least % 4
-}
+function taken_from(name) { return kind[name] == "feed" ? " taken " received(name) : "" }

@@ -1,8 +1,8 @@
 #!/bin/sh
 # The built program from outside: `sh tests/program.sh PROGRAM`. Each example, the cases of tests/faults and
-# tests/reports (tests/tables.sh says how they are written), each exit status, many texts for which the plain program of
-# tests/plain.awk says what is to come, and threads that take their steps in any order (tests/runs.sh). Its last line is
-# `N passed, M failed`.
+# tests/reports (tests/tables.sh says how they are written), each step of the table of calls (tests/each_call.awk), each exit status,
+# many texts for which the plain program of tests/plain.awk says what is to come, and threads that take their steps in any order
+# (tests/runs.sh). Its last line is `N passed, M failed`.
 LC_ALL=C
 export LC_ALL
 program=$(cd "$(dirname "$1")" && pwd)/$(basename "$1")
@@ -38,6 +38,39 @@ written() {
     # shellcheck disable=SC2059
     printf "$2" > "$work/in"
     told "$1" "$3"
+}
+
+# Each step of the table of calls: on an object of each kind, and with each reply that it may have.
+each_call() {
+    from_table kinds > "$work/kinds"
+    fault_tables "$work/kinds"
+    for version in 1 2; do
+        from_table script > "$work/steps"
+        sed 's/: .*//' "$work/steps" > "$work/script"
+        sed -n '/: /p' "$work/steps" > "$work/replies"
+        from_table journal > "$work/journal"
+        for command in replay run; do
+            run "$command" < "$work/script"
+            grep '^A ' "$work/out" > "$work/rows"
+            same "each step, version $version, by $command" "$work/replies" "$work/rows"
+            run "$command" --journal < "$work/script"
+            same "the journal of each step, version $version, by $command" "$work/journal" "$work/out"
+        done
+    done
+    version=1
+}
+
+# from_table PART
+from_table() { awk -v part="$1" -v version="${version:-1}" -f tests/calls.awk -f tests/each_call.awk; }
+
+# same CASE WANTED FOUND: the last run performed all steps, and its lines are these.
+same() {
+    if [ "$status" = 0 ] && [ -s "$2" ] && cmp -s "$2" "$3" && [ ! -s "$work/err" ]; then
+        pass
+    else
+        fail "$1: status $status, errors $(head -c 300 "$work/err")"
+        diff "$2" "$3" | head -20
+    fi
 }
 
 # Texts that no line of a table can hold.
@@ -253,7 +286,8 @@ agree() {
 }
 
 examples
-fault_tables
+fault_tables tests/faults/*.txt
+each_call
 odd_texts
 odd_messages
 long_texts

@@ -61,6 +61,9 @@ guide_refused() {
     [ "$met" -gt 0 ] || failed=$((failed + 1))
 }
 
+# Each step of the table of calls, with each reply that it may have.
+awk -v part=script -f tests/calls.awk -f tests/each_call.awk | sed 's/: .*//' > "$work/each_call.cml"
+
 # Each sweep's words, a line each. A few tables are performed with texts too. A text of more than 14 bytes takes memory when it is
 # made. The numbers of the other sweeps take memory for each share.
 sweeps() {
@@ -71,7 +74,7 @@ sweeps() {
         for table in tests/board/*.rows tests/floors/*.rows tests/halls/*.rows; do
             echo "table $how $table $rows"
         done
-        for script in examples/*.cml tests/all_lines.cml; do
+        for script in examples/*.cml tests/all_lines.cml "$work/each_call.cml"; do
             grep -q '^\(lane\|feed\) ' "$script" || echo "replay $how $script $cml replay"
             echo "run $how $script $cml run"
             echo "threads $how $script $cml run"

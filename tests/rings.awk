@@ -54,7 +54,7 @@ function nothing_unmoved(    thread) {
 # Whether a thread's own step at this place can't be yet, since a lane isn't closed, or holds more than it has room for.
 function is_behind(thread, i,    word, key, part) {
     split(step_words[queue[thread, i]], word, " ")
-    if (word[1] ~ /^(recv|get|take|swap)$/) return unmoved(thread, i) > 0
+    if (blocks[word[1]]) return unmoved(thread, i) > 0
     for (key in lane_steps) {
         split(key, part, SUBSEP)
         if (part[1] == thread && unmoved_to(thread, part[2], i) > room[thread, part[2]]) return 1
@@ -81,9 +81,7 @@ function from_lane(line, limit,    word, thread, number, to, text) {
     lane_object[number] = to
     moved[thread, to]++
     entries++
-    sent[to]++
-    message[to, sent[to]] = text
-    line_out[++lines_out] = "lane " number + 0 " " word[3] " " to " " shown(text) ": done"
+    line_out[++lines_out] = "lane " number + 0 " " word[3] " " to " " shown(text) ": " reply_to(word[3], to, shown(text))
     return ""
 }
 
@@ -116,9 +114,8 @@ function to_feed(line, limit,    word, name, why) {
     pumped++
     next_poll[name]++
     entries++
-    got[name]++
     if (++to_feeds == short) pumping = ""
-    line_out[++lines_out] = "feed " word[2] + 0 " recv " name ": " shown(message[stream(name), place(name)])
+    line_out[++lines_out] = "feed " word[2] + 0 " recv " name ": " reply_to("recv", name)
     return ""
 }
 

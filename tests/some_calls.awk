@@ -1,4 +1,4 @@
-# A table of random calls from a seed: `awk -v seed=3 -f tests/some_calls.awk`. Its cases are on boards, floors and halls
+# A table of random calls from a seed: `awk -v seed=3 -f tests/calls.awk -f tests/some_calls.awk`. Its cases are on boards, floors and halls
 # by turns, each with calls on objects of all kinds, most by good names, and with cuts strewn in. A case that ends with a
 # line `pieces` has no cut that drops anything.
 
@@ -19,7 +19,7 @@ function object(kind) {
     return below(objects + 2)
 }
 
-function message() { return below(20) }
+function a_message() { return below(20) }
 
 function makes(kind) {
     kind_at[objects] = kind
@@ -51,15 +51,25 @@ function closing(    target) {
     return "close " target
 }
 
-function calling(    kind) {
+# Of the calls that an object of this kind takes, one of two gives a message, if some do. Those that make ports or close them are left out.
+function calling(    kind, some, words, word) {
     if (is_left) return one_of("recv recv get take") " " below(objects)
     kind = one_of("mailbox mailbox channel channel port port port ivar mvar mvar feed")
-    if (kind == "mailbox") return below(2) ? "send " object(kind) " " message() : one_of("recv poll") " " object(kind)
-    if (kind == "channel") return "multicast " object(kind) " " message()
-    if (kind == "port" || kind == "feed") return one_of("recv recv poll") " " object(kind)
-    if (kind == "ivar") return below(2) ? "put " object(kind) " " message() : one_of("get getpoll") " " object(kind)
-    if (below(2)) return one_of("put swap") " " object(kind) " " message()
-    return one_of("take takepoll get getpoll") " " object(kind)
+    some = below(2)
+    words = calls_on(kind, some)
+    word = one_of(words != "" ? words : calls_on(kind, 1 - some))
+    return word " " object(kind) (gives[word] ? " " a_message() : "")
+}
+
+# Each as often as its chance says.
+function calls_on(kind, gives_message,    at, word, times, words) {
+    if (kind == "feed") kind = "port"
+    for (at = 1; at <= calls; at++) {
+        word = word_of[at]
+        if (!is_among(kind, kinds_of[word]) || gives[word] != gives_message || makes_an_object(word) || word == "close") continue
+        for (times = chance_of[word]; times > 0; times--) words = words " " word
+    }
+    return words
 }
 
 # Mostly the number of what was opened last.
@@ -81,7 +91,7 @@ function of_rings(    word, target) {
         if (kind_at[target] == "channel") { feeds++; makes("feed") }
         return "feed " target " " 1 + below(4)
     }
-    if (word == "push") return "push " last_of(lanes) " " message()
+    if (word == "push") return "push " last_of(lanes) " " a_message()
     if (word ~ /^(pump|pop|end)$/) return word " " last_of(feeds)
     return word " " last_of(lanes)
 }

@@ -47,7 +47,7 @@ function print_script(    i, count, its_kind, name, threads) {
     line("cml " version)
     give("m0", "mailbox"); line("mailbox m0")
     give("c0", "channel"); line("channel c0")
-    give("v0", "mvar"); line(below(2) ? "mvar v0" : "mvar v0 " message(0))
+    give("v0", "mvar"); line(below(2) ? "mvar v0" : "mvar v0 " a_message(0))
     give("p0", "port"); line("port c0 p0")
     count = below(5)
     for (i = 1; i <= count; i++) {
@@ -88,7 +88,7 @@ function print_rings(threads,    i, count, text) {
 function capacity() { return below(60) == 0 ? 1025 * below(2) : 1 + below(3) }
 
 # A message, which in the i-th step of a script with lanes is no other's. Of a hundred one is none in the script's version.
-function message(i) {
+function a_message(i) {
     if (below(100) == 0) return version == 1 ? odd[1 + below(odds)] : bytes(65)
     if (version == 1) return rings ? i : below(1000)
     return some_text(rings ? "~" i : "")
@@ -115,7 +115,7 @@ function print_step(thread, i,    v, text, own) {
         own = thread "q" i
         text = text " " own
     }
-    if (gives[v]) text = text " " message(i)
+    if (gives[v]) text = text " " a_message(i)
     line(text)
     if (own != "") give(own, "port", thread)
 }

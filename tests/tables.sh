@@ -24,8 +24,9 @@
 #     mailbox m: sent 0 got 0 waits 0
 #     end: done 0
 
+# fault_tables TABLE..
 fault_tables() {
-    for table in tests/faults/*.txt; do
+    for table; do
         before=
         while IFS= read -r row; do
             case $row in

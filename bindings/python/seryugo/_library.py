@@ -131,13 +131,13 @@ def _function(library: ctypes.CDLL, name: str) -> Any:
     return function
 
 
-def _quick(name: str) -> Callable[..., int]:
+def quick(name: str) -> Callable[..., int]:
     """Name a call of a seat. Each argument is an instance of its type in C, or bytes.
 
     To test arguments and turn them into these types would take longer than most of these calls.
     """
-    quick: Callable[..., int] = _function(_HELD, name)
-    return quick
+    named: Callable[..., int] = _function(_HELD, name)
+    return named
 
 
 def _short(name: str, *arguments: Any) -> Callable[..., int]:
@@ -175,29 +175,10 @@ _NUMBER = POINTER(c_uint64)
 room_open = _short("bytes_room_open", c_uint64, _HANDLE)
 new_seat = _short("new_seat", _HANDLE, _NUMBER)
 withdraw = _short("withdraw", _HANDLE, c_uint64)
-next_due = _quick("next_due")
+next_due = quick("next_due")
 close = _freeing(_FREE, "close", Handle)
 
-# The calls of seats.
-leave = _quick("leave")
-new_mailbox = _quick("new_mailbox")
-new_channel = _quick("new_channel")
-new_port = _quick("new_port")
-copy_port = _quick("copy_port")
-close_port = _quick("close_port")
-new_ivar = _quick("new_ivar")
-new_mvar = _quick("new_mvar")
-mvar_init = _quick("bytes_mvar_init_from")
-send = _quick("bytes_send_from")
-multicast = _quick("bytes_multicast_from")
-put = _quick("bytes_put_from")
-recv = _quick("bytes_recv")
-recv_poll = _quick("bytes_recv_poll")
-get = _quick("bytes_get")
-get_poll = _quick("bytes_get_poll")
-take = _quick("bytes_take")
-take_poll = _quick("bytes_take_poll")
-swap = _quick("bytes_swap_from")
+# What frees the memory of a message.
 bytes_release = _freeing(_HELD, "bytes_release", Share)
 
 # What an object has.

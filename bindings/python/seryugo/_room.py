@@ -8,6 +8,7 @@ from collections import deque
 from ctypes import byref, c_bool, c_uint64
 from typing import Any, Callable, Deque, Dict, Set, Tuple
 
+from . import _calls as calls
 from . import _library as library
 from . import errors
 from ._library import DONE, PARKED
@@ -186,7 +187,7 @@ class Room:
     def _leave_all(self) -> None:
         while self._dropped:
             # To leave twice changes nothing.
-            library.leave(self.handle, c_uint64(self._dropped[0]))
+            calls.leave(self.handle, c_uint64(self._dropped[0]))
             self._wake_next()
             self._dropped.popleft()
 

@@ -11,6 +11,7 @@ from typing import Any, Dict, Iterator, Optional
 
 from . import _library as library
 from . import errors
+from ._calls import ON_NO_OBJECT, WITH_MESSAGE, CallKind
 from ._library import DONE
 from ._messages import BYTES, Codec, Message
 
@@ -23,29 +24,6 @@ class MakerKind(enum.Enum):
     FEED = 2
 
 
-class CallKind(enum.Enum):
-    """The calls that the journal has."""
-
-    NEW_MAILBOX = 0
-    NEW_CHANNEL = 1
-    NEW_PORT = 2
-    COPY_PORT = 3
-    CLOSE_PORT = 4
-    NEW_IVAR = 5
-    NEW_MVAR = 6
-    MVAR_INIT = 7
-    SEND = 8
-    MULTICAST = 9
-    RECV = 10
-    RECV_POLL = 11
-    PUT = 12
-    GET = 13
-    GET_POLL = 14
-    TAKE = 15
-    TAKE_POLL = 16
-    SWAP = 17
-
-
 class ReplyKind(enum.Enum):
     """What a call returned."""
 
@@ -55,22 +33,6 @@ class ReplyKind(enum.Enum):
     NOTHING = 3
     PUT = 4
     CLOSED = 5
-
-
-_ON_NO_OBJECT = {
-    CallKind.NEW_MAILBOX,
-    CallKind.NEW_CHANNEL,
-    CallKind.NEW_IVAR,
-    CallKind.NEW_MVAR,
-    CallKind.MVAR_INIT,
-}
-_WITH_MESSAGE = {
-    CallKind.MVAR_INIT,
-    CallKind.SEND,
-    CallKind.MULTICAST,
-    CallKind.PUT,
-    CallKind.SWAP,
-}
 
 
 @dataclass(frozen=True)
@@ -118,10 +80,10 @@ def entry_of(found: library.Entry, codecs: Dict[int, Codec[Any]]) -> Entry:
     try:
         call, reply = CallKind(found.call.kind), ReplyKind(found.reply.kind)
         made = found.reply.name if reply is ReplyKind.MADE else None
-        on = None if call in _ON_NO_OBJECT else found.call.object
+        on = None if call in ON_NO_OBJECT else found.call.object
         named = made if call is CallKind.MVAR_INIT else on
         codec = BYTES if named is None else codecs.get(named, BYTES)
-        sent = codec.decode(_bytes_at(found.call.message)) if call in _WITH_MESSAGE else None
+        sent = codec.decode(_bytes_at(found.call.message)) if call in WITH_MESSAGE else None
         got = codec.decode(_bytes_at(found.reply.message)) if reply is ReplyKind.GOT else None
         maker = Maker(MakerKind(found.maker.kind), found.maker.number)
         return Entry(maker, Call(call, on, sent), Reply(reply, made, got))

@@ -9,7 +9,7 @@ from ctypes import c_size_t, c_uint64
 from types import TracebackType
 from typing import Any, Callable, Optional, Tuple, Type, Union
 
-from . import _library as library
+from . import _calls as calls
 from . import errors
 from ._library import CLOSED, DONE, NOTHING, PARKED, PUT
 from ._messages import T, codec_of
@@ -60,7 +60,7 @@ class Seat:
         if self._has_left:
             return
         try:
-            code = self._room.call(library.leave, self._seat)
+            code = self._room.call(calls.leave, self._seat)
         except BaseException:
             # Ctrl-C may have come before the seat left.
             self._has_left = True
@@ -75,38 +75,38 @@ class Seat:
     def mailbox(self, of: Type[T]) -> Mailbox[T]:
         """Make a mailbox."""
         codec = codec_of(of)
-        return Mailbox(self._room, self._room.make(codec, library.new_mailbox, self._seat), codec)
+        return Mailbox(self._room, self._room.make(codec, calls.new_mailbox, self._seat), codec)
 
     def channel(self, of: Type[T]) -> Channel[T]:
         """Make a channel."""
         codec = codec_of(of)
-        return Channel(self._room, self._room.make(codec, library.new_channel, self._seat), codec)
+        return Channel(self._room, self._room.make(codec, calls.new_channel, self._seat), codec)
 
     def ivar(self, of: Type[T]) -> IVar[T]:
         """Make an empty i-variable."""
         codec = codec_of(of)
-        return IVar(self._room, self._room.make(codec, library.new_ivar, self._seat), codec)
+        return IVar(self._room, self._room.make(codec, calls.new_ivar, self._seat), codec)
 
     def mvar(self, of: Type[T], initial: Optional[T] = None) -> MVar[T]:
         """Make an m-variable that holds `initial`, or an empty one."""
         codec = codec_of(of)
         if initial is None:
-            return MVar(self._room, self._room.make(codec, library.new_mvar, self._seat), codec)
+            return MVar(self._room, self._room.make(codec, calls.new_mvar, self._seat), codec)
         data = codec.encode(initial)
-        name = self._room.make(codec, library.mvar_init, self._seat, data, c_size_t(len(data)))
+        name = self._room.make(codec, calls.mvar_init, self._seat, data, c_size_t(len(data)))
         return MVar(self._room, name, codec)
 
     def port(self, channel: Channel[T]) -> Port[T]:
         """Make a port of a channel, which receives what is multicast from now on."""
-        return self._port(library.new_port, channel)
+        return self._port(calls.new_port, channel)
 
     def copy_port(self, port: Port[T]) -> Port[T]:
         """Make a port at the place of another. Fails with `Closed` if that one is closed."""
-        return self._port(library.copy_port, port)
+        return self._port(calls.copy_port, port)
 
     def close_port(self, port: Port[T]) -> bool:
         """Close a port, and return whether it was open."""
-        code = self._room.call(library.close_port, self._seat, name_in(self._room, port))
+        code = self._room.call(calls.close_port, self._seat, name_in(self._room, port))
         if code not in (DONE, CLOSED):
             raise errors.of_code(code)
         return code == DONE
@@ -115,19 +115,19 @@ class Seat:
 
     def send(self, mailbox: Mailbox[T], message: T) -> None:
         """Send a message to a mailbox."""
-        code = self._give(library.send, mailbox, message)
+        code = self._give(calls.send, mailbox, message)
         if code != DONE:
             raise errors.of_code(code)
 
     def multicast(self, channel: Channel[T], message: T) -> None:
         """Send a message to every port of a channel."""
-        code = self._give(library.multicast, channel, message)
+        code = self._give(calls.multicast, channel, message)
         if code != DONE:
             raise errors.of_code(code)
 
     def put(self, variable: Variable[T], message: T) -> bool:
         """Fill an empty variable, and return whether it was empty. A full one stays as it was."""
-        code = self._give(library.put, variable, message)
+        code = self._give(calls.put, variable, message)
         if code not in (DONE, PUT):
             raise errors.of_code(code)
         return code == DONE
@@ -139,30 +139,30 @@ class Seat:
 
         Fails with `Closed` if the port is closed, even if another thread closes it meanwhile.
         """
-        data = self._obtain(library.recv, (self._seat, name_in(self._room, source)), timeout)
+        data = self._obtain(calls.recv, (self._seat, name_in(self._room, source)), timeout)
         return source._decode(data)
 
     def recv_poll(self, source: Source[T]) -> Optional[T]:
         """Receive the next message of a mailbox or a port, or return `None` if there is none."""
-        return self._poll(library.recv_poll, source)
+        return self._poll(calls.recv_poll, source)
 
     def get(self, variable: Variable[T], timeout: Optional[float] = None) -> T:
         """Read a variable, which keeps its message. Blocks while it is empty."""
-        data = self._obtain(library.get, (self._seat, name_in(self._room, variable)), timeout)
+        data = self._obtain(calls.get, (self._seat, name_in(self._room, variable)), timeout)
         return variable._decode(data)
 
     def get_poll(self, variable: Variable[T]) -> Optional[T]:
         """Read a variable, which keeps its message, or return `None` if it is empty."""
-        return self._poll(library.get_poll, variable)
+        return self._poll(calls.get_poll, variable)
 
     def take(self, variable: MVar[T], timeout: Optional[float] = None) -> T:
         """Read and empty an m-variable. Blocks while it is empty."""
-        data = self._obtain(library.take, (self._seat, name_in(self._room, variable)), timeout)
+        data = self._obtain(calls.take, (self._seat, name_in(self._room, variable)), timeout)
         return variable._decode(data)
 
     def take_poll(self, variable: MVar[T]) -> Optional[T]:
         """Read and empty an m-variable, or return `None` if it is empty."""
-        return self._poll(library.take_poll, variable)
+        return self._poll(calls.take_poll, variable)
 
     def swap(self, variable: MVar[T], message: T, timeout: Optional[float] = None) -> T:
         """Store a message in a full m-variable, and return what it held before.
@@ -171,7 +171,7 @@ class Seat:
         """
         name, data = name_in(self._room, variable), variable._encode(message)
         arguments = (self._seat, name, data, c_size_t(len(data)))
-        return variable._decode(self._obtain(library.swap, arguments, timeout))
+        return variable._decode(self._obtain(calls.swap, arguments, timeout))
 
     def _port(self, call: Callable[..., int], of: Union[Channel[T], Port[T]]) -> Port[T]:
         name = self._room.make(of._codec, call, self._seat, name_in(self._room, of))

@@ -10,7 +10,7 @@ import time
 import unittest
 
 import seryugo
-from seryugo import Switchboard, _library, check
+from seryugo import Switchboard, _calls, check
 
 # No test takes so long. A call that isn't woken fails then.
 LIMIT = 30
@@ -146,7 +146,7 @@ class Threads(Waiting):
         def recv(room, seat, name, is_again, message):
             if is_again.value:
                 return seryugo.NoMemory.code
-            return _library.recv(room, seat, name, is_again, message)
+            return _calls.recv(room, seat, name, is_again, message)
 
         def receive(seat):
             with self.assertRaises(seryugo.NoMemory):

@@ -1,6 +1,6 @@
 //! The calls of a switchboard of bytes.
 
-use crate::calls::Calls;
+use crate::calls::{Asks, Calls, Gives, Polls};
 use crate::entry::Entry;
 use crate::error::Error;
 use crate::message::Message;
@@ -60,53 +60,23 @@ impl Calls for Bytes {
     }
 
     #[inline]
-    fn send(room: &mut Handle, seat: u64, mailbox: u64, message: &[u8]) -> u32 {
-        unsafe { seryugo_bytes_send_from(room, seat, mailbox, message.as_ptr(), message.len()) }
+    fn give(call: Gives, room: &mut Handle, seat: u64, object: u64, message: &[u8]) -> u32 {
+        unsafe { (call.bytes)(room, seat, object, message.as_ptr(), message.len()) }
     }
 
     #[inline]
-    fn multicast(room: &mut Handle, seat: u64, channel: u64, message: &[u8]) -> u32 {
-        unsafe { seryugo_bytes_multicast_from(room, seat, channel, message.as_ptr(), message.len()) }
+    fn ask(call: Asks, room: &mut Handle, seat: u64, object: u64, is_again: bool, slot: &mut Slot) -> u32 {
+        unsafe { (call.bytes)(room, seat, object, is_again, slot.as_mut_ptr()) }
+    }
+
+    #[inline]
+    fn poll(call: Polls, room: &mut Handle, seat: u64, object: u64, slot: &mut Slot) -> u32 {
+        unsafe { (call.bytes)(room, seat, object, slot.as_mut_ptr()) }
     }
 
     #[inline]
     fn mvar_init(room: &mut Handle, seat: u64, message: &[u8], variable: &mut u64) -> u32 {
         unsafe { seryugo_bytes_mvar_init_from(room, seat, message.as_ptr(), message.len(), variable) }
-    }
-
-    #[inline]
-    fn put(room: &mut Handle, seat: u64, variable: u64, message: &[u8]) -> u32 {
-        unsafe { seryugo_bytes_put_from(room, seat, variable, message.as_ptr(), message.len()) }
-    }
-
-    #[inline]
-    fn recv(room: &mut Handle, seat: u64, source: u64, is_again: bool, slot: &mut Slot) -> u32 {
-        unsafe { seryugo_bytes_recv(room, seat, source, is_again, slot.as_mut_ptr()) }
-    }
-
-    #[inline]
-    fn recv_poll(room: &mut Handle, seat: u64, source: u64, slot: &mut Slot) -> u32 {
-        unsafe { seryugo_bytes_recv_poll(room, seat, source, slot.as_mut_ptr()) }
-    }
-
-    #[inline]
-    fn get(room: &mut Handle, seat: u64, variable: u64, is_again: bool, slot: &mut Slot) -> u32 {
-        unsafe { seryugo_bytes_get(room, seat, variable, is_again, slot.as_mut_ptr()) }
-    }
-
-    #[inline]
-    fn get_poll(room: &mut Handle, seat: u64, variable: u64, slot: &mut Slot) -> u32 {
-        unsafe { seryugo_bytes_get_poll(room, seat, variable, slot.as_mut_ptr()) }
-    }
-
-    #[inline]
-    fn take(room: &mut Handle, seat: u64, variable: u64, is_again: bool, slot: &mut Slot) -> u32 {
-        unsafe { seryugo_bytes_take(room, seat, variable, is_again, slot.as_mut_ptr()) }
-    }
-
-    #[inline]
-    fn take_poll(room: &mut Handle, seat: u64, variable: u64, slot: &mut Slot) -> u32 {
-        unsafe { seryugo_bytes_take_poll(room, seat, variable, slot.as_mut_ptr()) }
     }
 
     #[inline]
@@ -142,16 +112,7 @@ impl Calls for Bytes {
 extern "C" {
     fn seryugo_bytes_room_open(limit: u64, room: *mut Handle) -> u32;
     fn seryugo_bytes_reading_open(reading: *mut Handle) -> u32;
-    fn seryugo_bytes_send_from(room: *mut Handle, seat: u64, mailbox: u64, at: *const u8, length: usize) -> u32;
-    fn seryugo_bytes_multicast_from(room: *mut Handle, seat: u64, channel: u64, at: *const u8, length: usize) -> u32;
     fn seryugo_bytes_mvar_init_from(room: *mut Handle, seat: u64, at: *const u8, length: usize, variable: *mut u64) -> u32;
-    fn seryugo_bytes_put_from(room: *mut Handle, seat: u64, variable: u64, at: *const u8, length: usize) -> u32;
-    fn seryugo_bytes_recv(room: *mut Handle, seat: u64, source: u64, is_again: bool, message: *mut RawBytes) -> u32;
-    fn seryugo_bytes_recv_poll(room: *mut Handle, seat: u64, source: u64, message: *mut RawBytes) -> u32;
-    fn seryugo_bytes_get(room: *mut Handle, seat: u64, variable: u64, is_again: bool, message: *mut RawBytes) -> u32;
-    fn seryugo_bytes_get_poll(room: *mut Handle, seat: u64, variable: u64, message: *mut RawBytes) -> u32;
-    fn seryugo_bytes_take(room: *mut Handle, seat: u64, variable: u64, is_again: bool, message: *mut RawBytes) -> u32;
-    fn seryugo_bytes_take_poll(room: *mut Handle, seat: u64, variable: u64, message: *mut RawBytes) -> u32;
     fn seryugo_bytes_swap_from(
         room: *mut Handle,
         seat: u64,

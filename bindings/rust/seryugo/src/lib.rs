@@ -31,21 +31,7 @@
 //! - A name such as [`Mailbox`] is `Copy`, and belongs to the switchboard that made it. On another one each call with it fails with
 //!   [`Error::NoSuch`].
 //! - [`Error::is_retryable`] says whether the same call may succeed later.
-//!
-//! # How a call waits
-//!
-//! | | a mailbox or a port | a variable | an m-variable |
-//! |---|---|---|---|
-//! | until it is answered | [`recv`](Seat::recv), [`iter`](Seat::iter) | [`get`](Seat::get) | [`take`](Seat::take), [`swap`](Seat::swap) |
-//! | no longer than a time | [`recv_timeout`](Seat::recv_timeout) | [`get_timeout`](Seat::get_timeout) | [`take_timeout`](Seat::take_timeout), [`swap_timeout`](Seat::swap_timeout) |
-//! | until a moment | [`recv_deadline`](Seat::recv_deadline) | [`get_deadline`](Seat::get_deadline) | [`take_deadline`](Seat::take_deadline), [`swap_deadline`](Seat::swap_deadline) |
-//! | as a future | [`recv_async`](Seat::recv_async) | [`get_async`](Seat::get_async) | [`take_async`](Seat::take_async), [`swap_async`](Seat::swap_async) |
-//! | not at all | [`recv_poll`](Seat::recv_poll), [`try_iter`](Seat::try_iter) | [`get_poll`](Seat::get_poll) | [`take_poll`](Seat::take_poll) |
-//!
-//! - A call whose time passes fails with [`Error::TimedOut`], and has done nothing. Neither has a future that is dropped.
-//! - The journal has polls that found nothing. It has no call that timed out.
-//! - If all seats wait, and no lane is open, each call that waits fails with [`Error::Stalled`]. A seat that waits with a time limit
-//!   or as a future counts as one that waits. If it is to answer others later, keep another seat free.
+//! - [`Seat`] has a table of how each call waits.
 //!
 //! # Beside other channels
 //!

@@ -1,6 +1,6 @@
 //! The calls of a switchboard of numbers.
 
-use crate::calls::Calls;
+use crate::calls::{Asks, Calls, Gives, Polls};
 use crate::entry::{Call, Entry, Reply, Who};
 use crate::error::Error;
 use crate::raw::{done, Handle};
@@ -57,53 +57,23 @@ impl Calls for Numbers {
     }
 
     #[inline]
-    fn send(room: &mut Handle, seat: u64, mailbox: u64, message: u64) -> u32 {
-        unsafe { seryugo_send(room, seat, mailbox, message) }
+    fn give(call: Gives, room: &mut Handle, seat: u64, object: u64, message: u64) -> u32 {
+        unsafe { (call.numbers)(room, seat, object, message) }
     }
 
     #[inline]
-    fn multicast(room: &mut Handle, seat: u64, channel: u64, message: u64) -> u32 {
-        unsafe { seryugo_multicast(room, seat, channel, message) }
+    fn ask(call: Asks, room: &mut Handle, seat: u64, object: u64, is_again: bool, slot: &mut u64) -> u32 {
+        unsafe { (call.numbers)(room, seat, object, is_again, slot) }
+    }
+
+    #[inline]
+    fn poll(call: Polls, room: &mut Handle, seat: u64, object: u64, slot: &mut u64) -> u32 {
+        unsafe { (call.numbers)(room, seat, object, slot) }
     }
 
     #[inline]
     fn mvar_init(room: &mut Handle, seat: u64, message: u64, variable: &mut u64) -> u32 {
         unsafe { seryugo_mvar_init(room, seat, message, variable) }
-    }
-
-    #[inline]
-    fn put(room: &mut Handle, seat: u64, variable: u64, message: u64) -> u32 {
-        unsafe { seryugo_put(room, seat, variable, message) }
-    }
-
-    #[inline]
-    fn recv(room: &mut Handle, seat: u64, source: u64, is_again: bool, slot: &mut u64) -> u32 {
-        unsafe { seryugo_recv(room, seat, source, is_again, slot) }
-    }
-
-    #[inline]
-    fn recv_poll(room: &mut Handle, seat: u64, source: u64, slot: &mut u64) -> u32 {
-        unsafe { seryugo_recv_poll(room, seat, source, slot) }
-    }
-
-    #[inline]
-    fn get(room: &mut Handle, seat: u64, variable: u64, is_again: bool, slot: &mut u64) -> u32 {
-        unsafe { seryugo_get(room, seat, variable, is_again, slot) }
-    }
-
-    #[inline]
-    fn get_poll(room: &mut Handle, seat: u64, variable: u64, slot: &mut u64) -> u32 {
-        unsafe { seryugo_get_poll(room, seat, variable, slot) }
-    }
-
-    #[inline]
-    fn take(room: &mut Handle, seat: u64, variable: u64, is_again: bool, slot: &mut u64) -> u32 {
-        unsafe { seryugo_take(room, seat, variable, is_again, slot) }
-    }
-
-    #[inline]
-    fn take_poll(room: &mut Handle, seat: u64, variable: u64, slot: &mut u64) -> u32 {
-        unsafe { seryugo_take_poll(room, seat, variable, slot) }
     }
 
     #[inline]
@@ -179,16 +149,7 @@ struct RawReply {
 extern "C" {
     fn seryugo_room_open(limit: u64, room: *mut Handle) -> u32;
     fn seryugo_reading_open(reading: *mut Handle) -> u32;
-    fn seryugo_send(room: *mut Handle, seat: u64, mailbox: u64, message: u64) -> u32;
-    fn seryugo_recv(room: *mut Handle, seat: u64, source: u64, is_again: bool, message: *mut u64) -> u32;
-    fn seryugo_recv_poll(room: *mut Handle, seat: u64, source: u64, message: *mut u64) -> u32;
-    fn seryugo_multicast(room: *mut Handle, seat: u64, channel: u64, message: u64) -> u32;
     fn seryugo_mvar_init(room: *mut Handle, seat: u64, message: u64, variable: *mut u64) -> u32;
-    fn seryugo_put(room: *mut Handle, seat: u64, variable: u64, message: u64) -> u32;
-    fn seryugo_get(room: *mut Handle, seat: u64, variable: u64, is_again: bool, message: *mut u64) -> u32;
-    fn seryugo_get_poll(room: *mut Handle, seat: u64, variable: u64, message: *mut u64) -> u32;
-    fn seryugo_take(room: *mut Handle, seat: u64, variable: u64, is_again: bool, message: *mut u64) -> u32;
-    fn seryugo_take_poll(room: *mut Handle, seat: u64, variable: u64, message: *mut u64) -> u32;
     fn seryugo_swap(room: *mut Handle, seat: u64, variable: u64, message: u64, is_again: bool, held: *mut u64) -> u32;
     fn seryugo_held(room: *mut Handle, variable: u64, message: *mut u64) -> u32;
     fn seryugo_lane_send(lane: *mut Handle, message: u64) -> u32;

@@ -1,6 +1,6 @@
 //! A seat, from which one thread calls.
 
-use crate::calls::received;
+use crate::calls::{self, received};
 use crate::error::{handing_back, Error, SendError};
 use crate::names::{Channel, IVar, MVar, Mailbox, Named, Port, Source, Variable};
 use crate::raw::{self, code, done, done_or, Handle};
@@ -29,6 +29,21 @@ use std::fmt;
 /// # Ok(())
 /// # }
 /// ```
+///
+/// # How a call waits
+///
+/// | | a mailbox or a port | a variable | an m-variable |
+/// |---|---|---|---|
+/// | until it is answered | [`recv`](Seat::recv), [`iter`](Seat::iter) | [`get`](Seat::get) | [`take`](Seat::take), [`swap`](Seat::swap) |
+/// | no longer than a time | [`recv_timeout`](Seat::recv_timeout) | [`get_timeout`](Seat::get_timeout) | [`take_timeout`](Seat::take_timeout), [`swap_timeout`](Seat::swap_timeout) |
+/// | until a moment | [`recv_deadline`](Seat::recv_deadline) | [`get_deadline`](Seat::get_deadline) | [`take_deadline`](Seat::take_deadline), [`swap_deadline`](Seat::swap_deadline) |
+/// | as a future | [`recv_async`](Seat::recv_async) | [`get_async`](Seat::get_async) | [`take_async`](Seat::take_async), [`swap_async`](Seat::swap_async) |
+/// | not at all | [`recv_poll`](Seat::recv_poll), [`try_iter`](Seat::try_iter) | [`get_poll`](Seat::get_poll) | [`take_poll`](Seat::take_poll) |
+///
+/// - A call whose time passes fails with [`Error::TimedOut`], and has done nothing. Neither has a future that is dropped.
+/// - The journal has polls that found nothing. It has no call that timed out.
+/// - If all seats wait, and no lane is open, each call that waits fails with [`Error::Stalled`]. A seat that waits with a time limit
+///   or as a future counts as one that waits. If it is to answer others later, keep another seat free.
 pub struct Seat<'a, R: Room = Bytes> {
     pub(crate) board: &'a Switchboard<R>,
     number: u64,
@@ -223,7 +238,9 @@ impl<'a, R: Room> Seat<'a, R> {
         R: Carries<T>,
     {
         let sent = self.here(mailbox).and_then(|mailbox| {
-            done(R::with_sent(message.borrow(), |sent| self.call(|room, seat| R::send(room, seat, mailbox, sent))))
+            done(R::with_sent(message.borrow(), |sent| {
+                self.call(|room, seat| R::give(calls::SEND, room, seat, mailbox, sent))
+            }))
         });
         handing_back(sent, message)
     }
@@ -249,7 +266,7 @@ impl<'a, R: Room> Seat<'a, R> {
     {
         let sent = self.here(channel).and_then(|channel| {
             done(R::with_sent(message.borrow(), |sent| {
-                self.call(|room, seat| R::multicast(room, seat, channel, sent))
+                self.call(|room, seat| R::give(calls::MULTICAST, room, seat, channel, sent))
             }))
         });
         handing_back(sent, message)
@@ -272,7 +289,7 @@ impl<'a, R: Room> Seat<'a, R> {
         R: Carries<S::Message>,
     {
         let source = self.here(source)?;
-        self.poll(|room, seat, slot| match R::recv_poll(room, seat, source, slot) {
+        self.poll(|room, seat, slot| match R::poll(calls::RECV_POLL, room, seat, source, slot) {
             code::CLOSED => code::NOTHING,
             code => code,
         })
@@ -297,7 +314,9 @@ impl<'a, R: Room> Seat<'a, R> {
         R: Carries<V::Message>,
     {
         let put = self.here(variable).and_then(|variable| {
-            let code = R::with_sent(message.borrow(), |sent| self.call(|room, seat| R::put(room, seat, variable, sent)));
+            let code = R::with_sent(message.borrow(), |sent| {
+                self.call(|room, seat| R::give(calls::PUT, room, seat, variable, sent))
+            });
             done_or(code, code::PUT)
         });
         handing_back(put, message)
@@ -320,7 +339,7 @@ impl<'a, R: Room> Seat<'a, R> {
         R: Carries<V::Message>,
     {
         let variable = self.here(variable)?;
-        self.poll(|room, seat, slot| R::get_poll(room, seat, variable, slot))
+        self.poll(|room, seat, slot| R::poll(calls::GET_POLL, room, seat, variable, slot))
     }
 
     /// Reads and empties an m-variable. Returns `None` if it is empty.
@@ -339,7 +358,7 @@ impl<'a, R: Room> Seat<'a, R> {
         R: Carries<T>,
     {
         let variable = self.here(variable)?;
-        self.poll(|room, seat, slot| R::take_poll(room, seat, variable, slot))
+        self.poll(|room, seat, slot| R::poll(calls::TAKE_POLL, room, seat, variable, slot))
     }
 
     /// The number of an object of this switchboard.

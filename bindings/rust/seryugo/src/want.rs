@@ -1,5 +1,6 @@
 //! How a seat waits for what it wants.
 
+use crate::calls;
 use crate::error::Error;
 use crate::names::Source;
 use crate::raw::{self, code, Handle};
@@ -23,9 +24,9 @@ impl<R: Room> Want<'_, R> {
     #[inline]
     fn ask(self, room: &mut Handle, seat: u64, is_again: bool, slot: &mut R::Slot) -> u32 {
         let code = match self {
-            Want::Recv(source) => R::recv(room, seat, source, is_again, slot),
-            Want::Get(variable) => R::get(room, seat, variable, is_again, slot),
-            Want::Take(variable) => R::take(room, seat, variable, is_again, slot),
+            Want::Recv(source) => R::ask(calls::RECV, room, seat, source, is_again, slot),
+            Want::Get(variable) => R::ask(calls::GET, room, seat, variable, is_again, slot),
+            Want::Take(variable) => R::ask(calls::TAKE, room, seat, variable, is_again, slot),
             Want::Swap(variable, stored) => R::swap(room, seat, variable, stored, is_again, slot),
         };
         if is_again && code == code::NO_MEMORY {

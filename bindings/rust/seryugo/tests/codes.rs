@@ -4,20 +4,15 @@
 
 mod common;
 
-use common::{block_on, Board, Channel, IVar, MVar, Mailbox, Port, Seat};
-use seryugo::{Error, RestoreError, SendError, Switchboard, Version};
+use common::calls::{self, at_once, blocking, past, readers, refusal, timed, Names};
+use common::calls::{A_MILLISECOND, CHANNEL, IVAR, MAILBOX, MVAR, PORT};
+use common::{block_on, Board, Mailbox};
+use seryugo::{Error, Numbers, RestoreError, Switchboard, Version};
 use std::process::Command;
-use std::time::{Duration, Instant};
+use std::time::Duration;
 
-/// The objects of each switchboard here, by number.
-const MAILBOX: u64 = 0;
-const CHANNEL: u64 = 1;
-const PORT: u64 = 2;
-const IVAR: u64 = 3;
-const MVAR: u64 = 4;
-
+/// How many objects each switchboard here has.
 const OBJECTS: u64 = 5;
-const A_MILLISECOND: Duration = Duration::from_millis(1);
 
 /// A switchboard with an object of each kind.
 fn board_of_each(limit: u64) -> Board {
@@ -32,98 +27,32 @@ fn board_of_each(limit: u64) -> Board {
     board
 }
 
-/// The names of a switchboard's objects.
-struct Names {
-    mailbox: Mailbox,
-    channel: Channel,
-    port: Port,
-    ivar: IVar,
-    mvar: MVar,
-}
-
-impl Names {
-    fn of(board: &Board) -> Names {
-        Names {
-            mailbox: board.mailbox(MAILBOX).unwrap(),
-            channel: board.channel(CHANNEL).unwrap(),
-            port: board.port(PORT).unwrap(),
-            ivar: board.ivar(IVAR).unwrap(),
-            mvar: board.mvar(MVAR).unwrap(),
-        }
-    }
-}
-
-/// A call on one of these objects.
-type Call = fn(&Board, &mut Seat<'_>, &Names) -> Result<(), Error>;
-
-/// A call's name, and the call.
-type Row = (&'static str, Call);
-
-fn past() -> Instant {
-    Instant::now()
-}
-
-/// The error of a call that hands its message back.
-fn refusal<T>(answer: Result<T, SendError<u64>>) -> Result<(), Error> {
-    answer.map(drop).map_err(|refused| {
-        assert_eq!(refused.message, 7, "each call here sends the same message");
-        refused.error
-    })
-}
+type Row = calls::Row<Numbers>;
 
 /// The calls that the journal has no room for if it is full.
-const WRITTEN: [Row; 29] = [
-    ("port", |_, seat, names| seat.port(names.channel).map(drop)),
-    ("copy", |_, seat, names| seat.copy(names.port).map(drop)),
-    ("close", |_, seat, names| seat.close(names.port).map(drop)),
-    ("send", |_, seat, names| refusal(seat.send(names.mailbox, 7))),
-    ("multicast", |_, seat, names| refusal(seat.multicast(names.channel, 7))),
-    ("recv", |_, seat, names| seat.recv(names.mailbox).map(drop)),
-    ("recv of a port", |_, seat, names| seat.recv(names.port).map(drop)),
-    ("recv_timeout", |_, seat, names| seat.recv_timeout(names.mailbox, A_MILLISECOND).map(drop)),
-    ("recv_deadline", |_, seat, names| seat.recv_deadline(names.port, past()).map(drop)),
-    ("recv_async", |_, seat, names| block_on(seat.recv_async(names.port)).map(drop)),
-    ("recv_poll", |_, seat, names| seat.recv_poll(names.mailbox).map(drop)),
-    ("recv_poll of a port", |_, seat, names| seat.recv_poll(names.port).map(drop)),
-    ("put", |_, seat, names| refusal(seat.put(names.ivar, 7))),
-    ("put of an m-variable", |_, seat, names| refusal(seat.put(names.mvar, 7))),
-    ("get", |_, seat, names| seat.get(names.ivar).map(drop)),
-    ("get_timeout", |_, seat, names| seat.get_timeout(names.mvar, A_MILLISECOND).map(drop)),
-    ("get_deadline", |_, seat, names| seat.get_deadline(names.ivar, past()).map(drop)),
-    ("get_async", |_, seat, names| block_on(seat.get_async(names.ivar)).map(drop)),
-    ("get_poll", |_, seat, names| seat.get_poll(names.ivar).map(drop)),
-    ("take", |_, seat, names| seat.take(names.mvar).map(drop)),
-    ("take_timeout", |_, seat, names| seat.take_timeout(names.mvar, A_MILLISECOND).map(drop)),
-    ("take_deadline", |_, seat, names| seat.take_deadline(names.mvar, past()).map(drop)),
-    ("take_async", |_, seat, names| block_on(seat.take_async(names.mvar)).map(drop)),
-    ("take_poll", |_, seat, names| seat.take_poll(names.mvar).map(drop)),
-    ("swap", |_, seat, names| refusal(seat.swap(names.mvar, 7))),
-    ("swap_timeout", |_, seat, names| refusal(seat.swap_timeout(names.mvar, 7, A_MILLISECOND))),
-    ("swap_deadline", |_, seat, names| refusal(seat.swap_deadline(names.mvar, 7, past()))),
-    ("swap_async", |_, seat, names| refusal(block_on(seat.swap_async(names.mvar, 7)))),
-    ("feed", |board, _, names| board.feed(names.channel, 1).map(drop)),
-];
+fn written() -> Vec<Row> {
+    let making: [Row; 2] = [
+        ("port", |_, seat, names| seat.port(names.channel).map(drop)),
+        ("feed", |board, _, names| board.feed(names.channel, 1).map(drop)),
+    ];
+    making.into_iter().chain(at_once()).chain(timed()).chain(blocking()).collect()
+}
 
 /// The calls that write no entry.
-const UNWRITTEN: [Row; 10] = [
-    ("lane", |board, _, names| board.lane(names.mailbox, 1).map(drop)),
-    ("lane to a channel", |board, _, names| board.lane(names.channel, 1).map(drop)),
-    ("sent", |board, _, names| board.sent(names.channel).map(drop)),
-    ("got", |board, _, names| board.got(names.mailbox).map(drop)),
-    ("owed", |board, _, names| board.owed(names.port).map(drop)),
-    ("kept", |board, _, names| board.kept(names.mailbox).map(drop)),
-    ("held", |board, _, names| board.held(names.ivar).map(drop)),
-    ("is_open", |board, _, names| board.is_open(names.port).map(drop)),
-    ("channel_of", |board, _, names| board.channel_of(names.port).map(drop)),
-    ("start_of", |board, _, names| board.start_of(names.port).map(drop)),
-];
+fn unwritten() -> Vec<Row> {
+    let lanes: [Row; 2] = [
+        ("lane", |board, _, names| board.lane(names.mailbox, 1).map(drop)),
+        ("lane to a channel", |board, _, names| board.lane(names.channel, 1).map(drop)),
+    ];
+    lanes.into_iter().chain(readers()).collect()
+}
 
 /// A name belongs to its switchboard, also if another one has an object of the same number and kind.
 #[test]
 fn objects_of_other_boards_are_refused() {
     let other = board_of_each(100);
     let names = Names::of(&other);
-    for (call, make) in WRITTEN.into_iter().chain(UNWRITTEN) {
+    for (call, make) in written().into_iter().chain(unwritten()) {
         for board in [board_of_each(100), Switchboard::of_numbers(100).unwrap()] {
             let mut seat = board.seat().unwrap();
             let entries = board.entries();
@@ -175,7 +104,7 @@ fn objects_are_found_by_number_and_kind() {
 /// After a cut the call is answered, or would wait.
 #[test]
 fn a_full_journal_refuses_each_call_that_it_would_have() {
-    for (call, make) in WRITTEN {
+    for (call, make) in written() {
         let board = board_of_each(OBJECTS);
         let names = Names::of(&board);
         let mut seat = board.seat().unwrap();
@@ -184,7 +113,7 @@ fn a_full_journal_refuses_each_call_that_it_would_have() {
         board.cut().unwrap();
         assert!(matches!(make(&board, &mut seat, &names), Ok(()) | Err(Error::Stalled)), "{call}");
     }
-    for (call, make) in UNWRITTEN {
+    for (call, make) in unwritten() {
         let board = board_of_each(OBJECTS);
         let names = Names::of(&board);
         assert_eq!(make(&board, &mut board.seat().unwrap(), &names), Ok(()), "{call}");

@@ -1,15 +1,14 @@
 //! A library that isn't the one of this crate, though it has the same version: its calls return any code. No call of the crate
 //! panics, and each that fails says by which code.
 
-use seryugo::{Carries, Channel, CheckError, Checker, Error, IVar, MVar, Mailbox, Port, Seat, Switchboard};
+mod common;
+
+use common::calls::{at_once, blocking, readers, timed, Names};
+use seryugo::{Carries, CheckError, Checker, Error, Switchboard};
 use std::env;
 use std::fs;
-use std::future::Future;
 use std::path::{Path, PathBuf};
-use std::pin::pin;
 use std::process::Command;
-use std::task::{Context, Poll, Waker};
-use std::time::{Duration, Instant};
 
 /// The variables of the environment that have what the library returns: from the calls that open or make something, and from others.
 const OPENING: &str = "SERYUGO_TEST_OPENING";
@@ -24,8 +23,9 @@ uint32_t seryugo_kind(void *room, uint64_t object, uint64_t *kind) { (void)room;
 "#;
 
 /// The files that declare what the crate calls.
-const DECLARING: [&str; 5] = [
+const DECLARING: [&str; 6] = [
     include_str!("../src/raw.rs"),
+    include_str!("../src/calls.rs"),
     include_str!("../src/numbers.rs"),
     include_str!("../src/bytes.rs"),
     include_str!("../src/received.rs"),
@@ -140,7 +140,7 @@ fn error_of(code: u32) -> Error {
     }
 }
 
-/// The answer of a call. The first codes are answers of some calls: then it may be one.
+/// The answer of a call. In this library an object's number is that of its kind. The first codes are answers of some calls: then it may be one.
 fn see<T>(call: &str, answer: Result<T, impl Into<Error>>, code: u32) {
     match answer.map_err(Into::into) {
         Ok(_) => assert!(code < 5, "{call} with the code {code}"),
@@ -149,43 +149,14 @@ fn see<T>(call: &str, answer: Result<T, impl Into<Error>>, code: u32) {
     }
 }
 
-type Names = (Mailbox<u64>, Channel<u64>, Port<u64>, IVar<u64>, MVar<u64>);
-
-/// In this library an object's number is that of its kind.
-fn names<R: Carries<u64>>(board: &Switchboard<R>) -> Names {
-    (
-        board.mailbox(0).unwrap(),
-        board.channel(1).unwrap(),
-        board.port(2).unwrap(),
-        board.ivar(3).unwrap(),
-        board.mvar(4).unwrap(),
-    )
-}
-
 fn calls<R: Carries<u64>>(board: &Switchboard<R>, code: u32) {
-    let (mailbox, channel, port, ivar, mvar) = names(board);
+    let names = Names::of(board);
     let mut seat = board.seat().unwrap();
-    see("copy", seat.copy(port), code);
-    see("close", seat.close(port), code);
+    for (call, make) in at_once().into_iter().chain(timed()).chain(readers()) {
+        see(call, make(board, &mut seat, &names), code);
+    }
     see("mvar_init", seat.mvar_init(5), code);
-    see("send", seat.send(mailbox, 5), code);
-    see("multicast", seat.multicast(channel, 5), code);
-    see("put", seat.put(ivar, 5), code);
-    see("recv_poll", seat.recv_poll(mailbox), code);
-    see("get_poll", seat.get_poll(ivar), code);
-    see("take_poll", seat.take_poll(mvar), code);
-    see("recv_timeout", seat.recv_timeout(mailbox, Duration::from_micros(1)), code);
-    see("get_deadline", seat.get_deadline(ivar, Instant::now()), code);
-    see("swap_timeout", seat.swap_timeout(mvar, 5, Duration::ZERO), code);
-    assert_eq!(seat.try_iter(mailbox).next(), None);
-    see("held", board.held(mvar), code);
-    see("is_open", board.is_open(port), code);
-    see("sent", board.sent(channel), code);
-    see("got", board.got(port), code);
-    see("owed", board.owed(mailbox), code);
-    see("kept", board.kept(channel), code);
-    see("channel_of", board.channel_of(port), code);
-    see("start_of", board.start_of(port), code);
+    assert_eq!(seat.try_iter(names.mailbox).next(), None);
     see("reserve", board.reserve(1), code);
     see("cut", board.cut(), code);
     lanes_and_feeds(board, code);
@@ -193,11 +164,11 @@ fn calls<R: Carries<u64>>(board: &Switchboard<R>, code: u32) {
 }
 
 fn lanes_and_feeds<R: Carries<u64>>(board: &Switchboard<R>, code: u32) {
-    let (mailbox, channel, ..) = names(board);
-    let mut feed = board.feed(channel, 1).unwrap();
+    let names = Names::of(board);
+    let mut feed = board.feed(names.channel, 1).unwrap();
     see("feed.pump", feed.pump(), code);
     see("feed.recv", feed.recv(), code);
-    let mut lane = board.lane(mailbox, 1).unwrap();
+    let mut lane = board.lane(names.mailbox, 1).unwrap();
     see("lane.send", lane.send(5), code);
     see("lane.drain", lane.drain(), code);
     let unclosed = lane.close().unwrap_err();
@@ -207,24 +178,13 @@ fn lanes_and_feeds<R: Carries<u64>>(board: &Switchboard<R>, code: u32) {
 
 /// These would wait for ever if each of them parked.
 fn blocking_calls<R: Carries<u64>>(board: &Switchboard<R>, code: u32) {
-    let (mailbox, _, port, ivar, mvar) = names(board);
-    let mut seat: Seat<'_, R> = board.seat().unwrap();
-    see("recv", seat.recv(mailbox), code);
-    see("recv of a port", seat.recv(port), code);
-    see("get", seat.get(ivar), code);
-    see("take", seat.take(mvar), code);
-    see("swap", seat.swap(mvar, 5), code);
-    see("recv_async", polled(seat.recv_async(port)), code);
-    see("swap_async", polled(seat.swap_async(mvar, 5)), code);
-    let mut messages = seat.iter(mailbox);
-    assert_eq!((messages.next(), messages.error()), (None, Some(error_of(code))));
-}
-
-fn polled<T>(future: impl Future<Output = T>) -> T {
-    match pin!(future).poll(&mut Context::from_waker(Waker::noop())) {
-        Poll::Ready(answer) => answer,
-        Poll::Pending => panic!("it is parked"),
+    let names = Names::of(board);
+    let mut seat = board.seat().unwrap();
+    for (call, make) in blocking() {
+        see(call, make(board, &mut seat, &names), code);
     }
+    let mut messages = seat.iter(names.mailbox);
+    assert_eq!((messages.next(), messages.error()), (None, Some(error_of(code))));
 }
 
 fn checks(code: u32) {

@@ -1,6 +1,7 @@
 //! Threads at work on one switchboard, each with its seat or its lane.
+use super::forms::Form;
 use super::scene::Numbers;
-use super::steps::{Form, Step, taken};
+use super::steps::{Step, taken};
 use super::{senders, verdict};
 use cml_board::{Answer, Call, Name, Refusal};
 use cml_lanes::Lane;

@@ -1,6 +1,69 @@
-//! All named forms, from one seat: what each gives is the reply of that seat's entry.
-use super::steps::{Form, Step};
-use cml_board::Name;
+//! The named forms, and all of them from one seat: what each gives is the reply of that seat's entry.
+use super::scene::Numbers;
+use super::steps::Step;
+use cml_board::{Call, Name, Refusal, Reply};
+use cml_threads::Seat;
+use std::sync::Wait;
+use std::sync::ledger::Ledger;
+
+/// A named form of a call.
+#[derive(Clone, Copy)]
+pub enum Form {
+    Mailbox,
+    Send(Name, u64),
+    Recv(Name),
+    RecvPoll(Name),
+    MChannel,
+    Port(Name),
+    Multicast(Name, u64),
+    Copy(Name),
+    Close(Name),
+    IVar,
+    IPut(Name, u64),
+    IGet(Name),
+    IGetPoll(Name),
+    MVar,
+    MVarInit(u64),
+    MPut(Name, u64),
+    MGet(Name),
+    MGetPoll(Name),
+    MSwap(Name, u64),
+    MTake(Name),
+    MTakePoll(Name),
+}
+
+impl Form {
+    pub fn reply<Led: Ledger, R: Wait>(
+        self,
+        rt: &R,
+        board: &Numbers<Led>,
+        seat: &mut Seat<Led>,
+    ) -> Result<Reply<u64>, (Refusal, Call<u64>)> {
+        match self {
+            Form::Mailbox => board.mailbox(rt, seat),
+            Form::Send(name, message) => board.send(rt, seat, name, message),
+            Form::Recv(name) => board.recv(rt, seat, name),
+            Form::RecvPoll(name) => board.recv_poll(rt, seat, name),
+            Form::MChannel => board.m_channel(rt, seat),
+            Form::Port(name) => board.port(rt, seat, name),
+            Form::Multicast(name, message) => board.multicast(rt, seat, name, message),
+            Form::Copy(name) => board.copy(rt, seat, name),
+            Form::Close(name) => board.close(rt, seat, name),
+            Form::IVar => board.i_var(rt, seat),
+            Form::IPut(name, message) => board.i_put(rt, seat, name, message),
+            Form::IGet(name) => board.i_get(rt, seat, name),
+            Form::IGetPoll(name) => board.i_get_poll(rt, seat, name),
+            Form::MVar => board.m_var(rt, seat),
+            Form::MVarInit(message) => board.m_var_init(rt, seat, message),
+            Form::MPut(name, message) => board.m_put(rt, seat, name, message),
+            Form::MGet(name) => board.m_get(rt, seat, name),
+            Form::MGetPoll(name) => board.m_get_poll(rt, seat, name),
+            Form::MSwap(name, message) => board.m_swap(rt, seat, name, message),
+            Form::MTake(name) => board.m_take(rt, seat, name),
+            Form::MTakePoll(name) => board.m_take_poll(rt, seat, name),
+        }
+    }
+}
 
 const MAILBOX: Name = Name(0);
 

@@ -1,6 +1,7 @@
 //! Calls on a switchboard that fail. By a named form and by `call` each returns its refusal and the call, and adds no entry.
 //! Nor does a reservation.
-use super::steps::{Form, Step};
+use super::forms::Form;
+use super::steps::Step;
 use cml_board::Name;
 
 const MAILBOX: Name = Name(0);

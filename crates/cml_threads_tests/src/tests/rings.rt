@@ -1,5 +1,6 @@
 //! What one seat sees of a lane and of a feed, each on the second object of its kind.
-use super::steps::{Form, Step};
+use super::forms::Form;
+use super::steps::Step;
 use cml_board::Name;
 
 const MAILBOX: Name = Name(1);

@@ -1,5 +1,6 @@
 //! When a switchboard is settled, and when everything is handed back.
-use super::steps::{Form, Step};
+use super::forms::Form;
+use super::steps::Step;
 use cml_board::Name;
 
 const MAILBOX: Name = Name(0);

@@ -3,6 +3,8 @@
 // Each test is its own crate, and none needs all of it.
 #![allow(dead_code)]
 
+pub mod calls;
+
 use seryugo::{Numbers, Switchboard};
 use std::future::Future;
 use std::pin::pin;
