@@ -405,7 +405,7 @@ impl<'a, R: Room> Seat<'a, R> {
     #[cold]
     pub(crate) fn withdraw(&mut self) {
         self.is_parked = false;
-        self.board.change_by(self.sleeper, |room| unsafe { raw::seryugo_withdraw(room, self.number) });
+        self.board.withdraw_by(self.sleeper, self.number);
         self.sleeper.forget_waker();
     }
 }

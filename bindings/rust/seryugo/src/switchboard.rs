@@ -60,6 +60,8 @@ struct Inside {
     first_seat: u64,
     /// How many seats were made here.
     seats: u64,
+    /// How many seats are parked.
+    parked: u64,
     /// How many messages of each open lane have moved, by the lane's number.
     moved: BTreeMap<u64, u64>,
     /// How many messages were lost with their lanes.
@@ -70,9 +72,27 @@ impl Inside {
     /// The place of the next seat that is due among those that were made here. Each seat that is due is given once.
     #[inline]
     fn next_due(&mut self) -> Option<u64> {
+        // Only a parked seat is ever due.
+        if self.parked == 0 {
+            return None;
+        }
         let mut seat = 0;
         let code = unsafe { raw::seryugo_next_due(&mut self.handle, &mut seat) };
         (code == code::DONE).then(|| seat.wrapping_sub(self.first_seat))
+    }
+
+    /// Makes a call that may park its seat, or that of a parked seat again.
+    #[inline]
+    fn ask(&mut self, is_again: bool, call: impl FnOnce(&mut Handle) -> u32) -> u32 {
+        let code = call(&mut self.handle);
+        self.parked = (self.parked + u64::from(code == code::PARKED)).saturating_sub(u64::from(is_again));
+        code
+    }
+
+    /// Withdraws the call of a seat, if it is parked.
+    fn withdraw(&mut self, seat: u64) {
+        let code = unsafe { raw::seryugo_withdraw(&mut self.handle, seat) };
+        self.parked = self.parked.saturating_sub(u64::from(code == code::DONE));
     }
 
     /// Moves what is seen of an open lane into the journal, up to the first message that is refused.
@@ -154,6 +174,7 @@ impl<R: Room> Switchboard<R> {
             handle,
             first_seat: 0,
             seats: 0,
+            parked: 0,
             moved: BTreeMap::new(),
             lost: 0,
         };
@@ -431,7 +452,40 @@ impl<R: Room> Switchboard<R> {
     /// The same for a seat, which waits next, maybe for what the woken one does.
     #[inline]
     pub(crate) fn change_by<T>(&self, sleeper: &Sleeper, call: impl FnOnce(&mut Handle) -> T) -> T {
-        let (answer, due) = self.make(|inside| call(&mut inside.handle));
+        self.change_inside_by(sleeper, |inside| call(&mut inside.handle))
+    }
+
+    /// The same for a call that may park the seat, or that of a parked seat again.
+    #[inline]
+    pub(crate) fn ask_by(&self, sleeper: &Sleeper, is_again: bool, call: impl FnOnce(&mut Handle) -> u32) -> u32 {
+        self.change_inside_by(sleeper, |inside| inside.ask(is_again, call))
+    }
+
+    /// The same at the end of a wait: a call that parks its seat is withdrawn, before others have the lock.
+    pub(crate) fn ask_at_last_by(
+        &self,
+        sleeper: &Sleeper,
+        seat: u64,
+        is_again: bool,
+        call: impl FnOnce(&mut Handle) -> u32,
+    ) -> u32 {
+        self.change_inside_by(sleeper, |inside| {
+            let code = inside.ask(is_again, call);
+            if code == code::PARKED {
+                inside.withdraw(seat);
+            }
+            code
+        })
+    }
+
+    /// Withdraws the call of a seat, if it is parked.
+    pub(crate) fn withdraw_by(&self, sleeper: &Sleeper, seat: u64) {
+        self.change_inside_by(sleeper, |inside| inside.withdraw(seat));
+    }
+
+    #[inline]
+    fn change_inside_by<T>(&self, sleeper: &Sleeper, call: impl FnOnce(&mut Inside) -> T) -> T {
+        let (answer, due) = self.make(call);
         if let Some(due) = due {
             self.wake(due, Some(sleeper));
         }

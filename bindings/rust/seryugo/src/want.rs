@@ -87,10 +87,10 @@ impl<'a, R: Room> Seat<'a, R> {
     pub(crate) fn wait(&mut self, want: Want<'_, R>) -> Answer<R> {
         let seat = self.ready();
         let mut slot = R::slot();
-        let mut code = self.board.change_by(self.sleeper, |room| want.ask(room, seat, false, &mut slot));
+        let mut code = self.board.ask_by(self.sleeper, false, |room| want.ask(room, seat, false, &mut slot));
         while code == code::PARKED {
             self.sleeper.wait();
-            code = self.board.change_by(self.sleeper, |room| want.ask(room, seat, true, &mut slot));
+            code = self.board.ask_by(self.sleeper, true, |room| want.ask(room, seat, true, &mut slot));
         }
         answer::<R>(code, &mut slot)
     }
@@ -111,13 +111,12 @@ impl<'a, R: Room> Seat<'a, R> {
         let mut is_again = false;
         let mut is_last = deadline <= Instant::now();
         loop {
-            let code = self.board.change_by(self.sleeper, |room| {
-                let code = want.ask(room, seat, is_again, &mut slot);
-                if is_last && code == code::PARKED {
-                    unsafe { raw::seryugo_withdraw(room, seat) };
-                }
-                code
-            });
+            let ask = |room: &mut Handle| want.ask(room, seat, is_again, &mut slot);
+            let code = if is_last {
+                self.board.ask_at_last_by(self.sleeper, seat, is_again, ask)
+            } else {
+                self.board.ask_by(self.sleeper, is_again, ask)
+            };
             if code != code::PARKED {
                 return answer::<R>(code, &mut slot);
             }
@@ -147,7 +146,7 @@ impl<R: Room> Waiting<'_, '_, '_, R> {
     fn ask(&mut self, is_again: bool) -> Option<Answer<R>> {
         let (seat, want) = (self.seat.number(), self.want);
         let mut slot = R::slot();
-        let code = self.seat.board.change_by(self.seat.sleeper, |room| want.ask(room, seat, is_again, &mut slot));
+        let code = self.seat.board.ask_by(self.seat.sleeper, is_again, |room| want.ask(room, seat, is_again, &mut slot));
         self.seat.is_parked = code == code::PARKED;
         (!self.seat.is_parked).then(|| answer::<R>(code, &mut slot))
     }
