@@ -2,31 +2,13 @@
 # The libraries for C, from C and from Rust: `sh tests/bindings.sh ROOMS REPLAY`, with the archives of cml_c and cml_script_c.
 # The programs of bindings/c are built with them: one that replays a script is to write the report beside each example, and five
 # try rooms, two of them with threads. They run under valgrind and the sanitizers too. Then the tests of the crate of bindings/rust
-# run, four files of them under valgrind, and its documented examples. What isn't there is named as left out, and counts for nothing. The
-# last line is `N passed, M failed`.
-rooms=$(cd "$(dirname "$1")" && pwd)/$(basename "$1")
-replay=$(cd "$(dirname "$2")" && pwd)/$(basename "$2")
+# run, four files of them under valgrind, and its documented examples. What isn't there is named as left out, and counts for nothing.
+# The last line is `N passed, M failed`.
+. "$(dirname "$0")/cases.sh"
+rooms=$(absolute "$1")
+replay=$(absolute "$2")
 cd "$(dirname "$0")/.." || exit 1
-work=$(mktemp -d) || exit 1
-trap 'rm -rf "$work"' EXIT
 kit=$(dirname "$(rt doc)")/c
-passed=0
-failed=0
-
-# check CASE COMMAND..: the command ends well.
-check() {
-    name=$1
-    shift
-    if "$@" > "$work/told" 2>&1; then
-        passed=$((passed + 1))
-    else
-        failed=$((failed + 1))
-        echo "failed: $name"
-        tail -n 20 "$work/told"
-    fi
-}
-
-has() { command -v "$1" > /dev/null || { echo "left out: $2: there is no $1" && return 1; }; }
 
 # compile PROGRAM ARCHIVE
 compile() {
@@ -184,5 +166,4 @@ if has cc 'the programs in C'; then
 fi
 if has cargo 'the crate in Rust'; then from_rust; fi
 
-echo "$passed passed, $failed failed"
-[ $failed -eq 0 ] && [ $passed -gt 0 ]
+count

@@ -6,28 +6,22 @@
 # and counts for nothing. The last line is `N passed, M failed`.
 LC_ALL=C
 export LC_ALL
-given=$(cd "$(dirname "$1")" && pwd)/$(basename "$1")
+. "$(dirname "$0")/cases.sh"
+given=$(absolute "$1")
 cd "$(dirname "$0")/.." || exit 1
 top=$PWD
-. tests/cases.sh
 unset MAKEFLAGS MAKELEVEL
 graph=$top/examples/build_system/graph.awk
 prefix=${SERYUGO_PREFIX:-}
 
-# check CASE COMMAND..: the command ends well. It runs in a new shell, so that it may change the folder.
-check() {
-    name=$1
-    shift
-    if ("$@") > "$work/told" 2>&1; then pass; else fail "$name" && tail -n 20 "$work/told"; fi
-}
-
-has() { command -v "$1" > /dev/null || { echo "left out: $2: there is no $1" && return 1; }; }
+# apart COMMAND..: runs the command in a new shell, so that it may change the folder.
+apart() { ("$@"); }
 
 # ---- the program ----
 
 # Builds the program from a copy, so that nothing is left beside its sources.
 builds() {
-    SERYUGO_ARCHIVE=$given SERYUGO_SCRIPT_ARCHIVE=/nowhere sh bindings/install.sh "$work/installed" || return
+    install_rooms "$given" "$work/installed" || return
     mkdir -p "$work/copy/bindings" "$work/copy/examples" || return
     cp -r bindings/rust "$work/copy/bindings/rust" && cp -r examples/build_system "$work/copy/examples/build_system" || return
     with_cargo build && with_cargo test && cp "$work/target/release/cml_make" "$work/cml_make"
@@ -40,10 +34,7 @@ with_cargo() {
 
 case $given in
     *.a)
-        if ! has cargo 'the build system'; then
-            echo '0 passed, 0 failed'
-            exit 0
-        fi
+        command -v cargo > /dev/null || leave_out 'the build system' cargo
         check 'the program is built, and its tests pass' builds
         program=$work/cml_make
         prefix=$work/installed
@@ -52,8 +43,9 @@ case $given in
 esac
 if [ ! -x "$program" ]; then
     echo "there is no program $program"
-    echo "$passed passed, $((failed + 1)) failed"
-    exit 1
+    failed=$((failed + 1))
+    count
+    exit
 fi
 
 # ---- small makefiles ----
@@ -328,11 +320,11 @@ any_graph() {
 }
 
 beside_make() {
-    check '2,000 goals' large_graph 1
+    check '2,000 goals' apart large_graph 1
     seed=0
     while [ $seed -lt 24 ]; do
         seed=$((seed + 1))
-        check "60 goals of any kind, with seed $seed" any_graph $seed
+        check "60 goals of any kind, with seed $seed" apart any_graph $seed
     done
 }
 
@@ -350,13 +342,13 @@ programs_run() {
 }
 
 c_programs() {
-    check 'the programs of bindings/c' c_part ours.c "$program" -j4
+    check 'the programs of bindings/c' apart c_part ours.c "$program" -j4
     check 'two of them run' programs_run
     check 'no program is made again' [ "$(c_part ours.c "$program" -j4)" = "cml_make: Nothing to be done for 'all'." ]
     touch -d 2001-01-01 "$work/ours.c/calls.o"
     check 'one program is made again' [ "$(c_part ours.c "$program" -j4 | wc -l)" -eq 2 ]
     if has make 'the programs of bindings/c by make'; then
-        check 'the programs of bindings/c by make' c_part theirs.c make -rRk -j4
+        check 'the programs of bindings/c by make' apart c_part theirs.c make -rRk -j4
         check 'the same programs' diff -r "$work/ours.c" "$work/theirs.c"
     fi
 }
@@ -397,7 +389,7 @@ runs_so_many
 if has cc "the page's example"; then page_example; fi
 if has make 'made-up graphs'; then
     beside_make
-    check 'the time of 2,000 goals' in_time
+    check 'the time of 2,000 goals' apart in_time
     cat "$work/times"
 fi
 if [ -z "$prefix" ]; then
@@ -406,6 +398,4 @@ elif has cc 'the programs of bindings/c'; then
     c_programs
 fi
 cd "$top" || exit 1
-
-echo "$passed passed, $failed failed"
-[ "$failed" -eq 0 ] && [ "$passed" -gt 0 ]
+count

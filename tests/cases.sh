@@ -1,5 +1,5 @@
-# What the tests of a built program share, for tests/program.sh and tests/chart.sh, which read it at the top of the repository
-# once `program` names the program.
+# What the tests share that try a built program or a library. It counts cases, and makes the folder `work`, which goes at the end.
+# `run` and `expect` try the program that `program` names.
 work=$(mktemp -d) || exit 1
 trap 'rm -rf "$work"' EXIT
 passed=0
@@ -11,6 +11,43 @@ fail() {
     failed=$((failed + 1))
     echo "failed: $*"
 }
+
+# count: the last line. It ends well if there was a case, and none failed.
+count() {
+    echo "$passed passed, $failed failed"
+    [ "$failed" -eq 0 ] && [ "$passed" -gt 0 ]
+}
+
+# leave_out WHAT NEEDED: ends the test, which tries nothing for want of a program or a library.
+leave_out() {
+    echo "left out: $1: there is no $2"
+    echo '0 passed, 0 failed'
+    exit 0
+}
+
+# has PROGRAM WHAT: whether the program is there. Without it the part WHAT of the test is left out.
+has() { command -v "$1" > /dev/null || { echo "left out: $2: there is no $1" && return 1; }; }
+
+# absolute FILE: its path from the root, for a test that then goes to the top of the repository.
+absolute() { echo "$(cd "$(dirname "$1")" && pwd)/$(basename "$1")"; }
+
+# any MOST: a random number below this.
+any() { od -An -N2 -tu2 /dev/urandom | awk -v most="$1" '{ print $1 % most }'; }
+
+# check CASE COMMAND..: the command ends well. Otherwise the end of what it says is shown.
+check() {
+    checked=$1
+    shift
+    if "$@" > "$work/told" 2>&1; then
+        pass
+    else
+        fail "$checked"
+        tail -n 20 "$work/told"
+    fi
+}
+
+# install_rooms ARCHIVE PREFIX: installs the library of rooms, and not that of scripts.
+install_rooms() { SERYUGO_ARCHIVE=$1 SERYUGO_SCRIPT_ARCHIVE=/nowhere sh bindings/install.sh "$2"; }
 
 # Runs the program on standard input, and keeps its output, its errors, and its status. A program that does not end is
 # stopped after a minute, with status 124.

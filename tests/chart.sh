@@ -6,9 +6,9 @@
 # The last line is `N passed, M failed`.
 LC_ALL=C
 export LC_ALL
-program=$(cd "$(dirname "$1")" && pwd)/$(basename "$1")
+. "$(dirname "$0")/cases.sh"
+program=$(absolute "$1")
 cd "$(dirname "$0")/.." || exit 1
-. tests/cases.sh
 
 # well_formed CASE: the last run's output is XML, and its texts, one a line, are in $work/texts; without python3 nothing is tried.
 well_formed() {
@@ -258,5 +258,4 @@ words
 sizes
 texts
 streams
-echo "$passed passed, $failed failed"
-[ "$failed" -eq 0 ]
+count

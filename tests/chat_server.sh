@@ -5,24 +5,18 @@
 # left: each client gets each message of its room once, in one order with all others. The last line is `N passed, M failed`.
 LC_ALL=C
 export LC_ALL
-given=$(cd "$(dirname "$1")" && pwd)/$(basename "$1")
+. "$(dirname "$0")/cases.sh"
+given=$(absolute "$1")
 shift
-check=
+checker=
 if [ $# -gt 0 ]; then
-    check=$(cd "$(dirname "$1")" && pwd)/$(basename "$1")
+    checker=$(absolute "$1")
     shift
 fi
 cd "$(dirname "$0")/.." || exit 1
 case $given in
-    *.a)
-        if ! command -v cargo > /dev/null; then
-            echo 'left out: the chat server: there is no cargo'
-            echo '0 passed, 0 failed'
-            exit 0
-        fi
-        ;;
+    *.a) command -v cargo > /dev/null || leave_out 'the chat server' cargo ;;
 esac
-. tests/cases.sh
 started=
 running=
 input=/dev/null
@@ -101,9 +95,6 @@ killed() {
     if [ ! -s "$work/errors" ]; then pass; else fail "a server said: $(cat "$work/errors")"; fi
 }
 
-# any MOST: a random number below this.
-any() { od -An -N2 -tu2 /dev/urandom | awk -v most="$1" '{ print $1 % most }'; }
-
 # loads WORD..: runs clients, and counts the cases that they try.
 loads() {
     timeout 300 "$load" "$1" "$address" > "$work/told" 2>&1
@@ -124,8 +115,8 @@ everyone() {
 
 # lawful CASE: the journal is lawful, and as long as its last line says.
 lawful() {
-    if [ -z "$check" ]; then return; fi
-    program=$check
+    if [ -z "$checker" ]; then return; fi
+    program=$checker
     set -- "$1" "$(sed -n '$s/^end //p' "$journal")"
     # shellcheck disable=SC2086
     run $words < "$journal"
@@ -329,8 +320,8 @@ case $given in
         if ! build; then
             tail -n 20 "$work/told"
             fail 'the program is built'
-            echo "$passed passed, $failed failed"
-            exit 1
+            count
+            exit
         fi
         ;;
     *)
@@ -338,10 +329,9 @@ case $given in
         load=$(dirname "$given")/chat_load
         ;;
 esac
-[ -n "$check" ] || echo 'left out: whether the journals are lawful: no command that checks one is named'
+[ -n "$checker" ] || echo 'left out: whether the journals are lawful: no command that checks one is named'
 for step in refusals restarts mends cases ends_well fast crashes full no_space flat; do
     address=
     $step
 done
-echo "$passed passed, $failed failed"
-[ "$failed" -eq 0 ]
+count

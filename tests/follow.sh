@@ -7,23 +7,15 @@
 # is `N passed, M failed`.
 LC_ALL=C
 export LC_ALL
-library=$(cd "$(dirname "$1")" && pwd)/$(basename "$1")
-check=$(cd "$(dirname "$2")" && pwd)/$(basename "$2")
+. "$(dirname "$0")/cases.sh"
+library=$(absolute "$1")
+checker=$(absolute "$2")
 shift 2
 cd "$(dirname "$0")/.." || exit 1
-
-# leave_out WHAT: says why nothing is tested.
-leave_out() {
-    echo "left out: the program that follows: there is no $1"
-    echo '0 passed, 0 failed'
-    exit 0
-}
-
 for needed in redis-server redis-cli make cc pkg-config; do
-    command -v $needed > /dev/null || leave_out $needed
+    command -v $needed > /dev/null || leave_out 'the program that follows' $needed
 done
-pkg-config --exists hiredis || leave_out hiredis
-. tests/cases.sh
+pkg-config --exists hiredis || leave_out 'the program that follows' hiredis
 pids=
 trap 'kill -9 $pids 2> /dev/null; rm -rf "$work"' EXIT
 trap 'exit 1' HUP INT TERM
@@ -50,15 +42,12 @@ await() {
     pass
 }
 
-# any MOST: a random number below this.
-any() { od -An -N2 -tu2 /dev/urandom | awk -v most="$1" '{ print $1 % most }'; }
-
 # installed: the folder of the library, which is installed first if an archive is named.
 installed() {
     if [ -d "$library" ]; then
         echo "$library"
     else
-        SERYUGO_ARCHIVE=$library SERYUGO_SCRIPT_ARCHIVE=/nowhere sh bindings/install.sh "$work/installed" >&2 && echo "$work/installed"
+        install_rooms "$library" "$work/installed" >&2 && echo "$work/installed"
     fi
 }
 
@@ -387,7 +376,7 @@ fronts_are_there() {
 check_journal() {
     "$program" dump "$port" letters > "$work/journal"
     entries=$(grep -c : "$work/journal")
-    lawful=$("$check" "$@" < "$work/journal" 2>&1)
+    lawful=$("$checker" "$@" < "$work/journal" 2>&1)
     if [ "$lawful" = "lawful $entries" ]; then pass; else fail "the journal: $lawful"; fi
 }
 
@@ -533,8 +522,8 @@ export PKG_CONFIG_PATH
 if ! build "$work/built"; then
     cat "$work/told"
     fail 'the program is built'
-    echo "$passed passed, $failed failed"
-    exit 1
+    count
+    exit
 fi
 program=$work/built/follow
 stopped=
@@ -568,5 +557,4 @@ try_streams
 try_watched
 try_demo
 lose_all
-echo "$passed passed, $failed failed"
-[ "$failed" -eq 0 ]
+count

@@ -4,33 +4,15 @@
 # one. The crate in Rust finds the library, and so do the crates beside it, for serde and for tokio. The package for Python is
 # tested, and installed by pip. Then bindings/try.sh installs the library without a proof. What isn't there is named and counts
 # for nothing. The last line is `N passed, M failed`.
-rooms=$(cd "$(dirname "$1")" && pwd)/$(basename "$1")
-replay=${2:+$(cd "$(dirname "$2")" && pwd)/$(basename "$2")}
+. "$(dirname "$0")/cases.sh"
+rooms=$(absolute "$1")
+replay=${2:+$(absolute "$2")}
 cd "$(dirname "$0")/.." || exit 1
-work=$(mktemp -d) || exit 1
-trap 'rm -rf "$work"' EXIT
 prefix=$work/installed
 # Where the distribution has the sources of other crates.
 sources=/usr/share/cargo/registry
 version=$(sed -n 's/^#define SERYUGO_VERSION "\(.*\)"/\1/p' include/seryugo.h)
 unset SERYUGO_PREFIX SERYUGO_ARCHIVES LD_LIBRARY_PATH PKG_CONFIG_PATH
-passed=0
-failed=0
-
-# check CASE COMMAND..: the command ends well.
-check() {
-    name=$1
-    shift
-    if "$@" > "$work/told" 2>&1; then
-        passed=$((passed + 1))
-    else
-        failed=$((failed + 1))
-        echo "failed: $name"
-        tail -n 20 "$work/told"
-    fi
-}
-
-has() { command -v "$1" > /dev/null || { echo "left out: $2: there is no $1" && return 1; }; }
 
 # has_sources WHAT CRATE: the distribution has the sources of a crate, of any version if its name ends in `*`.
 has_sources() {
@@ -306,5 +288,4 @@ if has cc 'all programs'; then
     fi
 fi
 
-echo "$passed passed, $failed failed"
-[ $failed -eq 0 ] && [ $passed -gt 0 ]
+count

@@ -5,16 +5,12 @@
 # once, in order; and what was acknowledged is there, byte for byte, from each run on. The last line is `N passed, M failed`.
 LC_ALL=C
 export LC_ALL
-rooms=$(cd "$(dirname "$1")" && pwd)/$(basename "$1")
-check=$(cd "$(dirname "$2")" && pwd)/$(basename "$2")
+. "$(dirname "$0")/cases.sh"
+rooms=$(absolute "$1")
+checker=$(absolute "$2")
 shift 2
 cd "$(dirname "$0")/.." || exit 1
-if ! command -v cargo > /dev/null; then
-    echo 'skipped: there is no cargo'
-    echo '0 passed, 0 failed'
-    exit 0
-fi
-. tests/cases.sh
+command -v cargo > /dev/null || leave_out 'the program that keeps its journal' cargo
 kit=$(dirname "$(rt doc)")/c
 folder=$work/kept
 journal=$folder/journal
@@ -46,9 +42,6 @@ front() {
     bytes=$(acknowledged bytes)
     echo "$bytes $(head -c "$bytes" "$journal" | cksum)"
 }
-
-# any MOST: a random number below this.
-any() { od -An -N2 -tu2 /dev/urandom | awk -v most="$1" '{ print $1 % most }'; }
 
 # await COMMAND: waits until the command ends well, or the run that was started has ended; at most half a minute.
 await() {
@@ -117,11 +110,10 @@ each_once() {
     if [ ! -s "$work/out" ]; then pass; else fail "each message once: $(cat "$work/out")"; fi
 }
 
-if ! build > "$work/told" 2>&1; then
-    tail -n 20 "$work/told"
-    fail 'the program is built'
-    echo "$passed passed, $failed failed"
-    exit 1
+check 'the program is built' build
+if [ "$failed" -gt 0 ]; then
+    count
+    exit
 fi
 torn=0
 for _ in 1 2 3 4 5; do
@@ -137,8 +129,7 @@ fronts_are_there
 each_once
 entries=$(grep -c : "$journal")
 if [ "$(acknowledged entries)" -eq "$entries" ] && [ "$entries" -gt 1000 ]; then pass; else fail "$entries entries"; fi
-program=$check
+program=$checker
 run "$@" < "$journal"
 expect 'the journal is checked' 0 "lawful $entries" none
-echo "$passed passed, $failed failed"
-[ "$failed" -eq 0 ]
+count

@@ -5,9 +5,9 @@
 # (tests/runs.sh). Its last line is `N passed, M failed`.
 LC_ALL=C
 export LC_ALL
-program=$(cd "$(dirname "$1")" && pwd)/$(basename "$1")
+. "$(dirname "$0")/cases.sh"
+program=$(absolute "$1")
 cd "$(dirname "$0")/.." || exit 1
-. tests/cases.sh
 . tests/tables.sh
 . tests/runs.sh
 
@@ -310,5 +310,4 @@ awk -v scripts=4000 -f tests/calls.awk -f tests/some_scripts.awk > "$work/texts"
 agree 'scripts of all lines'
 runs
 
-echo "$passed passed, $failed failed"
-[ "$failed" -eq 0 ]
+count
