@@ -2,9 +2,9 @@
 # A second machine that follows by Redis: `sh tests/follow.sh LIBRARY CHECK WORD..`. LIBRARY is the archive of cml_c, or the folder
 # that bindings/install.sh installed into, and CHECK the command that checks a journal. The program is examples/follow, in C. Six
 # clients put and get while the leader is killed ten times, a follower twice and Redis once, and an old leader is stopped, replaced
-# and continued. What was answered is kept: each put is received once, in order, and the journal in Redis is lawful. Wrong streams,
-# and a Redis that has lost its file, are refused by name. Without Redis, hiredis or a compiler the test is left out. The last line
-# is `N passed, M failed`.
+# and continued. What was answered is kept: each put is received once, in order, and the journal in Redis is lawful. So is a piece
+# that an old leader adds before the next one's first entry. Wrong streams, and a Redis that has lost its file, are refused by name.
+# Without Redis, hiredis or a compiler the test is left out. The last line is `N passed, M failed`.
 LC_ALL=C
 export LC_ALL
 . "$(dirname "$0")/cases.sh"
@@ -92,11 +92,11 @@ port_of() { echo $((port + $1)); }
 pid_of() { eval "echo \$pid_$1"; }
 says() { grep -q "^$2" "$work/said.$1"; }
 
-# start PLACE: a new server there.
+# start PLACE [STREAM LEASE]: a new server there.
 start() {
     # The new process opens its files only once it runs.
     : > "$work/said.$1"
-    "$program" serve --lease 1500 "$port" letters "$(port_of "$1")" > "$work/said.$1" 2> "$work/errors.$1" &
+    "$program" serve --lease "${3:-1500}" "$port" "${2:-letters}" "$(port_of "$1")" > "$work/said.$1" 2> "$work/errors.$1" &
     eval "pid_$1=$!"
     started $!
 }
@@ -325,6 +325,48 @@ try_hold() {
     fi
 }
 
+# is_held COMMAND: Redis holds back this command of a client.
+is_held() { ask_redis CLIENT LIST | grep -q " flags=[a-zA-Z]*b.* cmd=$1 "; }
+
+# stop PLACE: ends a server by SIGTERM.
+stop() {
+    kill "$(pid_of "$1")"
+    ends "$1"
+    if [ $status -eq 0 ]; then pass; else fail "server $1 that is stopped: status $status, $(cat "$work/errors.$1")"; fi
+}
+
+# An old leader adds a piece between a follower's last read and its first entry. The lease is removed, and from then on Redis holds
+# back all commands that write: the leader's piece, and the follower's request for the lease, which it makes once a read found
+# nothing. Redis then performs both before the follower can add its first entry. So the piece comes after that read and before that
+# entry. The new leader has to have it. The leader has just renewed its lease, so it renews no more for ten seconds.
+try_window() {
+    start 1 window 40000
+    await 'a leader of its own stream' says 1 'leads by epoch 1 behind 0 entries'
+    start 2 window 40000
+    await 'a follower of it' says 2 'follows behind 0 entries'
+    "$program" ask "$(port_of 1)" '9 1 put late a' > "$work/early" 2> "$work/err"
+    printf '%s\n' MULTI 'DEL window:lease' 'CLIENT PAUSE 60000 WRITE' EXEC | ask_redis > "$work/told"
+    "$program" ask "$(port_of 1)" '9 2 put late b' > "$work/late" 2>> "$work/err" &
+    asking=$!
+    started $asking
+    await 'the piece of the old leader is held back' is_held xadd
+    await 'the asking for the lease is held back' is_held set
+    ask_redis CLIENT UNPAUSE > /dev/null
+    wait $asking
+    ended $asking
+    await 'the follower leads' says 2 'leads by epoch 2 behind [1-9]'
+    pieces=$(ask_redis XRANGE window - + | grep -x '[0-9]*-[0-9]*' | tr '\n' ' ')
+    "$program" ask "$(port_of 2)" '9 last' '9 2 put late b' '9 3 get late' '9 4 get late' '9 5 get late' > "$work/out" 2>> "$work/err"
+    if [ "$(cat "$work/early" "$work/late")" = "$(script '9 1 done / 9 2 done')" ] && [ "$pieces" = '1-1 1-2 1-3 2-1 ' ] &&
+        [ "$(cat "$work/out")" = "$(script '9 last 2 / 9 2 done / 9 3 message a / 9 4 message b / 9 5 nothing')" ]; then
+        pass
+    else
+        fail "a piece before the next leader's first entry: $pieces$(cat "$work/early" "$work/late" "$work/out" "$work/err")"
+    fi
+    stop 2
+    stop 1
+}
+
 # ---- what is left in the end ----
 
 # What is left in the queues is received too.
@@ -531,6 +573,7 @@ unasked=0
 free_port
 try_words
 start_redis
+try_window
 for place in 1 2 3; do start $place; done
 await 'a server leads' leads_now
 start_clients
