@@ -31,10 +31,10 @@ steps() {
 step() {
     case $1 in
         cml)
-            build cml crates/cml/src/main.rt || return
+            build_once cml || return
             sh tests/program.sh "$program" && sh tests/journals.sh "$program" few
             ;;
-        cml_chart) build cml_chart crates/cml_chart/src/main.rt && sh tests/chart.sh "$program" ;;
+        cml_chart) build_once cml_chart && sh tests/chart.sh "$program" ;;
         cml_rows)
             build cml_rows crates/cml_rows/src/main.rt || return
             prints cml_rows
@@ -62,17 +62,26 @@ prints() {
     fi
 }
 
-# A few runs of the simulator, whose journal `cml` checks and whose report `cml_chart` draws. Other steps build these two as well, so
-# here they lie in another folder.
-simulates() (
-    work=$work/simulates
-    mkdir "$work" && build cml crates/cml/src/main.rt || exit
+# build_once NAME: builds a program for all steps that use it. If another step has begun to build it, this one waits for that.
+build_once() {
+    if mkdir "$work/$1.begun" 2> /dev/null; then
+        build "$1" "crates/$1/src/main.rt"
+        echo > "$work/$1.ended"
+    fi
+    until [ -e "$work/$1.ended" ] || [ ! -d "$work" ]; do sleep 0.2; done
+    program=$work/$1.built/program
+    [ -x "$program" ]
+}
+
+# A few runs of the simulator, whose journal `cml` checks and whose report `cml_chart` draws.
+simulates() {
+    build_once cml || return
     cml=$program
-    build cml_chart crates/cml_chart/src/main.rt || exit
+    build_once cml_chart || return
     chart=$program
-    build cml_queueing crates/cml_queueing/src/main.rt || exit
+    build cml_queueing crates/cml_queueing/src/main.rt || return
     sh tests/queueing.sh "$program" "$cml" "$chart" few
-)
+}
 
 # passes NAME: the crate's test functions. Here each access to memory is watched too.
 passes() {
