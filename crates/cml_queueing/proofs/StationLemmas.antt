@@ -1,6 +1,6 @@
 -- A station's customers are numbered in order, whatever is called, and so those that were served are the first.
-use Rattle.std.proofs.Common.{ℕ, zero, suc, ◌≡◌, ◌+◌, ◌<◌, ◌≤◌, ◌^◌, ◌⊎◌, inl, inr, Bool, true, false, List, [], ◌∷◌, ◌++◌, length, take, reverse, Option, Some, None, refl, sym, ◌∙◌, ap, subst, arith, rules, OnOk, Ok, length-append, add-one}
-use Rattle.std.specs.Prelude.{slice_get, unwrap_or, min}
+use Rattle.std.proofs.Common.{ℕ, zero, suc, ◌≡◌, ◌+◌, ◌<◌, ◌≤◌, ◌^◌, inl, inr, Bool, false, List, [], ◌∷◌, ◌++◌, length, take, reverse, Option, Some, None, refl, sym, ◌∙◌, ap, subst, arith, length-append}
+use Rattle.std.specs.Prelude.{slice_get, unwrap_or}
 use Rattle.std.specs.Option.{option_map, option_map_or}
 use Rattle.std.proofs.lemmas.Option.{same_Some, none-some}
 use Rattle.std.proofs.lemmas.Bool.{cases_eq}
@@ -14,7 +14,7 @@ use Rattle.cml_calls.specs.declared.kind.Kind.{Kind}
 use Rattle.cml_calls.specs.declared.kind.Kind.TheVariants.{Mailbox}
 use Rattle.cml_board.specs.declared.call.Name.{Name}
 use Rattle.cml_board.specs.declared.call.Call.{Call}
-use Rattle.cml_board.specs.declared.call.Call.TheVariants.{NewMailbox, Send}
+use Rattle.cml_board.specs.declared.call.Call.TheVariants.{NewMailbox}
 use Rattle.cml_board.specs.declared.entry.Who.{Who}
 use Rattle.cml_board.specs.declared.entry.Entry.{Entry}
 use Rattle.cml_board.specs.declared.entry.Reply.{Reply}
@@ -22,7 +22,7 @@ use Rattle.cml_board.specs.declared.entry.Reply.TheVariants.{Made}
 use Rattle.cml_board.specs.declared.outcome.Outcome.{Outcome}
 use Rattle.cml_board.specs.declared.outcome.Outcome.TheVariants.{Answered, WouldWait, Refused}
 use Rattle.cml_board.specs.Origins.{Origin, kind_by}
-use Rattle.cml_board.specs.History.{made, kind_of, origin_of, sent, sent_by, got, if_made, begun_by, no_entries, entries_in}
+use Rattle.cml_board.specs.History.{made, kind_of, sent, sent_by, got, if_made, begun_by, no_entries, entries_in}
 use Rattle.cml_board.specs.Counts.{sent_count, got_count, only_if}
 use Rattle.cml_board.specs.Answered.{Answered as Shown_answer}
 use Rattle.cml_board.proofs.ListLemmas.{slice_get-append_some}

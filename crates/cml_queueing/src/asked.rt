@@ -26,6 +26,13 @@ Exit status:
 const LOAD_HELP: &str =
     "Arrivals in the time in which all servers together serve one customer: a decimal below 1";
 
+const SERVICE_HELP: &str = "Customers that one server serves in it";
+
+const JOURNAL_HELP: &str = "Writes the board's journal in place of the figures";
+
+const REPORT_HELP: &str =
+    "Writes a report of the first 100 events in place of the figures, for cml_chart";
+
 /// What is written.
 #[derive(Clone, Copy)]
 pub(crate) enum Form {
@@ -75,79 +82,84 @@ fn form_in(matches: &ArgMatches<'_>) -> Form {
 }
 
 fn command<'a>(alloc: Global) -> Result<Command<'a>, AllocError> {
-    let command = Command::new(alloc, "cml_queueing")
+    add_forms(alloc, add_rates(alloc, add_counts(alloc, texts(alloc))?)?)
+}
+
+/// Returns a command without options.
+fn texts<'a>(alloc: Global) -> Command<'a> {
+    Command::new(alloc, "cml_queueing")
         .about(ABOUT)
         .long_about(LONG_ABOUT)
-        .after_help(AFTER_HELP);
-    add_forms(alloc, add_rates(alloc, add_counts(alloc, command)?)?)
+        .after_help(AFTER_HELP)
 }
 
 /// Adds the options whose values are whole numbers.
 fn add_counts<'a>(alloc: Global, command: Command<'a>) -> Result<Command<'a>, AllocError> {
-    let servers = Arg::new(alloc, "servers")
-        .long("servers")
-        .value_name("C")
+    command
+        .arg(servers(alloc))?
+        .arg(customers(alloc))?
+        .arg(seed(alloc))
+}
+
+fn servers<'a>(alloc: Global) -> Arg<'a> {
+    valued(alloc, "servers", "C", "How many servers there are")
         .value_parser(value_parser!(u64).range(1..=1_024))
         .default_value("1")
-        .help("How many servers there are");
-    let customers = Arg::new(alloc, "customers")
-        .long("customers")
-        .value_name("N")
+}
+
+fn customers<'a>(alloc: Global) -> Arg<'a> {
+    valued(alloc, "customers", "N", "How many customers arrive")
         .value_parser(value_parser!(u64).range(0..=1_000_000_000))
         .default_value("1000000")
-        .help("How many customers arrive");
-    let seed = Arg::new(alloc, "seed")
-        .long("seed")
-        .value_name("S")
+}
+
+fn seed<'a>(alloc: Global) -> Arg<'a> {
+    valued(alloc, "seed", "S", "The seed of the random numbers")
         .value_parser(value_parser!(u64))
         .default_value("1")
-        .help("The seed of the random numbers");
-    command.arg(servers)?.arg(customers)?.arg(seed)
 }
 
 /// Adds the options whose values are decimals.
 fn add_rates<'a>(alloc: Global, command: Command<'a>) -> Result<Command<'a>, AllocError> {
-    let load = decimal(alloc, "load", "RHO", LOAD_HELP)
-        .conflicts_with("arrivals")?
-        .conflicts_with("service")?;
-    let arrivals = decimal(alloc, "arrivals", "RATE", "Arrivals in a unit of time").requires_arg(
-        "service",
-    )?;
-    let service = decimal(
-        alloc,
-        "service",
-        "RATE",
-        "Customers that one server serves in it",
-    )
-    .requires_arg("arrivals")?;
-    command.arg(load)?.arg(arrivals)?.arg(service)
+    let command = add(command, load(alloc))?;
+    let arrivals = valued(alloc, "arrivals", "RATE", "Arrivals in a unit of time");
+    let command = add(command, arrivals.requires_arg("service"))?;
+    let service = valued(alloc, "service", "RATE", SERVICE_HELP);
+    add(command, service.requires_arg("arrivals"))
 }
 
-fn decimal<'a>(alloc: Global, name: &'a str, value: &'a str, help: &'a str) -> Arg<'a> {
-    Arg::new(alloc, name)
-        .long(name)
-        .value_name(value)
-        .help(help)
+fn load<'a>(alloc: Global) -> Result<Arg<'a>, AllocError> {
+    without_rates(valued(alloc, "load", "RHO", LOAD_HELP))
+}
+
+fn without_rates(load: Arg<'_>) -> Result<Arg<'_>, AllocError> {
+    load.conflicts_with("arrivals")?.conflicts_with("service")
+}
+
+/// Adds an option that may lack memory. So one function alone drops a command early.
+fn add<'a>(
+    command: Command<'a>,
+    arg: Result<Arg<'a>, AllocError>,
+) -> Result<Command<'a>, AllocError> {
+    command.arg(arg?)
+}
+
+/// Returns an option that has a value.
+fn valued<'a>(alloc: Global, name: &'a str, value: &'a str, help: &'a str) -> Arg<'a> {
+    named(alloc, name, help).value_name(value)
+}
+
+fn named<'a>(alloc: Global, name: &'a str, help: &'a str) -> Arg<'a> {
+    Arg::new(alloc, name).long(name).help(help)
 }
 
 /// Adds the options that say what is written.
 fn add_forms<'a>(alloc: Global, command: Command<'a>) -> Result<Command<'a>, AllocError> {
-    let journal = flag(
-        alloc,
-        "journal",
-        "Writes the board's journal in place of the figures",
-    );
-    let report = flag(
-        alloc,
-        "report",
-        "Writes a report of the first 100 events in place of the figures, for cml_chart",
-    );
-    command.arg(journal.conflicts_with("report")?)?.arg(report)
+    let journal = flag(alloc, "journal", JOURNAL_HELP);
+    let command = add(command, journal.conflicts_with("report"))?;
+    command.arg(flag(alloc, "report", REPORT_HELP))
 }
 
 fn flag<'a>(alloc: Global, name: &'a str, help: &'a str) -> Arg<'a> {
-    Arg::new(alloc, name)
-        .long(name)
-        .action(ArgAction::SetTrue)
-        .help(help)
+    named(alloc, name, help).action(ArgAction::SetTrue)
 }

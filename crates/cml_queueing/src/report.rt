@@ -2,7 +2,7 @@
 use crate::ending::Ending;
 use crate::simulation::Simulation;
 use crate::station::{FREE, LINE};
-use cml_board::{Board, BoardLog, Entry, Name, Who};
+use cml_board::{Board, BoardLog, Call, Entry, Name, Who};
 use cml_journal::write_reply;
 use std::alloc::{AllocError, Global};
 
@@ -13,14 +13,22 @@ const EVENTS: u64 = 100;
 pub(crate) fn report(alloc: Global, simulation: &mut Simulation) -> Result<String, Ending> {
     simulation.open()?;
     let performed = perform_first(simulation)?;
-    let events = simulation.demand().customers.saturating_mul(2);
     let mut text = String::new(alloc);
-    let board = simulation.station().board();
-    let rows = write_rows(&mut text, board.journal())?;
-    write_mailbox(&mut text, board, LINE)?;
-    write_mailbox(&mut text, board, FREE)?;
-    write_end(&mut text, rows, events.saturating_sub(performed))?;
+    write_report(&mut text, simulation, performed)?;
     Ok(text)
+}
+
+fn write_report(
+    text: &mut String,
+    simulation: &Simulation,
+    performed: u64,
+) -> Result<(), AllocError> {
+    let events = simulation.demand().customers.saturating_mul(2);
+    let board = simulation.station().board();
+    let rows = write_rows(text, board.journal())?;
+    write_mailbox(text, board, LINE)?;
+    write_mailbox(text, board, FREE)?;
+    write_end(text, rows, events.saturating_sub(performed))
 }
 
 /// Returns how many events were performed.
@@ -45,18 +53,23 @@ fn write_rows(text: &mut String, entries: &[Entry<u64>]) -> Result<u64, AllocErr
 
 fn write_row(text: &mut String, entry: &Entry<u64>) -> Result<(), AllocError> {
     write_actor(text, entry.who)?;
-    text.push_str(" ")?;
-    text.push_str(entry.call.shape().word)?;
-    if let Some(name) = entry.call.object() {
-        text.push_str(" ")?;
-        text.push_str(word_of(name))?;
-    }
-    if let Some(message) = entry.call.message() {
-        write!(text, " {message}")?;
-    }
+    write_call(text, &entry.call)?;
     text.push_str(": ")?;
     write_reply(text, &entry.reply)?;
     text.push_str("\n")
+}
+
+fn write_call(text: &mut String, call: &Call<u64>) -> Result<(), AllocError> {
+    let word = call.shape().word;
+    write!(text, " {word}")?;
+    if let Some(name) = call.object() {
+        let object = word_of(name);
+        write!(text, " {object}")?;
+    }
+    match call.message() {
+        Some(message) => write!(text, " {message}"),
+        None => Ok(()),
+    }
 }
 
 fn write_actor(text: &mut String, who: Who) -> Result<(), AllocError> {

@@ -1,5 +1,5 @@
 //! A whole run.
-ghost use Rattle.std.specs.Prelude.{◌≡◌, IfOk, OnOk};
+ghost use Rattle.std.specs.Prelude.{OnOk};
 ghost use Rattle.cml_queueing.specs.Station.{ServesInOrder};
 
 use crate::ending::Ending;

@@ -1,5 +1,5 @@
 //! The line of customers and the servers that are free: two mailboxes on one board.
-ghost use Rattle.std.specs.Prelude.{◌≡◌, ℕ, List, IfOk, OnOk};
+ghost use Rattle.std.specs.Prelude.{◌≡◌, OnOk};
 ghost use Rattle.cml_board.specs.History.{no_entries};
 ghost use Rattle.cml_queueing.specs.Station.{IsStation, ServesInOrder};
 
