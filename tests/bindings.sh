@@ -2,8 +2,8 @@
 # The libraries for C, from C and from Rust: `sh tests/bindings.sh ROOMS REPLAY`, with the archives of cml_c and cml_script_c.
 # The programs of bindings/c are built with them: one that replays a script is to write the report beside each example, and five
 # try rooms, two of them with threads. They run under valgrind and the sanitizers too. Then the tests of the crate of bindings/rust
-# run, four files of them under valgrind, and its documented examples. What isn't there is named as left out, and counts for nothing.
-# The last line is `N passed, M failed`.
+# run, four files of them under valgrind, and its documented examples. What isn't there is named as left out, and counts for
+# nothing. The last line is `N passed, M failed`.
 . "$(dirname "$0")/cases.sh"
 rooms=$(absolute "$1")
 replay=$(absolute "$2")
