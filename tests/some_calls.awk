@@ -101,7 +101,7 @@ function of_rings(    word, target) {
 function of_seat(    seat) {
     if (!is_left && below(5) == 0) return "3 " (below(6) ? making() : closing())
     seat = below(3)
-    if (ground == "hall" && below(3) > 0 && seat in asked) return seat " again " asked[seat]
+    if (ground == "hall" && below(3) > is_left && seat in asked) return seat " again " asked[seat]
     asked[seat] = calling()
     return seat " " asked[seat]
 }

@@ -1,6 +1,7 @@
 //! Cuts of a switchboard's journal. They fail while a lane is open, and else drop or return the entries. What waits is
 //! received after a cut, and there is room for as many entries again.
-use super::steps::{Form, Step};
+use super::forms::Form;
+use super::steps::Step;
 use cml_board::Name;
 
 const MAILBOX: Name = Name(0);
