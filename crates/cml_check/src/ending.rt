@@ -45,14 +45,6 @@ impl From<AllocError> for Ending {
     }
 }
 
-impl<T: Drop> From<AllocFailed<T>> for Ending {
-    ghost from_gives = { λ _ ending. ending ≡ NoMemory };
-
-    fn from(_error: AllocFailed<T>) -> Ending {
-        Ending::NoMemory
-    }
-}
-
 impl cml_shell::Ending for Ending {
     ghost use Rattle.cml_check.specs.Endings.{status, is_shown};
 
