@@ -319,6 +319,15 @@ fn message(rt: &(impl Abort + AllocGlobal), words: &[&str]) -> Result<String, Al
     }
 }
 
+/// What these words bring is shown with each of these phrases.
+fn says_all(rt: &(impl Abort + AllocGlobal), words: &[&str], phrases: &[&str]) -> Result<(), Fail> {
+    let shown = message(rt, words)?;
+    for phrase in phrases.iter() {
+        says(rt, shown.as_str(), phrase);
+    }
+    Ok(())
+}
+
 fn says(rt: &impl Abort, shown: &str, phrase: &str) {
     assert!(rt; shown.contains(phrase), "not shown: {phrase}");
 }
@@ -346,11 +355,7 @@ const HELP_SAYS: &[&str] = &[
 
 #[test]
 fn help_says_what_is_read_and_written(rt: HostRuntime) -> Result<(), Fail> {
-    let shown = message(&rt, &["cml", "replay", "--help"])?;
-    for phrase in HELP_SAYS.iter() {
-        says(&rt, shown.as_str(), phrase);
-    }
-    Ok(())
+    says_all(&rt, &["cml", "replay", "--help"], HELP_SAYS)
 }
 
 const CHECK_HELP_SAYS: &[&str] = &[
@@ -359,6 +364,9 @@ const CHECK_HELP_SAYS: &[&str] = &[
     "lawful N",
     "unlawful at 2: seat 0 recv 0: 6",
     "answer: 5",
+];
+
+const CHECK_STATUSES: &[&str] = &[
     "0  the journal is lawful",
     "2  the input is no journal",
     "7  the journal is not lawful",
@@ -366,11 +374,9 @@ const CHECK_HELP_SAYS: &[&str] = &[
 
 #[test]
 fn help_says_what_a_check_writes(rt: HostRuntime) -> Result<(), Fail> {
-    let shown = message(&rt, &["cml", "check", "--help"])?;
-    for phrase in CHECK_HELP_SAYS.iter() {
-        says(&rt, shown.as_str(), phrase);
-    }
-    Ok(())
+    let words: &[&str] = &["cml", "check", "--help"];
+    says_all(&rt, words, CHECK_HELP_SAYS)?;
+    says_all(&rt, words, CHECK_STATUSES)
 }
 
 #[test]

@@ -5,6 +5,15 @@ use super::senders::{EACH, LANES, MAILBOX};
 use cml_board::{Answer, Call, Entry, Reply, Who, check};
 use std::alloc::Global;
 
+/// A verdict in which seven threads end alike, each with this line.
+macro_rules! seven_alike {
+    ($before:literal, $line:literal, $after:literal) => {
+        concat!(
+            $before, $line, $line, $line, $line, $line, $line, $line, $after
+        )
+    };
+}
+
 /// Each is confirmed, and received what the other sent.
 pub const CALLERS: &str = "Ok(Made(Name(0)))
 Ok(Made(Name(1)))
@@ -16,20 +25,11 @@ Ok(Ok(()))
 ";
 
 /// All that four sent was received by the four others, each once.
-pub const CROWD: &str = "Ok(Made(Name(0)))
-Ok(Made(Name(1)))
-(2500, 2500, None)
-(2500, 2500, None)
-(2500, 2500, None)
-(2500, 2500, None)
-(2500, 2500, None)
-(2500, 2500, None)
-(2500, 2500, None)
-(2500, 2500, None)
-(10000, true)
-Count { seats: 20002, rings: 0, total: 20002 }
-Ok(Ok(()))
-";
+pub const CROWD: &str = seven_alike!(
+    "Ok(Made(Name(0)))\nOk(Made(Name(1)))\n(2500, 2500, None)\n",
+    "(2500, 2500, None)\n",
+    "(10000, true)\nCount { seats: 20002, rings: 0, total: 20002 }\nOk(Ok(()))\n"
+);
 
 /// The same. What was cut away can't be confirmed, but it was counted.
 pub const FULL: &str = "Ok(Made(Name(0)))
@@ -39,36 +39,18 @@ Count { seats: 20002, rings: 0, total: 20002 }
 ";
 
 /// One fills the journal, and all are refused.
-pub const REFUSED: &str = "Ok(Made(Name(0)))
-Ok(Made(Name(1)))
-(0, 0, Some(JournalFull))
-(0, 0, Some(JournalFull))
-(0, 0, Some(JournalFull))
-(0, 0, Some(JournalFull))
-(0, 0, Some(JournalFull))
-(0, 0, Some(JournalFull))
-(0, 0, Some(JournalFull))
-(1998, 1998, Some(JournalFull))
-(0, true)
-Count { seats: 2000, rings: 0, total: 2000 }
-Ok(Ok(()))
-";
+pub const REFUSED: &str = seven_alike!(
+    "Ok(Made(Name(0)))\nOk(Made(Name(1)))\n",
+    "(0, 0, Some(JournalFull))\n",
+    "(1998, 1998, Some(JournalFull))\n(0, true)\nCount { seats: 2000, rings: 0, total: 2000 }\nOk(Ok(()))\n"
+);
 
 /// The calls of all fail with `Stalled`.
-pub const STALLED: &str = "Ok(Made(Name(0)))
-Ok(Made(Name(1)))
-(0, 0, Some(Stalled))
-(0, 0, Some(Stalled))
-(0, 0, Some(Stalled))
-(0, 0, Some(Stalled))
-(0, 0, Some(Stalled))
-(0, 0, Some(Stalled))
-(0, 0, Some(Stalled))
-(0, 0, Some(Stalled))
-(0, true)
-Count { seats: 2, rings: 0, total: 2 }
-Ok(Ok(()))
-";
+pub const STALLED: &str = seven_alike!(
+    "Ok(Made(Name(0)))\nOk(Made(Name(1)))\n(0, 0, Some(Stalled))\n",
+    "(0, 0, Some(Stalled))\n",
+    "(0, true)\nCount { seats: 2, rings: 0, total: 2 }\nOk(Ok(()))\n"
+);
 
 /// Two more lanes are let go, and no lane takes a drain any more. What was sent on four was received, each once and in its
 /// lane's order: the two mailboxes and the receives are of seats, all sends of lanes.
