@@ -74,17 +74,6 @@ module _ {M : Type 0} where
   refused_reaches chunk sure old new number call back refusal =
       refused_cases chunk sure old new number call back refusal (is_barred old.feeds call) refl
 
-  -- what is known of an outcome is known of what it is
-  pub bars_at : (old new : FloorShown M) (call : Call M) {one two : Outcome M} → one ≡ two
-      → (is_barred old.feeds call ≡ true → (one ≡ Refused WrongKind call) × (new ≡ old)) → is_barred old.feeds call ≡ true → (two ≡ Refused WrongKind call) × (new ≡ old)
-  bars_at old new call {one} {two} same bars = subst (λ (o : Outcome M). is_barred old.feeds call ≡ true → (o ≡ Refused WrongKind call) × (new ≡ old)) same bars
-
-  pub applies_at : (chunk : ℕ) (sure : Bool) (old new : FloorShown M) (number : ℕ) (call : Call M) {one two : Outcome M} → one ≡ two
-      → (is_barred old.feeds call ≡ false → Applies chunk sure old.board new.board (Seat number) call one)
-      → is_barred old.feeds call ≡ false → Applies chunk sure old.board new.board (Seat number) call two
-  applies_at chunk sure old new number call {one} {two} same applies =
-      subst (λ (o : Outcome M). is_barred old.feeds call ≡ false → Applies chunk sure old.board new.board (Seat number) call o) same applies
-
   -- whether all are stalled stays, where no lane and no entry is another
   still_stalled : (old new : FloorShown M) (seats : List State) → new.lanes ≡ old.lanes → new.board.history ≡ old.board.history → IsStalled new seats → IsStalled old seats
   still_stalled old new seats lanes history stalled = (

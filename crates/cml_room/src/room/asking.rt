@@ -1,7 +1,6 @@
 //! A seat's calls.
 ghost use Rattle.std.specs.Prelude.{◌≡◌, ◌≢◌, ◌⊎◌, Some, None, IfErr, OnOk, ⊤};
 ghost use Rattle.cml_board.specs.declared.want.Want.{Want};
-ghost use Rattle.cml_board.specs.declared.outcome.Outcome.TheVariants.{WouldWait, Refused};
 ghost use Rattle.cml_board.specs.Outcome.{HasRoom};
 ghost use Rattle.cml_room.specs.Room.{state_of, MayAsk, MayAskAgain, Moves};
 ghost use Rattle.cml_room.specs.Asking.{Asks};
@@ -56,7 +55,8 @@ impl<M: Message, L: MessageLog<M>> Room<M, L> {
         let Some(State::Parked(_)) = self.seats.state(seat) else {
             return Err(Refusal::Gone);
         };
-        end_turn(&self.floor, &mut self.seats, seat, None);
+        let news = None;
+        end_turn(&self.floor, &mut self.seats, seat, news);
         Ok(())
     }
 
@@ -67,30 +67,25 @@ impl<M: Message, L: MessageLog<M>> Room<M, L> {
         ensures few { HasRoom self.new.board → MakesFewDue self.old self.new (WantOf self.old seat) (news_by result) }
     {
         let news = news_in(&call);
-        let outcome = self.floor.apply(seat, call);
-        match &outcome {
-            Outcome::Answered(_) => answer_turn(&self.floor, &mut self.seats, seat, news),
-            Outcome::Refused(_, _) => end_turn(&self.floor, &mut self.seats, seat, None),
+        // Each arm makes its outcome anew. To keep the whole and return it takes longer: it is copied once more.
+        match self.floor.apply(seat, call) {
+            Outcome::Answered(answer) => {
+                answer_turn(&self.floor, &mut self.seats, seat, news);
+                Outcome::Answered(answer)
+            }
+            Outcome::Refused(refusal, call) => {
+                end_turn(&self.floor, &mut self.seats, seat, None);
+                Outcome::Refused(refusal, call)
+            }
             Outcome::WouldWait(call) => {
                 let Some(want) = call.want() else {
                     unreachable!()
                 };
-                if !park(&self.floor, &mut self.seats, seat, want) {
-                    return stalled(outcome);
+                if park(&self.floor, &mut self.seats, seat, want) {
+                    return Outcome::WouldWait(call);
                 }
+                Outcome::Refused(Refusal::Stalled, call)
             }
         }
-        outcome
     }
-}
-
-/// Turns a call that would wait into one that fails with `Stalled`, since no seat could go on then.
-fn stalled<M: Message>(outcome: Outcome<M>) -> Outcome<M>
-    requires { (back : Call M) × (outcome ≡ WouldWait back) }
-    ensures { (back : Call M) → outcome ≡ WouldWait back → result ≡ Refused Refusal.Stalled back }
-{
-    let Outcome::WouldWait(call) = outcome else {
-        unreachable!()
-    };
-    Outcome::Refused(Refusal::Stalled, call)
 }

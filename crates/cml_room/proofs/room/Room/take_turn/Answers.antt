@@ -1,12 +1,10 @@
-use Rattle.std.specs.Bool.{⊤}
 use Rattle.std.proofs.Common.{slice_get, None, sym, ap, subst, ◌∙◌}
 use Rattle.cml_board.specs.declared.entry.Who.TheVariants.{Seat}
 use Rattle.cml_board.specs.Waiting.{want_in}
 use Rattle.cml_room.specs.Places.{states_in, notices_in}
-use Rattle.cml_room.specs.Asking.{Asks}
-use Rattle.cml_room.specs.Rising.{MakesFewDue, WantOf, news_by}
+use Rattle.cml_room.specs.Rising.{MakesFewDue, WantOf}
 use Rattle.cml_room.specs.Room.{RoomShown}
-use Rattle.cml_room.proofs.Turning.{answered_asks, parked_asks, stalled_asks, refused_asks, answered_reaches, waiting_reaches, bars_at, applies_at, room_of}
+use Rattle.cml_room.proofs.Turning.{answered_asks, parked_asks, stalled_asks, refused_asks, answered_reaches, waiting_reaches, room_of}
 use Rattle.cml_room.proofs.Unmoved.{room_kept}
 use Rattle.cml_room.proofs.Bringing.{placed_on}
 use Rattle.cml_room.proofs.Rising.{few_of, nobody_few}
@@ -15,98 +13,94 @@ use Rattle.cml_room.proofs.room.Room.take_turn.Goals as goal
 
 pub answer_turn-requires-clause-placed : goal.answer_turn-requires-clause-placed
 answer_turn-requires-clause-placed g c =
-    let reaches = answered_reaches g.L.MessageLog.CHUNK g.M.Message.SURE c.self.inside.floor c.apply-outcome.new.self c.args.seat c.args.call c.in-Answered.field-0
-    (bars_at c.self.inside.floor c.apply-outcome.new.self c.args.call c.in-Answered.is c.apply-outcome.ensures.barred) (applies_at g.L.MessageLog.CHUNK g.M.Message.SURE c.self.inside.floor c.apply-outcome.new.self c.args.seat c.args.call c.in-Answered.is c.apply-outcome.ensures.applied) in
-    placed_on c.self.inside.floor c.apply-outcome.new.self c.self.inside.seats.places c.self.inside.seats.all_due c.news_in-news.result c.self.invariant
-    (answered_brings g.L.MessageLog.CHUNK g.M.Message.SURE c.self.inside.floor.board c.apply-outcome.new.self.board (Seat c.args.seat) c.args.call c.in-Answered.field-0
+    let reaches = answered_reaches g.L.MessageLog.CHUNK g.M.Message.SURE c.self.inside.floor c.apply.new.self c.args.seat c.args.call c.in-Answered.answer
+    c.in-Answered.ensures.barred c.in-Answered.ensures.applied in
+    placed_on c.self.inside.floor c.apply.new.self c.self.inside.seats.places c.self.inside.seats.all_due c.news_in-news.result c.self.invariant
+    (answered_brings g.L.MessageLog.CHUNK g.M.Message.SURE c.self.inside.floor.board c.apply.new.self.board (Seat c.args.seat) c.args.call c.in-Answered.answer
     c.news_in-news.result c.news_in-news.ensures reaches.applies).follows
 
 pub answer_turn-requires-clause-of : goal.answer_turn-requires-clause-of
 answer_turn-requires-clause-of g c =
-    let reaches = answered_reaches g.L.MessageLog.CHUNK g.M.Message.SURE c.self.inside.floor c.apply-outcome.new.self c.args.seat c.args.call c.in-Answered.field-0
-    (bars_at c.self.inside.floor c.apply-outcome.new.self c.args.call c.in-Answered.is c.apply-outcome.ensures.barred) (applies_at g.L.MessageLog.CHUNK g.M.Message.SURE c.self.inside.floor c.apply-outcome.new.self c.args.seat c.args.call c.in-Answered.is c.apply-outcome.ensures.applied) in
-    (answered_brings g.L.MessageLog.CHUNK g.M.Message.SURE c.self.inside.floor.board c.apply-outcome.new.self.board (Seat c.args.seat) c.args.call c.in-Answered.field-0
+    let reaches = answered_reaches g.L.MessageLog.CHUNK g.M.Message.SURE c.self.inside.floor c.apply.new.self c.args.seat c.args.call c.in-Answered.answer
+    c.in-Answered.ensures.barred c.in-Answered.ensures.applied in
+    (answered_brings g.L.MessageLog.CHUNK g.M.Message.SURE c.self.inside.floor.board c.apply.new.self.board (Seat c.args.seat) c.args.call c.in-Answered.answer
     c.news_in-news.result c.news_in-news.ensures reaches.applies).of
 
 pub invariant_of-self : goal.invariant_of-self
 invariant_of-self g c =
-    let reaches = answered_reaches g.L.MessageLog.CHUNK g.M.Message.SURE c.self.inside.floor c.apply-outcome.new.self c.args.seat c.args.call c.in-Answered.field-0
-    (bars_at c.self.inside.floor c.apply-outcome.new.self c.args.call c.in-Answered.is c.apply-outcome.ensures.barred) (applies_at g.L.MessageLog.CHUNK g.M.Message.SURE c.self.inside.floor c.apply-outcome.new.self c.args.seat c.args.call c.in-Answered.is c.apply-outcome.ensures.applied) in
+    let reaches = answered_reaches g.L.MessageLog.CHUNK g.M.Message.SURE c.self.inside.floor c.apply.new.self c.args.seat c.args.call c.in-Answered.answer
+    c.in-Answered.ensures.barred c.in-Answered.ensures.applied in
     c.answer_turn.ensures.kept c.self.inside.floor c.self.invariant
-    (answered_brings g.L.MessageLog.CHUNK g.M.Message.SURE c.self.inside.floor.board c.apply-outcome.new.self.board (Seat c.args.seat) c.args.call c.in-Answered.field-0
+    (answered_brings g.L.MessageLog.CHUNK g.M.Message.SURE c.self.inside.floor.board c.apply.new.self.board (Seat c.args.seat) c.args.call c.in-Answered.answer
     c.news_in-news.result c.news_in-news.ensures reaches.applies).follows
 
 pub end_turn-requires-clause-placed : goal.end_turn-requires-clause-placed
 end_turn-requires-clause-placed g c =
-    placed_on c.self.inside.floor c.apply-outcome.new.self c.self.inside.seats.places c.self.inside.seats.all_due None c.self.invariant
-    (before_follows None c.self.inside.floor.board c.apply-outcome.new.self.board
-    (refused_before g.L.MessageLog.CHUNK g.M.Message.SURE c.self.inside.floor c.apply-outcome.new.self c.args.seat c.args.call c.in-Refused.field-1 c.in-Refused.field-0
-    (bars_at c.self.inside.floor c.apply-outcome.new.self c.args.call c.in-Refused.is c.apply-outcome.ensures.barred) (applies_at g.L.MessageLog.CHUNK g.M.Message.SURE c.self.inside.floor c.apply-outcome.new.self c.args.seat c.args.call c.in-Refused.is c.apply-outcome.ensures.applied)))
+    placed_on c.self.inside.floor c.apply.new.self c.self.inside.seats.places c.self.inside.seats.all_due None c.self.invariant
+    (before_follows None c.self.inside.floor.board c.apply.new.self.board
+    (refused_before g.L.MessageLog.CHUNK g.M.Message.SURE c.self.inside.floor c.apply.new.self c.args.seat c.args.call c.in-Refused.call c.in-Refused.refusal
+    c.in-Refused.ensures.barred c.in-Refused.ensures.applied))
 
 pub invariant_of-self-in-Refused : goal.invariant_of-self-in-Refused
 invariant_of-self-in-Refused g c =
-    let same = refused_before g.L.MessageLog.CHUNK g.M.Message.SURE c.self.inside.floor c.apply-outcome.new.self c.args.seat c.args.call c.in-Refused.field-1 c.in-Refused.field-0
-    (bars_at c.self.inside.floor c.apply-outcome.new.self c.args.call c.in-Refused.is c.apply-outcome.ensures.barred) (applies_at g.L.MessageLog.CHUNK g.M.Message.SURE c.self.inside.floor c.apply-outcome.new.self c.args.seat c.args.call c.in-Refused.is c.apply-outcome.ensures.applied) in
-    c.end_turn.ensures.kept c.self.inside.floor c.self.invariant (before_follows None c.self.inside.floor.board c.apply-outcome.new.self.board same)
-    (room_kept c.self.inside.floor.board c.apply-outcome.new.self.board same)
+    let same = refused_before g.L.MessageLog.CHUNK g.M.Message.SURE c.self.inside.floor c.apply.new.self c.args.seat c.args.call c.in-Refused.call c.in-Refused.refusal
+    c.in-Refused.ensures.barred c.in-Refused.ensures.applied in
+    c.end_turn.ensures.kept c.self.inside.floor c.self.invariant (before_follows None c.self.inside.floor.board c.apply.new.self.board same)
+    (room_kept c.self.inside.floor.board c.apply.new.self.board same)
 
 pub unreachable-requires : goal.unreachable-requires
 unreachable-requires g c =
-    let reaches = waiting_reaches g.L.MessageLog.CHUNK g.M.Message.SURE c.self.inside.floor c.apply-outcome.new.self c.args.seat c.args.call c.in-WouldWait.call
-    (bars_at c.self.inside.floor c.apply-outcome.new.self c.args.call c.in-WouldWait.is c.apply-outcome.ensures.barred) (applies_at g.L.MessageLog.CHUNK g.M.Message.SURE c.self.inside.floor c.apply-outcome.new.self c.args.seat c.args.call c.in-WouldWait.is c.apply-outcome.ensures.applied) in
+    let reaches = waiting_reaches g.L.MessageLog.CHUNK g.M.Message.SURE c.self.inside.floor c.apply.new.self c.args.seat c.args.call c.in-WouldWait.call
+    c.in-WouldWait.ensures.barred c.in-WouldWait.ensures.applied in
     waits_wants c.self.inside.floor.board.history c.args.call (ap want_in (sym reaches.applies.3) ∙ (sym c.want.ensures ∙ c.in_default.is)) reaches.applies.2
 
 pub park-requires-clause-may : goal.park-requires-clause-may
 park-requires-clause-may g c =
-    let reaches = waiting_reaches g.L.MessageLog.CHUNK g.M.Message.SURE c.self.inside.floor c.apply-outcome.new.self c.args.seat c.args.call c.in-WouldWait.call
-    (bars_at c.self.inside.floor c.apply-outcome.new.self c.args.call c.in-WouldWait.is c.apply-outcome.ensures.barred) (applies_at g.L.MessageLog.CHUNK g.M.Message.SURE c.self.inside.floor c.apply-outcome.new.self c.args.seat c.args.call c.in-WouldWait.is c.apply-outcome.ensures.applied) in
+    let reaches = waiting_reaches g.L.MessageLog.CHUNK g.M.Message.SURE c.self.inside.floor c.apply.new.self c.args.seat c.args.call c.in-WouldWait.call
+    c.in-WouldWait.ensures.barred c.in-WouldWait.ensures.applied in
     may_wait c.args.self.now (states_in c.self.inside.seats.places) c.args.seat c.args.call c.in-WouldWait.call c.in-Some.want
     (ap (λ (r : RoomShown g.row.M.Denot). r.seats) c.self.view_is) c.requires reaches.applies.3 (sym c.want.ensures ∙ c.in-Some.is)
 
 pub park-requires-clause-would : goal.park-requires-clause-would
 park-requires-clause-would g c =
-    let reaches = waiting_reaches g.L.MessageLog.CHUNK g.M.Message.SURE c.self.inside.floor c.apply-outcome.new.self c.args.seat c.args.call c.in-WouldWait.call
-    (bars_at c.self.inside.floor c.apply-outcome.new.self c.args.call c.in-WouldWait.is c.apply-outcome.ensures.barred) (applies_at g.L.MessageLog.CHUNK g.M.Message.SURE c.self.inside.floor c.apply-outcome.new.self c.args.seat c.args.call c.in-WouldWait.is c.apply-outcome.ensures.applied) in
-    call_would g.L.MessageLog.CHUNK g.M.Message.SURE c.self.inside.floor.board c.apply-outcome.new.self.board (Seat c.args.seat) c.args.call c.in-WouldWait.call c.in-Some.want
+    let reaches = waiting_reaches g.L.MessageLog.CHUNK g.M.Message.SURE c.self.inside.floor c.apply.new.self c.args.seat c.args.call c.in-WouldWait.call
+    c.in-WouldWait.ensures.barred c.in-WouldWait.ensures.applied in
+    call_would g.L.MessageLog.CHUNK g.M.Message.SURE c.self.inside.floor.board c.apply.new.self.board (Seat c.args.seat) c.args.call c.in-WouldWait.call c.in-Some.want
     (sym c.want.ensures ∙ c.in-Some.is) reaches.applies
 
 pub park-requires-clause-watched : goal.park-requires-clause-watched
 park-requires-clause-watched g c =
-    let reaches = waiting_reaches g.L.MessageLog.CHUNK g.M.Message.SURE c.self.inside.floor c.apply-outcome.new.self c.args.seat c.args.call c.in-WouldWait.call
-    (bars_at c.self.inside.floor c.apply-outcome.new.self c.args.call c.in-WouldWait.is c.apply-outcome.ensures.barred) (applies_at g.L.MessageLog.CHUNK g.M.Message.SURE c.self.inside.floor c.apply-outcome.new.self c.args.seat c.args.call c.in-WouldWait.is c.apply-outcome.ensures.applied) in
-    before_watched c.self.inside.floor c.apply-outcome.new.self c.self.inside.seats.places c.self.inside.seats.all_due c.self.invariant reaches.applies.4 c.apply-outcome.ensures.lanes
+    let reaches = waiting_reaches g.L.MessageLog.CHUNK g.M.Message.SURE c.self.inside.floor c.apply.new.self c.args.seat c.args.call c.in-WouldWait.call
+    c.in-WouldWait.ensures.barred c.in-WouldWait.ensures.applied in
+    before_watched c.self.inside.floor c.apply.new.self c.self.inside.seats.places c.self.inside.seats.all_due c.self.invariant reaches.applies.4 c.apply.ensures.lanes
 
-pub returns-else-not-park-clause-asks : goal.returns-else-not-park-clause-asks
-returns-else-not-park-clause-asks g c =
-    subst (Asks g.L.MessageLog.CHUNK g.M.Message.SURE ⊤ c.args.self.now _ c.args.seat c.args.call) (sym c.in-WouldWait.is)
-    (parked_asks g.L.MessageLog.CHUNK g.M.Message.SURE c.args.self.now c.self.inside.floor c.apply-outcome.new.self (states_in c.self.inside.seats.places)
+pub returns-then-park-clause-asks : goal.returns-then-park-clause-asks
+returns-then-park-clause-asks g c =
+    parked_asks g.L.MessageLog.CHUNK g.M.Message.SURE c.args.self.now c.self.inside.floor c.apply.new.self (states_in c.self.inside.seats.places)
     (states_in c.park.new.seats.places) (notices_in c.self.inside.seats.places) (notices_in c.park.new.seats.places) c.self.inside.seats.all_due c.park.new.seats.all_due
-    c.args.seat c.args.call c.in-WouldWait.call c.in-Some.want c.self.view_is (bars_at c.self.inside.floor c.apply-outcome.new.self c.args.call c.in-WouldWait.is c.apply-outcome.ensures.barred) (applies_at g.L.MessageLog.CHUNK g.M.Message.SURE c.self.inside.floor c.apply-outcome.new.self c.args.seat c.args.call c.in-WouldWait.is c.apply-outcome.ensures.applied)
-    c.apply-outcome.ensures.lanes c.apply-outcome.ensures.feeds (sym c.want.ensures ∙ c.in-Some.is) c.if-not-park.ensures.parked)
+    c.args.seat c.args.call c.in-WouldWait.call c.in-Some.want c.self.view_is c.in-WouldWait.ensures.barred c.in-WouldWait.ensures.applied
+    c.apply.ensures.lanes c.apply.ensures.feeds (sym c.want.ensures ∙ c.in-Some.is) c.if-park.ensures.parked
 
 pub returns-in-Answered-clause-asks : goal.returns-in-Answered-clause-asks
 returns-in-Answered-clause-asks g c =
-    subst (Asks g.L.MessageLog.CHUNK g.M.Message.SURE ⊤ c.args.self.now _ c.args.seat c.args.call) (sym c.in-Answered.is)
-    (answered_asks g.L.MessageLog.CHUNK g.M.Message.SURE c.args.self.now c.self.inside.floor c.apply-outcome.new.self (states_in c.self.inside.seats.places)
+    answered_asks g.L.MessageLog.CHUNK g.M.Message.SURE c.args.self.now c.self.inside.floor c.apply.new.self (states_in c.self.inside.seats.places)
     (states_in c.answer_turn.new.seats.places) (notices_in c.self.inside.seats.places) (notices_in c.answer_turn.new.seats.places) c.self.inside.seats.all_due
-    c.answer_turn.new.seats.all_due c.args.seat c.args.call c.in-Answered.field-0 c.self.view_is (bars_at c.self.inside.floor c.apply-outcome.new.self c.args.call c.in-Answered.is c.apply-outcome.ensures.barred) (applies_at g.L.MessageLog.CHUNK g.M.Message.SURE c.self.inside.floor c.apply-outcome.new.self c.args.seat c.args.call c.in-Answered.is c.apply-outcome.ensures.applied)
-    c.apply-outcome.ensures.lanes c.apply-outcome.ensures.feeds c.answer_turn.ensures.states)
+    c.answer_turn.new.seats.all_due c.args.seat c.args.call c.in-Answered.answer c.self.view_is c.in-Answered.ensures.barred c.in-Answered.ensures.applied
+    c.apply.ensures.lanes c.apply.ensures.feeds c.answer_turn.ensures.states
 
 pub returns-in-Refused-clause-asks : goal.returns-in-Refused-clause-asks
 returns-in-Refused-clause-asks g c =
-    subst (Asks g.L.MessageLog.CHUNK g.M.Message.SURE ⊤ c.args.self.now _ c.args.seat c.args.call) (sym c.in-Refused.is)
-    (refused_asks g.L.MessageLog.CHUNK g.M.Message.SURE c.args.self.now c.self.inside.floor c.apply-outcome.new.self (states_in c.self.inside.seats.places)
+    refused_asks g.L.MessageLog.CHUNK g.M.Message.SURE c.args.self.now c.self.inside.floor c.apply.new.self (states_in c.self.inside.seats.places)
     (states_in c.end_turn.new.seats.places) (notices_in c.self.inside.seats.places) (notices_in c.end_turn.new.seats.places) c.self.inside.seats.all_due
-    c.end_turn.new.seats.all_due c.args.seat c.args.call c.in-Refused.field-1 c.in-Refused.field-0 c.self.view_is (bars_at c.self.inside.floor c.apply-outcome.new.self c.args.call c.in-Refused.is c.apply-outcome.ensures.barred) (applies_at g.L.MessageLog.CHUNK g.M.Message.SURE c.self.inside.floor c.apply-outcome.new.self c.args.seat c.args.call c.in-Refused.is c.apply-outcome.ensures.applied)
-    c.apply-outcome.ensures.lanes c.apply-outcome.ensures.feeds c.end_turn.ensures.states)
+    c.end_turn.new.seats.all_due c.args.seat c.args.call c.in-Refused.call c.in-Refused.refusal c.self.view_is c.in-Refused.ensures.barred c.in-Refused.ensures.applied
+    c.apply.ensures.lanes c.apply.ensures.feeds c.end_turn.ensures.states
 
-pub returns-then-not-park-clause-asks : goal.returns-then-not-park-clause-asks
-returns-then-not-park-clause-asks g c =
-    subst (Asks g.L.MessageLog.CHUNK g.M.Message.SURE ⊤ c.args.self.now _ c.args.seat c.args.call) (sym (c.stalled.ensures _ c.in-WouldWait.is))
-    (stalled_asks g.L.MessageLog.CHUNK g.M.Message.SURE c.args.self.now c.self.inside.floor c.apply-outcome.new.self (states_in c.self.inside.seats.places)
+pub returns-else-park-clause-asks : goal.returns-else-park-clause-asks
+returns-else-park-clause-asks g c =
+    stalled_asks g.L.MessageLog.CHUNK g.M.Message.SURE c.args.self.now c.self.inside.floor c.apply.new.self (states_in c.self.inside.seats.places)
     (states_in c.park.new.seats.places) (notices_in c.self.inside.seats.places) (notices_in c.park.new.seats.places) c.self.inside.seats.all_due c.park.new.seats.all_due
-    c.args.seat c.args.call c.in-WouldWait.call c.in-Some.want c.self.view_is (bars_at c.self.inside.floor c.apply-outcome.new.self c.args.call c.in-WouldWait.is c.apply-outcome.ensures.barred) (applies_at g.L.MessageLog.CHUNK g.M.Message.SURE c.self.inside.floor c.apply-outcome.new.self c.args.seat c.args.call c.in-WouldWait.is c.apply-outcome.ensures.applied)
-    c.apply-outcome.ensures.lanes c.apply-outcome.ensures.feeds (sym c.want.ensures ∙ c.in-Some.is) c.if-not-park.ensures.parked)
+    c.args.seat c.args.call c.in-WouldWait.call c.in-Some.want c.self.view_is c.in-WouldWait.ensures.barred c.in-WouldWait.ensures.applied
+    c.apply.ensures.lanes c.apply.ensures.feeds (sym c.want.ensures ∙ c.in-Some.is) c.if-park.ensures.parked
 
 pub answer_turn-requires-clause-brings : goal.answer_turn-requires-clause-brings
 answer_turn-requires-clause-brings g c = λ on parked.
@@ -115,31 +109,27 @@ answer_turn-requires-clause-brings g c = λ on parked.
 
 pub returns-in-Answered-clause-few : goal.returns-in-Answered-clause-few
 returns-in-Answered-clause-few g c = λ room.
-    subst (λ o. MakesFewDue c.args.self.now (room_of c.apply-outcome.new.self (states_in c.answer_turn.new.seats.places) (notices_in c.answer_turn.new.seats.places) c.answer_turn.new.seats.all_due) (WantOf c.args.self.now c.args.seat) (news_by o)) (sym c.in-Answered.is)
-    (let reaches = answered_reaches g.L.MessageLog.CHUNK g.M.Message.SURE c.self.inside.floor c.apply-outcome.new.self c.args.seat c.args.call c.in-Answered.field-0
-    (bars_at c.self.inside.floor c.apply-outcome.new.self c.args.call c.in-Answered.is c.apply-outcome.ensures.barred) (applies_at g.L.MessageLog.CHUNK g.M.Message.SURE c.self.inside.floor c.apply-outcome.new.self c.args.seat c.args.call c.in-Answered.is c.apply-outcome.ensures.applied) in
-    subst (λ n. MakesFewDue c.args.self.now (room_of c.apply-outcome.new.self (states_in c.answer_turn.new.seats.places) (notices_in c.answer_turn.new.seats.places) c.answer_turn.new.seats.all_due) (WantOf c.args.self.now c.args.seat) n)
-    (answered_news g.L.MessageLog.CHUNK g.M.Message.SURE c.self.inside.floor.board c.apply-outcome.new.self.board (Seat c.args.seat) c.args.call c.in-Answered.field-0
+    let reaches = answered_reaches g.L.MessageLog.CHUNK g.M.Message.SURE c.self.inside.floor c.apply.new.self c.args.seat c.args.call c.in-Answered.answer
+    c.in-Answered.ensures.barred c.in-Answered.ensures.applied in
+    subst (λ n. MakesFewDue c.args.self.now (room_of c.apply.new.self (states_in c.answer_turn.new.seats.places) (notices_in c.answer_turn.new.seats.places) c.answer_turn.new.seats.all_due) (WantOf c.args.self.now c.args.seat) n)
+    (answered_news g.L.MessageLog.CHUNK g.M.Message.SURE c.self.inside.floor.board c.apply.new.self.board (Seat c.args.seat) c.args.call c.in-Answered.answer
     c.news_in-news.result c.news_in-news.ensures reaches.applies)
-    (few_of c.args.self.now c.self.inside.floor c.apply-outcome.new.self c.self.inside.seats.places c.answer_turn.new.seats.places c.self.inside.seats.all_due
-    c.answer_turn.new.seats.all_due c.args.seat c.news_in-news.result c.self.view_is (c.answer_turn.ensures.due room) (c.answer_turn.ensures.few room)))
+    (few_of c.args.self.now c.self.inside.floor c.apply.new.self c.self.inside.seats.places c.answer_turn.new.seats.places c.self.inside.seats.all_due
+    c.answer_turn.new.seats.all_due c.args.seat c.news_in-news.result c.self.view_is (c.answer_turn.ensures.due room) (c.answer_turn.ensures.few room))
 
 pub returns-in-Refused-clause-few : goal.returns-in-Refused-clause-few
 returns-in-Refused-clause-few g c = λ room.
-    subst (λ o. MakesFewDue c.args.self.now (room_of c.apply-outcome.new.self (states_in c.end_turn.new.seats.places) (notices_in c.end_turn.new.seats.places) c.end_turn.new.seats.all_due) (WantOf c.args.self.now c.args.seat) (news_by o)) (sym c.in-Refused.is)
-    (few_of c.args.self.now c.self.inside.floor c.apply-outcome.new.self c.self.inside.seats.places c.end_turn.new.seats.places c.self.inside.seats.all_due
-    c.end_turn.new.seats.all_due c.args.seat None c.self.view_is c.end_turn.ensures.due c.end_turn.ensures.few)
+    few_of c.args.self.now c.self.inside.floor c.apply.new.self c.self.inside.seats.places c.end_turn.new.seats.places c.self.inside.seats.all_due
+    c.end_turn.new.seats.all_due c.args.seat None c.self.view_is c.end_turn.ensures.due c.end_turn.ensures.few
 
-pub returns-else-not-park-clause-few : goal.returns-else-not-park-clause-few
-returns-else-not-park-clause-few g c = λ room.
-    subst (λ o. MakesFewDue c.args.self.now (room_of c.apply-outcome.new.self (states_in c.park.new.seats.places) (notices_in c.park.new.seats.places) c.park.new.seats.all_due) (WantOf c.args.self.now c.args.seat) (news_by o)) (sym c.in-WouldWait.is)
-    (few_of c.args.self.now c.self.inside.floor c.apply-outcome.new.self c.self.inside.seats.places c.park.new.seats.places c.self.inside.seats.all_due
+pub returns-then-park-clause-few : goal.returns-then-park-clause-few
+returns-then-park-clause-few g c = λ room.
+    few_of c.args.self.now c.self.inside.floor c.apply.new.self c.self.inside.seats.places c.park.new.seats.places c.self.inside.seats.all_due
     c.park.new.seats.all_due c.args.seat None c.self.view_is c.park.ensures.due
-    (nobody_few c.apply-outcome.new.self.board.history None _ c.self.inside.seats.places c.park.new.seats.places c.park.ensures.none))
+    (nobody_few c.apply.new.self.board.history None _ c.self.inside.seats.places c.park.new.seats.places c.park.ensures.none)
 
-pub returns-then-not-park-clause-few : goal.returns-then-not-park-clause-few
-returns-then-not-park-clause-few g c = λ room.
-    subst (λ o. MakesFewDue c.args.self.now (room_of c.apply-outcome.new.self (states_in c.park.new.seats.places) (notices_in c.park.new.seats.places) c.park.new.seats.all_due) (WantOf c.args.self.now c.args.seat) (news_by o)) (sym (c.stalled.ensures _ c.in-WouldWait.is))
-    (few_of c.args.self.now c.self.inside.floor c.apply-outcome.new.self c.self.inside.seats.places c.park.new.seats.places c.self.inside.seats.all_due
+pub returns-else-park-clause-few : goal.returns-else-park-clause-few
+returns-else-park-clause-few g c = λ room.
+    few_of c.args.self.now c.self.inside.floor c.apply.new.self c.self.inside.seats.places c.park.new.seats.places c.self.inside.seats.all_due
     c.park.new.seats.all_due c.args.seat None c.self.view_is c.park.ensures.due
-    (nobody_few c.apply-outcome.new.self.board.history None _ c.self.inside.seats.places c.park.new.seats.places c.park.ensures.none))
+    (nobody_few c.apply.new.self.board.history None _ c.self.inside.seats.places c.park.new.seats.places c.park.ensures.none)
