@@ -12,6 +12,8 @@ const FEW_LOOKS: (u32, u32) = (8, 16);
 /// answer as soon as it runs, and to wake it takes longer than the few looks. So two threads that answer each other don't sleep at
 /// each turn.
 const MANY_LOOKS: (u32, u32) = (50, 512);
+/// If a thread slept for longer than this, it sleeps at once in its next wait. The time until it runs again is part of a sleep.
+const SHORT_SLEEP: Duration = Duration::from_micros(100);
 /// How long a thread may look at the most. If less is left until its time limit, it sleeps at once.
 const LONGEST_LOOK: Duration = Duration::from_micros(500);
 
@@ -52,6 +54,7 @@ pub(crate) struct Sleeper {
     woken: Condvar,
     // These are for the seat's thread alone.
     is_answer_near: AtomicBool,
+    has_slept_long: AtomicBool,
     few: Looks,
     many: Looks,
 }
@@ -65,6 +68,7 @@ impl Sleeper {
             waker: Mutex::new(None),
             woken: Condvar::new(),
             is_answer_near: AtomicBool::new(false),
+            has_slept_long: AtomicBool::new(false),
             few: Looks::new(FEW_LOOKS.0, FEW_LOOKS.1),
             many: Looks::new(MANY_LOOKS.0, MANY_LOOKS.1),
         }
@@ -73,15 +77,19 @@ impl Sleeper {
     /// Waits until it is woken. A wake that came before ends it at once.
     pub fn wait(&self) {
         if !self.is_soon_woken() {
+            let began = Instant::now();
             self.sleep();
+            self.note_sleep(began.elapsed());
         }
         self.forget_wake();
     }
 
     /// The same, but at most until then. Returns whether it was woken.
     pub fn wait_until(&self, deadline: Instant) -> bool {
-        let has_time = deadline.saturating_duration_since(Instant::now()) > LONGEST_LOOK;
+        let began = Instant::now();
+        let has_time = deadline.saturating_duration_since(began) > LONGEST_LOOK;
         let is_woken = has_time && self.is_soon_woken() || self.sleep_until(deadline);
+        self.note_sleep(began.elapsed());
         self.forget_wake();
         is_woken
     }
@@ -119,11 +127,18 @@ impl Sleeper {
         drop(waker);
     }
 
-    /// Looks for a while, unless it looked in vain lately.
+    fn note_sleep(&self, time: Duration) {
+        self.has_slept_long.store(time > SHORT_SLEEP, Ordering::Relaxed);
+    }
+
+    /// Looks for a while, unless it slept for long or looked in vain lately.
     fn is_soon_woken(&self) -> bool {
         let is_near = self.is_answer_near.load(Ordering::Relaxed);
         if is_near {
             self.is_answer_near.store(false, Ordering::Relaxed);
+        }
+        if self.has_slept_long.load(Ordering::Relaxed) {
+            return false;
         }
         if is_near && self.many.are_due() {
             return self.many.see(&self.state, WOKEN);
