@@ -86,6 +86,7 @@ mod checker;
 mod entry;
 mod error;
 mod feed;
+mod inside;
 mod iter;
 mod journal;
 mod lane;

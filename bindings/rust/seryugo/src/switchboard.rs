@@ -3,6 +3,7 @@
 use crate::entry::{found, Entry};
 use crate::error::Error;
 use crate::feed::Feed;
+use crate::inside::Inside;
 use crate::journal::Journal;
 use crate::lane::Lane;
 use crate::names::{Channel, Name, Named, Target};
@@ -12,7 +13,6 @@ use crate::seat::Seat;
 use crate::sleeper::{Sleeper, Woken};
 use crate::sleepers::Sleepers;
 use crate::version;
-use std::collections::BTreeMap;
 use std::fmt;
 use std::marker::PhantomData;
 use std::sync::atomic::{AtomicU64, Ordering};
@@ -52,81 +52,6 @@ static MADE: AtomicU64 = AtomicU64::new(0);
 /// Lines of memory for the lock alone: threads that wake others read what lies beside it.
 #[repr(align(128))]
 struct Apart<T>(T);
-
-/// What the lock guards.
-struct Inside {
-    handle: Handle,
-    /// The number of the first seat that was made here. Those of a journal from which the switchboard goes on have lesser ones.
-    first_seat: u64,
-    /// How many seats were made here.
-    seats: u64,
-    /// How many seats are parked.
-    parked: u64,
-    /// How many messages of each open lane have moved, by the lane's number.
-    moved: BTreeMap<u64, u64>,
-    /// How many messages were lost with their lanes.
-    lost: u64,
-}
-
-impl Inside {
-    /// The place of the next seat that is due among those that were made here. Each seat that is due is given once.
-    #[inline]
-    fn next_due(&mut self) -> Option<u64> {
-        // Only a parked seat is ever due.
-        if self.parked == 0 {
-            return None;
-        }
-        let mut seat = 0;
-        let code = unsafe { raw::seryugo_next_due(&mut self.handle, &mut seat) };
-        (code == code::DONE).then(|| seat.wrapping_sub(self.first_seat))
-    }
-
-    /// Makes a call that may park its seat, or that of a parked seat again.
-    #[inline]
-    fn ask(&mut self, is_again: bool, call: impl FnOnce(&mut Handle) -> u32) -> u32 {
-        let code = call(&mut self.handle);
-        self.parked = (self.parked + u64::from(code == code::PARKED)).saturating_sub(u64::from(is_again));
-        code
-    }
-
-    /// Withdraws the call of a seat, if it is parked.
-    fn withdraw(&mut self, seat: u64) {
-        let code = unsafe { raw::seryugo_withdraw(&mut self.handle, seat) };
-        self.parked = self.parked.saturating_sub(u64::from(code == code::DONE));
-    }
-
-    /// Moves what is seen of an open lane into the journal, up to the first message that is refused.
-    fn drain(&mut self, lane: u64) -> Result<u64, Error> {
-        let count = written(|count| unsafe { raw::seryugo_lane_drain(&mut self.handle, lane, count) })?;
-        let moved = self.moved.entry(lane).or_default();
-        *moved = moved.saturating_add(count);
-        Ok(count)
-    }
-
-    /// The same, until none is left.
-    fn drain_all(&mut self, lane: u64) -> Result<(), Error> {
-        while self.drain(lane)? != 0 {}
-        Ok(())
-    }
-
-    /// Closes a lane that has ended, once all of its messages have moved.
-    fn close_lane(&mut self, number: u64, lane: &mut Handle) -> Result<(), Error> {
-        self.drain_all(number)?;
-        done(unsafe { raw::seryugo_lane_close(&mut self.handle, lane) })?;
-        self.moved.remove(&number);
-        Ok(())
-    }
-
-    /// Moves what it can of an open lane on which so many messages were sent, and closes the lane: how many are lost.
-    fn end_lane(&mut self, lane: u64, sent: u64) -> u64 {
-        // Messages that are refused are lost.
-        let _ = self.drain_all(lane);
-        unsafe { raw::seryugo_lane_abandon(&mut self.handle, lane) };
-        let lost = sent.saturating_sub(self.moved.remove(&lane).unwrap_or_default());
-        self.lost = self.lost.saturating_add(lost);
-        lost
-    }
-}
 
 impl Switchboard {
     /// A switchboard of bytes with no objects, whose journal takes `limit` entries between two cuts, from 1 to 2^32.
@@ -170,16 +95,8 @@ impl<R: Room> Switchboard<R> {
 
     /// A switchboard over a room in which no seat was made yet.
     pub(crate) fn over(handle: Handle) -> Switchboard<R> {
-        let inside = Inside {
-            handle,
-            first_seat: 0,
-            seats: 0,
-            parked: 0,
-            moved: BTreeMap::new(),
-            lost: 0,
-        };
         Switchboard {
-            inside: Apart(Mutex::new(inside)),
+            inside: Apart(Mutex::new(Inside::new(handle))),
             sleepers: Sleepers::new(),
             number: MADE.fetch_add(1, Ordering::Relaxed),
             kind: PhantomData,
@@ -217,13 +134,8 @@ impl<R: Room> Switchboard<R> {
     /// ```
     pub fn seat(&self) -> Result<Seat<'_, R>, Error> {
         let mut inside = self.lock();
-        let sleeper = self.sleepers.make(inside.seats).ok_or(Error::NoMemory)?;
-        let number = written(|seat| unsafe { raw::seryugo_new_seat(&mut inside.handle, seat) })?;
-        if inside.seats == 0 {
-            inside.first_seat = number;
-        }
-        inside.seats += 1;
-        Ok(Seat::new(self, number, sleeper))
+        let sleeper = self.sleepers.make(inside.seats()).ok_or(Error::NoMemory)?;
+        Ok(Seat::new(self, inside.new_seat()?, sleeper))
     }
 
     /// Opens a lane to a mailbox or a channel, whose ring has room for `capacity` messages, from 1 to 1024.
@@ -243,12 +155,7 @@ impl<R: Room> Switchboard<R> {
         R: Carries<G::Message>,
     {
         let target = self.here(target)?;
-        let mut number = 0;
-        let mut inside = self.lock();
-        let handle = Handle::opened(|lane| unsafe {
-            raw::seryugo_lane_open(&mut inside.handle, target, capacity, lane, &mut number)
-        })?;
-        inside.moved.insert(number, 0);
+        let (handle, number) = self.lock().open_lane(target, capacity)?;
         Ok(Lane::new(self, handle, number))
     }
 
@@ -290,7 +197,7 @@ impl<R: Room> Switchboard<R> {
     /// # Ok::<(), seryugo::Error>(())
     /// ```
     pub fn lost(&self) -> u64 {
-        self.lock().lost
+        self.lock().lost()
     }
 
     /// Opens a feed of what is multicast on a channel from now on, whose ring has room for `capacity` messages.
