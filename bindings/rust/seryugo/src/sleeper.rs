@@ -77,19 +77,15 @@ impl Sleeper {
     /// Waits until it is woken. A wake that came before ends it at once.
     pub fn wait(&self) {
         if !self.is_soon_woken() {
-            let began = Instant::now();
-            self.sleep();
-            self.note_sleep(began.elapsed());
+            self.timed(|| self.sleep());
         }
         self.forget_wake();
     }
 
     /// The same, but at most until then. Returns whether it was woken.
     pub fn wait_until(&self, deadline: Instant) -> bool {
-        let began = Instant::now();
-        let has_time = deadline.saturating_duration_since(began) > LONGEST_LOOK;
-        let is_woken = has_time && self.is_soon_woken() || self.sleep_until(deadline);
-        self.note_sleep(began.elapsed());
+        let has_time = deadline.saturating_duration_since(Instant::now()) > LONGEST_LOOK;
+        let is_woken = has_time && self.is_soon_woken() || self.timed(|| self.sleep_until(deadline));
         self.forget_wake();
         is_woken
     }
@@ -127,8 +123,12 @@ impl Sleeper {
         drop(waker);
     }
 
-    fn note_sleep(&self, time: Duration) {
-        self.has_slept_long.store(time > SHORT_SLEEP, Ordering::Relaxed);
+    /// Sleeps, and notes whether that was long.
+    fn timed<T>(&self, sleep: impl FnOnce() -> T) -> T {
+        let began = Instant::now();
+        let end = sleep();
+        self.has_slept_long.store(began.elapsed() > SHORT_SLEEP, Ordering::Relaxed);
+        end
     }
 
     /// Looks for a while, unless it slept for long or looked in vain lately.
