@@ -65,16 +65,10 @@ impl Inside {
     /// The place of the next seat that is due among those that were made here. Each seat that is due is given once.
     #[inline]
     pub fn next_due(&mut self) -> Option<u64> {
-        // Only a parked seat is ever due. A program that is built for debugging tests that at each call.
+        // Only a parked seat is ever due.
         if self.parked == 0 {
-            debug_assert_eq!(self.ask_who_is_due(), None);
             return None;
         }
-        self.ask_who_is_due()
-    }
-
-    #[inline]
-    fn ask_who_is_due(&mut self) -> Option<u64> {
         let mut seat = 0;
         let code = unsafe { raw::seryugo_next_due(&mut self.handle, &mut seat) };
         (code == code::DONE).then(|| seat.wrapping_sub(self.first_seat))
