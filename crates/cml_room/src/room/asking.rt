@@ -67,7 +67,7 @@ impl<M: Message, L: MessageLog<M>> Room<M, L> {
         ensures few { HasRoom self.new.board → MakesFewDue self.old self.new (WantOf self.old seat) (news_by result) }
     {
         let news = news_in(&call);
-        // Each arm makes its outcome anew. To keep the whole and return it takes longer: it is copied once more.
+        // Each arm makes its outcome anew, which the prover follows with less help than a whole that is kept and returned.
         match self.floor.apply(seat, call) {
             Outcome::Answered(answer) => {
                 answer_turn(&self.floor, &mut self.seats, seat, news);
