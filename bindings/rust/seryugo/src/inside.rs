@@ -120,3 +120,70 @@ impl Inside {
         lost
     }
 }
+
+#[cfg(test)]
+mod tests {
+    use super::*;
+    use crate::calls::{self, Calls};
+    use crate::room::Numbers;
+
+    const SEATS: u64 = 4;
+    const MAILBOX: u64 = 0;
+
+    /// Pseudorandom numbers, by a linear congruential generator.
+    struct Random(u64);
+
+    impl Random {
+        fn below(&mut self, limit: u64) -> u64 {
+            self.0 = self.0.wrapping_mul(6_364_136_223_846_793_005).wrapping_add(1_442_695_040_888_963_407);
+            (self.0 >> 33) % limit
+        }
+    }
+
+    /// A room with a mailbox and some seats, whose journal has room for few entries.
+    fn room() -> Inside {
+        let mut inside = Inside::new(Handle::opened(|room| Numbers::open(9, room)).unwrap());
+        for _ in 0..SEATS {
+            inside.new_seat().unwrap();
+        }
+        let made = written(|name| unsafe { raw::seryugo_new_mailbox(&mut inside.handle, 0, name) });
+        assert_eq!(made, Ok(MAILBOX));
+        inside
+    }
+
+    fn receive(inside: &mut Inside, seat: u64, is_again: bool) {
+        inside.ask(is_again, |room| Numbers::ask(calls::RECV, room, seat, MAILBOX, is_again, &mut 0));
+    }
+
+    /// Makes some calls, and wakes each seat that is due.
+    fn call(inside: &mut Inside, random: &mut Random) {
+        for _ in 0..random.below(20) {
+            let seat = random.below(SEATS);
+            match random.below(4) {
+                0 | 1 => receive(inside, seat, false),
+                2 => inside.withdraw(seat),
+                _ => {
+                    Numbers::give(calls::SEND, &mut inside.handle, seat, MAILBOX, 5);
+                }
+            }
+            while let Some(due) = inside.next_due() {
+                receive(inside, due, true);
+            }
+        }
+    }
+
+    #[test]
+    fn parked_seats_are_counted() {
+        let mut random = Random(1);
+        let mut most = 0;
+        for _ in 0..1_000 {
+            let mut inside = room();
+            call(&mut inside, &mut random);
+            let parked = inside.parked;
+            let is_parked = |seat: &u64| unsafe { raw::seryugo_withdraw(&mut inside.handle, *seat) } == code::DONE;
+            assert_eq!(parked, (0..SEATS).filter(is_parked).count() as u64);
+            most = most.max(parked);
+        }
+        assert_eq!(most, SEATS - 1);
+    }
+}

@@ -80,6 +80,7 @@
 
 #![warn(missing_docs)]
 
+mod apart;
 mod bytes;
 mod calls;
 mod checker;

@@ -6,21 +6,17 @@ use std::sync::atomic::{AtomicU32, AtomicU8, Ordering};
 /// How often a thread doubles the time for which it spins, from once to 64 times.
 const DOUBLINGS: u32 = 6;
 
-/// A thread looks so often at a state. It spins between two looks. Once it has looked in vain, it doesn't look in its next waits: in
-/// one, and then in twice as many each time. It never yields: on a busy machine a yield gives up the whole time slice. For that
-/// thread alone.
-pub(crate) struct Looks {
-    times: u32,
-    most_without: u32,
+/// A thread looks `TIMES` times at a state. It spins between two looks. Once it has looked in vain, it doesn't look in its next
+/// waits: in one, and then in twice as many each time, up to `MOST_WITHOUT`. It never yields: on a busy machine a yield gives up the
+/// whole time slice. For that thread alone.
+pub(crate) struct Looks<const TIMES: u32, const MOST_WITHOUT: u32> {
     without: AtomicU32,
     left: AtomicU32,
 }
 
-impl Looks {
-    pub fn new(times: u32, most_without: u32) -> Looks {
+impl<const TIMES: u32, const MOST_WITHOUT: u32> Looks<TIMES, MOST_WITHOUT> {
+    pub fn new() -> Self {
         Looks {
-            times,
-            most_without,
             without: AtomicU32::new(0),
             left: AtomicU32::new(0),
         }
@@ -37,7 +33,7 @@ impl Looks {
 
     /// Whether the state is this before the last look.
     pub fn see(&self, state: &AtomicU8, this: u8) -> bool {
-        for look in 0..self.times {
+        for look in 0..TIMES {
             if state.load(Ordering::Acquire) == this {
                 self.without.store(0, Ordering::Relaxed);
                 return true;
@@ -49,7 +45,7 @@ impl Looks {
     }
 
     fn rest(&self) {
-        let without = (2 * self.without.load(Ordering::Relaxed)).clamp(1, self.most_without);
+        let without = (2 * self.without.load(Ordering::Relaxed)).clamp(1, MOST_WITHOUT);
         self.without.store(without, Ordering::Relaxed);
         self.left.store(without, Ordering::Relaxed);
     }

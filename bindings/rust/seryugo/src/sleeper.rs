@@ -1,17 +1,18 @@
 //! How a parked seat waits: by a thread that sleeps, or by a future's waker.
 
 use crate::looks::Looks;
+use std::mem;
 use std::sync::atomic::{AtomicBool, AtomicU64, AtomicU8, Ordering};
 use std::sync::{Condvar, Mutex, MutexGuard, PoisonError};
 use std::task::Waker;
 use std::time::{Duration, Instant};
 
-/// How often a thread looks before it sleeps, and in how many waits not at all, at the most, once that was in vain.
-const FEW_LOOKS: (u32, u32) = (8, 16);
+/// A thread looks so often before it sleeps. Once that was in vain, it doesn't look in so many waits at the most.
+type FewLooks = Looks<8, 16>;
 /// The same if an answer may be near: if its last call has woken a thread that slept, or the one that had woken it. That thread may
 /// answer as soon as it runs, and to wake it takes longer than the few looks. So two threads that answer each other don't sleep at
 /// each turn.
-const MANY_LOOKS: (u32, u32) = (50, 512);
+type ManyLooks = Looks<50, 512>;
 /// If a thread slept for longer than this, it sleeps at once in its next wait. The time until it runs again is part of a sleep.
 const SHORT_SLEEP: Duration = Duration::from_micros(100);
 /// How long a thread may look at the most. If less is left until its time limit, it sleeps at once.
@@ -37,12 +38,11 @@ pub(crate) enum Woken {
 /// The number of no seat.
 const NOBODY: u64 = u64::MAX;
 
-/// What a seat waits by. It has lines of memory for itself, so that a thread that looks slows no other one.
+/// What a seat waits by.
 ///
 /// The room returns a parked seat as due once, until the seat asks again, and each return has a wake. So a wake that is on its way
 /// as its seat withdraws the call comes late: it ends a later wait too early. Then the seat asks again in vain, and waits on. No
 /// wake for the last ask is lost, since the state becomes `AWAKE` only before an ask, and never between the ask and the sleep.
-#[repr(align(128))]
 pub(crate) struct Sleeper {
     /// The seat's number.
     number: u64,
@@ -55,9 +55,14 @@ pub(crate) struct Sleeper {
     // These are for the seat's thread alone.
     is_answer_near: AtomicBool,
     has_slept_long: AtomicBool,
-    few: Looks,
-    many: Looks,
+    few: FewLooks,
+    many: ManyLooks,
 }
+
+// All of it is in one line of memory. The thread that wakes and the one that is woken run on two processors, and each line that both
+// use has to go from one to the other.
+#[cfg(target_os = "linux")]
+const _: () = assert!(mem::size_of::<Sleeper>() <= 64);
 
 impl Sleeper {
     pub fn new(number: u64) -> Sleeper {
@@ -69,8 +74,8 @@ impl Sleeper {
             woken: Condvar::new(),
             is_answer_near: AtomicBool::new(false),
             has_slept_long: AtomicBool::new(false),
-            few: Looks::new(FEW_LOOKS.0, FEW_LOOKS.1),
-            many: Looks::new(MANY_LOOKS.0, MANY_LOOKS.1),
+            few: Looks::new(),
+            many: Looks::new(),
         }
     }
 

@@ -1,5 +1,6 @@
 //! The sleepers of a switchboard's seats.
 
+use crate::apart::Apart;
 use crate::sleeper::Sleeper;
 use std::sync::OnceLock;
 
@@ -9,9 +10,9 @@ const FIRST: usize = 8;
 const PARTS: usize = 40;
 
 /// A sleeper for each seat, by the seat's place among those that were made here. No sleeper moves, so that a thread that wakes
-/// another one needs neither the lock nor a count of who uses it.
+/// another one needs neither the lock nor a count of who uses it. A thread that looks at its own slows no other one.
 pub(crate) struct Sleepers {
-    parts: [OnceLock<Box<[Sleeper]>>; PARTS],
+    parts: [OnceLock<Box<[Apart<Sleeper>]>>; PARTS],
 }
 
 impl Sleepers {
@@ -25,15 +26,16 @@ impl Sleepers {
     #[inline]
     pub fn get(&self, place: u64) -> Option<&Sleeper> {
         let (part, at) = place_of(place)?;
-        self.parts.get(part)?.get()?.get(at)
+        self.parts.get(part)?.get()?.get(at).map(|sleeper| &sleeper.0)
     }
 
     /// The same, for a new seat.
     pub fn make(&self, place: u64) -> Option<&Sleeper> {
         let (part, at) = place_of(place)?;
         let first = place - at as u64;
-        let sleepers = self.parts.get(part)?.get_or_init(|| (first..).take(FIRST << part).map(Sleeper::new).collect());
-        sleepers.get(at)
+        let new = |number| Apart(Sleeper::new(number));
+        let sleepers = self.parts.get(part)?.get_or_init(|| (first..).take(FIRST << part).map(new).collect());
+        sleepers.get(at).map(|sleeper| &sleeper.0)
     }
 }
 

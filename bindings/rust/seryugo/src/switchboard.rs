@@ -1,5 +1,6 @@
 //! A room under a lock, on which threads call and wait.
 
+use crate::apart::Apart;
 use crate::entry::{found, Entry};
 use crate::error::Error;
 use crate::feed::Feed;
@@ -39,6 +40,7 @@ use std::sync::{Mutex, MutexGuard, PoisonError};
 /// # }
 /// ```
 pub struct Switchboard<R: Room = Bytes> {
+    /// Threads that wake others read what lies beside the lock.
     inside: Apart<Mutex<Inside>>,
     sleepers: Sleepers,
     /// No other switchboard of the process has it. The names of the objects have it too.
@@ -48,10 +50,6 @@ pub struct Switchboard<R: Room = Bytes> {
 
 /// How many switchboards were made.
 static MADE: AtomicU64 = AtomicU64::new(0);
-
-/// Lines of memory for the lock alone: threads that wake others read what lies beside it.
-#[repr(align(128))]
-struct Apart<T>(T);
 
 impl Switchboard {
     /// A switchboard of bytes with no objects, whose journal takes `limit` entries between two cuts, from 1 to 2^32.
