@@ -347,11 +347,7 @@ impl<R: Room> Switchboard<R> {
 
     #[inline]
     fn change_inside<T>(&self, call: impl FnOnce(&mut Inside) -> T) -> T {
-        let (answer, due) = self.make(call);
-        if let Some(due) = due {
-            self.wake(due, None);
-        }
-        answer
+        self.make(None, call)
     }
 
     /// The same for a seat, which waits next, maybe for what the woken one does.
@@ -363,7 +359,14 @@ impl<R: Room> Switchboard<R> {
     /// The same for a call that may park the seat, or that of a parked seat again.
     #[inline]
     pub(crate) fn ask_by(&self, sleeper: &Sleeper, is_again: bool, call: impl FnOnce(&mut Handle) -> u32) -> u32 {
-        self.change_inside_by(sleeper, |inside| inside.ask(is_again, call))
+        let mut inside = self.lock();
+        let code = inside.ask(is_again, call);
+        // A call that parks a free seat makes no seat due. If others were due before, a call that wakes them is on its way.
+        let may_be_due = is_again || code != code::PARKED;
+        let due = may_be_due.then(|| inside.next_due()).flatten();
+        drop(inside);
+        self.wake_at(due, Some(sleeper));
+        code
     }
 
     /// The same at the end of a wait: a call that parks its seat is withdrawn, before others have the lock.
@@ -390,11 +393,26 @@ impl<R: Room> Switchboard<R> {
 
     #[inline]
     fn change_inside_by<T>(&self, sleeper: &Sleeper, call: impl FnOnce(&mut Inside) -> T) -> T {
-        let (answer, due) = self.make(call);
-        if let Some(due) = due {
-            self.wake(due, Some(sleeper));
-        }
+        self.make(Some(sleeper), call)
+    }
+
+    /// Makes a call of that seat or of none under the lock, unlocks the room, and then wakes the next seat that is due.
+    #[inline]
+    fn make<T>(&self, by: Option<&Sleeper>, call: impl FnOnce(&mut Inside) -> T) -> T {
+        let mut inside = self.lock();
+        let answer = call(&mut inside);
+        let due = inside.next_due();
+        drop(inside);
+        self.wake_at(due, by);
         answer
+    }
+
+    /// Wakes the seat at this place, if a seat is due.
+    #[inline]
+    fn wake_at(&self, due: Option<u64>, by: Option<&Sleeper>) {
+        if let Some(due) = due.and_then(|place| self.sleepers.get(place)) {
+            self.wake(due, by);
+        }
     }
 
     /// Wakes a seat that is due, for a call of that seat or of none. A thread that is woken makes a call, which wakes the seat after.
@@ -413,16 +431,6 @@ impl<R: Room> Switchboard<R> {
     fn next_due(&self) -> Option<&Sleeper> {
         let due = self.lock().next_due();
         due.and_then(|place| self.sleepers.get(place))
-    }
-
-    /// Makes a call under the lock. The next seat that is due comes with the answer.
-    #[inline]
-    fn make<T>(&self, call: impl FnOnce(&mut Inside) -> T) -> (T, Option<&Sleeper>) {
-        let mut inside = self.lock();
-        let answer = call(&mut inside);
-        let due = inside.next_due();
-        drop(inside);
-        (answer, due.and_then(|place| self.sleepers.get(place)))
     }
 }
 
