@@ -1,7 +1,7 @@
 //! How long a thread looks for a wake before it sleeps.
 
 use std::hint;
-use std::sync::atomic::{AtomicU32, AtomicU8, Ordering};
+use std::sync::atomic::{AtomicU16, AtomicU8, Ordering};
 
 /// How often a thread doubles the time for which it spins, from once to 64 times.
 const DOUBLINGS: u32 = 6;
@@ -9,16 +9,16 @@ const DOUBLINGS: u32 = 6;
 /// A thread looks `TIMES` times at a state. It spins between two looks. Once it has looked in vain, it doesn't look in its next
 /// waits: in one, and then in twice as many each time, up to `MOST_WITHOUT`. It never yields: on a busy machine a yield gives up the
 /// whole time slice. For that thread alone.
-pub(crate) struct Looks<const TIMES: u32, const MOST_WITHOUT: u32> {
-    without: AtomicU32,
-    left: AtomicU32,
+pub(crate) struct Looks<const TIMES: u32, const MOST_WITHOUT: u16> {
+    without: AtomicU16,
+    left: AtomicU16,
 }
 
-impl<const TIMES: u32, const MOST_WITHOUT: u32> Looks<TIMES, MOST_WITHOUT> {
+impl<const TIMES: u32, const MOST_WITHOUT: u16> Looks<TIMES, MOST_WITHOUT> {
     pub fn new() -> Self {
         Looks {
-            without: AtomicU32::new(0),
-            left: AtomicU32::new(0),
+            without: AtomicU16::new(0),
+            left: AtomicU16::new(0),
         }
     }
 

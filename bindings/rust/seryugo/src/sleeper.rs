@@ -13,8 +13,9 @@ type FewLooks = Looks<8, 16>;
 /// answer as soon as it runs, and to wake it takes longer than the few looks. So two threads that answer each other don't sleep at
 /// each turn.
 type ManyLooks = Looks<50, 512>;
-/// If a thread slept for longer than this, it sleeps at once in its next wait. The time until it runs again is part of a sleep.
-const SHORT_SLEEP: Duration = Duration::from_micros(100);
+/// If more calls than this were made on the switchboard while a seat waited, its thread sleeps at once in its next wait. In a token
+/// round eight threads there are some 20 calls between two waits of each. To read the clock instead took 0.1 microseconds a sleep.
+const FEW_CALLS: u64 = 32;
 /// How long a thread may look at the most. If less is left until its time limit, it sleeps at once.
 const LONGEST_LOOK: Duration = Duration::from_micros(500);
 
@@ -54,9 +55,11 @@ pub(crate) struct Sleeper {
     woken: Condvar,
     // These are for the seat's thread alone.
     is_answer_near: AtomicBool,
-    has_slept_long: AtomicBool,
+    has_waited_long: AtomicBool,
     few: FewLooks,
     many: ManyLooks,
+    /// How many calls had been made on the switchboard when the seat was parked.
+    parked_at: AtomicU64,
 }
 
 // All of it is in one line of memory. The thread that wakes and the one that is woken run on two processors, and each line that both
@@ -73,16 +76,17 @@ impl Sleeper {
             waker: Mutex::new(None),
             woken: Condvar::new(),
             is_answer_near: AtomicBool::new(false),
-            has_slept_long: AtomicBool::new(false),
+            has_waited_long: AtomicBool::new(false),
             few: Looks::new(),
             many: Looks::new(),
+            parked_at: AtomicU64::new(0),
         }
     }
 
     /// Waits until it is woken. A wake that came before ends it at once.
     pub fn wait(&self) {
         if !self.is_soon_woken() {
-            self.timed(|| self.sleep());
+            self.sleep();
         }
         self.forget_wake();
     }
@@ -90,7 +94,7 @@ impl Sleeper {
     /// The same, but at most until then. Returns whether it was woken.
     pub fn wait_until(&self, deadline: Instant) -> bool {
         let has_time = deadline.saturating_duration_since(Instant::now()) > LONGEST_LOOK;
-        let is_woken = has_time && self.is_soon_woken() || self.timed(|| self.sleep_until(deadline));
+        let is_woken = has_time && self.is_soon_woken() || self.sleep_until(deadline);
         self.forget_wake();
         is_woken
     }
@@ -128,21 +132,13 @@ impl Sleeper {
         drop(waker);
     }
 
-    /// Sleeps, and notes whether that was long.
-    fn timed<T>(&self, sleep: impl FnOnce() -> T) -> T {
-        let began = Instant::now();
-        let end = sleep();
-        self.has_slept_long.store(began.elapsed() > SHORT_SLEEP, Ordering::Relaxed);
-        end
-    }
-
-    /// Looks for a while, unless it slept for long or looked in vain lately.
+    /// Looks for a while, unless the last wait was long or it looked in vain lately.
     fn is_soon_woken(&self) -> bool {
         let is_near = self.is_answer_near.load(Ordering::Relaxed);
         if is_near {
             self.is_answer_near.store(false, Ordering::Relaxed);
         }
-        if self.has_slept_long.load(Ordering::Relaxed) {
+        if self.has_waited_long.load(Ordering::Relaxed) {
             return false;
         }
         if is_near && self.many.are_due() {
@@ -194,6 +190,18 @@ impl Sleeper {
                 Woken::Task
             }
             _ => Woken::Awake,
+        }
+    }
+
+    /// The seat made a call that may park it, or made it again. So many calls were made on the switchboard.
+    #[inline]
+    pub fn note_ask(&self, is_again: bool, is_parked: bool, calls: u64) {
+        if is_again {
+            let meanwhile = calls.wrapping_sub(self.parked_at.load(Ordering::Relaxed));
+            self.has_waited_long.store(meanwhile > FEW_CALLS, Ordering::Relaxed);
+        }
+        if is_parked {
+            self.parked_at.store(calls, Ordering::Relaxed);
         }
     }
 
