@@ -187,7 +187,8 @@ uint32_t seryugo_swap(struct seryugo *room, uint64_t seat, uint64_t variable, ui
  *
  * A call that sends copies the bytes once, before it returns: the buffer stays yours. A message has 0 to 2^32 - 1 bytes. A null
  * pointer with length 0 is the empty message. SERYUGO_OUT_OF_BOUNDS: the pointer is null and the length isn't 0, or the length
- * is larger. Then, and if there is no memory for the copy (SERYUGO_NO_MEMORY), nothing is changed. Up to 14 bytes need no memory.
+ * is larger. Then, and if there is no memory for the copy (SERYUGO_NO_MEMORY), nothing is changed. The copy of up to 14 bytes
+ * allocates nothing.
  *
  * A call that receives hands a message over: it writes the struct, and you own the message until you free it. Up to 14 bytes lie
  * in the struct itself. Nothing is copied of more: the journal, other receivers and you share them. The bytes never change, and

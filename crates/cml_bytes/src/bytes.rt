@@ -39,7 +39,7 @@ impl Model for Bytes {
 pub struct TooLong;
 
 impl Bytes {
-    /// Copies these bytes. It allocates not at all for up to 14 of them, once for up to 255, and twice for more.
+    /// Copies these bytes. By the code, it allocates not at all for up to 14 of them, once for up to 255, and twice for more.
     pub fn from_slice(alloc: Global, source: &[u8]) -> Result<Result<Bytes, TooLong>, AllocError>
         ensures bytes { IfOk result (λ tested. IfOk tested (λ bytes. bytes ≡ source.now)) }
         ensures refused { IfOk result (λ tested. OnErr tested (IsTooLong source.now)) }

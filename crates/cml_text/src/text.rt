@@ -1,10 +1,11 @@
 //! A text: one word, short enough for a line.
-ghost use Rattle.std.specs.Prelude.{◌≡◌, ◌↔◌, true, false, IsTrue, IfOk};
+ghost use Rattle.std.specs.Prelude.{◌≡◌, ◌<◌, ◌^◌, true, false, IfOk};
 ghost use Rattle.std.specs.Fmt.{decimal};
 ghost use Rattle.cml_bytes.specs.Sizes.{IsShort};
 ghost use Rattle.cml_text.specs.Text.{is_text_byte, is_text};
 
 use cml_bytes::Bytes;
+use itoa::Buffer;
 use std::alloc::{AllocError, Global};
 use std::error::Error;
 use std::fmt;
@@ -55,13 +56,14 @@ pub fn is_text(bytes: &[u8]) -> bool
 }
 
 impl Text {
-    ghost use Rattle.std.specs.Prelude.{IsOk, OnOk, OnErr};
+    ghost use Rattle.std.specs.Prelude.{IsOk, IsErr, IsOkAnd, OnOk, OnErr};
 
-    /// Makes a text by copying these bytes. It allocates only for more than 14 of them.
+    /// Makes a text by copying these bytes. By the code, it allocates only for more than 14 of them.
     pub fn from_bytes(alloc: Global, bytes: &[u8]) -> Result<Result<Text, BadText>, AllocError>
         ensures text { IfOk result (λ tested. IfOk tested (λ text. text ≡ bytes.now)) }
         ensures good { IfOk result (λ tested. OnOk tested (is_text bytes.now ≡ true)) }
         ensures bad { IfOk result (λ tested. OnErr tested (is_text bytes.now ≡ false)) }
+        ensures bad_text { is_text bytes.now ≡ false → IsOkAnd result (λ tested. IsErr tested) }
         ensures short { IsShort bytes.now → IsOk result }
     {
         if !is_text(bytes) {
@@ -73,12 +75,13 @@ impl Text {
         }
     }
 
-    /// Makes a text of a number's decimal digits, without zeros in front.
+    /// Makes a text of a number's decimal digits, without zeros in front. By the code, it allocates only for more than 14.
     pub fn of_number(alloc: Global, number: u64) -> Result<Text, AllocError>
-        ensures { IfOk result (λ text. text ≡ decimal number) }
+        ensures digits { IfOk result (λ text. text ≡ decimal number) }
+        ensures short { number < 10 ^ 14 → IsOk result }
     {
-        let digits = number.to_string(alloc)?;
-        match Bytes::from_vec(alloc, digits.into_bytes())? {
+        let mut digits = Buffer::new();
+        match Bytes::from_slice(alloc, digits.format(number).as_bytes())? {
             Ok(bytes) => Ok(Text { bytes }),
             Err(_) => unreachable!(),
         }
