@@ -7,6 +7,7 @@ use Rattle.cml_board.specs.declared.entry.Reply.{Reply}
 use Rattle.cml_board.specs.declared.entry.Reply.TheVariants as reply
 use Rattle.cml_room.specs.Room.{RoomShown, MayAsk, MayAskAgain}
 use Rattle.cml_room.specs.Asking.{Asks}
+use Rattle.cml_room.specs.Woken.{HasAsked, IfHeard}
 use Rattle.cml_board.specs.declared.outcome.Outcome.{Outcome}
 use Rattle.cml_board.specs.declared.outcome.Outcome.TheVariants as outcome
 use Rattle.cml_c.specs.declared.bare.Bare.{Bare}
@@ -67,6 +68,7 @@ MayMake true room seat call = MayAskAgain room seat call
 pub record Makes {M : Type 0} (sure again : Bool) (seat : ℕ) (call : Call M) (code : ℕ) (Gives : Outcome M → Type 0) (old new : RoomShown M) : Type 0 where
   pub becomes : Outcome M
   pub asks : Asks chunk sure (MayMake again old seat call) old new seat call becomes
+  pub asked : IfHeard becomes (HasAsked seat old.notices new.notices)
   pub told : code ≡ number (told_outcome becomes)
   pub gives : Gives becomes
 

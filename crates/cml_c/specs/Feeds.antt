@@ -5,6 +5,7 @@ use Rattle.cml_board.specs.declared.outcome.Refusal.{Refusal}
 use Rattle.cml_lanes.specs.Ends.{FeedShown, Ended}
 use Rattle.cml_lanes.specs.Feeds.{OpensAFeed, Ends}
 use Rattle.cml_room.specs.Room.{RoomShown, floor_of}
+use Rattle.cml_room.specs.Woken.{KeepsWoken}
 use Rattle.cml_c.specs.declared.code.Code.{Code}
 use Rattle.cml_c.specs.declared.code.Code.TheVariants.{Done, Nothing, NoMemory}
 use Rattle.cml_c.specs.declared.handle.Slot.{Slot}
@@ -44,9 +45,10 @@ TakesBytes told from to old new =
 abbrev pub TellsPort : {M : Type 0} → ℕ → ℕ → FeedShown M → FeedShown M → Type 0
 TellsPort told after old new = (told ≡ number Done) × (after ≡ old.port.0) × (new ≡ old)
 
--- the feed ends, and no seat's state is changed
+-- the feed ends; no seat's state is changed, and the same seats count as woken
 pub record EndsFeed {M : Type 0} (feed code : ℕ) (old new : RoomShown M) : Type 0 where
   pub outcome : Result (Option (Ended M)) Refusal
   pub floor : Ends feed (floor_of old) (floor_of new) outcome
   pub seats : new.seats ≡ old.seats
+  pub woken : KeepsWoken old.notices new.notices
   pub told : code ≡ number (told_outcome outcome)

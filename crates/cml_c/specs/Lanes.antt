@@ -6,6 +6,7 @@ use Rattle.cml_lanes.specs.Floor.{FloorShown}
 use Rattle.cml_lanes.specs.Ends.{LaneShown, Ended}
 use Rattle.cml_lanes.specs.Lanes.{OpensALane, ClosesCounted, Drops}
 use Rattle.cml_room.specs.Room.{RoomShown, floor_of}
+use Rattle.cml_room.specs.Woken.{KeepsWoken}
 use Rattle.cml_c.specs.declared.code.Code.{Code}
 use Rattle.cml_c.specs.declared.code.Code.TheVariants.{Done, Gone, NoMemory, Full, StillOpen, OutOfBounds}
 use Rattle.cml_c.specs.declared.handle.Slot.{Slot}
@@ -31,11 +32,12 @@ abbrev pub LeavesOpened : {X : Type 0} → (X → Kept) → Slot → Slot → Re
 LeavesOpened wrap from to (Ok opened) = to.kept ≡ Some (wrap opened.0)
 LeavesOpened wrap from to (Err refusal) = to ≡ from
 
--- this became of the opening, in a room whose seats stay
+-- this became of the opening, in a room whose seats stay, of which the same count as woken
 pub record Opens {M X : Type 0} (wrap : X → Kept) (becomes : FloorShown M → FloorShown M → Result (X × ℕ) Refusal → Type 0) (from to : Slot) (code before after : ℕ) (old new : RoomShown M) : Type 0 where
   pub outcome : Result (X × ℕ) Refusal
   pub floor : becomes (floor_of old) (floor_of new) outcome
   pub seats : new.seats ≡ old.seats
+  pub woken : KeepsWoken old.notices new.notices
   pub told : code ≡ number (told_outcome outcome)
   pub written : after ≡ written_opened before outcome
   pub slot : LeavesOpened wrap from to outcome
@@ -101,6 +103,7 @@ pub record ClosesEnd {M : Type 0} (sure : Bool) (end : Ended M) (lane : Resource
   pub outcome : Result ⊤ (Ended M × Refusal)
   pub floor : ClosesCounted chunk sure (floor_of old) (floor_of new) end outcome
   pub seats : new.seats ≡ old.seats
+  pub woken : KeepsWoken old.notices new.notices
   pub code : told ≡ number (told_closed outcome)
   pub left : lane ≡ left_closed outcome
 
@@ -124,5 +127,6 @@ pub record DropsLane {M : Type 0} (sure : Bool) (number_of code before after : �
   pub outcome : Result (ℕ × Bool) Refusal
   pub floor : Drops chunk sure number_of (floor_of old) (floor_of new) outcome
   pub seats : new.seats ≡ old.seats
+  pub woken : KeepsWoken old.notices new.notices
   pub told : code ≡ number (told_dropped outcome)
   pub written : after ≡ written_dropped before outcome

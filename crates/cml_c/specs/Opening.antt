@@ -2,7 +2,7 @@
 use Rattle.std.specs.Prelude.{ℕ, ◌≡◌, ◌≤◌, ◌^◌, ◌⊎◌, [], Some, Ok, Box}
 use Rattle.std.specs.declared.alloc.Global.{Global}
 use Rattle.cml_board.specs.History.{no_entries}
-use Rattle.cml_room.specs.Room.{RoomShown}
+use Rattle.cml_room.specs.Room.{RoomShown, NoneDue}
 use Rattle.cml_c.specs.declared.code.Code.TheVariants.{Done, NoMemory, OutOfBounds}
 use Rattle.cml_c.specs.declared.handle.Slot.{Slot}
 use Rattle.cml_c.specs.declared.kept.Kept.{Kept}
@@ -23,6 +23,7 @@ pub record IsNew {M : Type 0} (limit : ℕ) (room : RoomShown M) : Type 0 where
   pub lanes : room.lanes ≡ []
   pub feeds : room.feeds ≡ []
   pub seats : room.seats ≡ []
+  pub quiet : NoneDue room
 
 -- a handle to this is written; or there is no memory for one, and the slot is as it was
 abbrev pub Writes : Kept → ℕ → Slot → Slot → Type 0

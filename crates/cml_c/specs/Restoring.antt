@@ -7,7 +7,7 @@ use Rattle.cml_journal.specs.declared.stop.Halt.TheVariants as halt
 use Rattle.cml_journal.specs.Checks.{Progress, IsSoFar, IsRestored}
 use Rattle.cml_journal.specs.Escapes.{message_of_word}
 use Rattle.cml_journal.specs.Numbers.{number_of}
-use Rattle.cml_room.specs.Room.{RoomShown}
+use Rattle.cml_room.specs.Room.{RoomShown, NoneDue}
 use Rattle.cml_room.specs.declared.state.State.TheVariants.{Left}
 use Rattle.cml_c.specs.declared.code.Code.{Code}
 use Rattle.cml_c.specs.declared.code.Code.TheVariants.{NoMemory, OutOfBounds, Unlawful}
@@ -28,6 +28,7 @@ pub record IsRoomOn {M : Type 0} (restored : RestoredShown M) (room : RoomShown 
   pub lanes : room.lanes ≡ replicate restored.makers.lanes None
   pub feeds : room.feeds ≡ replicate restored.makers.feeds None
   pub seats : room.seats ≡ replicate restored.makers.seats Left
+  pub quiet : NoneDue room
 
 -- a handle to such a room is written; or there is no memory, and the slot is as it was
 abbrev pub OpensOn : {M : Type 0} → (Resource M → Kept) → RestoredShown M → Slot → Slot → ℕ → Type 0

@@ -4,6 +4,7 @@ use Rattle.cml_board.specs.declared.want.Want.{Want}
 use Rattle.cml_room.specs.Rising.{MakesFewDue, WantOf}
 use Rattle.cml_room.specs.Room.{RoomShown, MayAsk, state_of, with_state, floor_of}
 use Rattle.cml_room.specs.declared.state.State.TheVariants.{Free, Left, Parked}
+use Rattle.cml_room.specs.Woken.{HasAsked, KeepsWoken}
 use Rattle.cml_c.specs.declared.code.Code.TheVariants.{Done, Gone, NoMemory}
 use Rattle.cml_c.specs.Codes.{number}
 
@@ -14,6 +15,7 @@ pub record SeatIsMade {M : Type 0} (code before after : ℕ) (old new : RoomShow
   pub number : after ≡ length old.seats
   pub seats : new.seats ≡ old.seats ++ Free ∷ []
   pub floor : floor_of new ≡ floor_of old
+  pub woken : KeepsWoken old.notices new.notices
 
 pub record NoSeatIsMade {M : Type 0} (code before after : ℕ) (old new : RoomShown M) : Type 0 where
   pub told : code ≡ number NoMemory
@@ -29,6 +31,7 @@ pub record SeatLeaves {M : Type 0} (seat code : ℕ) (old new : RoomShown M) : T
   pub may : MayAsk old seat
   pub seats : new.seats ≡ with_state old seat Left
   pub floor : floor_of new ≡ floor_of old
+  pub woken : KeepsWoken old.notices new.notices
 
 pub record SeatMayNot {M : Type 0} (seat code : ℕ) (old new : RoomShown M) : Type 0 where
   pub told : code ≡ number Gone
@@ -47,6 +50,7 @@ pub record CallIsWithdrawn {M : Type 0} (seat code : ℕ) (old new : RoomShown M
   pub seats : new.seats ≡ with_state old seat Free
   pub floor : floor_of new ≡ floor_of old
   pub few : MakesFewDue old new (WantOf old seat) None
+  pub asked : HasAsked seat old.notices new.notices
 
 pub record NoCallIsWithdrawn {M : Type 0} (seat code : ℕ) (old new : RoomShown M) : Type 0 where
   pub told : code ≡ number Gone

@@ -9,7 +9,7 @@ ghost use Rattle.cml_c.specs.Opening.{IsLimit, IsNew, OpensARoom, Writes};
 
 use crate::code::Code;
 use crate::handle::{Handle, Slot};
-use crate::kept::{Kept, Resource, Stocked, for_both, on_either};
+use crate::kept::{Kept, Resource, Stocked, for_both};
 use crate::telling::write_number;
 use cml_board::{Message, Refusal};
 use cml_room::Room;
@@ -80,10 +80,19 @@ pub extern "C" fn seryugo_close(handle: Handle) {
 pub extern "C" fn seryugo_new_seat(room: &mut Handle, seat: &mut u64) -> u32
     ensures { OnEither (λ M sure. OnRoom (MakesSeat result seat.old seat.new)) (seat.new ≡ seat.old) result room.old.kept room.new.kept }
 {
-    on_either!(room, Room(room) => match room.room.new_seat() {
+    for_both!(room.as_mut(), resource => new_seat(resource, seat))
+}
+
+fn new_seat<M: Message>(resource: &mut Resource<M>, seat: &mut u64) -> u32
+    ensures { OnRoom (MakesSeat result seat.old seat.new) (seat.new ≡ seat.old) result resource.old resource.new }
+{
+    let Resource::Room(room) = resource else {
+        return Code::WrongHandle.number();
+    };
+    match room.room.new_seat() {
         Ok(number) => write_number(number, seat),
         Err(refusal) => Code::of_refusal(refusal).number(),
-    })
+    }
 }
 
 /// Makes a seat leave: it makes no more calls.
@@ -91,7 +100,16 @@ pub extern "C" fn seryugo_new_seat(room: &mut Handle, seat: &mut u64) -> u32
 pub extern "C" fn seryugo_leave(room: &mut Handle, seat: u64) -> u32
     ensures { OnEither (λ M sure. OnRoom (Leaves seat result)) ⊤ result room.old.kept room.new.kept }
 {
-    on_either!(room, Room(room) => code_of(room.room.leave(seat)))
+    for_both!(room.as_mut(), resource => leave(resource, seat))
+}
+
+fn leave<M: Message>(resource: &mut Resource<M>, seat: u64) -> u32
+    ensures { OnRoom (Leaves seat result) ⊤ result resource.old resource.new }
+{
+    match resource {
+        Resource::Room(room) => code_of(room.room.leave(seat)),
+        _ => Code::WrongHandle.number(),
+    }
 }
 
 /// Withdraws a parked seat's call. Fails with `Gone` if the seat isn't parked.

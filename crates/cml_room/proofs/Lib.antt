@@ -17,3 +17,7 @@ pub mod Quiet
 pub mod Rising
 pub mod Reaching
 pub mod Restoring
+pub mod Woken
+pub mod Running
+pub mod Frames
+pub mod InTurn

@@ -263,3 +263,11 @@ pub in_row : (rows : QueuesShown) (places : List Place) (k : ℕ) (waiter : Wait
     → waiter.source ≡ source → is_in rows (row_of source) k ≡ true
 in_row rows places k waiter source listed found same =
     listed k (row_of source) ∙ (ap (λ (o : Option Place). row_in o (row_of source)) found ∙ eq-eqb (row_of source) (row_of waiter.source) (ap row_of (sym same)))
+
+-- there are 64 rows
+pub row_within : (source : ℕ) → row_of source < 64
+row_within source = omega arith
+
+-- the row with the number of a row
+pub row_itself : (source row : ℕ) → row_of source ≡ row → row_of source ≡ row_of row
+row_itself source row is = omega (arith, is)

@@ -163,24 +163,6 @@ roused_due So olds news number roused none = by_old (slice_get olds number) refl
 notice_at : (places : List Place) (number : ℕ) (waiter : Waiter) → slice_get places number ≡ Some (Waiting waiter) → slice_get (notices_in places) number ≡ Some waiter.notice
 notice_at places number waiter found = slice_get-map notice_by places number ∙ ap (option_map notice_by) found
 
-woken_place : (o : Option Place) → option_map notice_by o ≡ Some Woken → (waiter : Waiter) × (o ≡ Some (Waiting waiter)) × (waiter.notice ≡ Woken)
-woken_place None is = absurd (none-some _ is)
-woken_place (Some Free) is = absurd (let clash : Nothing ≡ Woken = same_Some _ _ is in cc)
-woken_place (Some Left) is = absurd (let clash : Nothing ≡ Woken = same_Some _ _ is in cc)
-woken_place (Some (Waiting waiter)) is = (waiter, refl, same_Some _ _ is)
-
-alike_woken : (olds news : List Place) (number : ℕ) → AreAlike olds news → slice_get (notices_in olds) number ≡ Some Woken → slice_get (notices_in news) number ≡ Some Woken
-alike_woken olds news number alike was =
-    let here = woken_place (slice_get olds number) (sym (slice_get-map notice_by olds number) ∙ was) in
-    let is = alike.woken number here.0 here.1 here.2 in
-    notice_at news number is.0 is.1 ∙ ap Some is.2
-
--- who was woken before is woken still
-pub next_woken : (olds mids news : List Place) (given : Option ℕ) (number : ℕ) → AreAlike olds mids → WakesNext mids news given
-    → slice_get (notices_in olds) number ≡ Some Woken → slice_get (notices_in news) number ≡ Some Woken
-next_woken olds mids news given number alike woken was =
-    alike_woken mids news number (wakes_alike mids news given woken) (alike_woken olds mids number alike was)
-
 -- whether a seat is due is what it was before one was woken
 wake_due : (mids news : List Place) (given : Option ℕ) (number : ℕ) → WakesNext mids news given → place_due false (slice_get news number) ≡ place_due false (slice_get mids number)
 wake_due mids news None number woken = ap (λ l. place_due false (slice_get l number)) woken.0

@@ -1,6 +1,5 @@
 -- Who becomes due, over what is done with a seat.
 use Rattle.std.proofs.Common.{◌≡◌, ◌≢◌, ℕ, ◌⊎◌, inl, inr, Bool, true, false, List, [], ◌∷◌, ◌++◌, get_or, slice_get, slice_set, Option, Some, None, refl, sym, ap, subst, ◌∙◌}
-use Rattle.std.specs.Prelude.{◌||◌}
 use Rattle.std.specs.Option.{option_map}
 use Rattle.std.proofs.lemmas.Option.{none-some, same_Some, slice_get-map}
 use Rattle.std.proofs.lemmas.Bool.{true≢false, false≢true}
@@ -17,14 +16,12 @@ use Rattle.cml_room.specs.declared.place.Place.TheVariants.{Free, Waiting, Left}
 use Rattle.cml_room.specs.declared.place.Waiter.{Waiter}
 use Rattle.cml_room.specs.declared.state.State.TheVariants as state
 use Rattle.cml_room.specs.News.{Helps}
-use Rattle.cml_room.specs.Places.{state_by, states_in, notices_in, is_noted, place_due, AreRoused}
+use Rattle.cml_room.specs.Places.{state_by, states_in, notice_by, notices_in, is_noted, AreRoused}
 use Rattle.cml_room.specs.Rising.{HasRisen, OneEach, IsForOne, RisesFew, BecomesDue, WantOf, MakesFewDue, MakesNoneDue}
-use Rattle.cml_room.specs.Room.{RoomShown}
+use Rattle.cml_room.specs.Room.{RoomShown, has_notice}
 use Rattle.cml_room.specs.Seats.{freed}
-use Rattle.cml_room.specs.Stalling.{IsStalled}
 use Rattle.cml_room.proofs.Ending.{with_freed, freed_here, freed_from, parked_place}
 use Rattle.cml_room.proofs.Listing.{set_here}
-use Rattle.cml_room.proofs.Noting.{due_is}
 use Rattle.cml_room.proofs.Rousing.{waits_on, free_kept, noted_or, not_noted}
 use Rattle.cml_room.proofs.Turning.{room_of}
 
@@ -138,17 +135,17 @@ set_none places news number place set quiet = λ k on risen. elim (this_or_other
   | inr other ↦ risen_other places news k on risen (ap (λ l. slice_get l k) set ∙ slice_get-set_other places number k place other)
 ]
 
-not_due : (all : Bool) (notice : Notice) → (all || is_noted notice) ≡ false → (all ≡ false) × (notice ≡ Nothing)
-not_due true notice is = absurd (true≢false is)
-not_due false Nothing is = (refl, refl)
-not_due false Due is = absurd (true≢false is)
-not_due false Woken is = absurd (true≢false is)
+not_noted_is : (notice : Notice) → is_noted notice ≡ false → notice ≡ Nothing
+not_noted_is Nothing is = refl
+not_noted_is Due is = absurd (true≢false is)
+not_noted_is Woken is = absurd (true≢false is)
 
-due_place : (o : Option Place) → place_due false o ≡ true → (waiter : Waiter) × (o ≡ Some (Waiting waiter)) × (is_noted waiter.notice ≡ true)
-due_place None is = absurd (false≢true is)
-due_place (Some Free) is = absurd (false≢true is)
-due_place (Some Left) is = absurd (false≢true is)
-due_place (Some (Waiting waiter)) is = (waiter, refl, is)
+-- who has a notice waits
+noted_place : (o : Option Place) → has_notice (option_map notice_by o) ≡ true → (waiter : Waiter) × (o ≡ Some (Waiting waiter)) × (is_noted waiter.notice ≡ true)
+noted_place None is = absurd (false≢true is)
+noted_place (Some Free) is = absurd (false≢true is)
+noted_place (Some Left) is = absurd (false≢true is)
+noted_place (Some (Waiting waiter)) is = (waiter, refl, is)
 
 -- no seat became due, and then the seat is free
 pub freed_none : (places waiting news : List Place) (number : ℕ) → ((k : ℕ) (on : Want) → ¬ (HasRisen places waiting k on)) → news ≡ with_freed waiting number
@@ -212,64 +209,56 @@ module _ {M : Type 0} where
   }
 
   -- a seat of the room that became due
-  becomes : (floor floor' : FloorShown M) (olds lates : List Place) (all all' : Bool) (k : ℕ) (on : Want) → all' ≡ all
+  becomes : (floor floor' : FloorShown M) (olds lates : List Place) (all all' : Bool) (k : ℕ) (on : Want)
       → BecomesDue (room_of floor (states_in olds) (notices_in olds) all) (room_of floor' (states_in lates) (notices_in lates) all') k on → HasRisen olds lates k on
-  becomes floor floor' olds lates all all' k on same due =
+  becomes floor floor' olds lates all all' k on due =
       let was = parked_place olds k on due.waits in
-      let undue = not_due all was.0.notice (sym (ap (place_due all) was.1) ∙ (sym (due_is floor olds all k) ∙ due.before)) in
-      let now = due_place (slice_get lates k) (ap (λ a. place_due a (slice_get lates k)) (sym (same ∙ undue.0)) ∙ (sym (due_is floor' lates all' k) ∙ due.now)) in
+      let now = noted_place (slice_get lates k) (sym (ap has_notice (slice_get-map notice_by lates k)) ∙ due.now) in
       record {
         was = was.0;
         late = now.0;
-        quiet = record { here = was.1; nothing = undue.1 };
+        quiet = record {
+          here = was.1;
+          nothing = not_noted_is was.0.notice (sym (ap has_notice (slice_get-map notice_by olds k ∙ ap (option_map notice_by) was.1)) ∙ due.before);
+        };
         same = was.2;
         here = now.1;
         due = now.2;
       }
 
-  -- who became due, told of the room
+  -- who became due, said of the room
   pub few_due : (room : RoomShown M) (floor floor' : FloorShown M) (olds lates : List Place) (all all' : Bool) (Handed : Want → Type 0) (news : Option News)
-      → room_of floor (states_in olds) (notices_in olds) all ≡ room → all' ≡ all → RisesFew floor'.board.history news Handed olds lates
+      → room_of floor (states_in olds) (notices_in olds) all ≡ room → RisesFew floor'.board.history news Handed olds lates
       → MakesFewDue room (room_of floor' (states_in lates) (notices_in lates) all') Handed news
-  few_due room floor floor' olds lates all all' Handed news view same few =
+  few_due room floor floor' olds lates all all' Handed news view few =
       let made : MakesFewDue (room_of floor (states_in olds) (notices_in olds) all) (room_of floor' (states_in lates) (notices_in lates) all') Handed news = record {
-        why = λ k on due. few.why k on (becomes floor floor' olds lates all all' k on same due);
+        why = λ k on due. few.why k on (becomes floor floor' olds lates all all' k on due);
         one = λ for_one j k on first second.
-            few.one for_one j k on (becomes floor floor' olds lates all all' j on same first) (becomes floor floor' olds lates all all' k on same second);
+            few.one for_one j k on (becomes floor floor' olds lates all all' j on first) (becomes floor floor' olds lates all all' k on second);
       } in
       subst (λ (r : RoomShown M). MakesFewDue r (room_of floor' (states_in lates) (notices_in lates) all') Handed news) view made
 
-  -- what a seat wants, told of the room
+  -- the same, where the seat hands on what it waited for
   pub few_of : (room : RoomShown M) (floor floor' : FloorShown M) (olds lates : List Place) (all all' : Bool) (number : ℕ) (news : Option News)
-      → room_of floor (states_in olds) (notices_in olds) all ≡ room → all' ≡ all
+      → room_of floor (states_in olds) (notices_in olds) all ≡ room
       → RisesFew floor'.board.history news (λ on. slice_get (states_in olds) number ≡ Some (state.Parked on)) olds lates
       → MakesFewDue room (room_of floor' (states_in lates) (notices_in lates) all') (WantOf room number) news
-  few_of room floor floor' olds lates all all' number news view same few =
-      let made : MakesFewDue (room_of floor (states_in olds) (notices_in olds) all) (room_of floor' (states_in lates) (notices_in lates) all')
-      (WantOf (room_of floor (states_in olds) (notices_in olds) all) number) news = record {
-        why = λ k on due. few.why k on (becomes floor floor' olds lates all all' k on same due);
-        one = λ for_one j k on first second.
-            few.one for_one j k on (becomes floor floor' olds lates all all' j on same first) (becomes floor floor' olds lates all all' k on same second);
-      } in
-      subst (λ (r : RoomShown M). MakesFewDue r (room_of floor' (states_in lates) (notices_in lates) all') (WantOf r number) news) view made
+  few_of room floor floor' olds lates all all' number news view few =
+      subst (λ (r : RoomShown M). MakesFewDue r (room_of floor' (states_in lates) (notices_in lates) all') (WantOf r number) news) view
+      (few_due (room_of floor (states_in olds) (notices_in olds) all) floor floor' olds lates all all' (WantOf (room_of floor (states_in olds) (notices_in olds) all) number) news refl few)
 
   -- no seat became due, said of the room
   pub none_due : (room : RoomShown M) (floor floor' : FloorShown M) (olds lates : List Place) (all all' : Bool)
-      → room_of floor (states_in olds) (notices_in olds) all ≡ room → all' ≡ all → ((k : ℕ) (on : Want) → ¬ (HasRisen olds lates k on))
+      → room_of floor (states_in olds) (notices_in olds) all ≡ room → ((k : ℕ) (on : Want) → ¬ (HasRisen olds lates k on))
       → MakesNoneDue room (room_of floor' (states_in lates) (notices_in lates) all')
-  none_due room floor floor' olds lates all all' view same none =
+  none_due room floor floor' olds lates all all' view none =
       let made : MakesNoneDue (room_of floor (states_in olds) (notices_in olds) all) (room_of floor' (states_in lates) (notices_in lates) all') =
-      λ k on due. none k on (becomes floor floor' olds lates all all' k on same due) in
+      λ k on due. none k on (becomes floor floor' olds lates all all' k on due) in
       subst (λ (r : RoomShown M). MakesNoneDue r (room_of floor' (states_in lates) (notices_in lates) all')) view made
 
-  -- who becomes due after a call of others than seats
-  pub settled_due : (room : RoomShown M) (floor floor' : FloorShown M) (olds lates : List Place) (all all' : Bool) (news : Option News)
-      → room_of floor (states_in olds) (notices_in olds) all ≡ room → states_in lates ≡ states_in olds
-      → (¬ (IsStalled floor' (states_in olds)) → RisesFew floor'.board.history news (λ on. ⊥) olds lates × (all' ≡ all))
-      → ¬ (IsStalled floor' (states_in lates)) → MakesFewDue room (room_of floor' (states_in lates) (notices_in lates) all') (λ on. ⊥) news
-  settled_due room floor floor' olds lates all all' news view states few moves =
-      let made = few (λ stalled. moves (subst (IsStalled floor') (sym states) stalled)) in
-      few_due room floor floor' olds lates all all' (λ on. ⊥) news view made.1 made.0
+  -- where nothing is changed, none did
+  pub none_same : (room : RoomShown M) → MakesNoneDue room room
+  none_same room = λ k on due. true≢false (sym due.now ∙ due.before)
 
   -- without news no seat does
   pub none_by : (old new : RoomShown M) → MakesFewDue old new (λ on. ⊥) None → MakesNoneDue old new

@@ -1,7 +1,7 @@
 -- What stays of seats of which some become due.
-use Rattle.std.proofs.Common.{◌≡◌, ℕ, ◌<◌, ◌⊎◌, inl, inr, Bool, true, false, List, length, get_or, slice_get, slice_set, Some, refl, sym, ap, subst, ◌∙◌, arith}
+use Rattle.std.proofs.Common.{◌≡◌, ◌≢◌, ℕ, ◌<◌, ◌⊎◌, inl, inr, Bool, true, false, List, length, get_or, slice_get, slice_set, Option, Some, refl, sym, ap, subst, ◌∙◌, arith}
 use Rattle.std.proofs.lemmas.Option.{same_Some, slice_get_within, slice_get-get_or, get_or_from_slice_get}
-use Rattle.std.proofs.lemmas.Bool.{true≢false, false≢true, eqb-true}
+use Rattle.std.proofs.lemmas.Bool.{true≢false, false≢true, eqb-true, eq-eqb}
 use Rattle.std.proofs.lemmas.List.{length-set, length-map, ext_get_or}
 use Rattle.std.proofs.Math.ListN.{get_or-map}
 use Rattle.cml_board.specs.declared.want.Want.{Want}
@@ -21,7 +21,7 @@ use Rattle.cml_room.specs.News.{object_of, source_of}
 use Rattle.cml_room.specs.Waking.{reaches, AreAt}
 use Rattle.cml_room.proofs.Listing.{set_here, in_row}
 use Rattle.cml_queues.specs.Queues.{QueuesShown, is_in}
-use Rattle.std.specs.Prelude.{◌==◌, ◌&&◌, ◌||◌}
+use Rattle.std.specs.Prelude.{◌==◌, ◌&&◌, ◌||◌, ⊤}
 
 -- a seat that was roused does what it did
 pub roused_state : (place : Place) → state_by (roused place) ≡ state_by place
@@ -245,6 +245,17 @@ not_reached olds news object source rows So listed are seen number waiter quiet 
         let old = waited So olds news number waiter are quiet.here in
         let row = in_row rows olds number old.0 source listed old.1 (old.3 ∙ reached_source object source waiter is) in
         absurd (not_noted waiter.notice quiet.nothing (seen number row waiter quiet.here is))
+
+-- nor in this row, where all in the row were looked at
+pub not_in_row : (olds news : List Place) (source : ℕ) (rows : QueuesShown) → AreListed rows row_in olds → AreRoused (λ waiter. ⊤) olds news
+    → ((number : ℕ) → is_in rows (row_of source) number ≡ true → (waiter : Waiter) → slice_get news number ≡ Some (Waiting waiter) → is_noted waiter.notice ≡ true)
+    → (number : ℕ) (waiter : Waiter) → IsQuiet news number waiter → row_of waiter.source ≢ row_of source
+not_in_row olds news source rows listed are seen number waiter quiet same =
+    let old = waited (λ w. ⊤) olds news number waiter are quiet.here in
+    let row : is_in rows (row_of source) number ≡ true =
+    listed number (row_of source)
+    ∙ (ap (λ (o : Option Place). row_in o (row_of source)) old.1 ∙ eq-eqb (row_of source) (row_of old.0.source) (sym same ∙ ap row_of (sym old.3))) in
+    not_noted waiter.notice quiet.nothing (seen number row waiter quiet.here)
 
 module _ {M : Type 0} where
   pub at_kept : (So : Waiter → Type 0) (history : List (Entry M)) (olds news : List Place) → AreRoused So olds news → AreAt history olds → AreAt history news

@@ -65,3 +65,13 @@ module _ {M : Type 0} where
       each k Free found = absurd (none_free places k none found)
       each k (Waiting waiter) found = by_notice k waiter waiter.notice refl found
       each k Left found = tt
+
+  -- nor if each that waits would wait
+  pub idle_by_waiting : (history : List (Entry M)) (places : List Place) → free_in (states_in places) ≡ 0
+      → ((k : ℕ) (waiter : Waiter) → slice_get places k ≡ Some (Waiting waiter) → Waits history waiter.want) → AreIdle history (states_in places)
+  idle_by_waiting history places none waits = all_idle history places each
+    where
+      each : (k : ℕ) (place : Place) → slice_get places k ≡ Some place → IsIdle history (state_by place)
+      each k Free found = absurd (none_free places k none found)
+      each k (Waiting waiter) found = waits k waiter found
+      each k Left found = tt

@@ -6,3 +6,6 @@ pub mod Waking
 pub mod Room
 pub mod Rising
 pub mod Asking
+pub mod Running
+pub mod Frames
+pub mod InTurn

@@ -14,7 +14,7 @@ use Rattle.cml_room.specs.declared.place.Waiter.{Waiter}
 use Rattle.cml_room.specs.declared.state.State.TheVariants.{Parked}
 use Rattle.cml_room.specs.News.{news_in, Helps}
 use Rattle.cml_room.specs.Places.{is_noted, IsQuiet}
-use Rattle.cml_room.specs.Room.{RoomShown, state_of, is_due}
+use Rattle.cml_room.specs.Room.{RoomShown, has_notice, state_of}
 
 -- the seat waited for this and wasn't due, and is due now
 pub record HasRisen (olds news : List Place) (number : ℕ) (on : Want) : Type 0 where
@@ -42,11 +42,11 @@ module _ {M : Type 0} where
     pub why : (other : ℕ) (on : Want) → HasRisen olds lates other on → Helps history news on ⊎ Handed on
     pub one : IsForOne history news → OneEach olds lates
 
-  -- the seat waits for this and wasn't due, and is due now
+  -- the seat waited for this and had no notice, and has one now
   pub record BecomesDue (old new : RoomShown M) (number : ℕ) (on : Want) : Type 0 where
     pub waits : state_of old number ≡ Some (Parked on)
-    pub before : is_due old number ≡ false
-    pub now : is_due new number ≡ true
+    pub before : has_notice (slice_get old.notices number) ≡ false
+    pub now : has_notice (slice_get new.notices number) ≡ true
 
   -- what the seat waited for, which may be left for the next
   abbrev pub WantOf : RoomShown M → ℕ → Want → Type 0

@@ -40,9 +40,15 @@ module _ {M : Type 0} where
   abbrev pub state_of : RoomShown M → ℕ → Option State
   state_of room number = slice_get room.seats number
 
-  -- the seat waits, and something has come since it last asked for which it may go on
+  -- the seat waits, and has a notice; or all that wait are due, which is the alarm. What this means is said below and in
+  -- `Running`: a seat that isn't due sleeps rightly, and which calls give a notice is in `Frames`
   abbrev pub is_due : RoomShown M → ℕ → Bool
   is_due room number = is_parked (state_of room number) && (room.all_due || has_notice (slice_get room.notices number))
+
+  -- no seat has a notice, and it isn't so that all that wait are due
+  pub record NoneDue (room : RoomShown M) : Type 0 where
+    pub all : room.all_due ≡ false
+    pub each : (seat : ℕ) → has_notice (slice_get room.notices seat) ≡ false
 
   -- another seat that waits for the very same is due
   pub record HasMate (room : RoomShown M) (on : Want) : Type 0 where
@@ -56,9 +62,9 @@ module _ {M : Type 0} where
     pub rests : WouldWait room.board on ⊎ HasMate room on
     pub moves : ¬ (IsStalled (floor_of room) room.seats)
 
-  -- no seat is left asleep: each seat that waits and is not due sleeps rightly
-  abbrev pub NobodyLeftAsleep : RoomShown M → Type 0
-  NobodyLeftAsleep room = (number : ℕ) (on : Want) → state_of room number ≡ Some (Parked on) → is_due room number ≡ false → SleepsRightly room on
+  -- each seat that waits and is not due sleeps rightly. Whether a due seat was woken is for the law in `Running`
+  abbrev pub AllSleepRightly : RoomShown M → Type 0
+  AllSleepRightly room = (number : ℕ) (on : Want) → state_of room number ≡ Some (Parked on) → is_due room number ≡ false → SleepsRightly room on
 
   -- the seats, where this one's state is this, and no other's is changed
   abbrev pub with_state : RoomShown M → ℕ → State → List State

@@ -2,6 +2,7 @@
 //! None of its calls blocks.
 #![tactic(auto)]
 
+mod laws;
 mod news;
 mod notice;
 mod place;
@@ -12,6 +13,10 @@ mod turns;
 mod waiting;
 mod waking;
 
+pub use laws::{
+    asked_is_not_due, next_due_comes_to_an_end, next_due_returns_anew, nobody_is_left_asleep,
+    one_next_due_is_enough, woken_is_returned,
+};
 pub use notice::Notice;
 pub use room::Room;
 pub use state::State;

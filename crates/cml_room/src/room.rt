@@ -1,15 +1,15 @@
-ghost use Rattle.std.specs.Prelude.{◌≡◌, ◌≢◌, ℕ, true, false, ◌^◌, ◌<◌, ◌≤◌, [], ◌∷◌, ◌++◌, length, replicate, slice_get, Some, None, IfOk, IfErr, OnOk, IfSome, IfNone};
+ghost use Rattle.std.specs.Prelude.{◌≡◌, ◌≢◌, ℕ, true, false, ◌^◌, ◌<◌, ◌≤◌, [], ◌∷◌, ◌++◌, length, replicate, Some, None, IfOk, IfErr, OnOk};
 ghost use Rattle.cml_board.specs.declared.outcome.Refusal.TheVariants.{Gone, NoMemory};
 ghost use Rattle.cml_board.specs.declared.want.Want.{Want};
-ghost use Rattle.cml_room.specs.declared.notice.Notice.TheVariants.{Woken};
 ghost use Rattle.cml_board.specs.History.{no_entries, Lawful};
 ghost use Rattle.cml_board.specs.Makers.{seats_of, lanes_of, feeds_of};
 ghost use Rattle.cml_board.specs.Since.{KeepsSince};
 ghost use Rattle.cml_board.specs.Shown.{KeepsMailboxes, KeepsPorts, KeepsClosed, KeepsVariables, KeepsLogs};
 ghost use Rattle.cml_lanes.specs.Floor.{KeepsLanes, KeepsFeeds};
 ghost use Rattle.cml_room.specs.Rising.{MakesNoneDue};
-ghost use Rattle.cml_room.specs.Seats.{free_in};
-ghost use Rattle.cml_room.specs.Room.{floor_of, is_due, state_of, MayAsk, SleepsRightly, with_state};
+ghost use Rattle.cml_room.specs.Seats.{free_in, parked_in};
+ghost use Rattle.cml_room.specs.Room.{floor_of, is_due, state_of, MayAsk, AllSleepRightly, NoneDue, SleepsRightly, with_state};
+ghost use Rattle.cml_room.specs.Running.{Other, GivesNext, IsMade};
 
 mod asking;
 mod feeds;
@@ -57,6 +57,7 @@ impl<M: Message, L: MessageLog<M>> Room<M, L> {
         ensures lanes { IfOk result (λ room. room.lanes ≡ []) }
         ensures feeds { IfOk result (λ room. room.feeds ≡ []) }
         ensures seats { IfOk result (λ room. room.seats ≡ []) }
+        ensures quiet { IfOk result (λ room. NoneDue room) }
     {
         let board = Board::new(alloc, limit)?;
         Ok(Room {
@@ -75,6 +76,7 @@ impl<M: Message, L: MessageLog<M>> Room<M, L> {
         ensures seats { IfOk result (λ room. room.seats ≡ replicate restored.makers.seats State.Left) }
         ensures small { IfOk result (λ room. length room.seats < 2 ^ 63) }
         ensures none { IfOk result (λ room. (number : ℕ) → is_due room number ≡ false) }
+        ensures quiet { IfOk result (λ room. NoneDue room) }
 
         // No number of a seat, a lane or a feed in the journal is given again.
         ensures behind_seats { IfOk result (λ room. seats_of room.board.history ≤ length room.seats) }
@@ -120,6 +122,9 @@ impl<M: Message, L: MessageLog<M>> Room<M, L> {
         // The same for the entries since the last cut: what was received since, followed by what waits, is what waited at the
         // cut, followed by what was sent since.
         ensures since { KeepsSince L.CHUNK self.now.board }
+
+        // A seat that waits and isn't due sleeps rightly.
+        ensures asleep { AllSleepRightly self.now }
     {
         // These facts are in the contract of the board's `journal`.
         let board = self.floor.board();
@@ -156,8 +161,8 @@ impl<M: Message, L: MessageLog<M>> Room<M, L> {
         self.seats.state(seat)
     }
 
-    /// Says whether the seat is due: it waits, and something has come since it last asked for which it may go on. A seat that
-    /// waits and is not due sleeps rightly. So wake each seat that `next_due` returns, and none is left asleep.
+    /// Says whether the seat is due: it waits, and has a notice or all that wait are due. A seat that waits and is not due sleeps
+    /// rightly. So wake each seat that `next_due` returns.
     pub fn is_due(&self, seat: u64) -> bool
         ensures due { result ≡ is_due self.now seat }
         ensures asleep { result ≡ false → (on : Want) → state_of self.now seat ≡ Some (State.Parked on) → SleepsRightly self.now on }
@@ -166,14 +171,10 @@ impl<M: Message, L: MessageLog<M>> Room<M, L> {
     }
 
     /// Returns the next seat that is due, and was not returned since it last asked. Wake its thread, and let it ask again. The
-    /// seat that has been due the longest comes first. Returns `None` if each seat that is due was returned.
+    /// seat that has been due the longest comes first. Returns `None` if each seat that is due was returned. One call after each
+    /// other call is enough (`one_next_due_is_enough`).
     pub fn next_due(&mut self) -> Option<u64>
-        ensures given { IfSome result (λ number. (is_due self.old number ≡ true) × (slice_get self.old.notices number ≢ Some Woken) × (slice_get self.new.notices number ≡ Some Woken)) }
-        ensures woken { (number : ℕ) → slice_get self.old.notices number ≡ Some Woken → slice_get self.new.notices number ≡ Some Woken }
-        ensures all { IfNone result ((number : ℕ) → is_due self.new number ≡ true → slice_get self.new.notices number ≡ Some Woken) }
-        ensures same { (number : ℕ) → is_due self.new number ≡ is_due self.old number }
-        ensures floor { floor_of self.new ≡ floor_of self.old }
-        ensures seats { self.new.seats ≡ self.old.seats }
+        ensures gives { GivesNext result self.old self.new }
     {
         rouse_due(&mut self.seats);
         self.seats.wake_next()
@@ -188,7 +189,9 @@ impl<M: Message, L: MessageLog<M>> Room<M, L> {
         ensures lanes { self.new.lanes ≡ self.old.lanes }
         ensures feeds { self.new.feeds ≡ self.old.feeds }
         ensures refused { IfErr result (λ refusal. (refusal ≡ NoMemory) × (self.new ≡ self.old)) }
+        ensures step { IsMade Other self.old self.new }
         ensures none { MakesNoneDue self.old self.new }
+        ensures alarm { self.new.all_due ≡ self.old.all_due }
     {
         let number = self.seats.count() as u64;
         if self.seats.add().is_err() {
@@ -198,19 +201,27 @@ impl<M: Message, L: MessageLog<M>> Room<M, L> {
     }
 
     /// Makes the seat leave: it makes no more calls. Fails with `Gone` if there is no such seat, or if it waits or has left. If
-    /// no seat is free then, all that wait are due, since they may be stalled.
+    /// no seat is free then, all that wait are due, since they may be stalled. If none waits, nothing is noted.
     pub fn leave(&mut self, seat: u64) -> Result<(), Refusal>
         ensures left { OnOk result (MayAsk self.old seat × (self.new.seats ≡ with_state self.old seat State.Left)) }
         ensures board { self.new.board ≡ self.old.board }
         ensures lanes { self.new.lanes ≡ self.old.lanes }
         ensures feeds { self.new.feeds ≡ self.old.feeds }
         ensures refused { IfErr result (λ refusal. (refusal ≡ Gone) × ¬ (MayAsk self.old seat) × (self.new ≡ self.old)) }
-        ensures none { free_in self.new.seats ≢ 0 → MakesNoneDue self.old self.new }
+        ensures step { IsMade Other self.old self.new }
+        ensures none { MakesNoneDue self.old self.new }
+
+        // It raises the alarm, by which all that wait are due, only if no seat is free then, and some wait.
+        ensures alarm { free_in self.new.seats ≢ 0 → self.new.all_due ≡ self.old.all_due }
+        ensures alone { parked_in self.new.seats ≡ 0 → self.new.all_due ≡ self.old.all_due }
     {
         if self.seats.state(seat) != Some(State::Free) {
             return Err(Refusal::Gone);
         }
         self.seats.leave(seat);
+        if self.seats.parked() == 0 {
+            return Ok(());
+        }
         // Those that wait may be stalled now.
         if self.seats.free() == 0 {
             self.seats.rouse_all();

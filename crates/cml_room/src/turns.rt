@@ -6,10 +6,11 @@ ghost use Rattle.cml_lanes.specs.Floor.{FloorShown};
 ghost use Rattle.cml_room.specs.declared.place.Place.TheVariants as place;
 ghost use Rattle.cml_room.specs.declared.place.Waiter.{Waiter};
 ghost use Rattle.cml_room.specs.News.{IsOf};
-ghost use Rattle.cml_room.specs.Places.{states_in};
+ghost use Rattle.cml_room.specs.Places.{states_in, notices_in};
 ghost use Rattle.cml_room.specs.Rising.{HasRisen, RisesFew};
 ghost use Rattle.cml_room.specs.Stalling.{IsStalled};
 ghost use Rattle.cml_room.specs.Waking.{AreAt, Follows, IsWatched, NoneForgotten, WouldWait};
+ghost use Rattle.cml_room.specs.Running.{HasAsked, KeepsWoken};
 
 use crate::news::News;
 use crate::place::{Place, Waiter};
@@ -35,8 +36,9 @@ pub fn answer_turn<M: Message, L: MessageLog<M>>(
     ensures states { states_in seats.new.places ≡ slice_set (states_in seats.old.places) number State.Free }
     ensures kept { (before : FloorShown M) → IsWatched before seats.old.places seats.old.all_due → Follows news before.board floor.now.board
         → IsWatched floor.now seats.new.places seats.new.all_due }
-    ensures few { HasRoom floor.now.board → RisesFew floor.now.board.history news (λ on. slice_get (states_in seats.old.places) number ≡ Some (State.Parked on)) seats.old.places seats.new.places }
+    ensures few { RisesFew floor.now.board.history news (λ on. slice_get (states_in seats.old.places) number ≡ Some (State.Parked on)) seats.old.places seats.new.places }
     ensures due { HasRoom floor.now.board → seats.new.all_due ≡ seats.old.all_due }
+    ensures asked { HasAsked number (notices_in seats.old.places) (notices_in seats.new.places) }
 {
     if seats.parked() == 0 {
         return;
@@ -64,6 +66,7 @@ pub fn end_turn<M: Message, L: MessageLog<M>>(
         → (HasRoom before.board → HasRoom floor.now.board) → IsWatched floor.now seats.new.places seats.new.all_due }
     ensures few { RisesFew floor.now.board.history news (λ on. slice_get (states_in seats.old.places) number ≡ Some (State.Parked on)) seats.old.places seats.new.places }
     ensures due { seats.new.all_due ≡ seats.old.all_due }
+    ensures asked { HasAsked number (notices_in seats.old.places) (notices_in seats.new.places) }
 {
     match waiter_at(seats, number) {
         Some(waiter) => {
@@ -101,6 +104,7 @@ pub fn park<M: Message, L: MessageLog<M>>(
     ensures watched { IsWatched floor.now seats.new.places seats.new.all_due }
     ensures none { (other : ℕ) (on : Want) → ¬ (HasRisen seats.old.places seats.new.places other on) }
     ensures due { seats.new.all_due ≡ seats.old.all_due }
+    ensures asked { HasAsked number (notices_in seats.old.places) (notices_in seats.new.places) }
 {
     begin_wait(floor, seats, number, want);
     if is_stalled(floor, seats) {
@@ -125,6 +129,7 @@ fn begin_wait<M: Message, L: MessageLog<M>>(
     ensures rests { seats.new.all_due ≡ false → NoneForgotten floor.now.board seats.new.places }
     ensures none { (other : ℕ) (on : Want) → ¬ (HasRisen seats.old.places seats.new.places other on) }
     ensures due { seats.new.all_due ≡ seats.old.all_due }
+    ensures asked { HasAsked number (notices_in seats.old.places) (notices_in seats.new.places) }
 {
     if seats.state(number) == Some(State::Free) {
         let source = source_of(floor.board(), object_of(want));
@@ -146,9 +151,10 @@ pub fn settle<M: Message, L: MessageLog<M>>(
     ensures states { states_in seats.new.places ≡ states_in seats.old.places }
     ensures kept { (before : FloorShown M) → IsWatched before seats.old.places seats.old.all_due → Follows news before.board floor.now.board
         → IsWatched floor.now seats.new.places seats.new.all_due }
-    ensures few { (before : FloorShown M) → IsWatched before seats.old.places seats.old.all_due → Follows news before.board floor.now.board
-        → HasRoom floor.now.board → ¬ (IsStalled floor.now (states_in seats.old.places))
-        → RisesFew floor.now.board.history news (λ on. ⊥) seats.old.places seats.new.places × (seats.new.all_due ≡ seats.old.all_due) }
+    ensures few { RisesFew floor.now.board.history news (λ on. ⊥) seats.old.places seats.new.places }
+    ensures alarm { (before : FloorShown M) → IsWatched before seats.old.places seats.old.all_due → Follows news before.board floor.now.board
+        → HasRoom floor.now.board → ¬ (IsStalled floor.now (states_in seats.old.places)) → seats.new.all_due ≡ seats.old.all_due }
+    ensures woken { KeepsWoken (notices_in seats.old.places) (notices_in seats.new.places) }
 {
     if seats.parked() == 0 {
         return;

@@ -5,13 +5,14 @@ ghost use Rattle.cml_board.specs.History.{kind_of, Lawful};
 ghost use Rattle.cml_room.specs.declared.place.Place.TheVariants as place;
 ghost use Rattle.cml_room.specs.declared.place.Waiter.{Waiter};
 ghost use Rattle.cml_room.specs.News.{object_of, source_of, helps, Helps, NoNews, IsOf};
-ghost use Rattle.cml_room.specs.Places.{is_noted, place_due, AreAlike, AreRoused, IsMate, IsQuiet};
+ghost use Rattle.cml_room.specs.Places.{is_noted, notices_in, place_due, row_of, AreAlike, AreRoused, IsMate, IsQuiet};
 ghost use Rattle.cml_room.specs.Rising.{IsForOne, OneEach};
 ghost use Rattle.cml_room.specs.Waking.{reaches, WouldWait, AreAt};
+ghost use Rattle.cml_room.specs.Running.{KeepsWoken};
 
 use crate::news::News;
 use crate::place::{Place, Waiter};
-use crate::seats::Seats;
+use crate::seats::{ROWS, Seats};
 use cml_board::{Board, Kind, Message, Name, Want};
 use cml_log::MessageLog;
 
@@ -102,22 +103,51 @@ pub fn rouse_due(seats: &mut Seats)
     ensures quiet { (number : ℕ) (waiter : Waiter) → IsQuiet seats.new.places number waiter → seats.old.all_due ≡ false }
     ensures same { (number : ℕ) → place_due false (slice_get seats.new.places number) ≡ place_due seats.old.all_due (slice_get seats.old.places number) }
     ensures due { seats.new.all_due ≡ false }
+    ensures woken { KeepsWoken (notices_in seats.old.places) (notices_in seats.new.places) }
 {
     if seats.all_due() {
         rouse_waiting(seats);
     }
 }
 
-/// Rouses each seat that waits.
+/// Rouses each seat that waits, and looks at no other: there may be many that have left.
 fn rouse_waiting(seats: &mut Seats)
     ensures roused { AreRoused (λ waiter. ⊤) seats.old.places seats.new.places }
     ensures none { (number : ℕ) (waiter : Waiter) → ¬ (IsQuiet seats.new.places number waiter) }
     ensures due { seats.new.all_due ≡ false }
 {
-    for number in 0..seats.count() {
-        seats.rouse(number as u64);
+    for row in 0..ROWS {
+        rouse_row(seats, row as u64);
     }
     seats.all_roused();
+}
+
+/// Rouses each seat that waits in the row of this object.
+fn rouse_row(seats: &mut Seats, source: u64)
+    ensures roused { AreRoused (λ waiter. ⊤) seats.old.places seats.new.places }
+    ensures each { (number : ℕ) (waiter : Waiter) → IsQuiet seats.new.places number waiter → row_of waiter.source ≢ row_of source }
+    ensures due { seats.new.all_due ≡ seats.old.all_due }
+{
+    let mut next = seats.first_at(source);
+    for _ in 0..seats.most() {
+        let Some(number) = next else {
+            return;
+        };
+        rouse_here(seats, number);
+        next = seats.after(number);
+    }
+}
+
+/// Makes the seat due, if it waits.
+fn rouse_here(seats: &mut Seats, number: u64)
+    ensures roused { AreRoused (λ waiter. ⊤) seats.old.places seats.new.places }
+    ensures this { (waiter : Waiter) → slice_get seats.new.places number ≡ Some (place.Waiting waiter) → is_noted waiter.notice ≡ true }
+    ensures rows { seats.new.rows ≡ seats.old.rows }
+    ensures due { seats.new.all_due ≡ seats.old.all_due }
+{
+    if let Some(Place::Waiting(_)) = seats.place(number) {
+        seats.rouse(number);
+    }
 }
 
 /// Makes due the one that has waited the longest for this.

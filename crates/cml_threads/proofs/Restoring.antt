@@ -1,5 +1,5 @@
 -- How many entries of a history are of seats, and the lefts in which they are counted.
-use Rattle.std.proofs.Common.{◌≡◌, ℕ, zero, suc, ◌+◌, ◌≤◌, ◌⊎◌, inl, inr, List, [], ◌∷◌, ◌++◌, length, slice_get, Some, refl, sym, ap, ◌∙◌, arith}
+use Rattle.std.proofs.Common.{◌≡◌, ℕ, zero, suc, ◌+◌, ◌<◌, ◌≤◌, ◌⊎◌, inl, inr, List, [], ◌∷◌, ◌++◌, length, slice_get, Some, refl, sym, ap, ◌∙◌, arith}
 use Rattle.std.proofs.lemmas.Option.{same_Some, none-some}
 use Rattle.std.proofs.lemmas.List.Sums.{sum_by-append, sum_by-cons}
 use Rattle.cml_board.specs.declared.entry.Who.{Who}
@@ -7,7 +7,7 @@ use Rattle.cml_board.specs.declared.entry.Who.TheVariants.{Seat, Lane, Feed}
 use Rattle.cml_board.specs.declared.entry.Entry.{Entry}
 use Rattle.cml_board.specs.History.{ring_by, entries_in, rings_in}
 use Rattle.cml_board.specs.Makers.{behind_seat, seats_of}
-use Rattle.cml_threads.specs.Seating.{Sitting, answers_in}
+use Rattle.cml_threads.specs.Seating.{Sitting, answers_in, share_at}
 
 one_at_most : (who : Who) → ring_by who ≤ 1
 one_at_most (Seat number) = omega arith
@@ -47,6 +47,20 @@ numbers_more lefts news more count many next pushed numbers = λ number left fou
     elim (push_cases lefts more left number (ap (λ (l : List Sitting). slice_get l number) (sym pushed) ∙ found)) [
       | inl old ↦ numbers number left old
       | inr new ↦ sym (ap (λ (s : Sitting). s.number) new.0) ∙ next ∙ sym many ∙ new.1
+    ]
+
+-- the share of the next left
+pub next_share : (number now answers : ℕ) → (number ≡ 0 → now ≡ answers) → (0 < number → now ≡ 0) → now ≡ share_at number answers
+next_share zero now answers first none = first refl
+next_share (suc number) now answers first none = none (omega arith)
+
+pub shares_more : (lefts news : List Sitting) (more : Sitting) (count answers : ℕ) → length lefts ≡ count → more.share ≡ share_at count answers → news ≡ lefts ++ more ∷ []
+    → ((number : ℕ) (left : Sitting) → slice_get lefts number ≡ Some left → left.share ≡ share_at number answers)
+    → (number : ℕ) (left : Sitting) → slice_get news number ≡ Some left → left.share ≡ share_at number answers
+shares_more lefts news more count answers many next pushed shares = λ number left found.
+    elim (push_cases lefts more left number (ap (λ (l : List Sitting). slice_get l number) (sym pushed) ∙ found)) [
+      | inl old ↦ shares number left old
+      | inr new ↦ sym (ap (λ (s : Sitting). s.share) new.0) ∙ (next ∙ ap (λ n. share_at n answers) (sym many ∙ new.1))
     ]
 
 abbrev share_of : Sitting → ℕ

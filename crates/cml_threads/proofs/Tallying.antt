@@ -1,11 +1,12 @@
 -- What becomes of a seat's call in a hall, by what became of it in the room.
 use Rattle.std.proofs.Common.{◌≡◌, ℕ, Bool, subst}
 use Rattle.cml_board.specs.declared.call.Call.{Call}
-use Rattle.cml_board.specs.Outcome.{HasRoom}
 use Rattle.cml_board.specs.declared.outcome.Outcome.{Outcome}
 use Rattle.cml_room.specs.Room.{RoomShown}
 use Rattle.cml_room.specs.Asking.{Asks}
-use Rattle.cml_room.specs.Rising.{MakesFewDue, WantOf, news_by}
+use Rattle.cml_room.specs.Frames.{Turns}
+use Rattle.cml_room.specs.Rising.{news_by}
+use Rattle.cml_room.specs.Running.{asked_by}
 use Rattle.cml_threads.specs.Seating.{Sitting}
 use Rattle.cml_threads.specs.Asking.{Tallies}
 use Rattle.cml_threads.specs.Asking as hosted
@@ -27,10 +28,11 @@ module _ {M : Type 0} where
       let here : hosted.Asks chunk sure (may room before.number) (hall_of room book) (hall_of new book') before after call outcome = (moved, tallies) in
       subst (λ (h : Hosted M). hosted.Asks chunk sure (may (room_of h) before.number) h (hall_of new book') before after call outcome) view here
 
-  -- who became due in the room, seen in the hall
-  pub told_few : (hall : Hosted M) (room new : RoomShown M) (book book' : ℕ) (before number : ℕ) (outcome : Outcome M) → hall_of room book ≡ hall → number ≡ before
-      → (HasRoom new.board → MakesFewDue room new (WantOf room number) (news_by outcome))
-      → HasRoom new.board → MakesFewDue (room_of hall) (room_of (hall_of new book')) (WantOf (room_of hall) before) (news_by outcome)
-  told_few hall room new book book' before number outcome view same few has_room =
-      let here : MakesFewDue room new (WantOf room before) (news_by outcome) = subst (λ n. MakesFewDue room new (WantOf room n) (news_by outcome)) same (few has_room) in
-      subst (λ (h : Hosted M). MakesFewDue (room_of h) new (WantOf (room_of h) before) (news_by outcome)) view here
+  -- what the call left of the room's seats, seen in the hall
+  pub told_turns : (hall : Hosted M) (room new : RoomShown M) (book book' : ℕ) (before number : ℕ) (outcome : Outcome M) → hall_of room book ≡ hall → number ≡ before
+      → Turns number (asked_by number outcome) (news_by outcome) room new
+      → Turns before (asked_by before outcome) (news_by outcome) (room_of hall) (room_of (hall_of new book'))
+  told_turns hall room new book book' before number outcome view same turns =
+      let here : Turns before (asked_by before outcome) (news_by outcome) room new =
+      subst (λ n. Turns n (asked_by n outcome) (news_by outcome) room new) same turns in
+      subst (λ (h : Hosted M). Turns before (asked_by before outcome) (news_by outcome) (room_of h) new) view here

@@ -1,9 +1,11 @@
 //! What a thread that waits looks at, and sleeps on.
+ghost use Rattle.std.specs.Prelude.{◌≡◌};
 
 use crate::looks::Looks;
 use boxcar::Vec as Table;
 use crossbeam_utils::CachePadded;
 use std::alloc::{AllocError, Global};
+use std::marker::Model;
 use std::sync::Wait;
 use std::sync::atomic::{AtomicU64, Ordering};
 
@@ -93,6 +95,21 @@ impl Bell {
     }
 }
 
+/// The seat whose bell was rung, and whether its thread slept. Only `Bells::ring` makes one.
+#[derive(Drop)]
+pub struct Rung {
+    seat: u64,
+    slept: bool,
+}
+
+impl Model for Rung {
+    ghost use Rattle.std.specs.Prelude.{ℕ};
+
+    ghost Value = { ℕ };
+
+    ghost view = { λ r. r.seat };
+}
+
 /// The bells of all seats from one on, by number. They are read without the lock.
 #[derive(Drop)]
 pub struct Bells {
@@ -122,19 +139,22 @@ impl Bells {
         }
     }
 
-    /// Wakes the seat's thread, for a call of another seat. If it doesn't sleep yet, it won't. Whether it slept.
-    pub fn ring(&self, seat: u64, by: u64) -> bool {
-        match self.bell(seat) {
+    /// Wakes the seat's thread, for a call of another seat. If it doesn't sleep yet, it won't.
+    pub fn ring(&self, seat: u64, by: u64) -> Rung
+        ensures { result ≡ seat }
+    {
+        let slept = match self.bell(seat) {
             Some(bell) => bell.ring(by),
             None => false,
-        }
+        };
+        Rung { seat, slept }
     }
 
-    /// The seat has just made a call and rung for another one, which slept or not. If that one slept, or had rung for this seat, it
-    /// may answer soon: so in its next wait this seat's thread may look for longer.
-    pub fn note_rung(&self, seat: u64, other: u64, slept: bool) {
+    /// The seat has just made a call and rung for another one. If that one slept, or had rung for this seat, it may answer soon: so
+    /// in its next wait this seat's thread may look for longer.
+    pub fn note_rung(&self, seat: u64, other: &Rung) {
         if let Some(bell) = self.bell(seat)
-            && (slept || bell.rung_by.load(Ordering::Relaxed) == other)
+            && (other.slept || bell.rung_by.load(Ordering::Relaxed) == other.seat)
         {
             bell.is_answer_near.store(1, Ordering::Relaxed);
         }

@@ -1,4 +1,4 @@
-ghost use Rattle.std.specs.Prelude.{◌≡◌, ◌^◌, ◌≤◌, [], ◌∷◌, ◌++◌, length, reverse, IfOk, IfErr, OnOk, MatchResult};
+ghost use Rattle.std.specs.Prelude.{◌≡◌, ◌≢◌, ◌^◌, ◌≤◌, [], ◌∷◌, ◌++◌, length, reverse, IfOk, IfErr, OnOk, MatchResult};
 ghost use Rattle.cml_board.specs.declared.outcome.Refusal.TheVariants.{Gone, NoMemory};
 ghost use Rattle.cml_board.specs.History.{no_entries, entries_in, Lawful};
 ghost use Rattle.cml_board.specs.Since.{KeepsSince};
@@ -6,8 +6,13 @@ ghost use Rattle.cml_board.specs.Shown.{KeepsMailboxes, KeepsPorts, KeepsClosed,
 ghost use Rattle.cml_lanes.specs.Floor.{KeepsLanes, KeepsFeeds, KeepsRings};
 ghost use Rattle.cml_lanes.specs.Reserving.{Reserves};
 ghost use Rattle.cml_lanes.specs.Cutting.{CutsAFloor, CutsFloor, NotCut};
+ghost use Rattle.cml_room.specs.Frames.{KeepsSeats};
+ghost use Rattle.cml_room.specs.Rising.{MakesNoneDue};
+ghost use Rattle.cml_room.specs.Room.{AllSleepRightly, NoneDue};
+ghost use Rattle.cml_room.specs.Running.{Other, IsMade};
+ghost use Rattle.cml_room.specs.Seats.{free_in, parked_in};
 ghost use Rattle.cml_threads.specs.Seating.{Sitting};
-ghost use Rattle.cml_threads.specs.Hosting.{floor_of, MayAsk, with_state};
+ghost use Rattle.cml_threads.specs.Hosting.{floor_of, room_of, MayAsk, with_state};
 
 mod asking;
 mod counting;
@@ -62,6 +67,7 @@ impl<M: Message, L: MessageLog<M>, Led: Ledger> Hall<M, L, Led> {
         ensures lanes { IfOk result (λ hall. hall.lanes ≡ []) }
         ensures feeds { IfOk result (λ hall. hall.feeds ≡ []) }
         ensures seats { IfOk result (λ hall. hall.seats ≡ []) }
+        ensures quiet { IfOk result (λ hall. NoneDue (room_of hall)) }
     {
         let room = Room::new(alloc, limit)?;
         let (book, rest) = blank.open::<Led>();
@@ -102,6 +108,9 @@ impl<M: Message, L: MessageLog<M>, Led: Ledger> Hall<M, L, Led> {
         // The same for the entries since the last cut: what was received since, followed by what waits, is what waited at the
         // cut, followed by what was sent since.
         ensures since { KeepsSince L.CHUNK self.now.board }
+
+        // A seat that waits and isn't due sleeps rightly.
+        ensures asleep { AllSleepRightly (room_of self.now) }
     {
         self.room.board()
     }
@@ -110,7 +119,7 @@ impl<M: Message, L: MessageLog<M>, Led: Ledger> Hall<M, L, Led> {
     pub fn reserve(&mut self, n: usize) -> Result<(), Refusal>
         ensures reserves { Reserves (floor_of self.old) (floor_of self.new) n result }
         ensures rings { KeepsRings (floor_of self.old) (floor_of self.new) }
-        ensures seats { self.new.seats ≡ self.old.seats }
+        ensures kept { KeepsSeats (room_of self.old) (room_of self.new) }
         ensures book { self.new.book ≡ self.old.book }
     {
         self.room.reserve(n)
@@ -122,7 +131,7 @@ impl<M: Message, L: MessageLog<M>, Led: Ledger> Hall<M, L, Led> {
         ensures cut { CutsAFloor (floor_of self.old) (floor_of self.new) result }
         ensures reserved { self.old.board.reserved ≤ self.new.board.reserved }
         ensures rings { KeepsRings (floor_of self.old) (floor_of self.new) }
-        ensures seats { self.new.seats ≡ self.old.seats }
+        ensures kept { KeepsSeats (room_of self.old) (room_of self.new) }
         ensures book { self.new.book ≡ self.old.book }
     {
         self.room.cut()
@@ -133,7 +142,7 @@ impl<M: Message, L: MessageLog<M>, Led: Ledger> Hall<M, L, Led> {
         ensures taken { IfOk result (λ taken. reverse taken.items ++ self.old.board.past ≡ self.old.board.history) }
         ensures cut { MatchResult result (λ _. CutsFloor (floor_of self.old) (floor_of self.new)) (NotCut (floor_of self.old) (floor_of self.new)) }
         ensures rings { KeepsRings (floor_of self.old) (floor_of self.new) }
-        ensures seats { self.new.seats ≡ self.old.seats }
+        ensures kept { KeepsSeats (room_of self.old) (room_of self.new) }
         ensures book { self.new.book ≡ self.old.book }
     {
         self.room.take_journal()
@@ -148,6 +157,9 @@ impl<M: Message, L: MessageLog<M>, Led: Ledger> Hall<M, L, Led> {
         ensures feeds { self.new.feeds ≡ self.old.feeds }
         ensures book { self.new.book ≡ self.old.book }
         ensures refused { IfErr result (λ refusal. (refusal ≡ NoMemory) × (self.new ≡ self.old)) }
+        ensures step { IsMade Other (room_of self.old) (room_of self.new) }
+        ensures none { MakesNoneDue (room_of self.old) (room_of self.new) }
+        ensures alarm { self.new.all_due ≡ self.old.all_due }
     {
         let number = self.room.new_seat()?;
         Ok(Seat::new(number, self.rest.split_off(1, 0)))
@@ -164,6 +176,12 @@ impl<M: Message, L: MessageLog<M>, Led: Ledger> Hall<M, L, Led> {
         ensures book { self.new.book ≡ self.old.book }
         ensures refused { IfErr result (λ refusal. (refusal ≡ Gone) × ¬ (MayAsk self.old seat.now.number)
             × (self.new ≡ self.old)) }
+        ensures step { IsMade Other (room_of self.old) (room_of self.new) }
+        ensures none { MakesNoneDue (room_of self.old) (room_of self.new) }
+
+        // It raises the alarm, by which all that wait are due, only if no seat is free then, and some wait.
+        ensures alarm { free_in self.new.seats ≢ 0 → self.new.all_due ≡ self.old.all_due }
+        ensures alone { parked_in self.new.seats ≡ 0 → self.new.all_due ≡ self.old.all_due }
     {
         self.room.leave(seat.number())
     }

@@ -1,5 +1,5 @@
 //! Laws of runs of calls in a hall.
-ghost use Rattle.std.specs.Prelude.{◌≡◌, ℕ, ◌+◌, ◌<◌, ◌≤◌, Bool, true, List};
+ghost use Rattle.std.specs.Prelude.{◌≡◌, ℕ, ◌+◌, ◌<◌, ◌≤◌, Bool, true, List, ◌∷◌, Option, None};
 ghost use Rattle.cml_board.specs.declared.call.Call.{Call};
 ghost use Rattle.cml_board.specs.declared.outcome.Refusal.TheVariants.{NoMemory};
 ghost use Rattle.cml_lanes.specs.Floor.{FloorShown};
@@ -8,10 +8,17 @@ ghost use Rattle.cml_lanes.specs.Feeds.{Starves};
 ghost use Rattle.cml_lanes.specs.Reserving.{added_since, TakesEntryAlone, LaneTakesEntryAlone, FeedTakesEntryAlone};
 ghost use Rattle.cml_lanes.specs.Steps.{FloorCall, AreCalled};
 ghost use Rattle.cml_board.specs.declared.outcome.Outcome.TheVariants.{Refused};
+ghost use Rattle.cml_room.specs.Room.{RoomShown, NoneDue};
+ghost use Rattle.cml_room.specs.Running as room;
 ghost use Rattle.cml_threads.specs.Seating.{Sitting};
-ghost use Rattle.cml_threads.specs.Hosting.{Hosted, floor_of, MayAsk, MayAskAgain};
+ghost use Rattle.cml_threads.specs.Hosting.{Hosted, floor_of, room_of, MayAsk, MayAskAgain};
 ghost use Rattle.cml_threads.specs.Asking.{Asks};
 ghost use Rattle.cml_threads.specs.Running.{HallCall, AreMade, keeps_entries};
+
+use crate::hall::Hall;
+use cml_board::Message;
+use cml_log::MessageLog;
+use std::sync::ledger::Ledger;
 
 /// Shows that calls of a floor do to the hall's floor what the hall's calls do. So each law of runs on a floor holds in a hall.
 pub fn halls_call_their_floor<M>()
@@ -54,3 +61,27 @@ pub fn reserved_lasts_in_a_hall<M>()
         → FeedTakesEntryAlone chunk sure after feed
         → ¬ (Starves chunk sure feed count (floor_of new) after NoMemory) }
 {}
+
+/// Shows that nobody is left asleep in a hall, as `cml_room::nobody_is_left_asleep` shows it of a room.
+pub fn nobody_is_left_asleep_in_a_hall<M: Message, L: MessageLog<M>, Led: Ledger>(
+    hall: &Hall<M, L, Led>,
+)
+    ensures { (calls : List room.RoomCall) (first : RoomShown M) → NoneDue first → room.AreMade (room.NextDue None ∷ calls) first (room_of hall.now)
+        → room.NobodyForgotten calls (room_of hall.now) }
+{
+    // That who isn't due sleeps rightly is a fact of each hall, which the contract of `board` tells.
+    let _board = hall.board();
+}
+
+/// Shows that one `next_due` after each call of a hall is enough, as `cml_room::one_next_due_is_enough` shows it of a room. A
+/// switchboard makes it so: each of its calls ends by one.
+pub fn one_next_due_is_enough_in_a_hall<M: Message, L: MessageLog<M>, Led: Ledger>(
+    hall: &Hall<M, L, Led>,
+)
+    ensures { (calls : List room.RoomCall) (given : Option ℕ) (first : RoomShown M) → NoneDue first
+        → room.AreMade (room.NextDue given ∷ calls) first (room_of hall.now)
+        → room.HaveAllAsked (room.NextDue given ∷ calls) (room_of hall.now) → room.AllWouldWait (room_of hall.now) }
+{
+    // As above.
+    let _board = hall.board();
+}

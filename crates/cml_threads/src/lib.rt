@@ -4,6 +4,7 @@
 mod bells;
 mod hall;
 mod laws;
+mod locked;
 mod looks;
 mod seat;
 mod settled;
@@ -11,7 +12,10 @@ mod switchboard;
 
 pub use cml_room::State;
 pub use hall::{Hall, PARTS};
-pub use laws::{halls_call_their_floor, reserved_lasts_in_a_hall};
+pub use laws::{
+    halls_call_their_floor, nobody_is_left_asleep_in_a_hall, one_next_due_is_enough_in_a_hall,
+    reserved_lasts_in_a_hall,
+};
 pub use seat::{Left, Seat};
 pub use settled::{Count, Settled};
 pub use switchboard::Switchboard;

@@ -1,8 +1,9 @@
-ghost use Rattle.std.specs.Prelude.{ℕ, ◌≡◌, ◌+◌, ◌^◌, ◌≤◌, true, slice_get, Some, vec_len, IfOk, IfErr, OnOk};
+ghost use Rattle.std.specs.Prelude.{ℕ, ◌≡◌, ◌+◌, ◌-◌, ◌^◌, ◌≤◌, true, slice_get, Some, vec_len, IfOk, IfErr, OnOk};
 ghost use Rattle.cml_board.specs.declared.outcome.Refusal.TheVariants.{Busy, NoMemory};
 ghost use Rattle.cml_board.specs.Waiting.{want_in};
 ghost use Rattle.cml_board.specs.History.{entries_in, rings_in};
-ghost use Rattle.cml_threads.specs.Seating.{Sitting, raised, answers_in};
+ghost use Rattle.cml_threads.specs.Ringing.{HaveLeft};
+ghost use Rattle.cml_threads.specs.Seating.{Sitting, raised, answers_in, share_at};
 ghost use Rattle.cml_threads.specs.Telling.{suits, MayRefuse, Tells, Replies};
 
 mod channels;
@@ -11,16 +12,15 @@ mod lanes;
 mod mailboxes;
 mod variables;
 
-use crate::bells::Bells;
 use crate::hall::Hall;
+use crate::locked::Locked;
 use crate::seat::{Left, Seat};
 use crate::settled::Settled;
 use cml_board::{Answer, Call, Entry, Message, Outcome, Refusal, Reply, Restored};
 use cml_log::MessageLog;
-use crossbeam_utils::CachePadded;
 use std::alloc::{AllocError, Global};
+use std::sync::Wait;
 use std::sync::ledger::{Blank, Ledger};
-use std::sync::{Mutex, MutexGuard, Wait};
 
 /// A hall under one lock, which threads share. Each thread makes its calls by its seat. A call that would wait blocks, and is
 /// made again when its seat is due. Each call wakes at most one of the seats that are due. A thread that is woken makes a
@@ -32,14 +32,22 @@ use std::sync::{Mutex, MutexGuard, Wait};
 /// end, `settle` returns the board with all that was answered.
 #[derive(Drop)]
 pub struct Switchboard<M, L: MessageLog<M>, Led: Ledger> {
-    // Apart from the lock's word, at which threads that wait for the lock look while its holder writes.
-    hall: Mutex<CachePadded<Hall<M, L, Led>>>,
-    bells: Bells,
+    locked: Locked<M, L, Led>,
 }
 
 impl<M: Message, L: MessageLog<M>, Led: Ledger> Switchboard<M, L, Led> {
-    /// Makes a switchboard with no seats and no objects. Its journal takes `limit` entries between two cuts. The blank is
-    /// `Blank::new(PARTS)`, and names the switchboard's ledger.
+    /// Makes a switchboard of a hall, whose seats have all left: a new hall, or a restored one. What the hall's contracts say of
+    /// it holds whenever the switchboard's lock is free and no call was made yet.
+    pub fn of(alloc: Global, hall: Hall<M, L, Led>) -> Result<Switchboard<M, L, Led>, AllocError>
+        requires { HaveLeft hall.seats }
+    {
+        Ok(Switchboard {
+            locked: Locked::new(alloc, hall)?,
+        })
+    }
+
+    /// Makes a switchboard with no seats and no objects, of a hall that `Hall::new` makes. Its journal takes `limit` entries
+    /// between two cuts. The blank is `Blank::new(PARTS)`, and names the switchboard's ledger.
     pub fn new(
         alloc: Global,
         limit: u64,
@@ -51,14 +59,11 @@ impl<M: Message, L: MessageLog<M>, Led: Ledger> Switchboard<M, L, Led> {
         requires parts { blank.parts ≡ Led.parts }
         requires enough { blank.parts ≡ 2 ^ 63 }
     {
-        Ok(Switchboard {
-            hall: Mutex::new(CachePadded::new(Hall::new(alloc, limit, blank)?)),
-            bells: Bells::new(alloc, 0)?,
-        })
+        Switchboard::of(alloc, Hall::new(alloc, limit, blank)?)
     }
 
-    /// Makes a switchboard that goes on from a journal, and the lefts of the seats that made its entries, as `Hall::restore`
-    /// returns them. New seats are numbered behind these. Keep the lefts for `settle`.
+    /// Makes a switchboard that goes on from a journal, of a hall that `Hall::restore` makes, and the lefts of the seats that made
+    /// its entries. New seats are numbered behind these. Keep the lefts for `settle`.
     pub fn restore(
         alloc: Global,
         restored: Restored<M, L>,
@@ -69,12 +74,12 @@ impl<M: Message, L: MessageLog<M>, Led: Ledger> Switchboard<M, L, Led> {
         requires enough { blank.parts ≡ 2 ^ 63 }
         ensures lefts { IfOk result (λ made. vec_len made.1 ≡ restored.makers.seats) }
         ensures numbers { IfOk result (λ made. (number : ℕ) (left : Sitting) → slice_get made.1.items number ≡ Some left → left.number ≡ number) }
+        ensures shares { IfOk result (λ made. (number : ℕ) (left : Sitting) → slice_get made.1.items number ≡ Some left
+            → left.share ≡ share_at number (entries_in restored.board.history - rings_in restored.board.history)) }
         ensures answers { IfOk result (λ made. answers_in made.1.items + rings_in restored.board.history ≡ entries_in restored.board.history) }
     {
         let (hall, lefts) = Hall::restore(alloc, restored, blank)?;
-        let bells = Bells::new(alloc, hall.seats())?;
-        let hall = Mutex::new(CachePadded::new(hall));
-        Ok((Switchboard { hall, bells }, lefts))
+        Ok((Switchboard::of(alloc, hall)?, lefts))
     }
 
     /// Makes a new seat. Fails only with `NoMemory`. Make all seats before the first thread begins to wait. Keep no free seat
@@ -83,8 +88,18 @@ impl<M: Message, L: MessageLog<M>, Led: Ledger> Switchboard<M, L, Led> {
         ensures share { IfOk result (λ seat. seat.share ≡ 0) }
         ensures refused { IfErr result (λ refusal. refusal ≡ NoMemory) }
     {
-        let mut hall = self.hall.lock(rt);
-        if self.bells.hang(rt, hall.seats()).is_err() {
+        let mut turn = self.locked.lock(rt);
+        let made = self.make_seat(rt, turn.hall());
+        self.locked.let_go(turn);
+        made
+    }
+
+    /// Makes a seat and its bell.
+    fn make_seat<R: Wait>(&self, rt: &R, hall: &mut Hall<M, L, Led>) -> Result<Seat<Led>, Refusal>
+        ensures share { IfOk result (λ seat. seat.share ≡ 0) }
+        ensures refused { IfErr result (λ refusal. refusal ≡ NoMemory) }
+    {
+        if self.locked.hang(rt, hall.seats()).is_err() {
             return Err(Refusal::NoMemory);
         }
         hall.new_seat()
@@ -95,7 +110,10 @@ impl<M: Message, L: MessageLog<M>, Led: Ledger> Switchboard<M, L, Led> {
     pub fn reserve<R: Wait>(&self, rt: &R, n: usize) -> Result<(), Refusal>
         ensures { IfErr result (λ refusal. refusal ≡ NoMemory) }
     {
-        self.hall.lock(rt).reserve(n)
+        let mut turn = self.locked.lock(rt);
+        let told = turn.hall().reserve(n);
+        self.locked.let_go(turn);
+        told
     }
 
     /// Cuts the journal, as `Hall::cut` does. Fails only with `Busy`, if a lane or a feed is open. A blocked thread stays
@@ -104,7 +122,10 @@ impl<M: Message, L: MessageLog<M>, Led: Ledger> Switchboard<M, L, Led> {
     pub fn cut<R: Wait>(&self, rt: &R) -> Result<(), Refusal>
         ensures { IfErr result (λ refusal. refusal ≡ Busy) }
     {
-        self.hall.lock(rt).cut()
+        let mut turn = self.locked.lock(rt);
+        let told = turn.hall().cut();
+        self.locked.let_go(turn);
+        told
     }
 
     /// Cuts the journal and returns the entries that it had, oldest first, as `Hall::take_journal` does. Fails as `cut` does.
@@ -112,7 +133,10 @@ impl<M: Message, L: MessageLog<M>, Led: Ledger> Switchboard<M, L, Led> {
     pub fn take_journal<R: Wait>(&self, rt: &R) -> Result<Vec<Entry<M>>, Refusal>
         ensures { IfErr result (λ refusal. refusal ≡ Busy) }
     {
-        self.hall.lock(rt).take_journal()
+        let mut turn = self.locked.lock(rt);
+        let told = turn.hall().take_journal();
+        self.locked.let_go(turn);
+        told
     }
 
     /// Makes a call, and blocks until it returns or fails. It may block for ever, if no thread sends what it waits for. A call
@@ -140,7 +164,7 @@ impl<M: Message, L: MessageLog<M>, Led: Ledger> Switchboard<M, L, Led> {
                 Outcome::Answered(answer) => return Ok(answer),
                 Outcome::Refused(refusal, call) => return Err((refusal, call)),
                 Outcome::WouldWait(call) => {
-                    self.bells.wait(rt, seat.number());
+                    self.locked.wait(rt, seat.number());
                     outcome = self.ask_again(rt, seat, call);
                 }
             }
@@ -153,9 +177,9 @@ impl<M: Message, L: MessageLog<M>, Led: Ledger> Switchboard<M, L, Led> {
     pub fn leave<R: Wait>(&self, rt: &R, seat: Seat<Led>) -> Left<Led>
         ensures { result ≡ seat }
     {
-        let mut hall = self.hall.lock(rt);
-        let _ = hall.leave(&seat);
-        self.let_go(hall);
+        let mut turn = self.locked.lock(rt);
+        let _ = turn.hall().leave(&seat);
+        self.locked.let_go(turn);
         seat.into_left()
     }
 
@@ -171,12 +195,12 @@ impl<M: Message, L: MessageLog<M>, Led: Ledger> Switchboard<M, L, Led> {
         ensures total { IfOk result (λ settled. settled.seats + settled.rings ≡ entries_in settled.board.history) }
         ensures back { IfErr result (λ back. back.1 ≡ lefts) }
     {
-        let Switchboard { hall, bells } = self;
-        match hall.into_inner().into_inner().settle(lefts) {
+        let (hall, bells) = self.locked.into_parts();
+        match hall.settle(lefts) {
             Ok(settled) => Ok(settled),
             Err((hall, lefts)) => {
-                let hall = Mutex::new(CachePadded::new(hall));
-                Err((Switchboard { hall, bells }, lefts))
+                let locked = Locked::of_parts(hall, bells);
+                Err((Switchboard { locked }, lefts))
             }
         }
     }
@@ -184,8 +208,7 @@ impl<M: Message, L: MessageLog<M>, Led: Ledger> Switchboard<M, L, Led> {
     /// Returns the content of the lock. If a seat was lost, so that `settle` always fails, read the board in this way: the
     /// facts of `Hall::board` hold of it.
     pub fn into_hall(self) -> Hall<M, L, Led> {
-        let Switchboard { hall, bells: _ } = self;
-        hall.into_inner().into_inner()
+        self.locked.into_hall()
     }
 
     /// Makes the seat's call, and wakes a seat that is due. If the seat is parked, it waits at its bell next. What comes for it
@@ -193,9 +216,9 @@ impl<M: Message, L: MessageLog<M>, Led: Ledger> Switchboard<M, L, Led> {
     fn ask<R: Wait>(&self, rt: &R, seat: &mut Seat<Led>, call: Call<M>) -> Outcome<M>
         ensures { Tells seat.old seat.new call result }
     {
-        let mut hall = self.hall.lock(rt);
-        let outcome = ask(&mut hall, seat, call);
-        self.let_go_by(hall, seat.number());
+        let mut turn = self.locked.lock(rt);
+        let outcome = ask(turn.hall(), seat, call);
+        self.locked.let_go_by(turn, seat.number());
         outcome
     }
 
@@ -203,33 +226,10 @@ impl<M: Message, L: MessageLog<M>, Led: Ledger> Switchboard<M, L, Led> {
     fn ask_again<R: Wait>(&self, rt: &R, seat: &mut Seat<Led>, call: Call<M>) -> Outcome<M>
         ensures { Tells seat.old seat.new call result }
     {
-        let mut hall = self.hall.lock(rt);
-        let outcome = ask_again(&mut hall, seat, call);
-        self.let_go_by(hall, seat.number());
+        let mut turn = self.locked.lock(rt);
+        let outcome = ask_again(turn.hall(), seat, call);
+        self.locked.let_go_by(turn, seat.number());
         outcome
-    }
-
-    /// Unlocks the hall, and then wakes one seat that is due, if there is one that was not woken. It is taken under the lock.
-    /// Its thread locks the hall next, makes its call, and then does the same.
-    fn let_go(&self, hall: MutexGuard<'_, CachePadded<Hall<M, L, Led>>>) {
-        let mut hall = hall;
-        let due = hall.next_due();
-        drop(hall);
-        if let Some(due) = due {
-            // No seat's call rang, so the bell notes no seat that this one may answer: no seat rings for itself.
-            self.bells.ring(due, due);
-        }
-    }
-
-    /// The same after a seat's call, whose thread waits next, maybe for what the woken one does.
-    fn let_go_by(&self, hall: MutexGuard<'_, CachePadded<Hall<M, L, Led>>>, seat: u64) {
-        let mut hall = hall;
-        let due = hall.next_due();
-        drop(hall);
-        if let Some(due) = due {
-            let slept = self.bells.ring(due, seat);
-            self.bells.note_rung(seat, due, slept);
-        }
     }
 
     /// Makes a call, and returns its reply.

@@ -1,10 +1,11 @@
 //! A seat's calls.
 ghost use Rattle.std.specs.Prelude.{◌≡◌, ◌≢◌, ◌⊎◌, Some, None, IfErr, OnOk, ⊤};
 ghost use Rattle.cml_board.specs.declared.want.Want.{Want};
-ghost use Rattle.cml_board.specs.Outcome.{HasRoom};
 ghost use Rattle.cml_room.specs.Room.{state_of, MayAsk, MayAskAgain, Moves};
 ghost use Rattle.cml_room.specs.Asking.{Asks};
-ghost use Rattle.cml_room.specs.Rising.{MakesFewDue, WantOf, news_by};
+ghost use Rattle.cml_room.specs.Frames.{Turns};
+ghost use Rattle.cml_room.specs.Rising.{news_by};
+ghost use Rattle.cml_room.specs.Running.{AskOf, asked_by, withdrawn_by};
 
 use super::Room;
 use crate::news::news_in;
@@ -19,7 +20,7 @@ impl<M: Message, L: MessageLog<M>> Room<M, L> {
     /// call fails with `Gone`. That is tested first.
     pub fn ask(&mut self, seat: u64, call: Call<M>) -> Outcome<M>
         ensures asks { Asks L.CHUNK M.SURE (MayAsk self.old seat) self.old self.new seat call result }
-        ensures few { HasRoom self.new.board → MakesFewDue self.old self.new (WantOf self.old seat) (news_by result) }
+        ensures turns { Turns seat (asked_by seat result) (news_by result) self.old self.new }
     {
         if self.seats.state(seat) != Some(State::Free) {
             return Outcome::Refused(Refusal::Gone, call);
@@ -32,7 +33,7 @@ impl<M: Message, L: MessageLog<M>> Room<M, L> {
     /// the seat doesn't wait on such a call, of this kind and on this object, the call fails with `Gone`. That is tested first.
     pub fn ask_again(&mut self, seat: u64, call: Call<M>) -> Outcome<M>
         ensures asks { Asks L.CHUNK M.SURE (MayAskAgain self.old seat call) self.old self.new seat call result }
-        ensures few { HasRoom self.new.board → MakesFewDue self.old self.new (WantOf self.old seat) (news_by result) }
+        ensures turns { Turns seat (asked_by seat result) (news_by result) self.old self.new }
     {
         let Some(want) = call.want() else {
             return Outcome::Refused(Refusal::Gone, call);
@@ -48,7 +49,8 @@ impl<M: Message, L: MessageLog<M>> Room<M, L> {
     pub fn withdraw(&mut self, seat: u64) -> Result<(), Refusal>
         ensures freed { OnOk result ((on : Want) × (state_of self.old seat ≡ Some (State.Parked on)) × Moves self.old self.new seat State.Free) }
         ensures board { self.new.board ≡ self.old.board }
-        ensures few { MakesFewDue self.old self.new (WantOf self.old seat) None }
+        ensures turns { Turns seat (withdrawn_by seat result) None self.old self.new }
+        ensures alarm { self.new.all_due ≡ self.old.all_due }
         ensures refused { IfErr result (λ refusal. (refusal ≡ Refusal.Gone) × (self.new ≡ self.old)
             × ((on : Want) → state_of self.old seat ≢ Some (State.Parked on))) }
     {
@@ -64,7 +66,7 @@ impl<M: Message, L: MessageLog<M>> Room<M, L> {
     fn take_turn(&mut self, seat: u64, call: Call<M>) -> Outcome<M>
         requires { MayAsk self.old seat ⊎ MayAskAgain self.old seat call }
         ensures asks { Asks L.CHUNK M.SURE ⊤ self.old self.new seat call result }
-        ensures few { HasRoom self.new.board → MakesFewDue self.old self.new (WantOf self.old seat) (news_by result) }
+        ensures turns { Turns seat (AskOf seat) (news_by result) self.old self.new }
     {
         let news = news_in(&call);
         // Each arm makes its outcome anew, which the prover follows with less help than a whole that is kept and returned.

@@ -1,11 +1,10 @@
 //! The calls on feeds. None of them changes a seat's state, and none brings anything to the seats that wait.
 ghost use Rattle.std.specs.Prelude.{ℕ, ◌≡◌, ◌≤◌, ◌<◌, length, count_by, is_some};
-ghost use Rattle.cml_board.specs.Outcome.{HasRoom};
 ghost use Rattle.cml_lanes.specs.Floor.{KeepsRings, SameFeedRing};
 ghost use Rattle.cml_lanes.specs.Feeds.{OpensAFeed, Pumps, Ends};
+ghost use Rattle.cml_room.specs.Frames.{KeepsSeats, Stirs};
 ghost use Rattle.cml_room.specs.Rising.{MakesNoneDue};
 ghost use Rattle.cml_room.specs.Room.{floor_of};
-ghost use Rattle.cml_room.specs.Stalling.{IsStalled};
 
 use super::Room;
 use crate::turns::settle;
@@ -27,8 +26,7 @@ impl<M: Message, L: MessageLog<M>> Room<M, L> {
         requires most { capacity ≤ MAX_CAPACITY }
         ensures opens { OpensAFeed L.CHUNK M.SURE (floor_of self.old) (floor_of self.new) channel capacity result }
         ensures rings { (number : ℕ) → number < length self.old.feeds → SameFeedRing number (floor_of self.old) (floor_of self.new) }
-        ensures seats { self.new.seats ≡ self.old.seats }
-        ensures none { HasRoom self.new.board → ¬ (IsStalled (floor_of self.new) self.new.seats) → MakesNoneDue self.old self.new }
+        ensures stirs { Stirs MakesNoneDue self.old self.new }
     {
         let told = self.floor.open_feed(channel, capacity);
         settle(&self.floor, &mut self.seats, None);
@@ -39,8 +37,7 @@ impl<M: Message, L: MessageLog<M>> Room<M, L> {
     pub fn pump(&mut self, feed: u64) -> Result<usize, Refusal>
         ensures pumps { Pumps L.CHUNK M.SURE feed (floor_of self.old) (floor_of self.new) result }
         ensures rings { KeepsRings (floor_of self.old) (floor_of self.new) }
-        ensures seats { self.new.seats ≡ self.old.seats }
-        ensures none { HasRoom self.new.board → ¬ (IsStalled (floor_of self.new) self.new.seats) → MakesNoneDue self.old self.new }
+        ensures stirs { Stirs MakesNoneDue self.old self.new }
     {
         let told = self.floor.pump(feed);
         settle(&self.floor, &mut self.seats, None);
@@ -51,8 +48,7 @@ impl<M: Message, L: MessageLog<M>> Room<M, L> {
     pub fn end_feed(&mut self, feed: u64) -> Result<Option<FeedEnd<M>>, Refusal>
         ensures ends { Ends feed (floor_of self.old) (floor_of self.new) result }
         ensures rings { KeepsRings (floor_of self.old) (floor_of self.new) }
-        ensures seats { self.new.seats ≡ self.old.seats }
-        ensures none { MakesNoneDue self.old self.new }
+        ensures kept { KeepsSeats self.old self.new }
     {
         self.floor.end_feed(feed)
     }

@@ -4,6 +4,7 @@ ghost use Rattle.cml_lanes.specs.Floor.{KeepsRings};
 ghost use Rattle.cml_lanes.specs.Cutting.{CutsAFloor, CutsFloor, NotCut};
 ghost use Rattle.cml_lanes.specs.Reserving.{Reserves};
 ghost use Rattle.cml_room.specs.Room.{floor_of};
+ghost use Rattle.cml_room.specs.Frames.{KeepsSeats};
 
 use super::Room;
 use cml_board::{Entry, Message, Refusal};
@@ -14,9 +15,7 @@ impl<M: Message, L: MessageLog<M>> Room<M, L> {
     pub fn reserve(&mut self, n: usize) -> Result<(), Refusal>
         ensures reserves { Reserves (floor_of self.old) (floor_of self.new) n result }
         ensures rings { KeepsRings (floor_of self.old) (floor_of self.new) }
-        ensures seats { self.new.seats ≡ self.old.seats }
-        ensures notices { self.new.notices ≡ self.old.notices }
-        ensures due { self.new.all_due ≡ self.old.all_due }
+        ensures kept { KeepsSeats self.old self.new }
     {
         self.floor.reserve(n)
     }
@@ -26,9 +25,7 @@ impl<M: Message, L: MessageLog<M>> Room<M, L> {
         ensures cut { CutsAFloor (floor_of self.old) (floor_of self.new) result }
         ensures reserved { self.old.board.reserved ≤ self.new.board.reserved }
         ensures rings { KeepsRings (floor_of self.old) (floor_of self.new) }
-        ensures seats { self.new.seats ≡ self.old.seats }
-        ensures notices { self.new.notices ≡ self.old.notices }
-        ensures due { self.new.all_due ≡ self.old.all_due }
+        ensures kept { KeepsSeats self.old self.new }
     {
         // The contract of `journal` says that it is a part of all entries: so a cut makes room.
         let _journal = self.floor.board().journal();
@@ -40,9 +37,7 @@ impl<M: Message, L: MessageLog<M>> Room<M, L> {
         ensures taken { IfOk result (λ taken. reverse taken.items ++ self.old.board.past ≡ self.old.board.history) }
         ensures cut { MatchResult result (λ _. CutsFloor (floor_of self.old) (floor_of self.new)) (NotCut (floor_of self.old) (floor_of self.new)) }
         ensures rings { KeepsRings (floor_of self.old) (floor_of self.new) }
-        ensures seats { self.new.seats ≡ self.old.seats }
-        ensures notices { self.new.notices ≡ self.old.notices }
-        ensures due { self.new.all_due ≡ self.old.all_due }
+        ensures kept { KeepsSeats self.old self.new }
     {
         self.floor.take_journal()
     }

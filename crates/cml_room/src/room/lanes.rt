@@ -1,12 +1,11 @@
 //! The calls on lanes. None of them changes a seat's state. A seat that waits at a lane's target becomes due by what moves
 //! there.
 ghost use Rattle.std.specs.Prelude.{ℕ, ◌≡◌, ◌≤◌, ◌<◌, length, count_by, is_some};
-ghost use Rattle.cml_board.specs.Outcome.{HasRoom};
 ghost use Rattle.cml_lanes.specs.Floor.{KeepsRings, SameRing, IsOfItsRing};
 ghost use Rattle.cml_lanes.specs.Lanes.{OpensALane, Drains, Closes, ClosesCounted, Drops, Abandons};
+ghost use Rattle.cml_room.specs.Frames.{KeepsSeats, Stirs};
 ghost use Rattle.cml_room.specs.Rising.{MakesFewByOne, MakesNoneDue};
 ghost use Rattle.cml_room.specs.Room.{floor_of};
-ghost use Rattle.cml_room.specs.Stalling.{IsStalled};
 
 use super::Room;
 use crate::news::{count_entries, latest_news};
@@ -29,8 +28,7 @@ impl<M: Message, L: MessageLog<M>> Room<M, L> {
         requires most { capacity ≤ MAX_CAPACITY }
         ensures opens { OpensALane (floor_of self.old) (floor_of self.new) target capacity result }
         ensures rings { (number : ℕ) → number < length self.old.lanes → SameRing number (floor_of self.old) (floor_of self.new) }
-        ensures seats { self.new.seats ≡ self.old.seats }
-        ensures none { MakesNoneDue self.old self.new }
+        ensures kept { KeepsSeats self.old self.new }
     {
         self.floor.open_lane(target, capacity)
     }
@@ -39,8 +37,7 @@ impl<M: Message, L: MessageLog<M>> Room<M, L> {
     pub fn drain(&mut self, lane: u64) -> Result<usize, Refusal>
         ensures drains { Drains L.CHUNK M.SURE lane (floor_of self.old) (floor_of self.new) result }
         ensures rings { KeepsRings (floor_of self.old) (floor_of self.new) }
-        ensures seats { self.new.seats ≡ self.old.seats }
-        ensures few { HasRoom self.new.board → ¬ (IsStalled (floor_of self.new) self.new.seats) → MakesFewByOne self.old self.new }
+        ensures stirs { Stirs MakesFewByOne self.old self.new }
     {
         let before = count_entries(self.floor.board());
         let told = self.floor.drain(lane);
@@ -54,8 +51,7 @@ impl<M: Message, L: MessageLog<M>> Room<M, L> {
         requires { IsOfItsRing (floor_of self.old) end }
         ensures closes { Closes L.CHUNK M.SURE (floor_of self.old) (floor_of self.new) end result }
         ensures rings { KeepsRings (floor_of self.old) (floor_of self.new) }
-        ensures seats { self.new.seats ≡ self.old.seats }
-        ensures few { HasRoom self.new.board → ¬ (IsStalled (floor_of self.new) self.new.seats) → MakesFewByOne self.old self.new }
+        ensures stirs { Stirs MakesFewByOne self.old self.new }
     {
         let before = count_entries(self.floor.board());
         let told = self.floor.close_lane(end);
@@ -68,8 +64,7 @@ impl<M: Message, L: MessageLog<M>> Room<M, L> {
     pub fn close_counted(&mut self, end: LaneEnd<M>) -> Result<(), (LaneEnd<M>, Refusal)>
         ensures closes { ClosesCounted L.CHUNK M.SURE (floor_of self.old) (floor_of self.new) end result }
         ensures rings { KeepsRings (floor_of self.old) (floor_of self.new) }
-        ensures seats { self.new.seats ≡ self.old.seats }
-        ensures few { HasRoom self.new.board → ¬ (IsStalled (floor_of self.new) self.new.seats) → MakesFewByOne self.old self.new }
+        ensures stirs { Stirs MakesFewByOne self.old self.new }
     {
         let before = count_entries(self.floor.board());
         let told = self.floor.close_counted(end);
@@ -83,8 +78,7 @@ impl<M: Message, L: MessageLog<M>> Room<M, L> {
     pub fn drop_lane(&mut self, lane: u64) -> Result<(usize, bool), Refusal>
         ensures drops { Drops L.CHUNK M.SURE lane (floor_of self.old) (floor_of self.new) result }
         ensures rings { KeepsRings (floor_of self.old) (floor_of self.new) }
-        ensures seats { self.new.seats ≡ self.old.seats }
-        ensures few { HasRoom self.new.board → ¬ (IsStalled (floor_of self.new) self.new.seats) → MakesFewByOne self.old self.new }
+        ensures stirs { Stirs MakesFewByOne self.old self.new }
     {
         let before = count_entries(self.floor.board());
         let told = self.floor.drop_lane(lane);
@@ -97,8 +91,7 @@ impl<M: Message, L: MessageLog<M>> Room<M, L> {
     pub fn abandon_lane(&mut self, lane: u64) -> Result<(), Refusal>
         ensures abandons { Abandons lane (floor_of self.old) (floor_of self.new) result }
         ensures rings { KeepsRings (floor_of self.old) (floor_of self.new) }
-        ensures seats { self.new.seats ≡ self.old.seats }
-        ensures none { HasRoom self.new.board → ¬ (IsStalled (floor_of self.new) self.new.seats) → MakesNoneDue self.old self.new }
+        ensures stirs { Stirs MakesNoneDue self.old self.new }
     {
         let told = self.floor.abandon_lane(lane);
         settle(&self.floor, &mut self.seats, None);

@@ -3,9 +3,10 @@ ghost use Rattle.std.specs.Prelude.{◌≡◌, ◌≢◌, ◌+◌, ◌<◌, ◌^
 ghost use Rattle.cml_board.specs.declared.want.Want.{Want};
 ghost use Rattle.cml_board.specs.declared.answer.Answer.{Answer};
 ghost use Rattle.cml_board.specs.declared.outcome.Outcome.TheVariants.{Answered};
-ghost use Rattle.cml_board.specs.Outcome.{HasRoom};
-ghost use Rattle.cml_room.specs.Rising.{MakesFewDue, WantOf, news_by};
+ghost use Rattle.cml_room.specs.Frames.{Turns};
+ghost use Rattle.cml_room.specs.Rising.{news_by};
 ghost use Rattle.cml_room.specs.Room.{state_of, Moves};
+ghost use Rattle.cml_room.specs.Running.{asked_by, withdrawn_by};
 ghost use Rattle.cml_threads.specs.Hosting.{room_of, MayAsk, MayAskAgain};
 ghost use Rattle.cml_threads.specs.Asking.{Asks, Tallies};
 
@@ -22,7 +23,7 @@ impl<M: Message, L: MessageLog<M>, Led: Ledger> Hall<M, L, Led> {
     /// `Gone`. That is tested first.
     pub fn ask(&mut self, seat: &mut Seat<Led>, call: Call<M>) -> Outcome<M>
         ensures asks { Asks L.CHUNK M.SURE (MayAsk self.old seat.old.number) self.old self.new seat.old seat.new call result }
-        ensures few { HasRoom (room_of self.new).board → MakesFewDue (room_of self.old) (room_of self.new) (WantOf (room_of self.old) seat.old.number) (news_by result) }
+        ensures turns { Turns seat.old.number (asked_by seat.old.number result) (news_by result) (room_of self.old) (room_of self.new) }
     {
         let outcome = self.room.ask(seat.number(), call);
         count(&outcome, seat, &mut self.book);
@@ -34,7 +35,7 @@ impl<M: Message, L: MessageLog<M>, Led: Ledger> Hall<M, L, Led> {
     /// the seat doesn't wait on such a call, of this kind and on this object, the call fails with `Gone`. That is tested first.
     pub fn ask_again(&mut self, seat: &mut Seat<Led>, call: Call<M>) -> Outcome<M>
         ensures asks { Asks L.CHUNK M.SURE (MayAskAgain self.old seat.old.number call) self.old self.new seat.old seat.new call result }
-        ensures few { HasRoom (room_of self.new).board → MakesFewDue (room_of self.old) (room_of self.new) (WantOf (room_of self.old) seat.old.number) (news_by result) }
+        ensures turns { Turns seat.old.number (asked_by seat.old.number result) (news_by result) (room_of self.old) (room_of self.new) }
     {
         let outcome = self.room.ask_again(seat.number(), call);
         count(&outcome, seat, &mut self.book);
@@ -47,9 +48,10 @@ impl<M: Message, L: MessageLog<M>, Led: Ledger> Hall<M, L, Led> {
             × Moves (room_of self.old) (room_of self.new) seat.now.number State.Free) }
         ensures board { self.new.board ≡ self.old.board }
         ensures book { self.new.book ≡ self.old.book }
-        ensures few { MakesFewDue (room_of self.old) (room_of self.new) (WantOf (room_of self.old) seat.now.number) None }
         ensures refused { IfErr result (λ refusal. (refusal ≡ Refusal.Gone) × (self.new ≡ self.old)
             × ((on : Want) → state_of (room_of self.old) seat.now.number ≢ Some (State.Parked on))) }
+        ensures turns { Turns seat.now.number (withdrawn_by seat.now.number result) None (room_of self.old) (room_of self.new) }
+        ensures alarm { self.new.all_due ≡ self.old.all_due }
     {
         self.room.withdraw(seat.number())
     }

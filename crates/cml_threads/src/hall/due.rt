@@ -1,9 +1,9 @@
 //! Which of the waiting seats are due.
-ghost use Rattle.std.specs.Prelude.{◌≡◌, ◌≢◌, ℕ, true, false, Some, IfSome, IfNone, length, slice_get};
+ghost use Rattle.std.specs.Prelude.{◌≡◌, ℕ, false, Some, length};
 ghost use Rattle.cml_board.specs.declared.want.Want.{Want};
-ghost use Rattle.cml_room.specs.declared.notice.Notice.TheVariants.{Woken};
 ghost use Rattle.cml_room.specs.Room.{is_due, state_of, SleepsRightly};
-ghost use Rattle.cml_threads.specs.Hosting.{floor_of, room_of};
+ghost use Rattle.cml_room.specs.Running.{GivesNext};
+ghost use Rattle.cml_threads.specs.Hosting.{room_of};
 
 use super::Hall;
 use cml_board::Message;
@@ -19,8 +19,8 @@ impl<M: Message, L: MessageLog<M>, Led: Ledger> Hall<M, L, Led> {
         self.room.seats()
     }
 
-    /// Says whether the seat is due: it waits, and something has come since it last asked for which it may go on. A seat that
-    /// waits and is not due sleeps rightly. So wake each seat that `next_due` returns, and none is left asleep.
+    /// Says whether the seat is due: it waits, and has a notice or all that wait are due. A seat that waits and is not due sleeps
+    /// rightly. So wake each seat that `next_due` returns.
     pub fn is_due(&self, seat: u64) -> bool
         ensures due { result ≡ is_due (room_of self.now) seat }
         ensures asleep { result ≡ false → (on : Want) → state_of (room_of self.now) seat ≡ Some (State.Parked on) → SleepsRightly (room_of self.now) on }
@@ -29,15 +29,10 @@ impl<M: Message, L: MessageLog<M>, Led: Ledger> Hall<M, L, Led> {
     }
 
     /// Returns the next seat that is due, and was not returned since it last asked. Wake its thread, and let it ask again. The
-    /// seat that has been due the longest comes first. Returns `None` if each seat that is due was returned.
+    /// seat that has been due the longest comes first. Returns `None` if each seat that is due was returned. One call after each
+    /// other call is enough (`one_next_due_is_enough_in_a_hall`).
     pub fn next_due(&mut self) -> Option<u64>
-        ensures given { IfSome result (λ number. (is_due (room_of self.old) number ≡ true) × (slice_get self.old.notices number ≢ Some Woken)
-            × (slice_get self.new.notices number ≡ Some Woken)) }
-        ensures woken { (number : ℕ) → slice_get self.old.notices number ≡ Some Woken → slice_get self.new.notices number ≡ Some Woken }
-        ensures all { IfNone result ((number : ℕ) → is_due (room_of self.new) number ≡ true → slice_get self.new.notices number ≡ Some Woken) }
-        ensures same { (number : ℕ) → is_due (room_of self.new) number ≡ is_due (room_of self.old) number }
-        ensures floor { floor_of self.new ≡ floor_of self.old }
-        ensures seats { self.new.seats ≡ self.old.seats }
+        ensures gives { GivesNext result (room_of self.old) (room_of self.new) }
         ensures book { self.new.book ≡ self.old.book }
     {
         self.room.next_due()

@@ -2,7 +2,9 @@
 ghost use Rattle.std.specs.Prelude.{ℕ, ◌≡◌, ◌≤◌, ◌<◌, length, count_by, is_some};
 ghost use Rattle.cml_lanes.specs.Floor.{KeepsRings, SameFeedRing};
 ghost use Rattle.cml_lanes.specs.Feeds.{OpensAFeed, Pumps, Ends};
-ghost use Rattle.cml_threads.specs.Hosting.{floor_of};
+ghost use Rattle.cml_room.specs.Frames.{KeepsSeats, Stirs};
+ghost use Rattle.cml_room.specs.Rising.{MakesNoneDue};
+ghost use Rattle.cml_threads.specs.Hosting.{floor_of, room_of};
 
 use super::Hall;
 use super::counting::count_since;
@@ -26,7 +28,7 @@ impl<M: Message, L: MessageLog<M>, Led: Ledger> Hall<M, L, Led> {
         requires most { capacity ≤ MAX_CAPACITY }
         ensures opens { OpensAFeed L.CHUNK M.SURE (floor_of self.old) (floor_of self.new) channel capacity result }
         ensures rings { (number : ℕ) → number < length self.old.feeds → SameFeedRing number (floor_of self.old) (floor_of self.new) }
-        ensures seats { self.new.seats ≡ self.old.seats }
+        ensures stirs { Stirs MakesNoneDue (room_of self.old) (room_of self.new) }
     {
         let before = self.room.board().entries();
         let told = self.room.open_feed(channel, capacity);
@@ -39,7 +41,7 @@ impl<M: Message, L: MessageLog<M>, Led: Ledger> Hall<M, L, Led> {
     pub fn pump(&mut self, feed: u64) -> Result<usize, Refusal>
         ensures pumps { Pumps L.CHUNK M.SURE feed (floor_of self.old) (floor_of self.new) result }
         ensures rings { KeepsRings (floor_of self.old) (floor_of self.new) }
-        ensures seats { self.new.seats ≡ self.old.seats }
+        ensures stirs { Stirs MakesNoneDue (room_of self.old) (room_of self.new) }
     {
         let before = self.room.board().entries();
         let told = self.room.pump(feed);
@@ -51,7 +53,7 @@ impl<M: Message, L: MessageLog<M>, Led: Ledger> Hall<M, L, Led> {
     pub fn end_feed(&mut self, feed: u64) -> Result<Option<FeedEnd<M>>, Refusal>
         ensures ends { Ends feed (floor_of self.old) (floor_of self.new) result }
         ensures rings { KeepsRings (floor_of self.old) (floor_of self.new) }
-        ensures seats { self.new.seats ≡ self.old.seats }
+        ensures kept { KeepsSeats (room_of self.old) (room_of self.new) }
     {
         self.room.end_feed(feed)
     }

@@ -2,7 +2,9 @@
 ghost use Rattle.std.specs.Prelude.{ℕ, ◌≡◌, ◌≤◌, ◌<◌, length, count_by, is_some};
 ghost use Rattle.cml_lanes.specs.Floor.{KeepsRings, SameRing, IsOfItsRing};
 ghost use Rattle.cml_lanes.specs.Lanes.{OpensALane, Drains, Closes, ClosesCounted, Drops, Abandons};
-ghost use Rattle.cml_threads.specs.Hosting.{floor_of};
+ghost use Rattle.cml_room.specs.Frames.{KeepsSeats, Stirs};
+ghost use Rattle.cml_room.specs.Rising.{MakesFewByOne, MakesNoneDue};
+ghost use Rattle.cml_threads.specs.Hosting.{floor_of, room_of};
 
 use super::Hall;
 use super::counting::count_since;
@@ -25,7 +27,7 @@ impl<M: Message, L: MessageLog<M>, Led: Ledger> Hall<M, L, Led> {
         requires most { capacity ≤ MAX_CAPACITY }
         ensures opens { OpensALane (floor_of self.old) (floor_of self.new) target capacity result }
         ensures rings { (number : ℕ) → number < length self.old.lanes → SameRing number (floor_of self.old) (floor_of self.new) }
-        ensures seats { self.new.seats ≡ self.old.seats }
+        ensures kept { KeepsSeats (room_of self.old) (room_of self.new) }
     {
         self.room.open_lane(target, capacity)
     }
@@ -35,7 +37,7 @@ impl<M: Message, L: MessageLog<M>, Led: Ledger> Hall<M, L, Led> {
     pub fn drain(&mut self, lane: u64) -> Result<usize, Refusal>
         ensures drains { Drains L.CHUNK M.SURE lane (floor_of self.old) (floor_of self.new) result }
         ensures rings { KeepsRings (floor_of self.old) (floor_of self.new) }
-        ensures seats { self.new.seats ≡ self.old.seats }
+        ensures stirs { Stirs MakesFewByOne (room_of self.old) (room_of self.new) }
     {
         let before = self.room.board().entries();
         let told = self.room.drain(lane);
@@ -49,7 +51,7 @@ impl<M: Message, L: MessageLog<M>, Led: Ledger> Hall<M, L, Led> {
         requires { IsOfItsRing (floor_of self.old) end }
         ensures closes { Closes L.CHUNK M.SURE (floor_of self.old) (floor_of self.new) end result }
         ensures rings { KeepsRings (floor_of self.old) (floor_of self.new) }
-        ensures seats { self.new.seats ≡ self.old.seats }
+        ensures stirs { Stirs MakesFewByOne (room_of self.old) (room_of self.new) }
     {
         let before = self.room.board().entries();
         let told = self.room.close_lane(end);
@@ -61,7 +63,7 @@ impl<M: Message, L: MessageLog<M>, Led: Ledger> Hall<M, L, Led> {
     pub fn close_counted(&mut self, end: LaneEnd<M>) -> Result<(), (LaneEnd<M>, Refusal)>
         ensures closes { ClosesCounted L.CHUNK M.SURE (floor_of self.old) (floor_of self.new) end result }
         ensures rings { KeepsRings (floor_of self.old) (floor_of self.new) }
-        ensures seats { self.new.seats ≡ self.old.seats }
+        ensures stirs { Stirs MakesFewByOne (room_of self.old) (room_of self.new) }
     {
         let before = self.room.board().entries();
         let told = self.room.close_counted(end);
@@ -74,7 +76,7 @@ impl<M: Message, L: MessageLog<M>, Led: Ledger> Hall<M, L, Led> {
     pub fn drop_lane(&mut self, lane: u64) -> Result<(usize, bool), Refusal>
         ensures drops { Drops L.CHUNK M.SURE lane (floor_of self.old) (floor_of self.new) result }
         ensures rings { KeepsRings (floor_of self.old) (floor_of self.new) }
-        ensures seats { self.new.seats ≡ self.old.seats }
+        ensures stirs { Stirs MakesFewByOne (room_of self.old) (room_of self.new) }
     {
         let before = self.room.board().entries();
         let told = self.room.drop_lane(lane);
@@ -86,7 +88,7 @@ impl<M: Message, L: MessageLog<M>, Led: Ledger> Hall<M, L, Led> {
     pub fn abandon_lane(&mut self, lane: u64) -> Result<(), Refusal>
         ensures abandons { Abandons lane (floor_of self.old) (floor_of self.new) result }
         ensures rings { KeepsRings (floor_of self.old) (floor_of self.new) }
-        ensures seats { self.new.seats ≡ self.old.seats }
+        ensures stirs { Stirs MakesNoneDue (room_of self.old) (room_of self.new) }
     {
         self.room.abandon_lane(lane)
     }

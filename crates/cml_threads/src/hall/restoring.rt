@@ -1,8 +1,10 @@
 //! A hall that goes on from a journal.
-ghost use Rattle.std.specs.Prelude.{ℕ, ◌≡◌, ◌+◌, ◌<◌, ◌≤◌, ◌^◌, length, replicate, slice_get, Some, None, vec_len, IfOk, OnOk};
+ghost use Rattle.std.specs.Prelude.{ℕ, ◌≡◌, ◌+◌, ◌-◌, ◌<◌, ◌≤◌, ◌^◌, length, replicate, slice_get, Some, None, vec_len, IfOk, OnOk};
 ghost use Rattle.cml_board.specs.History.{entries_in, rings_in};
 ghost use Rattle.cml_board.specs.Makers.{seats_of, lanes_of, feeds_of};
-ghost use Rattle.cml_threads.specs.Seating.{Sitting, answers_in};
+ghost use Rattle.cml_room.specs.Room.{NoneDue};
+ghost use Rattle.cml_threads.specs.Hosting.{room_of};
+ghost use Rattle.cml_threads.specs.Seating.{Sitting, answers_in, share_at};
 
 use super::Hall;
 use crate::seat::Left;
@@ -43,7 +45,10 @@ impl<M: Message, L: MessageLog<M>, Led: Ledger> Hall<M, L, Led> {
         // There is one left for each old seat, by its number. Their answers are all entries that are not of lanes and feeds.
         ensures lefts { IfOk result (λ made. vec_len made.1 ≡ length made.0.seats) }
         ensures numbers { IfOk result (λ made. (number : ℕ) (left : Sitting) → slice_get made.1.items number ≡ Some left → left.number ≡ number) }
+        ensures shares { IfOk result (λ made. (number : ℕ) (left : Sitting) → slice_get made.1.items number ≡ Some left
+            → left.share ≡ share_at number (entries_in restored.board.history - rings_in restored.board.history)) }
         ensures answers { IfOk result (λ made. answers_in made.1.items + rings_in restored.board.history ≡ entries_in restored.board.history) }
+        ensures quiet { IfOk result (λ made. NoneDue (room_of made.0)) }
     {
         let makers = restored.makers();
         let entries = restored.board().entries();
@@ -67,6 +72,7 @@ fn lefts_of<Led: Ledger>(
     requires amount { answers ≤ rest.old.amount }
     ensures lefts { IfOk result (λ lefts. vec_len lefts ≡ seats) }
     ensures numbers { IfOk result (λ lefts. (number : ℕ) (left : Sitting) → slice_get lefts.items number ≡ Some left → left.number ≡ number) }
+    ensures shares { IfOk result (λ lefts. (number : ℕ) (left : Sitting) → slice_get lefts.items number ≡ Some left → left.share ≡ share_at number answers) }
     ensures answers { IfOk result (λ lefts. answers_in lefts.items ≡ answers) }
     ensures amount { OnOk result (rest.new.amount + answers ≡ rest.old.amount) }
     ensures parts { OnOk result (rest.new.parts + seats ≡ rest.old.parts) }

@@ -25,9 +25,9 @@ impl<M: Message, L: MessageLog<M>, Led: Ledger> Switchboard<M, L, Led> {
         ensures feed { IfOk result (λ feed. feed.0 ≡ record { ring = feed.0.ring; number = feed.1; port = feed.0.port; taken = [] }) }
         ensures refused { IfErr result MayRefuseFeed }
     {
-        let mut hall = self.hall.lock(rt);
-        let told = hall.open_feed(channel, capacity);
-        self.let_go(hall);
+        let mut turn = self.locked.lock(rt);
+        let told = turn.hall().open_feed(channel, capacity);
+        self.locked.let_go(turn);
         told
     }
 
@@ -37,9 +37,9 @@ impl<M: Message, L: MessageLog<M>, Led: Ledger> Switchboard<M, L, Led> {
     pub fn pump<R: Wait>(&self, rt: &R, feed: u64) -> Result<usize, Refusal>
         ensures { IfErr result MayRefuseDrain }
     {
-        let mut hall = self.hall.lock(rt);
-        let told = hall.pump(feed);
-        self.let_go(hall);
+        let mut turn = self.locked.lock(rt);
+        let told = turn.hall().pump(feed);
+        self.locked.let_go(turn);
         told
     }
 
@@ -49,9 +49,9 @@ impl<M: Message, L: MessageLog<M>, Led: Ledger> Switchboard<M, L, Led> {
         ensures end { IfOk result (λ end. IfSome end (λ whole. whole.number ≡ feed)) }
         ensures refused { IfErr result (λ refusal. refusal ≡ NoSuch) }
     {
-        let mut hall = self.hall.lock(rt);
-        let told = hall.end_feed(feed);
-        self.let_go(hall);
+        let mut turn = self.locked.lock(rt);
+        let told = turn.hall().end_feed(feed);
+        self.locked.let_go(turn);
         told
     }
 }

@@ -25,9 +25,9 @@ impl<M: Message, L: MessageLog<M>, Led: Ledger> Switchboard<M, L, Led> {
         ensures lane { IfOk result (λ lane. lane.0 ≡ record { ring = lane.0.ring; number = lane.1; capacity = capacity; accepted = [] }) }
         ensures refused { IfErr result MayRefuseLane }
     {
-        let mut hall = self.hall.lock(rt);
-        let told = hall.open_lane(target, capacity);
-        self.let_go(hall);
+        let mut turn = self.locked.lock(rt);
+        let told = turn.hall().open_lane(target, capacity);
+        self.locked.let_go(turn);
         told
     }
 
@@ -37,9 +37,9 @@ impl<M: Message, L: MessageLog<M>, Led: Ledger> Switchboard<M, L, Led> {
     pub fn drain<R: Wait>(&self, rt: &R, lane: u64) -> Result<usize, Refusal>
         ensures { IfErr result MayRefuseDrain }
     {
-        let mut hall = self.hall.lock(rt);
-        let told = hall.drain(lane);
-        self.let_go(hall);
+        let mut turn = self.locked.lock(rt);
+        let told = turn.hall().drain(lane);
+        self.locked.let_go(turn);
         told
     }
 
@@ -49,9 +49,9 @@ impl<M: Message, L: MessageLog<M>, Led: Ledger> Switchboard<M, L, Led> {
     pub fn close_lane<R: Wait>(&self, rt: &R, end: LaneEnd<M>) -> Result<(), (LaneEnd<M>, Refusal)>
         ensures { IfErr result (λ failed. (failed.0 ≡ end) × MayRefuseClose failed.1) }
     {
-        let mut hall = self.hall.lock(rt);
-        let told = hall.close_counted(end);
-        self.let_go(hall);
+        let mut turn = self.locked.lock(rt);
+        let told = turn.hall().close_counted(end);
+        self.locked.let_go(turn);
         told
     }
 
@@ -61,9 +61,9 @@ impl<M: Message, L: MessageLog<M>, Led: Ledger> Switchboard<M, L, Led> {
         ensures stopped { IfOk result (λ told. told.1 ≡ false → 0 < told.0) }
         ensures refused { IfErr result MayRefuseDrain }
     {
-        let mut hall = self.hall.lock(rt);
-        let told = hall.drop_lane(lane);
-        self.let_go(hall);
+        let mut turn = self.locked.lock(rt);
+        let told = turn.hall().drop_lane(lane);
+        self.locked.let_go(turn);
         told
     }
 
@@ -72,9 +72,9 @@ impl<M: Message, L: MessageLog<M>, Led: Ledger> Switchboard<M, L, Led> {
     pub fn abandon_lane<R: Wait>(&self, rt: &R, lane: u64) -> Result<(), Refusal>
         ensures { IfErr result (λ refusal. refusal ≡ NoSuch) }
     {
-        let mut hall = self.hall.lock(rt);
-        let told = hall.abandon_lane(lane);
-        self.let_go(hall);
+        let mut turn = self.locked.lock(rt);
+        let told = turn.hall().abandon_lane(lane);
+        self.locked.let_go(turn);
         told
     }
 }

@@ -8,6 +8,7 @@ returns-in-Ok-take_journal g c = inl
       told = search rules;
       cut = search rules;
       seats = search rules;
+      woken = search rules;
       taken = c.in-Ok-take_journal.entries;
       entries = search rules;
       written = search rules;

@@ -3,6 +3,11 @@ use Rattle.cml_room.specs.declared.state.State.TheVariants.{Free}
 use Rattle.cml_room.specs.Places.{states_in}
 use Rattle.cml_room.proofs.Ending.{free_place, parked_within}
 use Rattle.cml_room.proofs.Parking.{free_begun, waits_begun, waits_unless_free}
+use Rattle.std.proofs.Common.{get_or, refl}
+use Rattle.cml_room.specs.declared.notice.Notice.TheVariants.{Nothing}
+use Rattle.cml_room.specs.declared.place.Place.TheVariants as place
+use Rattle.cml_room.specs.Places.{quieted}
+use Rattle.cml_room.proofs.Woken.{set_asked, set_asked_within, quieted_nothing}
 use Rattle.cml_room.proofs.turns.begin_wait.Goals as goal
 
 pub returns-then-eq-clause-states : goal.returns-then-eq-clause-states
@@ -66,3 +71,18 @@ returns-clause-none g c =
     (waits_begun c.args.floor.now.board c.args.seats.now.places c.quiet.new.self.places c.args.number c.args.want
     (waits_unless_free (states_in c.args.seats.now.places) c.args.number c.args.want c.requires.may other) c.quiet.ensures.places
     c.requires.would c.requires.watched.placed).none
+
+pub returns-then-eq-clause-asked : goal.returns-then-eq-clause-asked
+returns-then-eq-clause-asked g c =
+    let free : slice_get (states_in c.args.seats.now.places) c.args.number ≡ Some Free = search rules in
+    set_asked c.args.seats.now.places c.wait.new.self.places c.args.number place.Free
+    (place.Waiting (record { want = c.args.want; source = c.source_of-source.result; notice = Nothing }))
+    (free_place c.args.seats.now.places c.args.number free) refl c.wait.ensures.places
+
+pub returns-clause-asked : goal.returns-clause-asked
+returns-clause-asked g c =
+    let other : ¬ (slice_get (states_in c.args.seats.now.places) c.args.number ≡ Some Free) = search rules in
+    set_asked_within c.args.seats.now.places c.quiet.new.self.places c.args.number (quieted (get_or c.args.seats.now.places c.args.number place.Free))
+    (parked_within c.args.seats.now.places c.args.number c.args.want
+    (waits_unless_free (states_in c.args.seats.now.places) c.args.number c.args.want c.requires.may other))
+    (quieted_nothing (get_or c.args.seats.now.places c.args.number place.Free)) c.quiet.ensures.places

@@ -7,6 +7,11 @@ use Rattle.cml_room.specs.Waking.{AreAt}
 use Rattle.cml_room.proofs.Ending.{freed_states, may_within, handed, ended, ended_at, none_told, free_unless_waits, free_same, waits_parked}
 use Rattle.cml_room.proofs.Rising.{handed_few, told_few}
 use Rattle.cml_room.proofs.Rousing.{none_roused, roused_states}
+use Rattle.std.proofs.Common.{get_or}
+use Rattle.cml_room.specs.declared.place.Place.TheVariants.{Free}
+use Rattle.cml_room.specs.Seats.{freed}
+use Rattle.cml_room.proofs.Ending.{freed_here}
+use Rattle.cml_room.proofs.Woken.{asked_roused, free_asked, set_asked_within, freed_nothing}
 use Rattle.cml_room.proofs.turns.end_turn.Goals as goal
 
 pub set_free-requires : goal.set_free-requires
@@ -66,3 +71,17 @@ pub returns-in-None-clause-few : goal.returns-in-None-clause-few
 returns-in-None-clause-few g c =
     subst (λ (b : Shown g.row.M.Denot). RisesFew b.history c.args.news (λ on. slice_get (states_in c.args.seats.now.places) c.args.number ≡ Some (Parked on)) c.args.seats.now.places c.tell.new.seats.places) c.board-in-None.ensures.board
     (told_few c.board-in-None.result.now.history c.args.news _ c.args.seats.now.places c.tell.new.seats.places c.tell.ensures.roused c.tell.ensures.one)
+
+pub returns-in-Some-clause-asked : goal.returns-in-Some-clause-asked
+returns-in-Some-clause-asked g c =
+    asked_roused _ c.args.seats.now.places c.set_free.new.self.places c.hand_on.new.seats.places c.args.number
+    (set_asked_within c.args.seats.now.places c.set_free.new.self.places c.args.number (freed (get_or c.args.seats.now.places c.args.number Free))
+    (may_within c.args.seats.now.places c.args.number c.requires.may) (freed_nothing (get_or c.args.seats.now.places c.args.number Free)) c.set_free.ensures.places)
+    c.hand_on.ensures.roused
+    (ap (λ l. slice_get l c.args.number) c.set_free.ensures.places ∙ freed_here c.args.seats.now.places c.args.number c.requires.may)
+
+pub returns-in-None-clause-asked : goal.returns-in-None-clause-asked
+returns-in-None-clause-asked g c =
+    let free = free_unless_waits c.args.seats.now.places c.args.number c.requires.may c.in-None.ensures in
+    asked_roused _ c.args.seats.now.places c.args.seats.now.places c.tell.new.seats.places c.args.number (free_asked c.args.seats.now.places c.args.number free)
+    c.tell.ensures.roused free

@@ -4,6 +4,10 @@ use Rattle.cml_room.specs.Places.{states_in}
 use Rattle.cml_room.proofs.Ending.{parked_within}
 use Rattle.cml_room.proofs.Parking.{parked_then, unparked, unparked_states}
 use Rattle.cml_room.proofs.Rising.{freed_none}
+use Rattle.std.proofs.Common.{get_or}
+use Rattle.cml_room.specs.declared.place.Place.TheVariants as place
+use Rattle.cml_room.specs.Seats.{freed}
+use Rattle.cml_room.proofs.Woken.{asked_on, set_asked_within, freed_nothing}
 use Rattle.cml_room.proofs.turns.park.Goals as goal
 
 pub set_free-requires : goal.set_free-requires
@@ -27,3 +31,11 @@ returns-then-is_stalled-clause-watched g c =
 pub returns-then-is_stalled-clause-none : goal.returns-then-is_stalled-clause-none
 returns-then-is_stalled-clause-none g c =
     freed_none c.args.seats.now.places c.begin_wait.new.seats.places c.set_free.new.self.places c.args.number c.begin_wait.ensures.none c.set_free.ensures.places
+
+pub returns-then-is_stalled-clause-asked : goal.returns-then-is_stalled-clause-asked
+returns-then-is_stalled-clause-asked g c =
+    asked_on c.args.seats.now.places c.begin_wait.new.seats.places c.set_free.new.self.places c.args.number c.begin_wait.ensures.asked
+    (set_asked_within c.begin_wait.new.seats.places c.set_free.new.self.places c.args.number (freed (get_or c.begin_wait.new.seats.places c.args.number place.Free))
+    (parked_within c.begin_wait.new.seats.places c.args.number c.args.want
+    (parked_then (states_in c.args.seats.now.places) c.begin_wait.new.seats.places c.args.number c.args.want c.requires.may c.begin_wait.ensures.states))
+    (freed_nothing (get_or c.begin_wait.new.seats.places c.args.number place.Free)) c.set_free.ensures.places)

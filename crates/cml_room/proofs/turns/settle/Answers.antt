@@ -8,9 +8,11 @@ use Rattle.cml_room.proofs.Rousing.{at_kept, roused_states}
 use Rattle.cml_room.proofs.Ending.{all_watched, settled, settled_rests, not_full}
 use Rattle.cml_room.proofs.Idling.{none_waits}
 use Rattle.cml_room.proofs.Parking.{none_watched}
-use Rattle.cml_room.specs.Rising.{RisesFew}
+use Rattle.cml_room.specs.Places.{AreRoused}
+use Rattle.cml_room.specs.Rising.{OneEach, RisesFew}
 use Rattle.cml_room.specs.Stalling.{IsStalled}
 use Rattle.cml_room.proofs.Rising.{nobody_few, nobody_risen, told_few}
+use Rattle.cml_room.proofs.Woken.{roused_keeps, same_keeps, keeps_on}
 use Rattle.cml_room.proofs.turns.settle.Goals as goal
 use Rattle.cml_room.proofs.turns.settle.Goals.{then-is_full-via-then-is_full, then-is_full-via-else-is_full+then-is_stalled}
 
@@ -42,15 +44,34 @@ pub returns-then-parked-eq0-clause-kept : goal.returns-then-parked-eq0-clause-ke
 returns-then-parked-eq0-clause-kept g c = λ before watched next.
     none_watched c.args.floor.now c.args.seats.now.places c.args.seats.now.all_due (none_waits c.args.seats.now.places (sym c.parked.ensures ∙ c.if-parked-eq0.true))
 
+pub returns-then-is_full-clause-woken : goal.returns-then-is_full-clause-woken
+returns-then-is_full-clause-woken g c =
+    keeps_on c.args.seats.now.places c.tell.new.seats.places c.rouse_all.new.self.places
+    (roused_keeps _ c.args.seats.now.places c.tell.new.seats.places c.tell.ensures.roused)
+    (same_keeps c.tell.new.seats.places c.rouse_all.new.self.places c.rouse_all.ensures.places)
+
+pub returns-else-is_stalled-clause-woken : goal.returns-else-is_stalled-clause-woken
+returns-else-is_stalled-clause-woken g c = roused_keeps _ c.args.seats.now.places c.tell.new.seats.places c.tell.ensures.roused
+
 pub returns-then-parked-eq0-clause-few : goal.returns-then-parked-eq0-clause-few
-returns-then-parked-eq0-clause-few g c = λ before watched next room moves. (
-  nobody_few c.args.floor.now.board.history c.args.news _ c.args.seats.now.places c.args.seats.now.places
-      (nobody_risen c.args.seats.now.places c.args.seats.now.places (none_waits c.args.seats.now.places (sym c.parked.ensures ∙ c.if-parked-eq0.true))),
-  refl,
-)
+returns-then-parked-eq0-clause-few g c =
+    nobody_few c.args.floor.now.board.history c.args.news _ c.args.seats.now.places c.args.seats.now.places
+    (nobody_risen c.args.seats.now.places c.args.seats.now.places (none_waits c.args.seats.now.places (sym c.parked.ensures ∙ c.if-parked-eq0.true)))
 
 pub returns-then-is_full-clause-few : goal.returns-then-is_full-clause-few
-returns-then-is_full-clause-few g c = λ before watched next room moves.
+returns-then-is_full-clause-few g c =
+    subst (λ (b : Shown g.row.M.Denot). RisesFew b.history c.args.news (λ on. ⊥) c.args.seats.now.places c.rouse_all.new.self.places) c.board.ensures.board
+    (told_few c.board.result.now.history c.args.news (λ on. ⊥) c.args.seats.now.places c.rouse_all.new.self.places
+    (subst (AreRoused _ c.args.seats.now.places) (sym c.rouse_all.ensures.places) c.tell.ensures.roused)
+    (λ single. subst (OneEach c.args.seats.now.places) (sym c.rouse_all.ensures.places) (c.tell.ensures.one single)))
+
+pub returns-else-is_stalled-clause-few : goal.returns-else-is_stalled-clause-few
+returns-else-is_stalled-clause-few g c =
+    subst (λ (b : Shown g.row.M.Denot). RisesFew b.history c.args.news (λ on. ⊥) c.args.seats.now.places c.tell.new.seats.places) c.board.ensures.board
+    (told_few c.board.result.now.history c.args.news (λ on. ⊥) c.args.seats.now.places c.tell.new.seats.places c.tell.ensures.roused c.tell.ensures.one)
+
+pub returns-then-is_full-clause-alarm : goal.returns-then-is_full-clause-alarm
+returns-then-is_full-clause-alarm g c = λ before watched next room moves.
     absurd (elim c.then-is_full.branch [
       | then-is_full-via-then-is_full w ↦
           not_full c.args.floor.now.board (subst (λ (b : Shown g.row.M.Denot). entries_in b.history ≡ full_at b) c.board-2.ensures.board w.if-is_full.ensures.full) room
@@ -61,9 +82,5 @@ returns-then-is_full-clause-few g c = λ before watched next room moves.
           room watched next)))
     ])
 
-pub returns-else-is_stalled-clause-few : goal.returns-else-is_stalled-clause-few
-returns-else-is_stalled-clause-few g c = λ before watched next room moves. (
-  subst (λ (b : Shown g.row.M.Denot). RisesFew b.history c.args.news (λ on. ⊥) c.args.seats.now.places c.tell.new.seats.places) c.board.ensures.board
-      (told_few c.board.result.now.history c.args.news (λ on. ⊥) c.args.seats.now.places c.tell.new.seats.places c.tell.ensures.roused c.tell.ensures.one),
-  c.tell.ensures.due,
-)
+pub returns-else-is_stalled-clause-alarm : goal.returns-else-is_stalled-clause-alarm
+returns-else-is_stalled-clause-alarm g c = λ before watched next room moves. c.tell.ensures.due

@@ -1,9 +1,9 @@
 use Rattle.std.proofs.Common.{ℕ, ◌<◌}
 use Rattle.std.specs.Prelude.{⊤}
 use Rattle.cml_room.specs.declared.place.Waiter.{Waiter}
-use Rattle.cml_room.specs.Places.{AreRoused, IsQuiet}
+use Rattle.cml_room.specs.Places.{row_of, AreRoused, IsQuiet}
 use Rattle.cml_room.proofs.waking.rouse_waiting.Given as goal
 
-abbrev pub invariant-loop-number : goal.invariant-loop-number
-invariant-loop-number l = AreRoused (λ waiter. ⊤) l.initial.seats.places l.seats.places
-    × ((k : ℕ) (waiter : Waiter) → k < l.number → ¬ (IsQuiet l.seats.places k waiter))
+abbrev pub invariant-loop-row : goal.invariant-loop-row
+invariant-loop-row l = AreRoused (λ waiter. ⊤) l.initial.seats.places l.seats.places
+    × ((k : ℕ) (waiter : Waiter) → IsQuiet l.seats.places k waiter → row_of waiter.source < l.row → ⊥)

@@ -1,6 +1,6 @@
 use Rattle.std.proofs.Common.{None}
 use Rattle.cml_room.proofs.Bringing.{placed_on, abandoned_follows}
-use Rattle.cml_room.proofs.Rising.{none_by, settled_due}
+use Rattle.cml_room.proofs.Frames.{stirs_none}
 use Rattle.cml_room.proofs.room.Room.abandon_lane.Goals as goal
 
 pub settle-requires-clause-placed : goal.settle-requires-clause-placed
@@ -13,9 +13,8 @@ invariant_of-self g c =
     let next = abandoned_follows c.args.lane c.self.inside.floor c.abandon_lane-told.new.self c.abandon_lane-told.result None c.abandon_lane-told.ensures.abandons in
     c.settle.ensures.kept c.self.inside.floor c.self.invariant next
 
-pub returns-clause-none : goal.returns-clause-none
-returns-clause-none g c = λ room moves.
+pub returns-clause-stirs : goal.returns-clause-stirs
+returns-clause-stirs g c =
     let next = abandoned_follows c.args.lane c.self.inside.floor c.abandon_lane-told.new.self c.abandon_lane-told.result None c.abandon_lane-told.ensures.abandons in
-    none_by _ _ (settled_due c.args.self.now c.self.inside.floor c.abandon_lane-told.new.self c.self.inside.seats.places c.settle.new.seats.places c.self.inside.seats.all_due
-    c.settle.new.seats.all_due None c.self.view_is c.settle.ensures.states
-    (λ going. c.settle.ensures.few c.self.inside.floor c.self.invariant next room going) moves)
+    stirs_none c.args.self.now c.self.inside.floor c.abandon_lane-told.new.self c.self.inside.seats.places c.settle.new.seats.places c.self.inside.seats.all_due c.settle.new.seats.all_due
+    c.self.view_is c.settle.ensures.states c.settle.ensures.woken c.settle.ensures.few (c.settle.ensures.alarm c.self.inside.floor c.self.invariant next)

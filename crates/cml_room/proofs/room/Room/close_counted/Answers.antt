@@ -2,7 +2,7 @@ use Rattle.std.proofs.Common.{subst}
 use Rattle.cml_lanes.specs.Lanes.{ClosesCounted}
 use Rattle.cml_room.specs.Room.{RoomShown, floor_of}
 use Rattle.cml_room.proofs.Bringing.{tells, close_counted_brings, placed_on}
-use Rattle.cml_room.proofs.Rising.{settled_due}
+use Rattle.cml_room.proofs.Frames.{stirs_few}
 use Rattle.cml_room.proofs.room.Room.close_counted.Goals as goal
 
 pub settle-requires-clause-placed : goal.settle-requires-clause-placed
@@ -34,14 +34,12 @@ returns-clause-closes g c =
     subst (λ (r : RoomShown g.row.M.Denot). ClosesCounted g.L.MessageLog.CHUNK g.M.Message.SURE (floor_of r) c.close_counted-told.new.self c.args.end c.close_counted-told.result) c.self.view_is
     c.close_counted-told.ensures.closes
 
-pub returns-clause-few : goal.returns-clause-few
-returns-clause-few g c = λ room moves.
+pub returns-clause-stirs : goal.returns-clause-stirs
+returns-clause-stirs g c =
     let told = tells _ _ _ _ _ _ c.board.ensures.board c.board-2.ensures.board c.count_entries-before.ensures.count c.count_entries-before.ensures.past
     c.latest_news-news.ensures.none c.latest_news-news.ensures.latest in
     let brings = close_counted_brings g.L.MessageLog.CHUNK g.M.Message.SURE c.self.inside.floor c.close_counted-told.new.self c.args.end c.close_counted-told.result c.latest_news-news.result
-    c.board.ensures.lanes told c.close_counted-told.ensures.closes in (
-      c.latest_news-news.result,
-      settled_due c.args.self.now c.self.inside.floor c.close_counted-told.new.self c.self.inside.seats.places c.settle.new.seats.places c.self.inside.seats.all_due
-          c.settle.new.seats.all_due c.latest_news-news.result c.self.view_is c.settle.ensures.states
-          (λ going. c.settle.ensures.few c.self.inside.floor c.self.invariant brings.follows room going) moves,
-    )
+    c.board.ensures.lanes told c.close_counted-told.ensures.closes in
+    stirs_few c.args.self.now c.self.inside.floor c.close_counted-told.new.self c.self.inside.seats.places c.settle.new.seats.places c.self.inside.seats.all_due c.settle.new.seats.all_due
+    c.latest_news-news.result c.self.view_is c.settle.ensures.states c.settle.ensures.woken c.settle.ensures.few
+    (c.settle.ensures.alarm c.self.inside.floor c.self.invariant brings.follows)

@@ -3,6 +3,7 @@ use Rattle.cml_board.specs.Shown.{Shown}
 use Rattle.cml_lanes.specs.Floor.{KeepsRings}
 use Rattle.cml_room.specs.Room.{RoomShown, floor_of}
 use Rattle.cml_room.proofs.Unmoved.{cuts_watched}
+use Rattle.cml_room.proofs.Frames.{keeps}
 use Rattle.cml_room.proofs.room.Room.cut.Goals as goal
 
 pub invariant_of-self : goal.invariant_of-self
@@ -13,3 +14,7 @@ invariant_of-self g c =
 
 pub returns-clause-rings : goal.returns-clause-rings
 returns-clause-rings g c = subst (λ (r : RoomShown g.row.M.Denot). KeepsRings (floor_of r) c.cut.new.self) c.self.view_is c.cut.ensures.rings
+
+pub returns-clause-kept : goal.returns-clause-kept
+returns-clause-kept g c =
+    keeps c.args.self.now c.self.inside.floor c.cut.new.self c.self.inside.seats.places c.self.inside.seats.all_due c.self.view_is

@@ -1,5 +1,5 @@
 use Rattle.cml_room.proofs.Bringing.{tells, drained_brings, placed_on}
-use Rattle.cml_room.proofs.Rising.{settled_due}
+use Rattle.cml_room.proofs.Frames.{stirs_few}
 use Rattle.cml_room.proofs.room.Room.drain.Goals as goal
 
 pub settle-requires-clause-placed : goal.settle-requires-clause-placed
@@ -26,14 +26,12 @@ invariant_of-self g c =
     c.board.ensures.lanes told c.drain-told.ensures.drains in
     c.settle.ensures.kept c.self.inside.floor c.self.invariant brings.follows
 
-pub returns-clause-few : goal.returns-clause-few
-returns-clause-few g c = λ room moves.
+pub returns-clause-stirs : goal.returns-clause-stirs
+returns-clause-stirs g c =
     let told = tells _ _ _ _ _ _ c.board.ensures.board c.board-2.ensures.board c.count_entries-before.ensures.count c.count_entries-before.ensures.past
     c.latest_news-news.ensures.none c.latest_news-news.ensures.latest in
     let brings = drained_brings g.L.MessageLog.CHUNK g.M.Message.SURE c.args.lane c.self.inside.floor c.drain-told.new.self c.drain-told.result c.latest_news-news.result
-    c.board.ensures.lanes told c.drain-told.ensures.drains in (
-      c.latest_news-news.result,
-      settled_due c.args.self.now c.self.inside.floor c.drain-told.new.self c.self.inside.seats.places c.settle.new.seats.places c.self.inside.seats.all_due
-          c.settle.new.seats.all_due c.latest_news-news.result c.self.view_is c.settle.ensures.states
-          (λ going. c.settle.ensures.few c.self.inside.floor c.self.invariant brings.follows room going) moves,
-    )
+    c.board.ensures.lanes told c.drain-told.ensures.drains in
+    stirs_few c.args.self.now c.self.inside.floor c.drain-told.new.self c.self.inside.seats.places c.settle.new.seats.places c.self.inside.seats.all_due c.settle.new.seats.all_due
+    c.latest_news-news.result c.self.view_is c.settle.ensures.states c.settle.ensures.woken c.settle.ensures.few
+    (c.settle.ensures.alarm c.self.inside.floor c.self.invariant brings.follows)

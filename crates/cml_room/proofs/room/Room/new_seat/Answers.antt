@@ -5,6 +5,10 @@ use Rattle.cml_room.specs.Waking.{IsWatched}
 use Rattle.cml_room.proofs.Noting.{added_watched}
 use Rattle.cml_room.specs.Rising.{HasRisen}
 use Rattle.cml_room.proofs.Rising.{added_none, none_due}
+use Rattle.cml_room.specs.Places.{notices_in}
+use Rattle.cml_room.specs.Room.{RoomShown}
+use Rattle.cml_room.specs.Running.{KeepsWoken}
+use Rattle.cml_room.proofs.Woken.{added_keeps}
 use Rattle.cml_room.proofs.room.Room.new_seat.Goals as goal
 
 pub invariant_of-self-2 : goal.invariant_of-self-2
@@ -18,5 +22,11 @@ pub returns-clause-none : goal.returns-clause-none
 returns-clause-none g c =
     let added : c.add.new.self.places ≡ c.self.inside.seats.places ++ Free ∷ [] = search rules in
     none_due c.args.self.now c.self.inside.floor c.self.inside.floor c.self.inside.seats.places c.add.new.self.places c.self.inside.seats.all_due c.add.new.self.all_due
-    c.self.view_is c.add.ensures.due
+    c.self.view_is
     (λ k on. subst (λ (l : List Place). ¬ (HasRisen c.self.inside.seats.places l k on)) (sym added) (added_none c.self.inside.seats.places Free k on))
+
+pub returns-clause-step : goal.returns-clause-step
+returns-clause-step g c =
+    let added : c.add.new.self.places ≡ c.self.inside.seats.places ++ Free ∷ [] = search rules in
+    subst (λ (r : RoomShown g.row.M.Denot). KeepsWoken r.notices (notices_in c.add.new.self.places)) c.self.view_is
+    (added_keeps c.self.inside.seats.places c.add.new.self.places added)

@@ -1,7 +1,7 @@
 use Rattle.std.proofs.Common.{None}
 use Rattle.cml_room.proofs.Bringing.{placed_on}
 use Rattle.cml_room.proofs.Quiet.{pumped_follows}
-use Rattle.cml_room.proofs.Rising.{none_by, settled_due}
+use Rattle.cml_room.proofs.Frames.{stirs_none}
 use Rattle.cml_room.proofs.room.Room.pump.Goals as goal
 
 pub settle-requires-clause-placed : goal.settle-requires-clause-placed
@@ -14,9 +14,8 @@ invariant_of-self g c =
     let next = pumped_follows g.L.MessageLog.CHUNK g.M.Message.SURE c.args.feed c.self.inside.floor c.pump-told.new.self c.pump-told.result c.pump-told.ensures.pumps in
     c.settle.ensures.kept c.self.inside.floor c.self.invariant next
 
-pub returns-clause-none : goal.returns-clause-none
-returns-clause-none g c = λ room moves.
+pub returns-clause-stirs : goal.returns-clause-stirs
+returns-clause-stirs g c =
     let next = pumped_follows g.L.MessageLog.CHUNK g.M.Message.SURE c.args.feed c.self.inside.floor c.pump-told.new.self c.pump-told.result c.pump-told.ensures.pumps in
-    none_by _ _ (settled_due c.args.self.now c.self.inside.floor c.pump-told.new.self c.self.inside.seats.places c.settle.new.seats.places c.self.inside.seats.all_due
-    c.settle.new.seats.all_due None c.self.view_is c.settle.ensures.states
-    (λ going. c.settle.ensures.few c.self.inside.floor c.self.invariant next room going) moves)
+    stirs_none c.args.self.now c.self.inside.floor c.pump-told.new.self c.self.inside.seats.places c.settle.new.seats.places c.self.inside.seats.all_due c.settle.new.seats.all_due
+    c.self.view_is c.settle.ensures.states c.settle.ensures.woken c.settle.ensures.few (c.settle.ensures.alarm c.self.inside.floor c.self.invariant next)

@@ -2,12 +2,14 @@ use Rattle.std.proofs.Common.{slice_get, None, sym, ap, subst, ◌∙◌}
 use Rattle.cml_board.specs.declared.entry.Who.TheVariants.{Seat}
 use Rattle.cml_board.specs.Waiting.{want_in}
 use Rattle.cml_room.specs.Places.{states_in, notices_in}
-use Rattle.cml_room.specs.Rising.{MakesFewDue, WantOf}
+use Rattle.cml_room.specs.Frames.{Turns}
+use Rattle.cml_room.specs.Running.{AskOf}
 use Rattle.cml_room.specs.Room.{RoomShown}
 use Rattle.cml_room.proofs.Turning.{answered_asks, parked_asks, stalled_asks, refused_asks, answered_reaches, waiting_reaches, room_of}
 use Rattle.cml_room.proofs.Unmoved.{room_kept}
 use Rattle.cml_room.proofs.Bringing.{placed_on}
-use Rattle.cml_room.proofs.Rising.{few_of, nobody_few}
+use Rattle.cml_room.proofs.Frames.{turns}
+use Rattle.cml_room.proofs.Rising.{nobody_few}
 use Rattle.cml_room.proofs.Calling.{answered_brings, refused_before, before_follows, before_watched, call_would, may_wait, waits_wants, may_brings, answered_news}
 use Rattle.cml_room.proofs.room.Room.take_turn.Goals as goal
 
@@ -107,29 +109,30 @@ answer_turn-requires-clause-brings g c = λ on parked.
     may_brings c.args.self.now c.args.seat c.args.call on c.news_in-news.result c.requires c.news_in-news.ensures
     (ap (λ (r : RoomShown g.row.M.Denot). slice_get r.seats c.args.seat) (sym c.self.view_is) ∙ parked)
 
-pub returns-in-Answered-clause-few : goal.returns-in-Answered-clause-few
-returns-in-Answered-clause-few g c = λ room.
+pub returns-in-Answered-clause-turns : goal.returns-in-Answered-clause-turns
+returns-in-Answered-clause-turns g c =
     let reaches = answered_reaches g.L.MessageLog.CHUNK g.M.Message.SURE c.self.inside.floor c.apply.new.self c.args.seat c.args.call c.in-Answered.answer
     c.in-Answered.ensures.barred c.in-Answered.ensures.applied in
-    subst (λ n. MakesFewDue c.args.self.now (room_of c.apply.new.self (states_in c.answer_turn.new.seats.places) (notices_in c.answer_turn.new.seats.places) c.answer_turn.new.seats.all_due) (WantOf c.args.self.now c.args.seat) n)
+    subst (λ n. Turns c.args.seat (AskOf c.args.seat) n c.args.self.now
+    (room_of c.apply.new.self (states_in c.answer_turn.new.seats.places) (notices_in c.answer_turn.new.seats.places) c.answer_turn.new.seats.all_due))
     (answered_news g.L.MessageLog.CHUNK g.M.Message.SURE c.self.inside.floor.board c.apply.new.self.board (Seat c.args.seat) c.args.call c.in-Answered.answer
     c.news_in-news.result c.news_in-news.ensures reaches.applies)
-    (few_of c.args.self.now c.self.inside.floor c.apply.new.self c.self.inside.seats.places c.answer_turn.new.seats.places c.self.inside.seats.all_due
-    c.answer_turn.new.seats.all_due c.args.seat c.news_in-news.result c.self.view_is (c.answer_turn.ensures.due room) (c.answer_turn.ensures.few room))
+    (turns c.args.self.now c.self.inside.floor c.apply.new.self c.self.inside.seats.places c.answer_turn.new.seats.places c.self.inside.seats.all_due
+    c.answer_turn.new.seats.all_due c.args.seat c.news_in-news.result c.self.view_is c.answer_turn.ensures.asked c.answer_turn.ensures.few c.answer_turn.ensures.due)
 
-pub returns-in-Refused-clause-few : goal.returns-in-Refused-clause-few
-returns-in-Refused-clause-few g c = λ room.
-    few_of c.args.self.now c.self.inside.floor c.apply.new.self c.self.inside.seats.places c.end_turn.new.seats.places c.self.inside.seats.all_due
-    c.end_turn.new.seats.all_due c.args.seat None c.self.view_is c.end_turn.ensures.due c.end_turn.ensures.few
+pub returns-in-Refused-clause-turns : goal.returns-in-Refused-clause-turns
+returns-in-Refused-clause-turns g c =
+    turns c.args.self.now c.self.inside.floor c.apply.new.self c.self.inside.seats.places c.end_turn.new.seats.places c.self.inside.seats.all_due
+    c.end_turn.new.seats.all_due c.args.seat None c.self.view_is c.end_turn.ensures.asked c.end_turn.ensures.few (λ has. c.end_turn.ensures.due)
 
-pub returns-then-park-clause-few : goal.returns-then-park-clause-few
-returns-then-park-clause-few g c = λ room.
-    few_of c.args.self.now c.self.inside.floor c.apply.new.self c.self.inside.seats.places c.park.new.seats.places c.self.inside.seats.all_due
-    c.park.new.seats.all_due c.args.seat None c.self.view_is c.park.ensures.due
-    (nobody_few c.apply.new.self.board.history None _ c.self.inside.seats.places c.park.new.seats.places c.park.ensures.none)
+pub returns-then-park-clause-turns : goal.returns-then-park-clause-turns
+returns-then-park-clause-turns g c =
+    turns c.args.self.now c.self.inside.floor c.apply.new.self c.self.inside.seats.places c.park.new.seats.places c.self.inside.seats.all_due
+    c.park.new.seats.all_due c.args.seat None c.self.view_is c.park.ensures.asked
+    (nobody_few c.apply.new.self.board.history None _ c.self.inside.seats.places c.park.new.seats.places c.park.ensures.none) (λ has. c.park.ensures.due)
 
-pub returns-else-park-clause-few : goal.returns-else-park-clause-few
-returns-else-park-clause-few g c = λ room.
-    few_of c.args.self.now c.self.inside.floor c.apply.new.self c.self.inside.seats.places c.park.new.seats.places c.self.inside.seats.all_due
-    c.park.new.seats.all_due c.args.seat None c.self.view_is c.park.ensures.due
-    (nobody_few c.apply.new.self.board.history None _ c.self.inside.seats.places c.park.new.seats.places c.park.ensures.none)
+pub returns-else-park-clause-turns : goal.returns-else-park-clause-turns
+returns-else-park-clause-turns g c =
+    turns c.args.self.now c.self.inside.floor c.apply.new.self c.self.inside.seats.places c.park.new.seats.places c.self.inside.seats.all_due
+    c.park.new.seats.all_due c.args.seat None c.self.view_is c.park.ensures.asked
+    (nobody_few c.apply.new.self.board.history None _ c.self.inside.seats.places c.park.new.seats.places c.park.ensures.none) (λ has. c.park.ensures.due)

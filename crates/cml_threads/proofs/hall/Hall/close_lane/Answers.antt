@@ -19,7 +19,7 @@ invariant_of-self g c =
     c.count_since.new.book.total c.count_since.new.rest.amount c.count_since.new.rest.parts
     c.self.invariant c.entries-before.ensures c.board.ensures.board c.board-2.ensures.board
     (closes g.L.MessageLog.CHUNK g.M.Message.SURE (room.floor_of c.self.inside.room) (room.floor_of c.close_lane-told.new.self) c.args.end c.close_lane-told.result c.close_lane-told.ensures.closes)
-    c.close_lane-told.ensures.seats
+    c.close_lane-told.ensures.stirs.seats
     c.count_since.ensures.total c.count_since.ensures.amount c.count_since.ensures.parts
 
 pub returns-clause-closes : goal.returns-clause-closes

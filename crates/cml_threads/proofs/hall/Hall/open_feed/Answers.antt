@@ -16,5 +16,5 @@ invariant_of-self g c =
     c.count_since.new.book.total c.count_since.new.rest.amount c.count_since.new.rest.parts
     c.self.invariant c.entries-before.ensures c.board.ensures.board c.board-2.ensures.board
     (opens_feed g.L.MessageLog.CHUNK g.M.Message.SURE (room.floor_of c.self.inside.room) (room.floor_of c.open_feed-told.new.self) c.args.channel c.args.capacity c.open_feed-told.result c.open_feed-told.ensures.opens)
-    c.open_feed-told.ensures.seats
+    c.open_feed-told.ensures.stirs.seats
     c.count_since.ensures.total c.count_since.ensures.amount c.count_since.ensures.parts

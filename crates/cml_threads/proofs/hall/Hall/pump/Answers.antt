@@ -16,5 +16,5 @@ invariant_of-self g c =
     c.count_since.new.book.total c.count_since.new.rest.amount c.count_since.new.rest.parts
     c.self.invariant c.entries-before.ensures c.board.ensures.board c.board-2.ensures.board
     (pumps g.L.MessageLog.CHUNK g.M.Message.SURE c.args.feed (room.floor_of c.self.inside.room) (room.floor_of c.pump-told.new.self) c.pump-told.result c.pump-told.ensures.pumps)
-    c.pump-told.ensures.seats
+    c.pump-told.ensures.stirs.seats
     c.count_since.ensures.total c.count_since.ensures.amount c.count_since.ensures.parts

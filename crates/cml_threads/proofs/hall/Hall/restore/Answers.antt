@@ -2,6 +2,7 @@ use Rattle.std.proofs.Common.{◌≡◌, ◌∙◌, ap, arith}
 use Rattle.cml_board.specs.History.{entries_in, rings_in}
 use Rattle.cml_board.specs.Makers.{seats_of}
 use Rattle.cml_board.specs.Shown.{Shown}
+use Rattle.cml_threads.specs.Seating.{share_at}
 use Rattle.cml_threads.proofs.Restoring.{rings_within, all_rings}
 use Rattle.cml_threads.proofs.hall.Hall.restore.Goals as goal
 
@@ -37,3 +38,9 @@ pub returns-clause-answers : goal.returns-clause-answers
 returns-clause-answers g c =
     let all = c.entries-entries.ensures ∙ ap (λ (b : Shown g.row.M.Denot). entries_in b.history) c.board.ensures in
     omega (arith, all, c.makers-makers.ensures.right.rings, rings_within c.args.restored.board.history, c.in_ok-lefts.ensures.answers)
+
+pub returns-clause-shares : goal.returns-clause-shares
+returns-clause-shares g c = λ number left found.
+    let all = c.entries-entries.ensures ∙ ap (λ (b : Shown g.row.M.Denot). entries_in b.history) c.board.ensures in
+    c.in_ok-lefts.ensures.shares number left found
+    ∙ ap (share_at number) (omega (arith, all, c.makers-makers.ensures.right.rings, rings_within c.args.restored.board.history))

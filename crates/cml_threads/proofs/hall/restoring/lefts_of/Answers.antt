@@ -1,6 +1,6 @@
-use Rattle.std.proofs.Common.{◌∷◌, [], refl, ap, arith, length, length-append}
+use Rattle.std.proofs.Common.{◌∷◌, [], refl, ap, ◌∙◌, arith, length, length-append}
 use Rattle.cml_threads.specs.Seating.{Sitting}
-use Rattle.cml_threads.proofs.Restoring.{numbers_more, answers_more}
+use Rattle.cml_threads.proofs.Restoring.{numbers_more, shares_more, next_share, answers_more}
 use Rattle.cml_threads.proofs.hall.restoring.lefts_of.Goals as goal
 
 pub loop-number-preserved : goal.loop-number-preserved
@@ -14,6 +14,9 @@ loop-number-preserved g c =
       room = omega (arith, pushed.capacity, was.room);
       numbers = numbers_more c.loop-number.lefts.items c.push_reserved.new.self.items c.new.result c.loop-number.number was.many
           (ap (λ (s : Sitting). s.number) c.new.ensures) pushed.items was.numbers;
+      shares = shares_more c.loop-number.lefts.items c.push_reserved.new.self.items c.new.result c.loop-number.number c.args.answers was.many
+          (ap (λ (s : Sitting). s.share) c.new.ensures ∙ next_share c.loop-number.number c.loop-number.answers c.args.answers was.first was.none) pushed.items was.shares;
+      first = λ none. absurd (omega (arith, none));
       answers = omega (arith, answers_more c.loop-number.lefts.items c.push_reserved.new.self.items c.new.result pushed.items, ap (λ (s : Sitting). s.share) c.new.ensures, was.answers);
       none = λ some. refl;
       amount = omega (arith, split.amount_left, was.amount);

@@ -1,0 +1,12 @@
+use Rattle.std.proofs.Common.{◌≡◌, slice_get, Some}
+use Rattle.cml_board.specs.Waiting.{Waits}
+use Rattle.cml_queues.specs.Queues.{queue_of}
+use Rattle.cml_room.specs.declared.place.Place.TheVariants.{Waiting}
+use Rattle.cml_room.specs.declared.place.Waiter.{Waiter}
+use Rattle.cml_room.specs.Places.{row_of}
+use Rattle.cml_room.proofs.Walking.{Walked}
+use Rattle.cml_room.proofs.waiting.row_idle.Given as goal
+
+abbrev pub invariant-loop : goal.invariant-loop
+invariant-loop g l = Walked (queue_of l.seats.rows (row_of l.source)) l.next l.counter
+    (λ k. (waiter : Waiter) → slice_get l.seats.places k ≡ Some (Waiting waiter) → Waits l.board.history waiter.want)
