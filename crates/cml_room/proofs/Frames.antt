@@ -12,11 +12,11 @@ use Rattle.cml_room.specs.declared.state.State.TheVariants as state
 use Rattle.cml_room.specs.Asking.{Asks}
 use Rattle.cml_room.specs.Frames.{KeepsSeats, Stirs, Turns}
 use Rattle.cml_room.specs.Places.{states_in, notices_in}
-use Rattle.cml_room.specs.Rising.{RisesFew, WantOf, MakesFewDue, MakesFewByOne, MakesNoneDue}
+use Rattle.cml_room.specs.Rising.{RisesFew, MakesFewByOne, MakesNoneDue}
 use Rattle.cml_room.specs.Room.{RoomShown}
-use Rattle.cml_room.specs.Running.{RoomCall, AskOf, Other, IsMade, HasAsked, KeepsWoken, asked_by, was_woken}
+use Rattle.cml_room.specs.Running.{AskOf, Other, IsMade, HasAsked, KeepsWoken, asked_by, was_woken}
 use Rattle.cml_room.specs.Stalling.{IsStalled}
-use Rattle.cml_room.proofs.Rising.{few_due, few_of, none_by, none_due, none_same}
+use Rattle.cml_room.proofs.Rising.{few_due, few_of, none_by, none_same}
 use Rattle.cml_room.proofs.Turning.{room_of}
 
 module _ {M : Type 0} where

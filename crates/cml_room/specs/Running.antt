@@ -1,5 +1,6 @@
 -- The law of waking: what each call of a room does to who was woken, and what holds after a run of calls. A seat counts as woken by a
--- bit that the room keeps. What the bit means is shown over runs: a `next_due` returned the seat, and it has not asked since.
+-- bit that the room keeps. What the bit means is shown over runs: a `next_due` returned the seat, and it has not asked since. It is
+-- not said that the thread of such a seat does ask, nor in which order `next_due` returns seats.
 use Rattle.std.specs.Prelude.{ℕ, ◌≡◌, ◌≢◌, ◌==◌, ◌&&◌, ◌||◌, ◌⊎◌, not, Bool, true, false, List, [], ◌∷◌, slice_get, Option, Some, None, IfSome, IfNone, Result, Ok, Err, ⊤}
 use Rattle.cml_board.specs.declared.outcome.Outcome.{Outcome}
 use Rattle.cml_board.specs.declared.outcome.Outcome.TheVariants.{Refused}

@@ -1,4 +1,4 @@
-use Rattle.std.proofs.Common.{◌≡◌, refl, sym, ap, subst, ◌∙◌}
+use Rattle.std.proofs.Common.{◌≡◌, sym, ap, subst, ◌∙◌}
 use Rattle.cml_board.specs.History.{entries_in}
 use Rattle.cml_board.specs.Outcome.{HasRoom}
 use Rattle.cml_board.specs.Shown.{Shown, full_at}
