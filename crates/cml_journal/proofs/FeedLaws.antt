@@ -1,5 +1,5 @@
 -- What is read of bytes, however they are cut.
-use Rattle.std.proofs.Common.{◌≡◌, ℕ, ◌+◌, ◌<◌, ◌≤◌, false, ◌==◌, nat_lt, nat_le, if◌then◌else◌, List, [], ◌∷◌, ◌++◌, length, Option, Result, Ok, Err, refl, sym, ap, ◌∙◌, arith, append_assoc, length-append, ◌⊎◌, inl, inr}
+use Rattle.std.proofs.Common.{◌≡◌, ℕ, ◌+◌, ◌<◌, ◌≤◌, Bool, true, false, ◌||◌, ◌==◌, nat_lt, nat_le, if◌then◌else◌, List, [], ◌∷◌, ◌++◌, length, Option, Result, Ok, Err, refl, sym, ap, subst, ◌∙◌, arith, append_assoc, length-append, ◌⊎◌, inl, inr}
 use Rattle.std.specs.Option.{option_to_list}
 use Rattle.std.proofs.lemmas.Bool.{or_parts, leb-true, le-leb, ltb-true, lt-ltb, false_from_ne_true, cases_lt}
 use Rattle.std.proofs.lemmas.List.{append-nil}
@@ -9,6 +9,7 @@ use Rattle.cml_journal.specs.declared.fault.What.TheVariants.{TooLong}
 use Rattle.cml_journal.specs.declared.fault.Unread.{Unread}
 use Rattle.cml_journal.specs.declared.fault.Unread.TheVariants as unread
 use Rattle.cml_journal.specs.Reading.{◌>>=◌, Fails}
+use Rattle.cml_journal.specs.Faults.{HasFault, Meets}
 use Rattle.cml_journal.specs.Feeding.{State, held, held_all, most, turned, no_entry, byte_read, Read, behind, reading, has_line_end}
 
 -- a state with entries before it, and one alone
@@ -94,24 +95,126 @@ reading-line {M} version read state front rest short none =
     by (Err what) = refl
 
 -- ---- what `next` promises
+-- the first byte that is not read
+pub record Breaks {M : Type 0} (version : ℕ) (read : List ℕ → Option M) (state : State) (bytes : List ℕ) (what : What) : Type 0 where
+  pub front : List ℕ
+  pub byte : ℕ
+  pub rest : List ℕ
+  pub whole : bytes ≡ front ++ byte ∷ rest
+  pub next : State
+  pub entries : List (Entry M)
+  pub taken : reading version read state front ≡ Ok (next, entries)
+  pub fault : reading version read state (front ++ byte ∷ []) ≡ Err what
+
+unbehind : {M : Type 0} (given : List (Entry M)) (read : Read M) (what : What) → behind given read ≡ Err what → read ≡ Err what
+unbehind given (Ok x) what is = cc
+unbehind given (Err fault) what is = is
+
+breaks : {M : Type 0} (version : ℕ) (read : List ℕ → Option M) (state : State) (bytes : List ℕ) (what : What) → reading version read state bytes ≡ Err what
+    → Breaks version read state bytes what
+unfolding reading
+breaks version read state [] what is = absurd (cc)
+breaks {M} version read state (b ∷ bs) what is = by (byte_read version read state b) refl is (λ next broken. breaks version read next bs what broken)
+  where
+    by : (r : Result (State × Option (Entry M)) What) → byte_read version read state b ≡ r
+        → (r >>= λ first. behind (option_to_list first.1) (reading version read first.0 bs)) ≡ Err what
+        → ((next : State) → reading version read next bs ≡ Err what → Breaks version read next bs what) → Breaks version read state (b ∷ bs) what
+    by (Ok first) at broken later =
+        let more = later first.0 (unbehind (option_to_list first.1) (reading version read first.0 bs) what broken) in record {
+          front = b ∷ more.front;
+          byte = more.byte;
+          rest = more.rest;
+          whole = ap (λ (l : List ℕ). b ∷ l) more.whole;
+          next = more.next;
+          entries = option_to_list first.1 ++ more.entries;
+          taken = ap (λ (r : Result (State × Option (Entry M)) What). r >>= λ f. behind (option_to_list f.1) (reading version read f.0 more.front)) at ∙ ap (behind (option_to_list first.1)) more.taken;
+          fault = ap (λ (r : Result (State × Option (Entry M)) What). r >>= λ f. behind (option_to_list f.1) (reading version read f.0 (more.front ++ more.byte ∷ []))) at ∙ ap (behind (option_to_list first.1)) more.fault;
+        }
+    by (Err fault) at broken later = record {
+      front = [];
+      byte = b;
+      rest = bs;
+      whole = refl;
+      next = state;
+      entries = [];
+      taken = refl;
+      fault = ap (λ (r : Result (State × Option (Entry M)) What). r >>= λ f. behind (option_to_list f.1) (reading version read f.0 [])) at ∙ broken;
+    }
+
+-- a front of bytes without a line end has none
+no_end_in_front : (front rest : List ℕ) → has_line_end (front ++ rest) ≡ false → has_line_end front ≡ false
+no_end_in_front [] rest none = refl
+no_end_in_front (b ∷ bs) rest none =
+    let parts = or_parts (b == 10) (has_line_end (bs ++ rest)) none in
+    ap (λ t. t || has_line_end bs) parts.0 ∙ no_end_in_front bs rest parts.1
+
+-- bytes of a line end none
+held_on_line : {M : Type 0} (state next : State) (bytes : List ℕ) (entries : List (Entry M)) → alone {M = M} (held_all state bytes) ≡ Ok (next, entries)
+    → (next.lines ≡ state.lines) × (entries ≡ [])
+held_on_line {M} state next bytes entries = by (nat_le (length state.line + length bytes) most)
+  where
+    by : (t : Bool) → alone {M = M} (if t then Ok (record state { line = state.line ++ bytes }) else Err TooLong) ≡ Ok (next, entries) → (next.lines ≡ state.lines) × (entries ≡ [])
+    by true is =
+        let both : (record state { line = state.line ++ bytes }, []) ≡ (next, entries) = cc in
+        (sym (ap (λ (p : State × List (Entry M)). p.0.lines) both), sym (ap (λ (p : State × List (Entry M)). p.1) both))
+    by false is = absurd (cc)
+
 -- a fault in a line that has not ended
+line_breaks : {M : Type 0} (version : ℕ) (read : List ℕ → Option M) (state : State) (bytes : List ℕ) (what : What) → length state.line ≤ most → has_line_end bytes ≡ false
+    → Breaks version read state bytes what → HasFault version read state bytes what
+line_breaks {M} version read state bytes what short none broken =
+    let free = no_end_in_front broken.front (broken.byte ∷ broken.rest) (subst (λ (l : List ℕ). has_line_end l ≡ false) broken.whole none) in
+    let on_line = held_on_line state broken.next broken.front broken.entries (sym (reading-held version read state broken.front short free) ∙ broken.taken) in record {
+      front = broken.front;
+      byte = broken.byte;
+      rest = broken.rest;
+      whole = broken.whole;
+      next = broken.next;
+      read = broken.taken ∙ ap (placed broken.next) on_line.1;
+      same_line = on_line.0;
+      fault = broken.fault;
+    }
+
+held_breaks : {M : Type 0} (version : ℕ) (read : List ℕ → Option M) (state : State) (bytes : List ℕ) (what : What) → length state.line ≤ most → has_line_end bytes ≡ false
+    → held_all state bytes ≡ Err what → HasFault version read state bytes what
+held_breaks {M} version read state bytes what short none fails =
+    line_breaks version read state bytes what short none (breaks version read state bytes what (reading-held version read state bytes short none ∙ ap (alone {M = M}) fails))
+
 pub fault_held : {M : Type 0} (version : ℕ) (read : List ℕ → Option M) (state : State) (bytes : List ℕ) (e : Unread) → length state.line ≤ most → has_line_end bytes ≡ false
-    → Fails e (held_all state bytes) → Fails e (reading version read state bytes)
+    → Fails e (held_all state bytes) → Meets version read state bytes e
 fault_held version read state bytes unread.Memory short none fails = tt
-fault_held {M} version read state bytes (unread.Fault what) short none fails = reading-held version read state bytes short none ∙ ap (alone {M = M}) fails
+fault_held version read state bytes (unread.Fault what) short none fails = held_breaks version read state bytes what short none fails
 
 pub fault_front : {M : Type 0} (version : ℕ) (read : List ℕ → Option M) (state : State) (front rest : List ℕ) (e : Unread) → length state.line ≤ most → has_line_end front ≡ false
-    → Fails e (held_all state front) → Fails e (reading version read state (front ++ 10 ∷ rest))
+    → Fails e (held_all state front) → Meets version read state (front ++ 10 ∷ rest) e
 fault_front version read state front rest unread.Memory short none fails = tt
-fault_front {M} version read state front rest (unread.Fault what) short none fails = reading-line version read state front rest short none ∙ ap (turning {M = M} version read rest) fails
+fault_front version read state front rest (unread.Fault what) short none fails =
+    let first = held_breaks version read state front what short none fails in record {
+      front = first.front;
+      byte = first.byte;
+      rest = first.rest ++ 10 ∷ rest;
+      whole = ap (λ (l : List ℕ). l ++ 10 ∷ rest) first.whole ∙ append_assoc first.front (first.byte ∷ first.rest) (10 ∷ rest);
+      next = first.next;
+      read = first.read;
+      same_line = first.same_line;
+      fault = first.fault;
+    }
 
 pub fault_turned : {M : Type 0} (version : ℕ) (read : List ℕ → Option M) (state next : State) (front rest : List ℕ) (e : Unread) → length state.line ≤ most → has_line_end front ≡ false
-    → held_all state front ≡ Ok next → Fails e (turned version read next) → Fails e (reading version read state (front ++ 10 ∷ rest))
-fault_turned version read state next front rest unread.Memory short none held fails = tt
-fault_turned {M} version read state next front rest (unread.Fault what) short none held fails =
-    reading-line version read state front rest short none
-    ∙ ap (turning {M = M} version read rest) held
-    ∙ ap (λ (r : Result (State × Option (Entry M)) What). r >>= λ first. behind (option_to_list first.1) (reading version read first.0 rest)) fails
+    → held_all state front ≡ Ok next → next.lines ≡ state.lines → Fails e (turned version read next) → Meets version read state (front ++ 10 ∷ rest) e
+fault_turned version read state next front rest unread.Memory short none held same fails = tt
+fault_turned {M} version read state next front rest (unread.Fault what) short none held same fails = record {
+  front = front;
+  byte = 10;
+  rest = rest;
+  whole = refl;
+  next = next;
+  read = reading-held version read state front short none ∙ ap (alone {M = M}) held;
+  same_line = same;
+  fault = reading-line version read state front [] short none
+  ∙ ap (turning {M = M} version read []) held
+  ∙ ap (λ (r : Result (State × Option (Entry M)) What). r >>= λ first. behind (option_to_list first.1) (reading version read first.0 [])) fails;
+}
 
 pub taken_line : {M : Type 0} (version : ℕ) (read : List ℕ → Option M) (state next last : State) (entry : Option (Entry M)) (front : List ℕ) → length state.line ≤ most → has_line_end front ≡ false
     → held_all state front ≡ Ok next → turned version read next ≡ Ok (last, entry) → reading version read state (front ++ 10 ∷ []) ≡ Ok (last, option_to_list entry)

@@ -8,4 +8,5 @@ pub mod EscapeLaws
 pub mod Words
 pub mod Streams
 pub mod Feeding
+pub mod Faults
 pub mod Checks

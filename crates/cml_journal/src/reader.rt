@@ -1,7 +1,8 @@
 //! How a journal's text is read as it comes.
-ghost use Rattle.std.specs.Prelude.{◌≡◌, ◌≤◌, ◌-◌, ◌==◌, ◌++◌, ◌∷◌, ℕ, List, Ok, false, length, position, IfOk, IfErr, OnErr, MatchOption};
+ghost use Rattle.std.specs.Prelude.{◌≡◌, ◌≤◌, ◌-◌, ◌==◌, ◌++◌, ◌∷◌, [], ℕ, List, Ok, false, length, position, IfOk, IfErr, OnOk, OnErr, OnSome, MatchOption};
 ghost use Rattle.std.specs.Option.{option_to_list};
-ghost use Rattle.cml_journal.specs.Reading.{Gives, Fails};
+ghost use Rattle.cml_journal.specs.Reading.{Gives};
+ghost use Rattle.cml_journal.specs.Faults.{Meets};
 ghost use Rattle.cml_journal.specs.Feeding.{State, fresh, waiting_at, numbered, headed, begun, entered, ended_by, inside, from_by, behind_header, line_step, line_read, has_line_end, held_all, most, turned, reading, end_of};
 
 use crate::fault::{Unread, What};
@@ -192,7 +193,8 @@ impl Reader {
     ) -> Result<(Option<Entry<M>>, &'a [u8]), Unread>
         ensures taken { IfOk result (λ given. (taken : List ℕ) × (bytes.now ≡ taken ++ given.1.now)
             × (reading M.VERSION M.meaning self.old taken ≡ Ok (self.new, option_to_list given.0))) }
-        ensures fault { IfErr result (λ unread. Fails unread (reading M.VERSION M.meaning self.old bytes.now)) }
+        ensures fault { IfErr result (λ unread. Meets M.VERSION M.meaning self.old bytes.now unread) }
+        ensures ended { IfOk result (λ given. OnSome given.0 (self.new.line ≡ [])) }
         ensures shorter { IfOk result (λ given. length given.1.now ≤ length bytes.now - 1) }
         ensures line { OnErr result (self.new.lines ≡ self.old.lines) }
     {
@@ -222,6 +224,7 @@ impl Reader {
     #[tactic(auto, unfolding(crate::specs::Feeding::turned))]
     fn turn<M: Written>(&mut self, alloc: Global) -> Result<Option<Entry<M>>, Unread>
         ensures turned { Gives (λ entry. (self.new, entry)) result (turned M.VERSION M.meaning self.old) }
+        ensures ended { OnOk result (self.new.line ≡ []) }
         ensures line { OnErr result (self.new.lines ≡ self.old.lines) }
     {
         let (stage, entry) = line_read(alloc, self.stage, &self.line)?;

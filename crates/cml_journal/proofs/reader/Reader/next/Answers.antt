@@ -1,7 +1,6 @@
 use Rattle.std.proofs.Common.{ℕ, ◌∷◌, ◌++◌, [], List, ap, sym, subst, ◌∙◌, append_assoc}
 use Rattle.std.proofs.lemmas.Result.{err_from_is_err_and}
-use Rattle.cml_journal.specs.Reading.{Fails}
-use Rattle.cml_journal.specs.Feeding.{reading}
+use Rattle.cml_journal.specs.Faults.{Meets}
 use Rattle.cml_journal.proofs.FeedLaws.{reading-held, alone, fault_held, fault_front, fault_turned, taken_line}
 use Rattle.cml_journal.proofs.LineEnds.{nothing_left}
 use Rattle.cml_journal.proofs.reader.Reader.next.Goals as goal
@@ -20,13 +19,13 @@ pub returns-in_err-hold-2-clause-fault : goal.returns-in_err-hold-2-clause-fault
 returns-in_err-hold-2-clause-fault g c =
     let p = err_from_is_err_and c.from_residual-in_err-hold-2.result c.from_residual-in_err-hold-2.ensures.1 in
     let fault = fault_front g.M.Written.VERSION g.M.Written.meaning c.args.self.now c.in-Some.front.now c.in-Some.rest.now c.in_err-hold-2.field-0.0 c.hold-2.ensures.short c.in-Some.ensures.1 c.in_err-hold-2.ensures.held in
-    rw (p.1, p.2) (subst (λ (bytes : List ℕ). Fails c.in_err-hold-2.field-0.0 (reading g.M.Written.VERSION g.M.Written.meaning c.args.self.now bytes)) (sym c.in-Some.ensures.0) fault)
+    rw (p.1, p.2) (subst (λ (bytes : List ℕ). Meets g.M.Written.VERSION g.M.Written.meaning c.args.self.now bytes c.in_err-hold-2.field-0.0) (sym c.in-Some.ensures.0) fault)
 
 pub returns-in_err-entry-clause-fault : goal.returns-in_err-entry-clause-fault
 returns-in_err-entry-clause-fault g c =
     let p = err_from_is_err_and c.from_residual-in_err-entry.result c.from_residual-in_err-entry.ensures.1 in
-    let fault = fault_turned g.M.Written.VERSION g.M.Written.meaning c.args.self.now c.hold-2.new.self c.in-Some.front.now c.in-Some.rest.now c.in_err-entry.field-0.0 c.hold-2.ensures.short c.in-Some.ensures.1 c.in_ok-hold-2.ensures.held c.in_err-entry.ensures.turned in
-    rw (p.1, p.2) (subst (λ (bytes : List ℕ). Fails c.in_err-entry.field-0.0 (reading g.M.Written.VERSION g.M.Written.meaning c.args.self.now bytes)) (sym c.in-Some.ensures.0) fault)
+    let fault = fault_turned g.M.Written.VERSION g.M.Written.meaning c.args.self.now c.hold-2.new.self c.in-Some.front.now c.in-Some.rest.now c.in_err-entry.field-0.0 c.hold-2.ensures.short c.in-Some.ensures.1 c.in_ok-hold-2.ensures.held c.hold-2.ensures.line c.in_err-entry.ensures.turned in
+    rw (p.1, p.2) (subst (λ (bytes : List ℕ). Meets g.M.Written.VERSION g.M.Written.meaning c.args.self.now bytes c.in_err-entry.field-0.0) (sym c.in-Some.ensures.0) fault)
 
 pub returns-clause-taken : goal.returns-clause-taken
 returns-clause-taken g c =
