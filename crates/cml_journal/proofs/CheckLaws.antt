@@ -1,5 +1,5 @@
 -- What was read and checked so far, and what a halt says of it.
-use Rattle.std.proofs.Common.{◌≡◌, ◌≢◌, ℕ, Bool, true, false, not, ◌&&◌, ◌==◌, is_none, ◌+◌, zero, suc, List, [], ◌∷◌, ◌++◌, length, reverse, take, slice_get, Option, Some, None, Result, Ok, Err, refl, sym, ap, subst, ◌∙◌, arith, append_assoc}
+use Rattle.std.proofs.Common.{◌≡◌, ◌≢◌, ◌⊎◌, inl, inr, ℕ, Bool, true, false, not, ◌&&◌, ◌==◌, is_none, ◌+◌, ◌%◌, ◌^◌, ◌≤◌, zero, suc, List, [], ◌∷◌, ◌++◌, length, reverse, take, slice_get, Option, Some, None, Result, Ok, Err, refl, sym, ap, subst, ◌∙◌, arith, append_assoc, length-append}
 use Rattle.std.specs.Option.{option_to_list}
 use Rattle.std.proofs.lemmas.Bool.{and_parts}
 use Rattle.std.proofs.lemmas.List.{append-nil, reverse-append, length-reverse}
@@ -9,7 +9,8 @@ use Rattle.cml_board.specs.declared.expected.Expected.{Expected}
 use Rattle.cml_board.specs.History.{Lawful, no_entries}
 use Rattle.cml_board.specs.Makers.{RestoredShown}
 use Rattle.cml_board.specs.Positions.{before}
-use Rattle.cml_board.specs.Checking.{Expects, Found, RestoresWith, IsExpected, IsFirstUnlawful, IsLawfulNext, StopsAt, Feeds, count_of, followed_by}
+use Rattle.cml_board.specs.Checking.{Expects, Found, RestoresWith, IsExpected, IsFirstUnlawful, IsLawfulNext, Pauses, StopsAt, Feeds, count_of, followed_by}
+use Rattle.cml_journal.specs.declared.fault.What.{What}
 use Rattle.cml_journal.specs.declared.fault.Unread.{Unread}
 use Rattle.cml_journal.specs.declared.fault.Unread.TheVariants as unread
 use Rattle.cml_journal.specs.declared.stop.Halt.{Halt}
@@ -18,11 +19,11 @@ use Rattle.cml_journal.specs.declared.stop.Stop.{Stop}
 use Rattle.cml_journal.specs.declared.stop.Stop.TheVariants as stop
 use Rattle.std.specs.Prelude.{string_bytes}
 use Rattle.cml_journal.specs.Lines.{line_of}
-use Rattle.cml_journal.specs.Reading.{Fails}
+use Rattle.cml_journal.specs.Faults.{HasFault, Meets}
 use Rattle.cml_journal.specs.Feeding.{State, waiting_at, end_of, behind, reading}
-use Rattle.cml_journal.specs.Checks.{Progress, IsSoFar, Goes, HaltsIn, StopsIn, MayHaltAt, HaltTells, IsTold, IsLawfulJournal, IsRestored, IsUnlawfulJournal, ShowsUnlawful, halt_of, line_of_last}
+use Rattle.cml_journal.specs.Checks.{Progress, IsSoFar, Goes, HaltsIn, StopsIn, MayHaltAt, HaltTells, IsTold, IsLawfulJournal, IsRestored, IsUnlawfulJournal, ShowsUnlawful, IsFaultyJournal, ShowsFault, ShowsFront, halt_of, line_of_last}
 use Rattle.cml_journal.proofs.FeedLaws.{on, placed, reading-append}
-use Rattle.cml_journal.proofs.PositionLaws.{ends_behind_last}
+use Rattle.cml_journal.proofs.PositionLaws.{ends_behind_last, entries_are_counted}
 
 pub lists_found : {M : Type 0} (state : State) {found other : Option (Entry M)} → found ≡ other → placed state (option_to_list found) ≡ placed state (option_to_list other)
 lists_found {M} state same = ap (λ (f : Option (Entry M)). placed state (option_to_list f)) same
@@ -89,16 +90,56 @@ module _ {M : Type 0} (version : ℕ) (meaning : List ℕ → Option M) where
   goes_past_entry_to old next new taken entry read same feeds halt =
       goes_past_entry old new taken entry (read ∙ ap (λ (s : State). Ok (s, entry ∷ [])) (sym same)) feeds halt
 
-  halts_by_unread : (old new : Progress M) (bytes : List ℕ) (line : ℕ) (e : Unread) → Fails e (reading version meaning old.state bytes)
-      → HaltsIn version meaning old bytes new (halt_of e line)
-  halts_by_unread old new bytes line unread.Memory fails front so = tt
-  halts_by_unread old new bytes line (unread.Fault what) fails front so =
-      reading-append version meaning (waiting_at 0) front bytes ∙ ap (on version meaning bytes) so.read ∙ ap (behind so.entries) fails
+  -- all before a line that was not read is as it was
+  shows_so_far : (old new : Progress M) (front bytes : List ℕ) → new.state.lines ≡ old.state.lines → new.checker ≡ old.checker → IsSoFar version meaning front old
+      → ShowsFront version meaning (front ++ bytes) new
+  shows_so_far old new front bytes lines checker so = record {
+    front = front;
+    rest = bytes;
+    whole = refl;
+    state = old.state;
+    done = so.entries;
+    left = [];
+    few = omega arith;
+    read = so.read ∙ ap (placed old.state) (sym (append-nil so.entries));
+    lawful = so.lawful;
+    lines = lines;
+    checked = checker ∙ so.checked;
+  }
+
+  shows_fault : (old new : Progress M) (front bytes : List ℕ) (line : ℕ) (what : What) → HasFault version meaning old.state bytes what → new.state.lines ≡ old.state.lines
+      → new.checker ≡ old.checker → line ≡ (new.state.lines + 1) % 2 ^ 64 → IsSoFar version meaning front old → ShowsFault version meaning (front ++ bytes) line what new
+  shows_fault old new front bytes line what has lines checker next so =
+      let same = lines ∙ sym has.same_line in record {
+        is = record {
+          front = front ++ has.front;
+          byte = has.byte;
+          rest = has.rest;
+          whole = ap (λ (b : List ℕ). front ++ b) has.whole ∙ sym (append_assoc front has.front (has.byte ∷ has.rest));
+          state = has.next;
+          entries = so.entries;
+          read = read_on front has.front old has.next [] so has.read ∙ ap (placed has.next) (append-nil so.entries);
+          lawful = so.lawful;
+          fault = ap (reading version meaning (waiting_at 0)) (append_assoc front has.front (has.byte ∷ []))
+              ∙ reading-append version meaning (waiting_at 0) front (has.front ++ has.byte ∷ [])
+              ∙ ap (on version meaning (has.front ++ has.byte ∷ [])) so.read
+              ∙ ap (behind so.entries) has.fault;
+          next_line = next ∙ ap (λ (n : ℕ). (n + 1) % 2 ^ 64) same;
+        };
+        lines = same;
+        checked = checker ∙ so.checked;
+      }
+
+  halts_by_unread : (old new : Progress M) (bytes : List ℕ) (line : ℕ) (e : Unread) → Meets version meaning old.state bytes e → new.state.lines ≡ old.state.lines
+      → new.checker ≡ old.checker → line ≡ (new.state.lines + 1) % 2 ^ 64 → HaltsIn version meaning old bytes new (halt_of e line)
+  halts_by_unread old new bytes line unread.Memory meets lines checker next front so = shows_so_far old new front bytes lines checker so
+  halts_by_unread old new bytes line (unread.Fault what) meets lines checker next front so = shows_fault old new front bytes line what meets lines checker next so
 
   pub halts_at_fault : (line : ℕ) (old new : Progress M) (bytes : List ℕ) (e : Unread) (halted : Halt) → halted ≡ halt_of e line
-      → Fails e (reading version meaning old.state bytes) → HaltsIn version meaning old bytes new halted
-  halts_at_fault line old new bytes e halted is fails =
-      subst (λ (x : Halt). HaltsIn version meaning old bytes new x) (sym is) (halts_by_unread old new bytes line e fails)
+      → Meets version meaning old.state bytes e → new.state.lines ≡ old.state.lines → new.checker ≡ old.checker → line ≡ (new.state.lines + 1) % 2 ^ 64
+      → HaltsIn version meaning old bytes new halted
+  halts_at_fault line old new bytes e halted is meets lines checker next =
+      subst (λ (x : Halt). HaltsIn version meaning old bytes new x) (sym is) (halts_by_unread old new bytes line e meets lines checker next)
 
   -- ---- an entry that is unlawful
   take_front : (xs ys : List (Entry M)) → take (length xs) (xs ++ ys) ≡ xs
@@ -151,9 +192,9 @@ module _ {M : Type 0} (version : ℕ) (meaning : List ℕ → Option M) where
   stops_at_last entries entry at stops = last_position entries at stops.k stops.position (only entry stops.entry stops.k stops.stands).0
 
   is_unlawful : (old : Progress M) (next : State) (bytes taken rest : List ℕ) (entry : Entry M) (so : IsSoFar version meaning bytes old)
-      → reading version meaning old.state taken ≡ Ok (next, entry ∷ []) → (at : ℕ) (expected : Expected M) → StopsAt (reverse so.entries) (entry ∷ []) at
+      → reading version meaning old.state taken ≡ Ok (next, entry ∷ []) → next.line ≡ [] → (at : ℕ) (expected : Expected M) → StopsAt (reverse so.entries) (entry ∷ []) at
       → IsExpected (reverse so.entries) (entry ∷ []) at expected → IsUnlawfulJournal version meaning (bytes ++ (taken ++ rest)) at entry expected
-  is_unlawful old next bytes taken rest entry so read at expected stops is =
+  is_unlawful old next bytes taken rest entry so read ended at expected stops is =
       let entries = so.entries ++ entry ∷ [] in
       let here = stops_at_last so.entries entry at stops in record {
         front = bytes ++ taken;
@@ -162,64 +203,140 @@ module _ {M : Type 0} (version : ℕ) (meaning : List ℕ → Option M) where
         state = next;
         entries = entries;
         read = read_on bytes taken old next (entry ∷ []) so read;
+        last = omega (arith, here, length-append so.entries (entry ∷ []));
+        ended = ended;
         first = subst (IsFirstUnlawful entries) here (first_of_stop so.entries entry at stops);
         stands = subst (λ (k : ℕ). slice_get entries k ≡ Some entry) here (get_behind so.entries entry);
         expects = subst (λ (k : ℕ). Expects (before entries k) entry expected) here (expects_last so.entries entry at expected is);
       }
 
+  -- an entry that is read can be counted
+  counts_one_more : (bytes : List ℕ) (next : State) (entries : List (Entry M)) (entry : Entry M) → reading version meaning (waiting_at 0) bytes ≡ Ok (next, entries ++ entry ∷ [])
+      → 2 ^ 64 ≤ suc (length (reverse entries)) → ⊥
+  counts_one_more bytes next entries entry read most =
+      absurd (omega (arith, entries_are_counted version meaning bytes next (entries ++ entry ∷ []) read, length-append entries (entry ∷ []), length-reverse entries, most))
+
+  nothing_taken : (k : ℕ) → take {A = Entry M} k [] ≡ []
+  nothing_taken zero = refl
+  nothing_taken (suc k) = refl
+
+  -- a check had no memory at an entry, before or behind its checker
+  shows_at_entry : (old new : Progress M) (next : State) (bytes taken rest : List ℕ) (entry : Entry M) (so : IsSoFar version meaning bytes old)
+      → reading version meaning old.state taken ≡ Ok (next, entry ∷ []) → new.state ≡ next
+      → (new.checker ≡ Ok (reverse so.entries)) ⊎ Pauses (Ok (reverse so.entries)) (entry ∷ []) new.checker → ShowsFront version meaning (bytes ++ (taken ++ rest)) new
+  shows_at_entry old new next bytes taken rest entry so read state = by
+    where
+      waits : new.checker ≡ Ok (reverse so.entries) → ShowsFront version meaning (bytes ++ (taken ++ rest)) new
+      waits checked = record {
+        front = bytes ++ taken;
+        rest = rest;
+        whole = sym (append_assoc bytes taken rest);
+        state = next;
+        done = so.entries;
+        left = entry ∷ [];
+        few = omega arith;
+        read = read_on bytes taken old next (entry ∷ []) so read;
+        lawful = so.lawful;
+        lines = ap (λ (s : State). s.lines) state;
+        checked = checked;
+      }
+
+      passed : new.checker ≡ Ok (entry ∷ reverse so.entries) → Lawful (entry ∷ reverse so.entries) → ShowsFront version meaning (bytes ++ (taken ++ rest)) new
+      passed checked lawful =
+          let more = sym (one_more so.entries entry) in record {
+            front = bytes ++ taken;
+            rest = rest;
+            whole = sym (append_assoc bytes taken rest);
+            state = next;
+            done = so.entries ++ entry ∷ [];
+            left = [];
+            few = omega arith;
+            read = read_on bytes taken old next (entry ∷ []) so read ∙ ap (placed next) (sym (append-nil (so.entries ++ entry ∷ [])));
+            lawful = subst Lawful more lawful;
+            lines = ap (λ (s : State). s.lines) state;
+            checked = checked ∙ ap (λ (h : List (Entry M)). Ok h) more;
+          }
+
+      counted : (k : ℕ) → new.checker ≡ Ok (followed_by (reverse so.entries) (entry ∷ []) k) → Lawful (followed_by (reverse so.entries) (entry ∷ []) k)
+          → ShowsFront version meaning (bytes ++ (taken ++ rest)) new
+      counted zero checked lawful = waits checked
+      counted (suc k) checked lawful =
+          passed (checked ∙ ap (λ (l : List (Entry M)). Ok (reverse (entry ∷ l) ++ reverse so.entries)) (nothing_taken k))
+          (subst (λ (l : List (Entry M)). Lawful (reverse (entry ∷ l) ++ reverse so.entries)) (nothing_taken k) lawful)
+
+      by : (new.checker ≡ Ok (reverse so.entries)) ⊎ Pauses (Ok (reverse so.entries)) (entry ∷ []) new.checker → ShowsFront version meaning (bytes ++ (taken ++ rest)) new
+      by (inl checked) = waits checked
+      by (inr paused) = counted paused.0 paused.1 paused.2
+
   tells_at_entry : (old new : Progress M) (next : State) (bytes taken rest : List ℕ) (entry : Entry M)
-      → reading version meaning old.state taken ≡ Ok (next, entry ∷ []) → (so : IsSoFar version meaning bytes old) → (halted : Halt) → MayHaltAt (Ok (reverse so.entries)) entry new halted
-      → HaltTells version meaning (bytes ++ (taken ++ rest)) new halted
-  tells_at_entry old new next bytes taken rest entry read so (halt.Unlawful at) may = record {
+      → reading version meaning old.state taken ≡ Ok (next, entry ∷ []) → next.line ≡ [] → new.state ≡ next → (so : IsSoFar version meaning bytes old) → (halted : Halt)
+      → MayHaltAt (Ok (reverse so.entries)) entry new halted → HaltTells version meaning (bytes ++ (taken ++ rest)) new halted
+  unfolding is_unlawful
+  tells_at_entry old new next bytes taken rest entry read ended state so (halt.Unlawful at) may = record {
     entry = entry;
     expected = may.0.0.0;
-    is = is_unlawful old next bytes taken rest entry so read at may.0.0.0 may.0.1 may.0.0.2;
+    is = is_unlawful old next bytes taken rest entry so read ended at may.0.0.0 may.0.1 may.0.0.2;
+    state = state;
     last = may.1;
     shown = may.0.0.1;
   }
-  tells_at_entry old new next bytes taken rest entry read so halt.NoMemory may = tt
-  tells_at_entry old new next bytes taken rest entry read so (halt.Fault line what) may = absurd may
+  tells_at_entry old new next bytes taken rest entry read ended state so halt.NoMemory may = shows_at_entry old new next bytes taken rest entry so read state may
+  tells_at_entry old new next bytes taken rest entry read ended state so (halt.Fault line what) may =
+      absurd (counts_one_more (bytes ++ taken) next so.entries entry (read_on bytes taken old next (entry ∷ []) so read) may)
 
   pub halts_at_entry : (old new : Progress M) (next : State) (bytes taken rest : List ℕ) (entry : Entry M) (halted : Halt)
-      → bytes ≡ taken ++ rest → reading version meaning old.state taken ≡ Ok (next, entry ∷ []) → MayHaltAt old.checker entry new halted
+      → bytes ≡ taken ++ rest → reading version meaning old.state taken ≡ Ok (next, entry ∷ []) → next.line ≡ [] → new.state ≡ next → MayHaltAt old.checker entry new halted
       → HaltsIn version meaning old bytes new halted
-  halts_at_entry old new next all taken rest entry halted cut read may bytes so =
+  halts_at_entry old new next all taken rest entry halted cut read ended state may bytes so =
       subst (λ (b : List ℕ). HaltTells version meaning (bytes ++ b) new halted) (sym cut)
-      (tells_at_entry old new next bytes taken rest entry read so halted (subst (λ (c : Found M). MayHaltAt c entry new halted) so.checked may))
+      (tells_at_entry old new next bytes taken rest entry read ended state so halted (subst (λ (c : Found M). MayHaltAt c entry new halted) so.checked may))
 
   -- ---- what is said of a halt
-  -- a check that shows the same, and goes no further
-  abbrev shows_later : (bytes : List ℕ) (at : ℕ) (new later : Progress M) → later.last ≡ new.last → later.checker ≡ new.checker
-      → ShowsUnlawful version meaning bytes at new → ShowsUnlawful version meaning bytes at later
-  shows_later bytes at new later last checker shows = record {
-    entry = shows.entry;
-    expected = shows.expected;
-    is = shows.is;
-    last = last ∙ shows.last;
-    shown = checker ∙ shows.shown;
-  }
-
-  pub stops_as_told : (text : M → List ℕ) (old new later : Progress M) (bytes : List ℕ) (halted : Halt) (told : Stop) → later.last ≡ new.last → later.checker ≡ new.checker
-      → IsTold text new.last halted told → HaltsIn version meaning old bytes new halted → StopsIn version meaning text old bytes later told
-  stops_as_told text old new later bytes (halt.Unlawful at) (stop.Unlawful position line) last checker same halts front so =
-      let shows = shows_later (front ++ bytes) at new later last checker (halts front so) in
-      let is : string_bytes line ≡ line_of text shows.entry = same.1 ∙ ap (line_of_last text) ((halts front so).last) in
-      subst (λ (k : ℕ). (s : ShowsUnlawful version meaning (front ++ bytes) k later) × (string_bytes line ≡ line_of text s.entry)) (sym same.0) (shows, is)
-  stops_as_told text old new later bytes (halt.Unlawful at) stop.NoMemory last checker same halts front so = tt
-  stops_as_told text old new later bytes (halt.Unlawful at) (stop.Fault number what) last checker same halts front so = absurd same
-  stops_as_told text old new later bytes (halt.Fault line what) (stop.Fault number fault) last checker same halts front so = halts front so ∙ ap (λ (w : _). Err w) (sym same.1)
-  stops_as_told text old new later bytes (halt.Fault line what) stop.NoMemory last checker same halts front so = absurd same
-  stops_as_told text old new later bytes (halt.Fault line what) (stop.Unlawful position words) last checker same halts front so = absurd same
-  stops_as_told text old new later bytes halt.NoMemory stop.NoMemory last checker same halts front so = tt
-  stops_as_told text old new later bytes halt.NoMemory (stop.Unlawful position words) last checker same halts front so = absurd same
-  stops_as_told text old new later bytes halt.NoMemory (stop.Fault number what) last checker same halts front so = absurd same
+  pub stops_as_told : (text : M → List ℕ) (old new : Progress M) (bytes : List ℕ) (halted : Halt) (told : Stop) → IsTold text new.last halted told
+      → HaltsIn version meaning old bytes new halted → StopsIn version meaning text old bytes new told
+  stops_as_told text old new bytes (halt.Unlawful at) (stop.Unlawful position line) same halts front so =
+      let shows = halts front so in
+      let is : string_bytes line ≡ line_of text shows.entry = same.1 ∙ ap (line_of_last text) (shows.last) in
+      subst (λ (k : ℕ). (s : ShowsUnlawful version meaning (front ++ bytes) k new) × (string_bytes line ≡ line_of text s.entry)) (sym same.0) (shows, is)
+  stops_as_told text old new bytes (halt.Unlawful at) stop.NoMemory same halts front so = inr (at, halts front so)
+  stops_as_told text old new bytes (halt.Unlawful at) (stop.Fault number what) same halts front so = absurd same
+  stops_as_told text old new bytes (halt.Fault line what) (stop.Fault number fault) same halts front so =
+      subst (λ (n : ℕ). ShowsFault version meaning (front ++ bytes) n fault new) (sym same.0)
+      (subst (λ (w : What). ShowsFault version meaning (front ++ bytes) line w new) (sym same.1) (halts front so))
+  stops_as_told text old new bytes (halt.Fault line what) stop.NoMemory same halts front so = absurd same
+  stops_as_told text old new bytes (halt.Fault line what) (stop.Unlawful position words) same halts front so = absurd same
+  stops_as_told text old new bytes halt.NoMemory stop.NoMemory same halts front so = inl (halts front so)
+  stops_as_told text old new bytes halt.NoMemory (stop.Unlawful position words) same halts front so = absurd same
+  stops_as_told text old new bytes halt.NoMemory (stop.Fault number what) same halts front so = absurd same
 
   -- what a check that halted shows stays so once the halt is kept
-  pub halts_on : (old new later : Progress M) (bytes : List ℕ) (halted : Halt) → later.last ≡ new.last → later.checker ≡ new.checker
-      → HaltsIn version meaning old bytes new halted → HaltsIn version meaning old bytes later halted
-  halts_on old new later bytes (halt.Unlawful at) last checker halts front so = shows_later (front ++ bytes) at new later last checker (halts front so)
-  halts_on old new later bytes (halt.Fault line what) last checker halts front so = halts front so
-  halts_on old new later bytes halt.NoMemory last checker halts front so = tt
+  pub halts_on : (old new : Progress M) (kept : Option Halt) (bytes : List ℕ) (halted : Halt) → HaltsIn version meaning old bytes new halted
+      → HaltsIn version meaning old bytes (record new { halt = kept }) halted
+  halts_on old new kept bytes (halt.Unlawful at) halts front so =
+      let shows = halts front so in record {
+        entry = shows.entry;
+        expected = shows.expected;
+        is = shows.is;
+        state = shows.state;
+        last = shows.last;
+        shown = shows.shown;
+      }
+  halts_on old new kept bytes (halt.Fault line what) halts front so =
+      let shows = halts front so in record { is = shows.is; lines = shows.lines; checked = shows.checked }
+  halts_on old new kept bytes halt.NoMemory halts front so =
+      let shows = halts front so in record {
+        front = shows.front;
+        rest = shows.rest;
+        whole = shows.whole;
+        state = shows.state;
+        done = shows.done;
+        left = shows.left;
+        few = shows.few;
+        read = shows.read;
+        lawful = shows.lawful;
+        lines = shows.lines;
+        checked = shows.checked;
+      }
 
   -- a check that has stopped was never at some bytes
   pub stops_no_more : (text : M → List ℕ) (old new : Progress M) (bytes : List ℕ) (halted : Halt) (told : Stop) → old.halt ≡ Some halted → StopsIn version meaning text old bytes new told

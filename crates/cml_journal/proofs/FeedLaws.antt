@@ -212,8 +212,8 @@ fault_turned {M} version read state next front rest (unread.Fault what) short no
   read = reading-held version read state front short none ∙ ap (alone {M = M}) held;
   same_line = same;
   fault = reading-line version read state front [] short none
-  ∙ ap (turning {M = M} version read []) held
-  ∙ ap (λ (r : Result (State × Option (Entry M)) What). r >>= λ first. behind (option_to_list first.1) (reading version read first.0 [])) fails;
+      ∙ ap (turning {M = M} version read []) held
+      ∙ ap (λ (r : Result (State × Option (Entry M)) What). r >>= λ first. behind (option_to_list first.1) (reading version read first.0 [])) fails;
 }
 
 pub taken_line : {M : Type 0} (version : ℕ) (read : List ℕ → Option M) (state next last : State) (entry : Option (Entry M)) (front : List ℕ) → length state.line ≤ most → has_line_end front ≡ false

@@ -1,9 +1,9 @@
 -- The position behind what was read of a journal, from its first entry on.
-use Rattle.std.proofs.Common.{◌≡◌, ℕ, ◌+◌, ◌%◌, ◌^◌, Bool, true, false, ◌==◌, nat_lt, if◌then◌else◌, List, [], ◌∷◌, ◌++◌, length, Option, Some, None, Result, Ok, Err, refl, sym, ap, subst, ◌∙◌, arith, length-append}
+use Rattle.std.proofs.Common.{◌≡◌, ◌⊎◌, inl, inr, ℕ, ◌+◌, ◌%◌, ◌^◌, ◌<◌, Bool, true, false, ◌==◌, nat_lt, if◌then◌else◌, List, [], ◌∷◌, ◌++◌, length, Option, Some, None, Result, Ok, Err, refl, sym, ap, subst, ◌∙◌, arith, length-append}
 use Rattle.std.specs.Prelude.{codes, ⊤}
 use Rattle.std.specs.Option.{option_to_list}
 use Rattle.std.specs.List.{list_any}
-use Rattle.std.proofs.lemmas.Bool.{eqb-true}
+use Rattle.std.proofs.lemmas.Bool.{eqb-true, ltb-true}
 use Rattle.std.proofs.lemmas.Option.{none-some, same_Some}
 use Rattle.cml_board.specs.declared.entry.Entry.{Entry}
 use Rattle.cml_grammar.specs.Words.{is_bad_byte}
@@ -20,18 +20,22 @@ place (Waiting before) = before
 place (Headed before) = before
 place (Inside position) = Some position
 
+-- so many entries behind a position are few enough to be counted
+abbrev Counts : ℕ → ℕ → Type 0
+Counts p n = (n ≡ 0) ⊎ (p + n < 2 ^ 64)
+
 -- a line leads from a position to the one behind its entry
 abbrev Moves : {M : Type 0} → ℕ → Step M → Type 0
-Moves p (Ok told) = place told.0 ≡ Some (p + length (option_to_list told.1))
+Moves p (Ok told) = (place told.0 ≡ Some (p + length (option_to_list told.1))) × Counts p (length (option_to_list told.1))
 Moves p (Err what) = ⊤
 
 -- the same of what is read behind a state
 abbrev MovesTo : {M : Type 0} → ℕ → Result (State × Option (Entry M)) What → Type 0
-MovesTo p (Ok told) = place told.0.stage ≡ Some (p + length (option_to_list told.1))
+MovesTo p (Ok told) = (place told.0.stage ≡ Some (p + length (option_to_list told.1))) × Counts p (length (option_to_list told.1))
 MovesTo p (Err what) = ⊤
 
 abbrev Reads : {M : Type 0} → ℕ → Read M → Type 0
-Reads p (Ok told) = place told.0.stage ≡ Some (p + length told.1)
+Reads p (Ok told) = (place told.0.stage ≡ Some (p + length told.1)) × Counts p (length told.1)
 Reads p (Err what) = ⊤
 
 module _ {M : Type 0} (version : ℕ) (read : List ℕ → Option M) where
@@ -42,12 +46,12 @@ module _ {M : Type 0} (version : ℕ) (read : List ℕ → Option M) where
   unfolding entered
   entered_moves p line = by (entry_in read line)
     where
-      sized : (t : Bool) (entry : Entry M) → Moves {M = M} p (if t then Ok (Inside (p + 1), Some entry) else Err TooMany)
-      sized true entry = refl
-      sized false entry = tt
+      sized : (t : Bool) → nat_lt (p + 1) (2 ^ 64) ≡ t → (entry : Entry M) → Moves {M = M} p (if t then Ok (Inside (p + 1), Some entry) else Err TooMany)
+      sized true is entry = (refl, inr (ltb-true (p + 1) (2 ^ 64) is))
+      sized false is entry = tt
 
       by : (r : Result (Entry M) What) → Moves {M = M} p (r >>= λ entry. if nat_lt (p + 1) (2 ^ 64) then Ok (Inside (p + 1), Some entry) else Err TooMany)
-      by (Ok entry) = sized (nat_lt (p + 1) (2 ^ 64)) entry
+      by (Ok entry) = sized (nat_lt (p + 1) (2 ^ 64)) refl entry
       by (Err what) = tt
 
   inside_moves : (p : ℕ) (line : List ℕ) → Moves {M = M} p (inside read p line)
@@ -55,7 +59,7 @@ module _ {M : Type 0} (version : ℕ) (read : List ℕ → Option M) where
   inside_moves p line = by (numbered (codes "end") line)
     where
       same : (t : Bool) → Moves {M = M} p (if t then Ok (Waiting (Some p), None) else Err WrongEnd)
-      same true = stays p
+      same true = (stays p, inl refl)
       same false = tt
 
       by : (end : Option ℕ) → Moves {M = M} p (ended_by read p end line)
@@ -67,7 +71,7 @@ module _ {M : Type 0} (version : ℕ) (read : List ℕ → Option M) where
   headed_moves p (Some found) = by (found == version)
     where
       by : (t : Bool) → Moves {M = M} p (if t then Ok (Headed (Some p), None) else Err NoHeader)
-      by true = stays p
+      by true = (stays p, inl refl)
       by false = tt
 
   begun_inside : (p from : ℕ) (line : List ℕ) → Moves {M = M} p (begun (Some p) from >>= λ position. inside read position line)
@@ -81,7 +85,7 @@ module _ {M : Type 0} (version : ℕ) (read : List ℕ → Option M) where
   begun_from p from = by (from == p) refl
     where
       by : (t : Bool) → (from == p) ≡ t → Moves {M = M} p ((if t then Ok from else Err Gap) >>= λ position. Ok (Inside position, None))
-      by true is = ap (λ (q : ℕ). Some q) (eqb-true from p is) ∙ stays p
+      by true is = (ap (λ (q : ℕ). Some q) (eqb-true from p is) ∙ stays p, inl refl)
       by false is = tt
 
   behind_header_moves : (p : ℕ) (line : List ℕ) → Moves {M = M} p (behind_header read (Some p) line)
@@ -121,7 +125,7 @@ module _ {M : Type 0} (version : ℕ) (read : List ℕ → Option M) where
   byte_moves p state b at = by (b == 10)
     where
       longer : (t : Bool) → MovesTo {M = M} p (no_entry (if t then Ok (record state { line = state.line ++ b ∷ [] }) else Err TooLong))
-      longer true = at ∙ stays p
+      longer true = (at ∙ stays p, inl refl)
       longer false = tt
 
       by : (t : Bool) → MovesTo {M = M} p (if t then turned version read state else no_entry (held state b))
@@ -130,17 +134,26 @@ module _ {M : Type 0} (version : ℕ) (read : List ℕ → Option M) where
 
   reads : (p : ℕ) (state : State) (bytes : List ℕ) → place state.stage ≡ Some p → Reads {M = M} p (reading version read state bytes)
   unfolding reading
-  reads p state [] at = at ∙ stays p
+  reads p state [] at = (at ∙ stays p, inl refl)
   reads p state (b ∷ bs) at = by (byte_read version read state b) (byte_moves p state b at) (λ q next there. reads q next bs there)
     where
-      later : (next : State) (found : Option (Entry M)) (r : Read M) → Reads {M = M} (p + length (option_to_list found)) r → Reads {M = M} p (behind (option_to_list found) r)
-      later next found (Ok told) moves = moves ∙ ap (λ (n : ℕ). Some n) (omega (arith, length-append (option_to_list found) told.1))
-      later next found (Err what) moves = tt
+      counts : (found rest : List (Entry M)) → Counts p (length found) → Counts (p + length found) (length rest) → Counts p (length (found ++ rest))
+      counts found rest (inl none) (inl end) = inl (omega (arith, length-append found rest))
+      counts found rest (inr few) (inl end) = inr (omega (arith, length-append found rest))
+      counts found rest one (inr fewer) = inr (omega (arith, length-append found rest))
+
+      later : (next : State) (found : Option (Entry M)) (r : Read M) → Counts p (length (option_to_list found)) → Reads {M = M} (p + length (option_to_list found)) r
+          → Reads {M = M} p (behind (option_to_list found) r)
+      later next found (Ok told) one moves = (
+        moves.0 ∙ ap (λ (n : ℕ). Some n) (omega (arith, length-append (option_to_list found) told.1)),
+        counts (option_to_list found) told.1 one moves.1,
+      )
+      later next found (Err what) one moves = tt
 
       by : (r : Result (State × Option (Entry M)) What) → MovesTo {M = M} p r
           → ((q : ℕ) (next : State) → place next.stage ≡ Some q → Reads {M = M} q (reading version read next bs))
           → Reads {M = M} p (r >>= λ first. behind (option_to_list first.1) (reading version read first.0 bs))
-      by (Ok first) moves on = later first.0 first.1 (reading version read first.0 bs) (on (p + length (option_to_list first.1)) first.0 moves)
+      by (Ok first) moves on = later first.0 first.1 (reading version read first.0 bs) moves.1 (on (p + length (option_to_list first.1)) first.0 moves.0)
       by (Err what) moves on = tt
 
   ends_at : (stage : Stage) (left end : ℕ) → end_by stage left ≡ Some end → place stage ≡ Some end
@@ -157,4 +170,12 @@ module _ {M : Type 0} (version : ℕ) (read : List ℕ → Option M) where
       → end_of state ≡ Some end → end ≡ length entries
   ends_behind_last bytes state entries end is ended =
       let at = subst (λ (r : Read M). Reads {M = M} 0 r) is (reads 0 (waiting_at 0) bytes refl) in
-      same_Some end (length entries) (sym (ends_at state.stage (length state.line) end ended) ∙ at ∙ ap (λ (n : ℕ). Some n) (omega arith))
+      same_Some end (length entries) (sym (ends_at state.stage (length state.line) end ended) ∙ at.0 ∙ ap (λ (n : ℕ). Some n) (omega arith))
+
+  fewer : (n : ℕ) → Counts 0 n → n < 2 ^ 64
+  fewer n (inl none) = omega (arith, none)
+  fewer n (inr few) = omega (arith, few)
+
+  -- the entries of a journal that was read from position 0 on can be counted
+  pub entries_are_counted : (bytes : List ℕ) (state : State) (entries : List (Entry M)) → reading version read (waiting_at 0) bytes ≡ Ok (state, entries) → length entries < 2 ^ 64
+  entries_are_counted bytes state entries is = fewer (length entries) (subst (λ (r : Read M). Reads {M = M} 0 r) is (reads 0 (waiting_at 0) bytes refl)).1

@@ -1,11 +1,12 @@
 -- What a check has found of a journal's text so far, and why it stops.
-use Rattle.std.specs.Prelude.{◌≡◌, ℕ, ◌==◌, Bool, false, not, ◌&&◌, ◌≢◌, is_some, is_none, List, [], ◌∷◌, ◌++◌, reverse, length, slice_get, string_bytes, Option, Some, None, Result, Ok, Err, IfOk, ⊤}
+use Rattle.std.specs.Prelude.{◌≡◌, ◌⊎◌, ℕ, suc, ◌+◌, ◌%◌, ◌^◌, ◌≤◌, ◌==◌, Bool, false, not, ◌&&◌, ◌≢◌, is_some, is_none, List, [], ◌∷◌, ◌++◌, reverse, length, slice_get, string_bytes, Option, Some, None, Result, Ok, Err, IfOk, ⊤}
 use Rattle.cml_board.specs.declared.entry.Entry.{Entry}
 use Rattle.cml_board.specs.declared.expected.Expected.{Expected}
 use Rattle.cml_board.specs.History.{Lawful}
 use Rattle.cml_board.specs.Positions.{before}
 use Rattle.cml_board.specs.Makers.{AreMakers, RestoredShown}
-use Rattle.cml_board.specs.Checking.{Expects, Found, HasMade, IsFirstUnlawful, Shows, StopsAt}
+use Rattle.cml_board.specs.Checking.{Expects, Found, HasMade, IsFirstUnlawful, Pauses, Shows, StopsAt, count_of}
+use Rattle.cml_journal.specs.declared.fault.What.{What}
 use Rattle.cml_journal.specs.declared.fault.Unread.{Unread}
 use Rattle.cml_journal.specs.declared.fault.Unread.TheVariants as unread
 use Rattle.cml_journal.specs.declared.stop.Halt.{Halt}
@@ -49,12 +50,13 @@ module _ {M : Type 0} (text : M → List ℕ) where
   abbrev pub IsSpent : Progress M → Stop → Type 0
   IsSpent progress told = SaysFrom progress.last progress.halt told
 
--- an entry behind this history halts a check only where it is unlawful, or for want of memory
+-- an entry behind this history halts a check only where it is unlawful, where no more entries can be counted, or for want of
+-- memory, and then the entry may be checked or not
 abbrev pub MayHaltAt : {M : Type 0} → Found M → Entry M → Progress M → Halt → Type 0
 MayHaltAt checker entry new (halt.Unlawful at) =
     IfOk checker (λ history. Shows history (entry ∷ []) new.checker at × StopsAt history (entry ∷ []) at) × (new.last ≡ Some entry)
-MayHaltAt checker entry new halt.NoMemory = ⊤
-MayHaltAt checker entry new (halt.Fault line what) = ⊥
+MayHaltAt checker entry new halt.NoMemory = (new.checker ≡ checker) ⊎ Pauses checker (entry ∷ []) new.checker
+MayHaltAt checker entry new (halt.Fault line what) = 2 ^ 64 ≤ suc (count_of checker)
 
 -- the last piece has its end, the check has not stopped, and a line was read
 abbrev pub is_whole : {M : Type 0} → Progress M → Bool
@@ -69,8 +71,8 @@ module _ {M : Type 0} (version : ℕ) (meaning : List ℕ → Option M) where
     pub lawful : Lawful (reverse entries)
     pub running : progress.halt ≡ None
 
-  -- the first entry that is unlawful is at this position, on the last line of some front of the bytes, and this becomes of its
-  -- call behind the entries before it
+  -- the first entry that is unlawful is at this position, and this becomes of its call behind the entries before it. It is the
+  -- last entry of a front of the bytes, which ends with that entry's line
   pub record IsUnlawfulJournal (bytes : List ℕ) (at : ℕ) (entry : Entry M) (expected : Expected M) : Type 0 where
     pub front : List ℕ
     pub rest : List ℕ
@@ -78,29 +80,71 @@ module _ {M : Type 0} (version : ℕ) (meaning : List ℕ → Option M) where
     pub state : State
     pub entries : List (Entry M)
     pub read : reading version meaning (waiting_at 0) front ≡ Ok (state, entries)
+    pub last : suc at ≡ length entries
+    pub ended : state.line ≡ []
     pub first : IsFirstUnlawful entries at
     pub stands : slice_get entries at ≡ Some entry
     pub expects : Expects (before entries at) entry expected
 
-  -- what a check that halted shows of such an entry
+  -- what a check that halted shows of such an entry: it has read that front
   pub record ShowsUnlawful (bytes : List ℕ) (at : ℕ) (new : Progress M) : Type 0 where
     pub entry : Entry M
     pub expected : Expected M
     pub is : IsUnlawfulJournal bytes at entry expected
+    pub state : new.state ≡ is.state
     pub last : new.last ≡ Some entry
     pub shown : new.checker ≡ Err (record { at = at; expected = expected })
+
+  -- a front of the bytes is read, and all its entries are lawful. The next byte is a fault, and this is the number of its line,
+  -- modulo 2^64
+  pub record IsFaultyJournal (bytes : List ℕ) (line : ℕ) (what : What) : Type 0 where
+    pub front : List ℕ
+    pub byte : ℕ
+    pub rest : List ℕ
+    pub whole : bytes ≡ front ++ byte ∷ rest
+    pub state : State
+    pub entries : List (Entry M)
+    pub read : reading version meaning (waiting_at 0) front ≡ Ok (state, entries)
+    pub lawful : Lawful (reverse entries)
+    pub fault : reading version meaning (waiting_at 0) (front ++ byte ∷ []) ≡ Err what
+    pub next_line : line ≡ (state.lines + 1) % 2 ^ 64
+
+  -- a check that halted shows how many lines and entries are before such a fault
+  pub record ShowsFault (bytes : List ℕ) (line : ℕ) (what : What) (new : Progress M) : Type 0 where
+    pub is : IsFaultyJournal bytes line what
+    pub lines : new.state.lines ≡ is.state.lines
+    pub checked : new.checker ≡ Ok (reverse is.entries)
+
+  -- a check that had no memory shows how many lines a front of the bytes has. All its entries, or all but the last, are checked
+  -- and lawful
+  pub record ShowsFront (bytes : List ℕ) (new : Progress M) : Type 0 where
+    pub front : List ℕ
+    pub rest : List ℕ
+    pub whole : bytes ≡ front ++ rest
+    pub state : State
+    pub done : List (Entry M)
+    pub left : List (Entry M)
+    pub few : length left ≤ 1
+    pub read : reading version meaning (waiting_at 0) front ≡ Ok (state, done ++ left)
+    pub lawful : Lawful (reverse done)
+    pub lines : new.state.lines ≡ state.lines
+    pub checked : new.checker ≡ Ok (reverse done)
 
   -- what a halt says of the bytes of a journal
   abbrev pub HaltTells : List ℕ → Progress M → Halt → Type 0
   HaltTells bytes new (halt.Unlawful at) = ShowsUnlawful bytes at new
-  HaltTells bytes new (halt.Fault line what) = reading version meaning (waiting_at 0) bytes ≡ Err what
-  HaltTells bytes new halt.NoMemory = ⊤
+  HaltTells bytes new (halt.Fault line what) = ShowsFault bytes line what new
+  HaltTells bytes new halt.NoMemory = ShowsFront bytes new
+
+  -- a check had no memory, or found an unlawful entry and had no memory for its line
+  abbrev pub MayTellNone : List ℕ → Progress M → Type 0
+  MayTellNone bytes new = ShowsFront bytes new ⊎ ((at : ℕ) × ShowsUnlawful bytes at new)
 
   -- the same of a stop, which has the entry's line
   abbrev pub StopTells : (M → List ℕ) → List ℕ → Progress M → Stop → Type 0
   StopTells text bytes new (stop.Unlawful at line) = (shows : ShowsUnlawful bytes at new) × (string_bytes line ≡ line_of text shows.entry)
-  StopTells text bytes new (stop.Fault line what) = reading version meaning (waiting_at 0) bytes ≡ Err what
-  StopTells text bytes new stop.NoMemory = ⊤
+  StopTells text bytes new (stop.Fault line what) = ShowsFault bytes line what new
+  StopTells text bytes new stop.NoMemory = MayTellNone bytes new
 
   -- these bytes were read behind any others, and all entries in them are lawful there
   abbrev pub Goes : Progress M → List ℕ → Progress M → Type 0

@@ -5,6 +5,7 @@ ghost use Rattle.cml_journal.specs.declared.stop.Halt.{Halt};
 ghost use Rattle.cml_journal.specs.Feeding.{State, end_of};
 ghost use Rattle.cml_journal.specs.Checks.{IsSoFar, Goes, HaltsIn, StopsIn, MayHaltAt, IsTold, IsSpent, is_whole, line_of_last, IsLawfulJournal, IsRestored};
 
+use crate::fault::What;
 use crate::reader::Reader;
 use crate::stop::{Halt, Stop};
 use crate::writing::write_entry;
@@ -118,14 +119,14 @@ impl<M: Message + Written> Check<M> {
 
     fn feed(&mut self, entry: Entry<M>) -> Result<(), Halt>
         ensures fed { OnOk result (Feeds self.old.checker (entry ∷ []) self.new.checker (Ok tt)) }
-        ensures state { OnOk result (self.new.state ≡ self.old.state) }
+        ensures state { self.new.state ≡ self.old.state }
         ensures halt { OnOk result (self.new.halt ≡ self.old.halt) }
         ensures halted { IfErr result (λ halt. MayHaltAt self.old.checker entry self.new halt) }
     {
         self.entry.clear();
         self.entry.push(entry)?;
         if self.checker.entries() == u64::MAX {
-            return Err(Halt::NoMemory);
+            return Err(Halt::Fault(self.reader.lines(), What::TooMany));
         }
         match self.checker.feed(&self.entry)? {
             Ok(()) => Ok(()),

@@ -1,4 +1,4 @@
-use Rattle.std.proofs.Common.{slice_get, subst, sym, refl, Some}
+use Rattle.std.proofs.Common.{slice_get, subst, sym, Some}
 use Rattle.cml_journal.specs.Checks.{Progress, HaltsIn}
 use Rattle.cml_journal.proofs.CheckLaws.{halts_on}
 use Rattle.cml_journal.proofs.check.Check.advance.Goals as goal
@@ -6,6 +6,5 @@ use Rattle.cml_journal.proofs.check.Check.advance.Goals as goal
 pub returns-in-Err-clause-halted : goal.returns-in-Err-clause-halted
 returns-in-Err-clause-halted g c =
     let mid : Progress g.row.M.Denot = record { state = c.self-2.inside.reader; checker = c.self-2.inside.checker.value; halt = c.self-2.inside.halt; last = slice_get c.self-2.inside.entry.items 0 } in
-    let later : Progress g.row.M.Denot = record mid { halt = Some c.in-Err.halt } in
-    halts_on g.M.Written.VERSION g.M.Written.meaning c.args.self.now mid later c.args.bytes.now c.in-Err.halt refl refl
+    halts_on g.M.Written.VERSION g.M.Written.meaning c.args.self.now mid (Some c.in-Err.halt) c.args.bytes.now c.in-Err.halt
     (subst (λ (p : Progress g.row.M.Denot). HaltsIn g.M.Written.VERSION g.M.Written.meaning c.args.self.now c.args.bytes.now p c.in-Err.halt) (sym c.self-2.view_is) c.in-Err.ensures.halted)
