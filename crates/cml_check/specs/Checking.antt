@@ -1,12 +1,12 @@
 -- What a check tells of the bytes of a journal.
-use Rattle.std.specs.Prelude.{◌≡◌, ◌⊎◌, ℕ, Bool, true, false, nat_eq, codes, string_bytes, List, ◌++◌, reverse, String, Option, Some, None, Result, Ok, Err, ⊤}
+use Rattle.std.specs.Prelude.{◌≡◌, ◌⊎◌, ℕ, ◌<◌, ◌≤◌, Bool, true, false, ◌||◌, nat_eq, codes, string_bytes, List, ◌++◌, take, length, reverse, String, Option, Some, None, Result, Ok, Err, ⊤}
 use Rattle.std.specs.Io.KnownBytes.{Consumes, IsAtEnd}
 use Rattle.cml_board.specs.declared.entry.Entry.{Entry}
 use Rattle.cml_board.specs.History.{Lawful}
 use Rattle.cml_journal.specs.declared.stop.Stop.{Stop}
 use Rattle.cml_journal.specs.declared.stop.Stop.TheVariants as stop
 use Rattle.cml_journal.specs.Feeding.{State, waiting_at, end_of, reading}
-use Rattle.cml_journal.specs.Checks.{Progress, IsSoFar, IsUnlawfulJournal, IsLawfulJournal}
+use Rattle.cml_journal.specs.Checks.{Progress, IsSoFar, IsUnlawfulJournal, IsFaultyJournal, IsLawfulJournal}
 use Rattle.std.specs.List.{starts_with}
 use Rattle.cml_journal.specs.Numbers.{number_of}
 use Rattle.cml_journal.specs.Escapes.{bytes_text, message_of_word}
@@ -45,12 +45,27 @@ IsEarly (lawful count state) = ⊥
 IsEarly (Torn line) = ⊥
 IsEarly ending = ⊤
 
+-- the front of a journal of bytes
+abbrev pub is_of_bytes : List ℕ → Bool
+is_of_bytes front = starts_with nat_eq front (codes "journal 2")
+
+-- the front of a journal that begins behind a cut
+abbrev pub is_behind_cut : List ℕ → Bool
+is_behind_cut front = starts_with nat_eq front (codes "journal 1\nfrom ") || starts_with nat_eq front (codes "journal 2\nfrom ")
+
+-- the first bytes that a reader gave, with this left: they are 15, unless it is at its end
+pub record IsFront (front : List ℕ) (left : Option (List ℕ)) : Type 0 where
+  pub most : length front ≤ 15
+  pub ended : length front < 15 → IsAtEnd left
+
 module _ {M : Type 0} (version : ℕ) (meaning : List ℕ → Option M) (text : M → List ℕ) where
-  -- the bytes are read without a fault, all entries in them are lawful, and there is no line or the last piece has no end
-  pub record IsTornJournal (bytes : List ℕ) : Type 0 where
+  -- the bytes are read without a fault, and so many lines end, modulo 2^64. All entries in them are lawful, and there is no line
+  -- or the last piece has no end
+  pub record IsTornJournal (bytes : List ℕ) (lines : ℕ) : Type 0 where
     pub state : State
     pub entries : List (Entry M)
     pub read : reading version meaning (waiting_at 0) bytes ≡ Ok (state, entries)
+    pub counted : lines ≡ state.lines
     pub torn : (end_of state ≡ None) ⊎ (state.lines ≡ 0)
     pub lawful : Lawful (reverse entries)
 
@@ -71,8 +86,9 @@ module _ {M : Type 0} (version : ℕ) (meaning : List ℕ → Option M) (text : 
   abbrev pub Tells : Bool → List ℕ → Ending → Type 0
   Tells asked bytes (lawful count state) = IsToldLawful asked bytes count (string_bytes state)
   Tells asked bytes (Unlawful at line answer) = IsToldUnlawful bytes at (string_bytes line) (string_bytes answer)
-  Tells asked bytes (Fault line what) = reading version meaning (waiting_at 0) bytes ≡ Err what
-  Tells asked bytes (Torn line) = IsTornJournal bytes
+  Tells asked bytes (Fault line what) = IsFaultyJournal version meaning bytes line what
+  Tells asked bytes (Torn line) = IsTornJournal bytes line
+  Tells asked bytes BehindCut = is_behind_cut bytes ≡ true
   Tells asked bytes ending = ⊤
 
   -- these are the lines of the objects of what was read so far, if they are asked for
@@ -83,16 +99,13 @@ module _ {M : Type 0} (version : ℕ) (meaning : List ℕ → Option M) (text : 
   abbrev pub EndsIn : Progress M → List ℕ → Ending → Type 0
   EndsIn old bytes ending = IsEarly ending × ((asked : Bool) (before : List ℕ) → IsSoFar version meaning before old → Tells asked (before ++ bytes) ending)
 
-  -- a reader gave some bytes, and this is how the check of them ends behind a front
+  -- a reader gave some bytes, and this is how the check of them ends behind the first 15 bytes, or behind all if they are fewer
   pub record Concludes (asked : Bool) (front : List ℕ) (old new : Option (List ℕ)) (ending : Ending) : Type 0 where
     pub bytes : List ℕ
+    pub long : front ≡ take 15 (front ++ bytes)
     pub given : Consumes old new bytes
     pub heard : IsHeardOut ending new
     pub told : Tells asked (front ++ bytes) ending
-
--- the front of a journal of bytes
-abbrev pub is_of_bytes : List ℕ → Bool
-is_of_bytes front = starts_with nat_eq front (codes "journal 2")
 
 -- the check behind a front, whose messages are bytes or numbers
 abbrev pub ConcludesAs : Bool → Bool → List ℕ → Option (List ℕ) → Option (List ℕ) → Ending → Type 0
@@ -104,7 +117,6 @@ ConcludesBy asked front old new ending = ConcludesAs (is_of_bytes front) asked f
 
 -- an ending that says nothing of a journal
 abbrev pub IsSilent : Ending → Type 0
-IsSilent BehindCut = ⊤
 IsSilent ReadFault = ⊤
 IsSilent WriteFault = ⊤
 IsSilent NoMemory = ⊤
@@ -119,11 +131,25 @@ abbrev pub TellsAs : Bool → Bool → List ℕ → Ending → Type 0
 TellsAs true asked bytes ending = Tells 2 message_of_word bytes_text asked bytes ending
 TellsAs false asked bytes ending = Tells 1 number_of decimal asked bytes ending
 
--- a reader gave a front and the rest, and this is how their check ends: the front tells the type of messages. It may be asked for
--- the lines of the objects
+-- a reader gave a front that is behind a cut, and no more was asked for
+pub record GivesCut (old new : Option (List ℕ)) : Type 0 where
+  pub front : List ℕ
+  pub given : Consumes old new front
+  pub most : length front ≤ 15
+  pub cut : is_behind_cut front ≡ true
+
+-- a check ends in the front
+abbrev pub EndsInFront : Option (List ℕ) → Option (List ℕ) → Ending → Type 0
+EndsInFront old new BehindCut = GivesCut old new
+EndsInFront old new ending = IsSilent ending × IsRead old new
+
+-- a reader gave the first 15 bytes, or all if they are fewer, and the rest, and this is how their check ends. By these first bytes
+-- the messages are numbers or bytes, and the journal begins behind a cut or doesn't. It may be asked for the lines of the objects
 pub record IsVerdict (asked : Bool) (old new : Option (List ℕ)) (ending : Ending) : Type 0 where
   pub front : List ℕ
   pub rest : List ℕ
+  pub long : front ≡ take 15 (front ++ rest)
   pub given : Consumes old new (front ++ rest)
   pub heard : IsHeardOut ending new
+  pub cut : is_behind_cut front ≡ true → (ending ≡ BehindCut) ⊎ IsSilent ending
   pub told : TellsAs (is_of_bytes front) asked (front ++ rest) ending

@@ -1,10 +1,10 @@
 //! A journal is read and checked as it comes.
 
-ghost use Rattle.std.specs.Prelude.{◌≡◌, ◌≤◌, ◌-◌, ◌∷◌, ◌++◌, ℕ, List, [], Ok, length, None, ◌<◌, IfOk, IfErr, IfSome, OnOk, IsTrue, string_bytes};
+ghost use Rattle.std.specs.Prelude.{◌≡◌, ◌≤◌, ◌-◌, ◌∷◌, ◌++◌, ℕ, List, [], Ok, true, false, length, None, ◌<◌, IfOk, IfErr, IfSome, OnOk, IsTrue, string_bytes};
 ghost use Rattle.std.specs.Io.KnownBytes.{Consumes, Keeps, IsAtEnd};
 ghost use Rattle.cml_journal.specs.Checks.{IsSoFar, Goes};
 ghost use Rattle.cml_check.specs.declared.ending.Ending.TheVariants.{ReadFault, BehindCut};
-ghost use Rattle.cml_check.specs.Checking.{Tells, EndsIn, Concludes, ConcludesBy, IsVerdict, IsRead, IsSilent, is_of_bytes, ending_of, IsStateOf};
+ghost use Rattle.cml_check.specs.Checking.{Tells, EndsIn, EndsInFront, Concludes, ConcludesBy, IsFront, IsVerdict, IsRead, IsSilent, is_of_bytes, is_behind_cut, ending_of, IsStateOf};
 
 use crate::answer::ending_of;
 use crate::ending::Ending;
@@ -53,6 +53,7 @@ fn check_behind<S: Wait, R: Read>(
     front: &[u8],
     state: bool,
 ) -> Ending
+    requires { IsFront front.now (R.remaining input.old) }
     ensures { ConcludesBy state front.now (R.remaining input.old) (R.remaining input.new) result }
 {
     if is_of_bytes(front) {
@@ -71,7 +72,9 @@ fn is_of_bytes(front: &[u8]) -> bool
 /// The first bytes: 15, unless there are fewer.
 fn read_front<S: Wait, R: Read>(system: &S, alloc: Global, input: &mut R) -> Result<Vec<u8>, Ending>
     ensures read { IfOk result (λ front. Consumes (R.remaining input.old) (R.remaining input.new) front.items) }
-    ensures ended { IfErr result (λ ending. IsSilent ending × IsRead (R.remaining input.old) (R.remaining input.new)) }
+    ensures long { IfOk result (λ front. IsFront front.items (R.remaining input.new)) }
+    ensures uncut { IfOk result (λ front. is_behind_cut front.items ≡ false) }
+    ensures ended { IfErr result (λ ending. EndsInFront (R.remaining input.old) (R.remaining input.new) ending) }
 {
     let mut front = Vec::new(alloc);
     let mut room = [0; FRONT];
@@ -90,19 +93,28 @@ fn read_front<S: Wait, R: Read>(system: &S, alloc: Global, input: &mut R) -> Res
 /// A front, unless it is that of a piece behind a cut.
 fn uncut(front: Vec<u8>) -> Result<Vec<u8>, Ending>
     ensures same { IfOk result (λ same. same.items ≡ front.items) }
-    ensures cut { IfErr result (λ ending. ending ≡ BehindCut) }
+    ensures uncut { OnOk result (is_behind_cut front.items ≡ false) }
+    ensures cut { IfErr result (λ ending. (ending ≡ BehindCut) × (is_behind_cut front.items ≡ true)) }
 {
-    if front.starts_with(CUT_NUMBERS) || front.starts_with(CUT_BYTES) {
+    if is_behind_cut(&front) {
         return Err(Ending::BehindCut);
     }
     Ok(front)
+}
+
+/// Whether a front is that of a journal that begins behind a cut.
+fn is_behind_cut(front: &[u8]) -> bool
+    ensures { result ≡ is_behind_cut front.now }
+{
+    front.starts_with(CUT_NUMBERS) || front.starts_with(CUT_BYTES)
 }
 
 /// Asks the reader once, adds what it gave, and answers whether it was at its end.
 fn read_more<R: Read>(input: &mut R, room: &mut [u8], front: &mut Vec<u8>) -> Result<bool, Ending>
     requires { 0 < length room.old }
     ensures more { OnOk result ((bytes : List ℕ) × Consumes (R.remaining input.old) (R.remaining input.new) bytes
-        × (front.new.items ≡ front.old.items ++ bytes)) }
+        × (front.new.items ≡ front.old.items ++ bytes) × (length bytes ≤ length room.old)) }
+    ensures end { IfOk result (λ at_end. IsTrue at_end → IsAtEnd (R.remaining input.new)) }
     ensures ended { IfErr result (λ ending. IsSilent ending × IsRead (R.remaining input.old) (R.remaining input.new)) }
     ensures same { length room.new ≡ length room.old }
 {
@@ -119,7 +131,7 @@ fn read_more<R: Read>(input: &mut R, room: &mut [u8], front: &mut Vec<u8>) -> Re
 fn read_some<'a, R: Read>(input: &mut R, room: &'a mut [u8]) -> Result<Option<&'a [u8]>, Ending>
     requires { 0 < length room.old }
     ensures some { IfOk result (λ found. IfSome found (λ bytes. Consumes (R.remaining input.old) (R.remaining input.new) bytes.now
-        × (bytes.now ≡ [] → IsAtEnd (R.remaining input.new)))) }
+        × (bytes.now ≡ [] → IsAtEnd (R.remaining input.new)) × (length bytes.now ≤ length room.old))) }
     ensures none { IfOk result (λ found. found ≡ None → Keeps (R.remaining input.old) (R.remaining input.new)) }
     ensures failed { IfErr result (λ ending. (ending ≡ ReadFault) × Keeps (R.remaining input.old) (R.remaining input.new)) }
 {
@@ -137,6 +149,7 @@ fn check_rest<M: Message + Written, S: Wait, R: Read>(
     front: &[u8],
     state: bool,
 ) -> Ending
+    requires { IsFront front.now (R.remaining input.old) }
     ensures { Concludes M.VERSION M.meaning M.text state front.now (R.remaining input.old) (R.remaining input.new) result }
 {
     match check_all::<M, S, R>(system, alloc, input, front, state) {
@@ -153,10 +166,14 @@ fn check_all<M: Message + Written, S: Wait, R: Read>(
     front: &[u8],
     state: bool,
 ) -> Result<(u64, String), Ending>
+    requires { IsFront front.now (R.remaining input.old) }
     ensures { Concludes M.VERSION M.meaning M.text state front.now (R.remaining input.old) (R.remaining input.new) (ending_of result) }
 {
     let mut check = Check::<M>::new(alloc)?;
     go_on(alloc, &mut check, front)?;
+    if front.len() < FRONT {
+        return end_of(alloc, &mut check, state);
+    }
     let mut room = [0; ROOM];
     for _ in system.forever() {
         if take_some(alloc, &mut check, input, &mut room)? {

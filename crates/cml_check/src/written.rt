@@ -12,7 +12,6 @@ use std::sync::Wait;
 
 /// Checks the journal that the reader gives, and writes that it is lawful, or the first entry that isn't and the right answer to
 /// its call. Behind a lawful journal it writes the lines of the objects, if `state` is set. It waits for the reader.
-#[tactic(auto, using(crate::proofs::Telling::verdict_unwritten))]
 pub fn check<S: Wait, R: Read, W: Write>(
     system: &S,
     alloc: Global,
