@@ -51,8 +51,8 @@ impl<M: Message + Written> Check<M> {
     /// Reads the stream's next bytes, cut anywhere, and checks the entries in them.
     ///
     /// Errors: the first entry that isn't lawful, or the first fault, whichever comes first; `NoMemory` if an allocation fails.
-    /// A check that failed is spent: it fails the same way from then on, or with `NoMemory` if there is no memory for an
-    /// entry's line.
+    /// `lines` and `entries` then say how far it was read. A check that failed is spent: it fails the same way from then on, or
+    /// with `NoMemory` if there is no memory for an entry's line.
     pub fn take(&mut self, bytes: &[u8]) -> Result<(), Stop>
         ensures taken { OnOk result (Goes M.VERSION M.meaning self.old bytes.now self.new) }
         ensures stopped { IfErr result (λ stop. StopsIn M.VERSION M.meaning M.text self.old bytes.now self.new stop) }
@@ -65,8 +65,8 @@ impl<M: Message + Written> Check<M> {
         }
     }
 
-    /// Does what `take` does, and returns no line of an entry. So it needs no memory to say why it stopped, and fails the same way
-    /// from then on.
+    /// Does what `take` does, and returns no line of an entry. So it allocates nothing to say why it stopped, and fails the same
+    /// way from then on.
     pub fn advance(&mut self, bytes: &[u8]) -> Result<(), Halt>
         ensures taken { OnOk result (Goes M.VERSION M.meaning self.old bytes.now self.new) }
         ensures halted { IfErr result (λ halt. HaltsIn M.VERSION M.meaning self.old bytes.now self.new halt) }
