@@ -1,5 +1,5 @@
 -- What an ending says of what was read and checked.
-use Rattle.std.proofs.Common.{◌≡◌, ◌⊎◌, inl, inr, ℕ, ◌+◌, ◌<◌, ◌≤◌, take, drop, length, add-one, Bool, true, false, List, [], ◌++◌, reverse, Option, Some, None, Result, Ok, refl, sym, ap, ◌∙◌, subst, append_assoc}
+use Rattle.std.proofs.Common.{◌≡◌, inl, inr, ℕ, ◌+◌, ◌<◌, ◌≤◌, take, drop, length, add-one, Bool, true, false, List, [], ◌++◌, reverse, Option, Some, None, Ok, refl, sym, ap, ◌∙◌, subst, append_assoc}
 use Rattle.std.proofs.lemmas.List.{append-nil, take_all, take_at, take-append-drop}
 use Rattle.std.proofs.KnownBytes.{Consumes-nil, Consumes-trans}
 use Rattle.std.specs.Io.KnownBytes.{Appends, Consumes, IsAtEnd}

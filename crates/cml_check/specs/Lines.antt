@@ -1,5 +1,5 @@
 -- What is written of an ending.
-use Rattle.std.specs.Prelude.{◌+◌, ℕ, zero, suc, Bool, true, false, List, [], ◌∷◌, ◌++◌, codes, string_bytes, unwrap_or, Option, Some, None, ⊤}
+use Rattle.std.specs.Prelude.{ℕ, zero, suc, Bool, true, false, List, [], ◌∷◌, ◌++◌, codes, string_bytes, unwrap_or, Option, Some, None, ⊤}
 use Rattle.std.specs.Fmt.{decimal}
 use Rattle.std.specs.Io.KnownBytes.{Appends}
 use Rattle.cml_calls.specs.declared.kind.Kind.{Kind}

@@ -1,4 +1,4 @@
-use Rattle.std.proofs.Common.{rules, subst, sym, string_bytes}
+use Rattle.std.proofs.Common.{rules, subst, sym}
 use Rattle.cml_journal.specs.Checks.{IsLawfulJournal}
 use Rattle.cml_check.proofs.Telling.{told_lawful}
 use Rattle.cml_check.proofs.checking.end_of.Goals as goal

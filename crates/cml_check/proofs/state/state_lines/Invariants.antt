@@ -1,5 +1,4 @@
-use Rattle.std.proofs.Common.{◌≡◌, ◌≤◌, string_bytes}
-use Rattle.cml_board.specs.History.{entries_in}
+use Rattle.std.proofs.Common.{◌≡◌, string_bytes}
 use Rattle.cml_check.specs.Lines.{object_lines}
 use Rattle.cml_check.proofs.state.state_lines.Given as goal
 
