@@ -1,5 +1,5 @@
 -- What was read and checked so far, and what a halt says of it.
-use Rattle.std.proofs.Common.{◌≡◌, ◌≢◌, ◌⊎◌, inl, inr, ℕ, Bool, true, false, not, ◌&&◌, ◌==◌, is_none, ◌+◌, ◌%◌, ◌^◌, ◌≤◌, zero, suc, List, [], ◌∷◌, ◌++◌, length, reverse, take, slice_get, Option, Some, None, Result, Ok, Err, refl, sym, ap, subst, ◌∙◌, arith, append_assoc, length-append}
+use Rattle.std.proofs.Common.{◌≡◌, ◌⊎◌, inl, inr, ℕ, Bool, true, not, ◌&&◌, ◌==◌, is_none, ◌+◌, ◌%◌, ◌^◌, ◌≤◌, zero, suc, List, [], ◌∷◌, ◌++◌, length, reverse, take, slice_get, Option, Some, None, Ok, Err, refl, sym, ap, subst, ◌∙◌, arith, append_assoc, length-append}
 use Rattle.std.specs.Option.{option_to_list}
 use Rattle.std.proofs.lemmas.Bool.{and_parts}
 use Rattle.std.proofs.lemmas.List.{append-nil, reverse-append, length-reverse}
@@ -21,7 +21,7 @@ use Rattle.std.specs.Prelude.{string_bytes}
 use Rattle.cml_journal.specs.Lines.{line_of}
 use Rattle.cml_journal.specs.Faults.{HasFault, Meets}
 use Rattle.cml_journal.specs.Feeding.{State, waiting_at, end_of, behind, reading}
-use Rattle.cml_journal.specs.Checks.{Progress, IsSoFar, Goes, HaltsIn, StopsIn, MayHaltAt, HaltTells, IsTold, IsLawfulJournal, IsRestored, IsUnlawfulJournal, ShowsUnlawful, IsFaultyJournal, ShowsFault, ShowsFront, halt_of, line_of_last}
+use Rattle.cml_journal.specs.Checks.{Progress, IsSoFar, Goes, HaltsIn, StopsIn, MayHaltAt, HaltTells, IsTold, IsLawfulJournal, IsRestored, IsUnlawfulJournal, ShowsUnlawful, ShowsFault, ShowsFront, halt_of, line_of_last}
 use Rattle.cml_journal.proofs.FeedLaws.{on, placed, reading-append}
 use Rattle.cml_journal.proofs.PositionLaws.{ends_behind_last, entries_are_counted}
 

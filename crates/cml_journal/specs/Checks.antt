@@ -1,5 +1,5 @@
 -- What a check has found of a journal's text so far, and why it stops.
-use Rattle.std.specs.Prelude.{◌≡◌, ◌⊎◌, ℕ, suc, ◌+◌, ◌%◌, ◌^◌, ◌≤◌, ◌==◌, Bool, false, not, ◌&&◌, ◌≢◌, is_some, is_none, List, [], ◌∷◌, ◌++◌, reverse, length, slice_get, string_bytes, Option, Some, None, Result, Ok, Err, IfOk, ⊤}
+use Rattle.std.specs.Prelude.{◌≡◌, ◌⊎◌, ℕ, suc, ◌+◌, ◌%◌, ◌^◌, ◌≤◌, ◌==◌, Bool, not, ◌&&◌, ◌≢◌, is_some, is_none, List, [], ◌∷◌, ◌++◌, reverse, length, slice_get, string_bytes, Option, Some, None, Ok, Err, IfOk, ⊤}
 use Rattle.cml_board.specs.declared.entry.Entry.{Entry}
 use Rattle.cml_board.specs.declared.expected.Expected.{Expected}
 use Rattle.cml_board.specs.History.{Lawful}

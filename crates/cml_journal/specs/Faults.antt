@@ -1,5 +1,5 @@
 -- Where the first fault of bytes is.
-use Rattle.std.specs.Prelude.{◌≡◌, ℕ, List, [], ◌∷◌, ◌++◌, Option, Result, Ok, Err, ⊤}
+use Rattle.std.specs.Prelude.{◌≡◌, ℕ, List, [], ◌∷◌, ◌++◌, Option, Ok, Err, ⊤}
 use Rattle.cml_journal.specs.declared.fault.What.{What}
 use Rattle.cml_journal.specs.declared.fault.Unread.{Unread}
 use Rattle.cml_journal.specs.declared.fault.Unread.TheVariants as unread
