@@ -1,2 +1,4 @@
 pub mod Endings
 pub mod Station
+pub mod Course
+pub mod Demands

@@ -1,4 +1,7 @@
 //! What is simulated: how many servers and customers, how fast they are, and the seed.
+ghost use Rattle.std.specs.Prelude.{IfOk};
+ghost use Rattle.cml_queueing.specs.Demands.{IsAsked};
+
 use crate::asked::Asked;
 use crate::decimal::{MILLION, millionths_in};
 use crate::ending::Ending;
@@ -28,7 +31,9 @@ struct Rates {
 impl Demand {
     /// Fails with `NoLoad` or `NoDecimal` if the load or a rate is missing or no number. Fails with `Overload` if the line would
     /// grow without end, and with `TooLong` if the clock would end before the simulation.
-    pub(crate) fn of(asked: &Asked<'_>) -> Result<Demand, Ending> {
+    pub(crate) fn of(asked: &Asked<'_>) -> Result<Demand, Ending>
+        ensures { IfOk result (IsAsked asked.now) }
+    {
         let rates = rates_of(asked)?;
         if u128::from(rates.arrivals)
             >= u128::from(asked.servers).saturating_mul(u128::from(rates.service))

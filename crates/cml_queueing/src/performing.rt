@@ -1,4 +1,7 @@
 //! What the program's words ask for is done.
+ghost use Rattle.std.specs.Prelude.{◌≢◌, OnOk};
+ghost use Rattle.cml_queueing.specs.Course.{ServesAll};
+
 use crate::asked::{Asked, Form};
 use crate::demand::Demand;
 use crate::ending::Ending;
@@ -33,7 +36,9 @@ fn write_asked<W: Write>(
     form: Form,
     simulation: &mut Simulation,
     writer: &mut W,
-) -> Result<(), Ending> {
+) -> Result<(), Ending>
+    ensures { form ≢ Form.Report → OnOk result (ServesAll simulation.old simulation.new) }
+{
     match form {
         Form::Figures => {
             let text = figures(alloc, simulation)?;
@@ -44,19 +49,17 @@ fn write_asked<W: Write>(
             write_text(writer, &text)
         }
         Form::Journal => {
-            simulate(
-                simulation,
-                simulation.demand().customers,
-                &mut Written { alloc, writer },
-            )?;
+            simulate(simulation, &mut Written { alloc, writer })?;
             Ok(())
         }
     }
 }
 
 /// Simulates, and returns the lines of what was measured.
-fn figures(alloc: Global, simulation: &mut Simulation) -> Result<String, Ending> {
-    let figures = simulate(simulation, simulation.demand().customers, &mut Dropped)?;
+fn figures(alloc: Global, simulation: &mut Simulation) -> Result<String, Ending>
+    ensures { OnOk result (ServesAll simulation.old simulation.new) }
+{
+    let figures = simulate(simulation, &mut Dropped)?;
     let mut text = String::new(alloc);
     let (servers, time) = (simulation.demand().servers, simulation.time());
     let calls = simulation.station().board().entries();

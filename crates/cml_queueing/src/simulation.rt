@@ -1,10 +1,13 @@
 //! The events of a run, in the order of simulated time.
+ghost use Rattle.std.specs.Prelude.{◌≡◌, IfOk};
 ghost use Rattle.cml_queueing.specs.Station.{ServesInOrder};
+ghost use Rattle.cml_queueing.specs.Course.{KeepsDemand};
 
 use crate::demand::Demand;
 use crate::ending::Ending;
 use crate::exponential::exponential;
 use crate::figures::Figures;
+use crate::keeper::Keeper;
 use crate::station::Station;
 use rand::rngs::SmallRng;
 use rand_core::SeedableRng;
@@ -36,21 +39,23 @@ pub(crate) struct Simulation {
 }
 
 impl Model for Simulation {
-    ghost use Rattle.std.specs.Prelude.{ℕ, List};
-    ghost use Rattle.cml_board.specs.declared.entry.Entry.{Entry};
+    ghost use Rattle.cml_queueing.specs.Course.{Course};
 
-    ghost Value = { List (Entry ℕ) };
+    ghost Value = { Course };
 
-    ghost view = { λ simulation. simulation.station };
+    ghost view = { λ simulation. record { customers = simulation.demand.customers; place = simulation.station } };
 }
 
 impl Simulation {
     /// Makes a simulation in which all servers are free and the first customer is still to come.
-    pub(crate) fn new(alloc: Global, demand: Demand) -> Result<Simulation, Ending> {
+    pub(crate) fn new(alloc: Global, demand: Demand) -> Result<Simulation, Ending>
+        ensures customers { IfOk result (λ simulation. simulation.customers ≡ demand.customers) }
+        ensures servers { IfOk result (λ simulation. simulation.place.servers ≡ demand.servers) }
+    {
         let mut random = SmallRng::seed_from_u64(demand.seed);
         let next_arrival = gap(&mut random, demand.gap);
         Ok(Simulation {
-            station: Station::new(alloc)?,
+            station: Station::new(alloc, demand.servers)?,
             demand,
             random,
             time: 0,
@@ -63,7 +68,9 @@ impl Simulation {
     }
 
     /// Each server says that it is free.
-    pub(crate) fn open(&mut self) -> Result<(), Ending> {
+    pub(crate) fn open(&mut self) -> Result<(), Ending>
+        ensures { KeepsDemand self.old self.new }
+    {
         for server in 0..self.demand.servers {
             self.station.rest(server.saturating_add(1))?;
         }
@@ -71,7 +78,9 @@ impl Simulation {
     }
 
     /// Performs the next event. Returns whether there was one.
-    pub(crate) fn step(&mut self) -> Result<bool, Ending> {
+    pub(crate) fn step(&mut self) -> Result<bool, Ending>
+        ensures { KeepsDemand self.old self.new }
+    {
         if self.is_arrival_next() {
             self.arrive()?;
             return Ok(true);
@@ -95,7 +104,9 @@ impl Simulation {
     }
 
     /// A customer joins the line, and wakes a server if one is free.
-    fn arrive(&mut self) -> Result<(), Ending> {
+    fn arrive(&mut self) -> Result<(), Ending>
+        ensures { KeepsDemand self.old self.new }
+    {
         self.time = self.next_arrival;
         self.to_arrive = self.to_arrive.saturating_sub(1);
         self.station.join()?;
@@ -110,7 +121,9 @@ impl Simulation {
     }
 
     /// A server takes the next customer, or is free if none waits.
-    fn go_on(&mut self, server: u64) -> Result<(), Ending> {
+    fn go_on(&mut self, server: u64) -> Result<(), Ending>
+        ensures { KeepsDemand self.old self.new }
+    {
         match self.station.receive(server)? {
             Some(_customer) => self.serve(server),
             None => self.station.rest(server),
@@ -118,7 +131,9 @@ impl Simulation {
     }
 
     /// A server begins to serve the customer who has waited longest.
-    fn serve(&mut self, server: u64) -> Result<(), Ending> {
+    fn serve(&mut self, server: u64) -> Result<(), Ending>
+        ensures { KeepsDemand self.old self.new }
+    {
         let arrived = self.arrivals.pop_front().unwrap_or(self.time);
         let service = exponential(&mut self.random);
         self.figures.add(self.time.saturating_sub(arrived), service);
@@ -131,8 +146,11 @@ impl Simulation {
         &self.station
     }
 
-    pub(crate) fn station_mut(&mut self) -> &mut Station {
-        &mut self.station
+    /// Hands the journal's entries to the keeper, and cuts them away.
+    pub(crate) fn cut<K: Keeper>(&mut self, keeper: &mut K) -> Result<(), Ending>
+        ensures { self.new ≡ self.old }
+    {
+        self.station.cut(keeper)
     }
 
     /// Returns the time of the last event.
@@ -140,13 +158,15 @@ impl Simulation {
         self.time
     }
 
-    pub(crate) fn demand(&self) -> &Demand {
+    pub(crate) fn demand(&self) -> &Demand
+        ensures { result.now.customers ≡ self.now.customers }
+    {
         &self.demand
     }
 
     /// Returns what was measured so far.
     pub(crate) fn figures(&self) -> Figures
-        ensures { ServesInOrder self.now result.served }
+        ensures { ServesInOrder self.now.place result.served }
     {
         Figures {
             served: self.station.served(),

@@ -1,7 +1,8 @@
 //! The line of customers and the servers that are free: two mailboxes on one board.
-ghost use Rattle.std.specs.Prelude.{◌≡◌, OnOk};
+ghost use Rattle.std.specs.Prelude.{◌≡◌, IfOk, IfSome, OnOk};
+ghost use Rattle.cml_board.specs.declared.entry.Reply.TheVariants.{Got};
 ghost use Rattle.cml_board.specs.History.{no_entries};
-ghost use Rattle.cml_queueing.specs.Station.{IsStation, ServesInOrder};
+ghost use Rattle.cml_queueing.specs.Station.{IsStation, ServesInOrder, Receives, IsAnsweredBy};
 
 use crate::ending::Ending;
 use crate::keeper::Keeper;
@@ -21,36 +22,39 @@ const DOOR: Who = Who::Seat(0);
 /// More entries than a run adds between two cuts.
 const LIMIT: u64 = 65_536;
 
-/// A board with a line and the free servers.
+/// A board with a line and the free servers, and how many servers there are.
 #[derive(Drop)]
 pub(crate) struct Station {
     board: Board<u64, BoardLog<u64>>,
+    servers: u64,
 }
 
 impl Model for Station {
-    ghost use Rattle.std.specs.Prelude.{ℕ, List};
-    ghost use Rattle.cml_board.specs.declared.entry.Entry.{Entry};
-    ghost use Rattle.cml_queueing.specs.Station.{IsStation};
+    ghost use Rattle.cml_queueing.specs.Station.{Place, IsStation};
 
-    ghost Value = { List (Entry ℕ) };
+    ghost Value = { Place };
 
-    ghost view = { λ station. station.board.history };
+    ghost view = { λ station. record { servers = station.servers; history = station.board.history } };
 
-    ghost invariant = { λ station. IsStation station.board.history };
+    ghost invariant = { λ station. IsStation (record { servers = station.servers; history = station.board.history }) };
 }
 
 impl Station {
-    /// Makes a station without customers and servers.
-    pub(crate) fn new(alloc: Global) -> Result<Station, Ending> {
+    /// Makes a station with so many servers, of which none is free yet, and without customers.
+    pub(crate) fn new(alloc: Global, servers: u64) -> Result<Station, Ending>
+        ensures { IfOk result (λ station. station.servers ≡ servers) }
+    {
         let mut board = Board::new(alloc, LIMIT)?;
-        add_mailbox(&mut board)?;
-        add_mailbox(&mut board)?;
-        Ok(Station { board })
+        add_mailbox(servers, &mut board)?;
+        add_mailbox(servers, &mut board)?;
+        Ok(Station { board, servers })
     }
 
     /// The next customer joins the line.
     #[tactic(auto, using(crate::proofs::StationLemmas::joined))]
-    pub(crate) fn join(&mut self) -> Result<(), Ending> {
+    pub(crate) fn join(&mut self) -> Result<(), Ending>
+        ensures { self.new.servers ≡ self.old.servers }
+    {
         let number = self.board.sent_count(LINE).unwrap_or(0);
         let outcome = self.board.apply(DOOR, Call::Send(LINE, number));
         message_of(outcome)?;
@@ -59,7 +63,9 @@ impl Station {
 
     /// A server is free from now on.
     #[tactic(auto, using(crate::proofs::StationLemmas::kept))]
-    pub(crate) fn rest(&mut self, server: u64) -> Result<(), Ending> {
+    pub(crate) fn rest(&mut self, server: u64) -> Result<(), Ending>
+        ensures { self.new.servers ≡ self.old.servers }
+    {
         let outcome = self
             .board
             .apply(Who::Seat(server), Call::Send(FREE, server));
@@ -67,16 +73,24 @@ impl Station {
         Ok(())
     }
 
-    /// A server takes the next customer. Returns `None` if it would wait.
-    #[tactic(auto, using(crate::proofs::StationLemmas::kept))]
-    pub(crate) fn receive(&mut self, server: u64) -> Result<Option<u64>, Ending> {
+    /// A server takes the next customer. Returns `None` if it would wait. Fails with `Refused` if there is no such server.
+    #[tactic(auto, using(crate::proofs::StationLemmas::kept_by_server))]
+    pub(crate) fn receive(&mut self, server: u64) -> Result<Option<u64>, Ending>
+        ensures servers { self.new.servers ≡ self.old.servers }
+        ensures receives { IfOk result (λ received. IfSome received (Receives server self.old self.new)) }
+    {
+        if server == 0 || server > self.servers {
+            return Err(Ending::Refused);
+        }
         let outcome = self.board.apply(Who::Seat(server), Call::Recv(LINE));
         message_of(outcome)
     }
 
     /// Takes the server that has been free the longest. Returns `None` if all are busy.
     #[tactic(auto, using(crate::proofs::StationLemmas::kept))]
-    pub(crate) fn wake(&mut self) -> Result<Option<u64>, Ending> {
+    pub(crate) fn wake(&mut self) -> Result<Option<u64>, Ending>
+        ensures { self.new.servers ≡ self.old.servers }
+    {
         let outcome = self.board.apply(DOOR, Call::Poll(FREE));
         message_of(outcome)
     }
@@ -98,7 +112,6 @@ impl Station {
     }
 
     /// Returns how many customers were served. They are the first that came, and were served in the order of their arrival.
-    #[tactic(auto, using(crate::proofs::StationLemmas::served_in_order))]
     pub(crate) fn served(&self) -> u64
         ensures { ServesInOrder self.now result }
     {
@@ -107,11 +120,11 @@ impl Station {
     }
 }
 
-/// Makes a mailbox.
+/// Makes a mailbox of a station with so many servers.
 #[tactic(auto, using(crate::proofs::StationLemmas::begun, crate::proofs::StationLemmas::kept))]
-fn add_mailbox(board: &mut Board<u64, BoardLog<u64>>) -> Result<(), Ending>
-    ensures first { board.old.history ≡ no_entries → OnOk result (IsStation board.new.history) }
-    ensures later { IsStation board.old.history → IsStation board.new.history }
+fn add_mailbox(servers: u64, board: &mut Board<u64, BoardLog<u64>>) -> Result<(), Ending>
+    ensures first { board.old.history ≡ no_entries → OnOk result (IsStation (record { servers = servers; history = board.new.history })) }
+    ensures later { IsStation (record { servers = servers; history = board.old.history }) → IsStation (record { servers = servers; history = board.new.history }) }
 {
     match board.apply(DOOR, Call::NewMailbox) {
         Outcome::Answered(_) => Ok(()),
@@ -122,7 +135,9 @@ fn add_mailbox(board: &mut Board<u64, BoardLog<u64>>) -> Result<(), Ending>
 
 /// Returns the message in the reply. Returns `None` if there is none, or if the call would wait.
 #[inline(always)]
-fn message_of(outcome: Outcome<u64>) -> Result<Option<u64>, Ending> {
+fn message_of(outcome: Outcome<u64>) -> Result<Option<u64>, Ending>
+    ensures { IfOk result (λ message. IfSome message (λ number. IsAnsweredBy (Got number) outcome)) }
+{
     match outcome {
         Outcome::Answered(answer) => Ok(message_in(answer.into_reply())),
         Outcome::WouldWait(_) => Ok(None),
@@ -130,7 +145,9 @@ fn message_of(outcome: Outcome<u64>) -> Result<Option<u64>, Ending> {
     }
 }
 
-fn message_in(reply: Reply<u64>) -> Option<u64> {
+fn message_in(reply: Reply<u64>) -> Option<u64>
+    ensures { IfSome result (λ number. reply ≡ Got number) }
+{
     match reply {
         Reply::Got(message) => Some(message),
         _ => None,
