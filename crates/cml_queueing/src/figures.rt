@@ -1,4 +1,6 @@
 //! What is measured of a run.
+ghost use Rattle.std.specs.Prelude.{◌≡◌, ◌+◌, ◌<◌, ◌^◌};
+
 use crate::decimal::{quotient, write_line};
 use crate::demand::SERVICE;
 use std::alloc::AllocError;
@@ -21,7 +23,10 @@ impl Figures {
     };
 
     /// Adds a customer who waited so long, and whose service takes so long.
-    pub(crate) fn add(&mut self, waited: u64, service: u64) {
+    pub(crate) fn add(&mut self, waited: u64, service: u64)
+        ensures waited { self.old.waited + waited < 2 ^ 128 → self.new.waited ≡ self.old.waited + waited }
+        ensures busy { self.old.busy + service < 2 ^ 128 → self.new.busy ≡ self.old.busy + service }
+    {
         self.waited = self.waited.saturating_add(u128::from(waited));
         self.busy = self.busy.saturating_add(u128::from(service));
     }

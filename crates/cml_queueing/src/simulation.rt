@@ -1,5 +1,5 @@
 //! The events of a run, in the order of simulated time.
-ghost use Rattle.std.specs.Prelude.{◌≡◌, IfOk};
+ghost use Rattle.std.specs.Prelude.{◌≡◌, ◌+◌, ◌<◌, ◌^◌, IfOk};
 ghost use Rattle.cml_queueing.specs.Station.{ServesInOrder};
 ghost use Rattle.cml_queueing.specs.Course.{KeepsDemand};
 
@@ -136,9 +136,8 @@ impl Simulation {
     {
         let arrived = self.arrivals.pop_front().unwrap_or(self.time);
         let service = exponential(&mut self.random);
-        self.figures.add(self.time.saturating_sub(arrived), service);
-        let time = self.time.saturating_add(service);
-        self.departures.push(Reverse(Departure { time, server }))?;
+        let departure = begin(&mut self.figures, self.time, arrived, service, server);
+        self.departures.push(Reverse(departure))?;
         Ok(())
     }
 
@@ -172,6 +171,19 @@ impl Simulation {
             served: self.station.served(),
             ..self.figures
         }
+    }
+}
+
+/// Counts a customer whose service begins at this time and takes so long, and returns the server's departure.
+fn begin(figures: &mut Figures, time: u64, arrived: u64, service: u64, server: u64) -> Departure
+    ensures server { result.server ≡ server }
+    ensures time { time + service < 2 ^ 64 → result.time ≡ time + service }
+    ensures busy { figures.old.busy + service < 2 ^ 128 → figures.new.busy ≡ figures.old.busy + service }
+{
+    figures.add(time.saturating_sub(arrived), service);
+    Departure {
+        time: time.saturating_add(service),
+        server,
     }
 }
 

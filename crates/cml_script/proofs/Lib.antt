@@ -36,3 +36,4 @@ pub mod DeclareLemmas
 pub mod HeldLemmas
 pub mod ConcludingLemmas
 pub mod WholeLemmas
+pub mod LaneLemmas

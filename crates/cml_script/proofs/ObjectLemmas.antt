@@ -46,7 +46,7 @@ counted_filter p q all (x ∷ xs) = by_test (p x) (q x) refl refl (counted_filte
     by_test false false e f ih = omega (arith, ih, ap one_if f)
     by_test false true e f ih = absurd (true≢false (sym (all x f) ∙ e))
 
-any_pushed : (p : SourceLine → Bool) (xs : List SourceLine) (x : SourceLine) → list_any p (xs ++ x ∷ []) ≡ (list_any p xs || p x)
+pub any_pushed : (p : SourceLine → Bool) (xs : List SourceLine) (x : SourceLine) → list_any p (xs ++ x ∷ []) ≡ (list_any p xs || p x)
 any_pushed p [] x = elim (p x) as (λ t. (t || false) ≡ (false || t)) [ true ↦ refl | false ↦ refl ]
 any_pushed p (y ∷ ys) x =
     let ih = any_pushed p ys x in

@@ -1,5 +1,5 @@
 -- What is left of a script.
-use Rattle.std.specs.Prelude.{ℕ, ◌<◌, ◌⊎◌, Bool, true, false, List}
+use Rattle.std.specs.Prelude.{ℕ, ◌≡◌, ◌<◌, ◌≤◌, ◌⊎◌, Bool, true, false, List}
 use Rattle.cml_board.specs.declared.entry.Entry.{Entry}
 use Rattle.cml_board.specs.declared.entry.Who.{Who}
 use Rattle.cml_board.specs.declared.entry.Who.TheVariants as who
@@ -37,3 +37,10 @@ is_moved entry = is_lane entry.who
 abbrev pub HasLeft : Lines → History → Tallied → Type 0
 HasLeft script history tally = (entries_in history < declared_count script)
     ⊎ ((0 < unperformed script history tally) ⊎ (how_many is_moved history < laid_count script))
+
+-- nothing is left: the declared objects were made, each step was performed, and lanes moved as many messages as the steps sent by
+-- them
+pub record IsAllDone (script : Lines) (history : History) (tally : Tallied) : Type 0 where
+  pub made : declared_count script ≤ entries_in history
+  pub performed : unperformed script history tally ≡ 0
+  pub moved : how_many is_moved history ≡ laid_count script

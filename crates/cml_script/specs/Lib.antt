@@ -20,6 +20,7 @@ pub mod Objects
 pub mod Stage
 pub mod Apart
 pub mod Audit
+pub mod Lanes
 pub mod Trail
 pub mod Scene
 pub mod Working

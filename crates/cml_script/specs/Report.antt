@@ -25,15 +25,16 @@ use Rattle.cml_script.specs.declared.stop.Stop.{Stop}
 use Rattle.cml_script.specs.declared.stop.Stop.TheVariants.{Done, Stalled, Full, Held}
 use Rattle.cml_script.specs.Schedule.{History, objects_of, is_feed, declared_count, next_position, made_of, feed_at}
 
--- what a run tells beside its journal: how many steps went by lanes and feeds, and by feed, in text order, how many messages
--- its thread took
+-- what a run tells beside its journal: how many steps went by lanes and feeds; by feed, in text order, how many messages
+-- its thread took; and by lane, the seat of the thread that opened it
 pub record Tallied : Type 0 where
   pub apart : ℕ
   pub taken : List ℕ
+  pub lanes : List ℕ
 
 -- the tally of a script without lanes and feeds
 abbrev pub no_rings : Tallied
-no_rings = record { apart = 0; taken = [] }
+no_rings = record { apart = 0; taken = []; lanes = [] }
 
 -- a line's end
 abbrev pub line_end : List ℕ

@@ -1,7 +1,8 @@
 -- What a run reads and writes, by how it ends.
-use Rattle.std.specs.Prelude.{ℕ, ◌≡◌, ◌<◌, ◌≤◌, ◌⊎◌, List, length, reverse, Option, Some, unwrap_or, ⊤}
+use Rattle.std.specs.Prelude.{ℕ, ◌≡◌, ◌+◌, ◌<◌, ◌≤◌, ◌⊎◌, List, length, reverse, Option, Some, unwrap_or, ⊤}
 use Rattle.std.specs.Io.KnownBytes.{Appends, Keeps}
-use Rattle.cml_board.specs.History.{entries_in, Lawful}
+use Rattle.cml_board.specs.History.{no_entries, entries_in, Lawful}
+use Rattle.cml_board.specs.Shown.{Shown}
 use Rattle.cml_board.specs.Counts.{got_count}
 use Rattle.cml_grammar.specs.Script.{Lines, IsScript}
 use Rattle.cml_script.specs.declared.asked.Form.{Form}
@@ -14,31 +15,33 @@ use Rattle.cml_script.specs.Schedule.{History, apart_count, feed_count, feed_at,
 use Rattle.cml_script.specs.Audit.{IsOfScript, IsFirstForeign}
 use Rattle.cml_script.specs.Report.{Tallied, taken_by, unperformed}
 use Rattle.cml_script.specs.Written.{text_as}
-use Rattle.cml_script.specs.Left.{HasLeft}
+use Rattle.cml_script.specs.Left.{HasLeft, IsAllDone}
 use Rattle.cml_script.specs.Stalling.{NobodyGoesOn}
+use Rattle.cml_script.specs.Lanes.{AreSentInOrder}
 use Rattle.cml_script.specs.Replay.{AreAll, IsFaulty}
 use Rattle.cml_board.specs.Checking.{IsFirstUnlawful}
 
--- what is left if a run ends like this. If it is done, no step is left. If it is stalled or held, at least one step is left; if
+-- what is left if a run ends like this. If it is done, nothing is left. If it is stalled or held, at least one step is left; if
 -- stalled, no thread could go on. If it is full, the journal is at its limit, and something is left
 abbrev pub Leaves : Lines → ℕ → History → Tallied → Stop → Type 0
-Leaves script limit history tally stop.Done = unperformed script history tally ≡ 0
+Leaves script limit history tally stop.Done = IsAllDone script history tally
 Leaves script limit history tally stop.Stalled = (0 < unperformed script history tally) × NobodyGoesOn script limit history tally
 Leaves script limit history tally stop.Held = 0 < unperformed script history tally
 Leaves script limit history tally stop.Full = (entries_in history ≡ limit) × HasLeft script history tally
 
--- of the feed with the name at this position no more was taken than its port received
+-- of the feed with the name at this position exactly what its port received was taken
 abbrev pub IsTakenAt : Lines → History → Tallied → ℕ → Type 0
 IsTakenAt script history tally at = (feed object : ℕ) → feed_at script at ≡ Some feed → declared_object script history at ≡ Some object
-    → taken_by script tally at ≤ unwrap_or (got_count history object) 0
+    → taken_by script tally at ≡ unwrap_or (got_count history object) 0
 
 -- the journal and the tally are those of a run that ends so: no more steps went by lanes and feeds than there are of such; there
--- is a count for each feed, and none is more than its port received
+-- is a count for each feed, and it is how many messages the feed's port received; and lanes moved what threads sent by them
 pub record MayEnd (script : Lines) (limit : ℕ) (history : History) (tally : Tallied) (stop : Stop) : Type 0 where
   pub leaves : Leaves script limit history tally stop
   pub apart : tally.apart ≤ apart_count script
   pub counts : length tally.taken ≡ feed_count script
   pub taken : (at : ℕ) → at < length script.declarations → IsTakenAt script history tally at
+  pub lanes : AreSentInOrder script tally.lanes history
 
 -- the history is a lawful one of the script, within the limit: the declared objects, and then steps of its threads, each
 -- thread's in order, and what lanes and feeds moved; it may end so, with what went by lanes and feeds; and this is its text in
@@ -62,6 +65,10 @@ pub record IsRunText (form : Form) (limit : ℕ) (stop : Stop) (text bytes : Lis
   pub tally : Tallied
   pub told : IsTextOf form script limit history tally stop text
 
+-- the bytes are a script
+abbrev pub AreScript : List ℕ → Type 0
+AreScript bytes = (script : Lines) × IsScript bytes script
+
 -- the reader's bytes were run so, and the text was written
 abbrev pub IsRun : Form → ℕ → Option (List ℕ) → Option (List ℕ) → Option (List ℕ) → Option (List ℕ) → Stop → Type 0
 IsRun form limit old new held holds stop = (text : List ℕ) × AreAll old new (IsRunText form limit stop text) × Appends held holds text
@@ -73,6 +80,7 @@ RunsAs form limit old new held holds ending.Stalled = IsRun form limit old new h
 RunsAs form limit old new held holds ending.Full = IsRun form limit old new held holds stop.Full
 RunsAs form limit old new held holds ending.Held = IsRun form limit old new held holds stop.Held
 RunsAs form limit old new held holds (ending.Fault fault) = IsFaulty old new fault × Keeps held holds
+RunsAs form limit old new held holds (ending.NotLawful at) = AreAll old new AreScript × Keeps held holds
 RunsAs form limit old new held holds ending.WriteFault = ⊤
 RunsAs form limit old new held holds _ = Keeps held holds
 
@@ -89,7 +97,7 @@ abbrev pub EndsUntold : Option (List ℕ) → Option (List ℕ) → Ending → T
 EndsUntold old new (ending.Fault fault) = IsFaulty old new fault
 EndsUntold old new ending.ReadFault = ⊤
 EndsUntold old new ending.NoMemory = ⊤
-EndsUntold old new (ending.NotLawful at) = ⊤
+EndsUntold old new (ending.NotLawful at) = AreAll old new AreScript
 EndsUntold old new _ = ⊥
 
 -- what is not reported: what an audit refuses, there, and what may not end so, behind all of its entries
@@ -98,6 +106,18 @@ IsRefused script limit history tally stop ending.NoMemory = ⊤
 IsRefused script limit history tally stop (ending.NotLawful at) =
     (IsFirstUnlawful (reverse history) at ⊎ IsFirstForeign script (reverse history) at) ⊎ ((at ≡ entries_in history) × (MayEnd script limit history tally stop → ⊥))
 IsRefused script limit history tally stop _ = ⊥
+
+-- the board is one that a run under this limit leaves: it has this limit, and its journal was never cut
+pub record IsOfRun (limit : ℕ) (board : Shown (List ℕ)) : Type 0 where
+  pub limit : board.limit ≡ limit
+  pub whole : board.past ≡ no_entries
+
+-- what is not reported of a board: what is refused of its history, and, behind all of its entries, a board that no run leaves
+abbrev pub IsUntold : Lines → ℕ → Shown (List ℕ) → Tallied → Stop → Ending → Type 0
+IsUntold script limit board tally stop ending.NoMemory = ⊤
+IsUntold script limit board tally stop (ending.NotLawful at) =
+    IsRefused script limit board.history tally stop (ending.NotLawful at) ⊎ ((at + entries_in board.past ≡ entries_in board.history) × (IsOfRun limit board → ⊥))
+IsUntold script limit board tally stop _ = ⊥
 
 -- how it ends where the switchboard is not settled
 abbrev pub IsUnsettled : Ending → Type 0

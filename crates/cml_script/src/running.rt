@@ -1,13 +1,14 @@
 //! A script whose threads are real threads, from the reader's bytes to those of its report or its journal.
-ghost use Rattle.std.specs.Prelude.{◌≡◌, ◌≢◌, ◌≤◌, ◌^◌, true, IfOk, IfErr, string_bytes};
+ghost use Rattle.std.specs.Prelude.{◌≡◌, ◌≢◌, ◌↔◌, ◌≤◌, ◌^◌, true, IsTrue, IfOk, IfErr, string_bytes};
 ghost use Rattle.cml_script.specs.Replay.{AreAll};
-ghost use Rattle.cml_script.specs.Running.{IsRunText, IsUnsettled, EndsUntold, Runs, RunsAs, RunsJournal};
+ghost use Rattle.cml_script.specs.Running.{IsRunText, IsTextOf, IsUnsettled, IsUntold, IsOfRun, EndsUntold, Runs, RunsAs, RunsJournal};
 
 mod caller;
 mod concluding;
 mod crew;
 mod declaring;
 mod gate;
+mod lanes;
 mod rings;
 mod stalling;
 mod worker;
@@ -20,7 +21,7 @@ use crate::stop::Stop;
 use crate::tally::Tally;
 use crate::writing::write_played;
 pub use caller::{Caller, Seated};
-use cml_board::{BoardLog, Text};
+use cml_board::{Board, BoardLog, Text};
 use cml_grammar::{Script, read_script};
 use cml_threads::{PARTS, Settled, Switchboard};
 pub use concluding::conclude;
@@ -113,10 +114,34 @@ fn run_read<I: Read, R: Threads + Wait + Sync, G: Gate + Sync>(
     let blank = Blank::new(PARTS);
     let ran = settle_script::<Brand, R, G>(rt, alloc, &script, limit, gate, blank)?;
     let board = ran.settled.board();
-    if board.limit() != limit || board.cut_at() != 0 {
+    conclude_settled(alloc, form, &script, limit, board, &ran.tally, ran.stop)
+}
+
+/// Concludes what a settled switchboard leaves. Its board has this limit, and was never cut.
+fn conclude_settled(
+    alloc: Global,
+    form: Form,
+    script: &Script,
+    limit: u64,
+    board: &Board<Text, BoardLog<Text>>,
+    tally: &Tally,
+    stop: Stop,
+) -> Result<Played, Ending>
+    ensures stop { IfOk result (λ played. played.stop ≡ stop) }
+    ensures text { IfOk result (λ played. IsTextOf form script.now limit board.now.history tally.now stop (string_bytes played.report)) }
+    ensures untold { IfErr result (λ ending. IsUntold script.now limit board.now tally.now stop ending) }
+{
+    if !is_of_run(limit, board) {
         return Err(Ending::NotLawful(board.journal().len()));
     }
-    conclude_as(alloc, form, &script, board, &ran.tally, ran.stop)
+    conclude_as(alloc, form, script, board, tally, stop)
+}
+
+/// Whether the board has this limit, and was never cut.
+fn is_of_run(limit: u64, board: &Board<Text, BoardLog<Text>>) -> bool
+    ensures { IsTrue result ↔ IsOfRun limit board.now }
+{
+    board.limit() == limit && board.cut_at() == 0
 }
 
 /// What a run leaves.

@@ -147,7 +147,7 @@ pub fn count_moved(journal: &[Entry<Text>]) -> usize
     moved
 }
 
-fn is_lane(who: Who) -> bool
+pub(crate) fn is_lane(who: Who) -> bool
     ensures { result ≡ is_lane who }
 {
     matches!(who, Who::Lane(_))

@@ -12,6 +12,8 @@ pub struct Tally {
     pub apart: usize,
     /// By feed, in text order, how many messages its thread took.
     pub taken: Vec<u64>,
+    /// By lane, the seat of the thread that opened it, or 0 if none did.
+    pub lanes: Vec<u64>,
 }
 
 impl Model for Tally {
@@ -19,7 +21,7 @@ impl Model for Tally {
 
     ghost Value = { Tallied };
 
-    ghost view = { λ t. record { apart = t.apart; taken = t.taken.items } };
+    ghost view = { λ t. record { apart = t.apart; taken = t.taken.items; lanes = t.lanes.items } };
 }
 
 impl Tally {
@@ -30,17 +32,20 @@ impl Tally {
         Tally {
             apart: 0,
             taken: Vec::new(alloc),
+            lanes: Vec::new(alloc),
         }
     }
 
-    /// Makes the tally of a script with `feeds` feeds, of which nothing is known yet.
-    pub fn new(alloc: Global, feeds: usize) -> Result<Tally, AllocError>
+    /// Makes the tally of a script with `feeds` feeds, whose threads opened `lanes` lanes. Nothing else is known of them yet.
+    pub fn new(alloc: Global, feeds: usize, lanes: usize) -> Result<Tally, AllocError>
         ensures apart { IfOk result (λ tally. tally.apart ≡ 0) }
         ensures taken { IfOk result (λ tally. tally.taken ≡ replicate feeds 0) }
+        ensures lanes { IfOk result (λ tally. tally.lanes ≡ replicate lanes 0) }
     {
         Ok(Tally {
             apart: 0,
             taken: vec![in alloc; 0; feeds]?,
+            lanes: vec![in alloc; 0; lanes]?,
         })
     }
 
@@ -67,6 +72,15 @@ impl Tally {
     {
         if let Some(told) = self.taken.get_mut(feed as usize) {
             *told = taken;
+        }
+    }
+
+    /// Sets whose the lane of this number is, by the seat of its thread.
+    pub fn set_lane(&mut self, lane: u64, seat: u64)
+        ensures { self.new ≡ record self.old { lanes = slice_set self.old.lanes lane seat } }
+    {
+        if let Some(told) = self.lanes.get_mut(lane as usize) {
+            *told = seat;
         }
     }
 }

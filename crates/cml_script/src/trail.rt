@@ -357,7 +357,7 @@ impl<'a> Trail<'a> {
 }
 
 /// The object that a send or a multicast goes to.
-fn sent_to(call: &Call<Text>) -> Option<Name>
+pub(crate) fn sent_to(call: &Call<Text>) -> Option<Name>
     ensures { result ≡ option_map (λ o. record { 0 = o }) (sent_to call.now) }
 {
     match call {

@@ -2,9 +2,10 @@
 ghost use Rattle.std.specs.Prelude.{◌≡◌, ◌↔◌, ◌<◌, ℕ, length, IsTrue, IfOk, IfErr, string_bytes};
 ghost use Rattle.cml_board.specs.History.{no_entries};
 ghost use Rattle.cml_script.specs.Audit.{IsOfScript};
-ghost use Rattle.cml_script.specs.Left.{HasLeft};
+ghost use Rattle.cml_script.specs.Left.{HasLeft, IsAllDone};
 ghost use Rattle.cml_script.specs.Running.{IsReportOf, IsTextOf, IsRefused, IsTakenAt, Leaves, MayEnd};
 
+use super::lanes::are_sent_in_order;
 use super::stalling::nobody_goes_on;
 use crate::asked::Form;
 use crate::auditing::audit;
@@ -99,7 +100,8 @@ fn may_end(
         leaves(alloc, plan, board, tally, stop)?
             && tally.apart <= plan.apart()
             && tally.taken.len() == count_feeds(plan.script())
-            && takes_what_was_got(plan, board, tally),
+            && takes_what_was_got(plan, board, tally)
+            && are_sent_in_order(plan, &tally.lanes, journal(board)),
     )
 }
 
@@ -116,11 +118,21 @@ fn leaves(
 {
     let left = unperformed(plan.script(), board, tally);
     match stop {
-        Stop::Done => Ok(left == 0),
+        Stop::Done => Ok(is_all_done(plan, board, tally)),
         Stop::Stalled => Ok(0 < left && nobody_goes_on(alloc, plan.script(), board, tally)?),
         Stop::Held => Ok(0 < left),
         Stop::Full => Ok(board.entries() == board.limit() && has_left(plan, board, tally)),
     }
+}
+
+/// Whether each declared object was made, each step performed, and each message moved that was sent by a lane.
+fn is_all_done(plan: &Plan<'_>, board: &Board<Text, BoardLog<Text>>, tally: &Tally) -> bool
+    requires { board.now.past ≡ no_entries }
+    ensures { IsTrue result ↔ IsAllDone plan.now board.now.history tally.now }
+{
+    plan.declared() as u64 <= board.entries()
+        && unperformed(plan.script(), board, tally) == 0
+        && count_moved(journal(board)) == plan.laid()
 }
 
 /// Whether a declared object was not made, a step was not performed, or a message sent by a lane was not moved.
@@ -133,7 +145,7 @@ fn has_left(plan: &Plan<'_>, board: &Board<Text, BoardLog<Text>>, tally: &Tally)
         || count_moved(journal(board)) < plan.laid()
 }
 
-/// Whether of no feed more was taken than its port received.
+/// Whether of each feed exactly what its port received was taken.
 fn takes_what_was_got(plan: &Plan<'_>, board: &Board<Text, BoardLog<Text>>, tally: &Tally) -> bool
     ensures { IsTrue result ↔ ((at : ℕ) → at < length plan.now.declarations → IsTakenAt plan.now board.now.history tally.now at) }
 {
@@ -145,7 +157,7 @@ fn takes_what_was_got(plan: &Plan<'_>, board: &Board<Text, BoardLog<Text>>, tall
     true
 }
 
-/// Whether of the feed with this name, if it is one that was opened, no more was taken than its port received.
+/// Whether of the feed with this name, if it is one that was opened, exactly what its port received was taken.
 fn is_taken(plan: &Plan<'_>, board: &Board<Text, BoardLog<Text>>, tally: &Tally, at: usize) -> bool
     requires { at < length plan.now.declarations }
     ensures { IsTrue result ↔ IsTakenAt plan.now board.now.history tally.now at }
@@ -157,5 +169,5 @@ fn is_taken(plan: &Plan<'_>, board: &Board<Text, BoardLog<Text>>, tally: &Tally,
     let Some(port) = plan.declared_object(at, board.entries()) else {
         return true;
     };
-    tally.taken_from(feed) <= board.got_count(port).unwrap_or(0)
+    tally.taken_from(feed) == board.got_count(port).unwrap_or(0)
 }

@@ -76,17 +76,16 @@ fn perform_by<
     let mut crew = take_seats(rt, alloc, switchboard, count_threads(script))?;
     let declared = declare(&plan, &mut maker);
     let feeds = maker.hand_feeds(alloc);
-    let tally = Tally::new(alloc, count_feeds(script))?;
     deal(script, feeds, &mut crew)?;
     let (first, _) = maker.leave();
     match declared {
         Ok(()) => {
             let ended = start::<P, Led, R, G>(rt, alloc, &plan, gate, crew)?;
-            gather(alloc, first, tally, Ok(Stop::Done), ended)
+            gather(alloc, script, first, Ok(Stop::Done), ended)
         }
         Err(refusal) => {
             let ended = leave_all::<P, Led, R>(alloc, crew)?;
-            gather(alloc, first, tally, stop_of(refusal), ended)
+            gather(alloc, script, first, stop_of(refusal), ended)
         }
     }
 }
@@ -270,20 +269,21 @@ fn leave_all<P: Passage, Led: Ledger, R: Wait>(
 /// The lefts of all, what went by lanes and feeds, and how they ended.
 fn gather<P: Passage, Led: Ledger>(
     alloc: Global,
+    script: &Script,
     first: Left<Led>,
-    tally: Tally,
     stopped: Result<Stop, AllocError>,
     ended: Vec<Worked<Led, P>>,
 ) -> Result<Ended<Led>, AllocError>
     requires { P.opens ≡ true → IsUnheld stopped }
     ensures { IfOk result (λ ended. P.opens ≡ true → ended.stop ≢ Stop.Held) }
 {
+    let mut tally = Tally::new(alloc, count_feeds(script), count_lanes(&ended))?;
     let mut lefts = Vec::new(alloc);
     lefts.push(first)?;
-    let (mut tally, mut stop) = (tally, stopped);
+    let mut stop = stopped;
     for worked in ended {
+        worked.rings.tell(worked.left.seat(), &mut tally);
         lefts.push(worked.left)?;
-        worked.rings.tell(&mut tally);
         stop = first_of(stop, worked.stop);
     }
     Ok(Ended {
@@ -291,4 +291,13 @@ fn gather<P: Passage, Led: Ledger>(
         tally,
         stop: stop?,
     })
+}
+
+/// How many lanes the threads opened.
+fn count_lanes<P: Passage, Led: Ledger>(ended: &[Worked<Led, P>]) -> usize {
+    let mut lanes = 0usize;
+    for worked in ended {
+        lanes = lanes.saturating_add(worked.rings.opened());
+    }
+    lanes
 }

@@ -48,10 +48,12 @@ impl Subscription {
     }
 }
 
-/// The lanes that a thread has open and the feeds that it has, and how many of its steps went by them.
+/// The lanes that a thread has open and the feeds that it has, the numbers of all lanes that it opened, and how many of its steps
+/// went by them.
 #[derive(Drop)]
 pub struct Rings {
     lanes: Vec<OpenLane>,
+    opened: Vec<u64>,
     feeds: Vec<Subscription>,
     performed: usize,
 }
@@ -60,6 +62,7 @@ impl Rings {
     pub fn new(alloc: Global) -> Rings {
         Rings {
             lanes: Vec::new(alloc),
+            opened: Vec::new(alloc),
             feeds: Vec::new(alloc),
             performed: 0,
         }
@@ -103,13 +106,14 @@ impl Rings {
             None => Some(message),
         };
         if let Some(message) = unsent {
-            if self.lanes.reserve(1).is_err() {
+            if self.lanes.reserve(1).is_err() || self.opened.reserve(1).is_err() {
                 return Err(Refusal::NoMemory);
             }
             let (mut lane, _) = switchboard.open_lane(rt, target, capacity)?;
             if lane.send(message).is_err() {
                 unreachable!();
             }
+            self.opened.push_reserved(lane.number());
             self.lanes.push_reserved(OpenLane { target, lane });
         }
         self.performed = self.performed.saturating_add(1);
@@ -204,9 +208,22 @@ impl Rings {
         Ok(())
     }
 
-    /// Adds what went by them to a tally.
-    pub fn tell(&self, tally: &mut Tally) {
+    /// How many lanes the thread opened.
+    pub fn opened(&self) -> usize {
+        self.opened.len()
+    }
+
+    /// Adds what went by them to a tally, and which lanes the thread with this seat opened.
+    pub fn tell(&self, seat: u64, tally: &mut Tally) {
         tally.add_steps(self.performed);
+        for lane in &self.opened {
+            tally.set_lane(*lane, seat);
+        }
+        self.tell_feeds(tally);
+    }
+
+    /// Adds what was taken from the feeds to a tally.
+    fn tell_feeds(&self, tally: &mut Tally) {
         for subscription in &self.feeds {
             tally.set_taken(subscription.feed.number(), subscription.taken);
         }

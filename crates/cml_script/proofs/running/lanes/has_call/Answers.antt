@@ -1,0 +1,25 @@
+use Rattle.std.proofs.Common.{◌≡◌, ◌<◌, Some, length, sym, ap, ◌∙◌, arith}
+use Rattle.std.specs.Option.{option_and_then}
+use Rattle.std.specs.Prelude.{slice_get}
+use Rattle.std.proofs.lemmas.List.{length-map}
+use Rattle.std.proofs.lemmas.Option.{same_Some}
+use Rattle.cml_grammar.specs.declared.script.Step.{Step}
+use Rattle.cml_grammar.specs.Reading.{source_of}
+use Rattle.cml_script.specs.Schedule.{call_on}
+use Rattle.cml_script.specs.Lanes.{call_to}
+use Rattle.cml_script.proofs.LineLemmas.{step_read}
+use Rattle.cml_script.proofs.LaneLemmas.{call_is}
+use Rattle.cml_script.proofs.running.lanes.has_call.Goals as goal
+
+pub returns : goal.returns
+returns c =
+    let script = c.args.plan.now in
+    let at = c.args.at in
+    let steps = rw c.script.ensures at c.steps.ensures in
+    let items = c.steps.result.now in
+    let step = c.index-steps-i.result in
+    let within : c.args.i < length items = omega (arith, c.requires.i, ap length steps.lines, length-map items (λ (x : Step). source_of x.line)) in
+    let read = step_read script items c.args.i step steps.lines steps.asked within c.index-steps-i.is in
+    let calls : option_and_then (call_to script at) (slice_get script.steps c.args.i) ≡ Some (call_on step.action c.number.result) =
+    ap (option_and_then (call_to script at)) read.0 ∙ call_is script 0 at step read.1 ∙ ap (λ n. Some (call_on step.action (record { 0 = n }))) (sym c.number.ensures) in
+    (λ yes. calls ∙ ap Some (c.is_call_on.ensures.0 yes), λ has. c.is_call_on.ensures.1 (same_Some _ _ (sym calls ∙ has)))
