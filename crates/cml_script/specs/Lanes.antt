@@ -92,10 +92,11 @@ pub record AreSentInOrder (script : Lines) (lanes : List ℕ) (history : History
 
 -- The inside of the test.
 
--- the next such step from this position on is at that one
+-- the next such step from this position on is at that one, and no script has more steps than fit
 pub record IsNextLaid (script : Lines) (seat at from i : ℕ) : Type 0 where
   pub line : SourceLine
   pub found : slice_get script.steps i ≡ Some line
+  pub few : i < 1048576
   pub more : sends_to script seat at (drop from script.steps) ≡ call_to script at line ∷ sends_to script seat at (drop (i + 1) script.steps)
 
 -- the next such step from this position on has this call, and the others are from that position on

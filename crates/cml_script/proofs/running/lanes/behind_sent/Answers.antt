@@ -1,3 +1,4 @@
+use Rattle.std.proofs.Common.{arith}
 use Rattle.std.proofs.lemmas.Option.{slice_get_within}
 use Rattle.cml_script.proofs.LaneLemmas.{sent_if, none_sent}
 use Rattle.cml_script.proofs.running.lanes.behind_sent.Goals as goal
@@ -10,3 +11,6 @@ returns-in-Some c = sent_if c.args.plan.now c.args.seat c.args.at c.args.from c.
 
 pub returns-in-None : goal.returns-in-None
 returns-in-None c = none_sent c.args.plan.now c.args.seat c.args.at c.args.from c.args.call.now c.in-None.ensures
+
+pub overflow_add-i : goal.overflow_add-i
+overflow_add-i c = omega (arith, c.in-Some.ensures.few)

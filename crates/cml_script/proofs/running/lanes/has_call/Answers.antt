@@ -1,13 +1,15 @@
-use Rattle.std.proofs.Common.{◌≡◌, ◌<◌, Some, length, sym, ap, ◌∙◌, arith}
+use Rattle.std.proofs.Common.{◌≡◌, ◌<◌, Some, length, get_or, sym, ap, ◌∙◌, arith}
 use Rattle.std.specs.Option.{option_and_then}
 use Rattle.std.specs.Prelude.{slice_get}
 use Rattle.std.proofs.lemmas.List.{length-map}
-use Rattle.std.proofs.lemmas.Option.{same_Some}
+use Rattle.std.proofs.lemmas.Option.{same_Some, slice_get-get_or}
 use Rattle.cml_grammar.specs.declared.script.Step.{Step}
-use Rattle.cml_grammar.specs.Reading.{source_of}
+use Rattle.cml_grammar.specs.Meaning.{names_of}
+use Rattle.cml_grammar.specs.Reading.{source_of, ReadsStep}
 use Rattle.cml_script.specs.Schedule.{call_on}
 use Rattle.cml_script.specs.Lanes.{call_to}
-use Rattle.cml_script.proofs.LineLemmas.{step_read}
+use Rattle.cml_script.proofs.ListLemmas.{mapped_at}
+use Rattle.cml_script.proofs.LineLemmas.{all_at}
 use Rattle.cml_script.proofs.LaneLemmas.{call_is}
 use Rattle.cml_script.proofs.running.lanes.has_call.Goals as goal
 
@@ -15,11 +17,14 @@ pub returns : goal.returns
 returns c =
     let script = c.args.plan.now in
     let at = c.args.at in
+    let i = c.args.i in
     let steps = rw c.script.ensures at c.steps.ensures in
     let items = c.steps.result.now in
-    let step = c.index-steps-i.result in
-    let within : c.args.i < length items = omega (arith, c.requires.i, ap length steps.lines, length-map items (λ (x : Step). source_of x.line)) in
-    let read = step_read script items c.args.i step steps.lines steps.asked within c.index-steps-i.is in
-    let calls : option_and_then (call_to script at) (slice_get script.steps c.args.i) ≡ Some (call_on step.action c.number.result) =
-    ap (option_and_then (call_to script at)) read.0 ∙ call_is script 0 at step read.1 ∙ ap (λ n. Some (call_on step.action (record { 0 = n }))) (sym c.number.ensures) in
+    let within : i < length items = omega (arith, c.requires.i, ap length steps.lines, length-map items (λ (x : Step). source_of x.line)) in
+    let step = get_or items i c.index-steps-i.result in
+    let here : slice_get items i ≡ Some step = slice_get-get_or items i c.index-steps-i.result within in
+    let line = mapped_at _ items script.steps i step steps.lines here in
+    let reads = all_at (ReadsStep (names_of script)) items i step steps.asked here in
+    let calls : option_and_then (call_to script at) (slice_get script.steps i) ≡ Some (call_on step.action c.number.result) =
+    ap (option_and_then (call_to script at)) line ∙ call_is script 0 at step reads ∙ ap (λ n. Some (call_on step.action (record { 0 = n }))) (sym c.number.ensures) in
     (λ yes. calls ∙ ap Some (c.is_call_on.ensures.0 yes), λ has. c.is_call_on.ensures.1 (same_Some _ _ (sym calls ∙ has)))

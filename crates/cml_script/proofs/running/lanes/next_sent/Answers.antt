@@ -26,4 +26,4 @@ returns-then-is_laid_to c =
     let within : i < length script.steps = omega (arith, c.loop-i-test.true, ap length steps.lines, length-map c.steps-i-end.result.now (λ (x : Step). source_of x.line)) in
     let there = stands script.steps i within in
     let yes : is_laid_to script c.args.seat c.args.at there.0 ≡ true = sym (ap (λ o. option_map_or (is_laid_to script c.args.seat c.args.at) o false) there.1) ∙ sym c.is_laid_to.ensures ∙ c.if-is_laid_to.true in
-    record { line = there.0; found = there.1; more = c.loop-i.invariant ∙ sends_here script c.args.seat c.args.at i there.0 there.1 yes }
+    record { line = there.0; found = there.1; few = omega (arith, c.loop-i-test.true, steps.few); more = c.loop-i.invariant ∙ sends_here script c.args.seat c.args.at i there.0 there.1 yes }
