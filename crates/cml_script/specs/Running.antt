@@ -109,7 +109,7 @@ IsRefused script limit history tally stop _ = ⊥
 
 -- the board is one that a run under this limit leaves: it has this limit, and its journal was never cut
 pub record IsOfRun (limit : ℕ) (board : Shown (List ℕ)) : Type 0 where
-  pub limit : board.limit ≡ limit
+  pub under : board.limit ≡ limit
   pub whole : board.past ≡ no_entries
 
 -- what is not reported of a board: what is refused of its history, and, behind all of its entries, a board that no run leaves
