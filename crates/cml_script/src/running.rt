@@ -112,9 +112,13 @@ fn run_read<I: Read, R: Threads + Wait + Sync, G: Gate + Sync>(
     let text = read_all(alloc, reader)?;
     let script = read_script(alloc, &text)?;
     let blank = Blank::new(PARTS);
-    let ran = settle_script::<Brand, R, G>(rt, alloc, &script, limit, gate, blank)?;
-    let board = ran.settled.board();
-    conclude_settled(alloc, form, &script, limit, board, &ran.tally, ran.stop)
+    match settle_script::<Brand, R, G>(rt, alloc, &script, limit, gate, blank) {
+        Ok(ran) => {
+            let board = ran.settled.board();
+            conclude_settled(alloc, form, &script, limit, board, &ran.tally, ran.stop)
+        }
+        Err(ending) => Err(ending),
+    }
 }
 
 /// Concludes what a settled switchboard leaves. Its board has this limit, and was never cut.

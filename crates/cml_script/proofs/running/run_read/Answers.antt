@@ -1,18 +1,23 @@
-use Rattle.std.proofs.Common.{List, ℕ, ◌≡◌, subst, rules}
+use Rattle.std.proofs.Common.{List, ℕ, ◌≡◌, subst}
 use Rattle.cml_grammar.specs.Script.{IsScript}
 use Rattle.cml_script.proofs.ReplayLemmas.{read_run, untold_ends, unsettled_ends}
 use Rattle.cml_script.proofs.HeldLemmas.{kept_unheld}
 use Rattle.cml_script.proofs.running.run_read.Goals as goal
 
-pub returns-clause-told : goal.returns-clause-told
-returns-clause-told g c =
+pub returns-in-Ok-clause-told : goal.returns-in-Ok-clause-told
+returns-in-Ok-clause-told g c =
     let says = subst (λ (t : List ℕ). IsScript t c.in_ok-script.script) c.deref.ensures.value c.in_ok-script.ensures.script in
     read_run c.args.form c.args.limit _ _ c.in_ok-text.text.items c.in_ok-script.script _ _ _ c.conclude_settled.result c.in_ok-text.ensures says c.conclude_settled.ensures.stop c.conclude_settled.ensures.text
 
-pub returns-clause-untold : goal.returns-clause-untold
-returns-clause-untold g c =
+pub returns-in-Ok-clause-untold : goal.returns-in-Ok-clause-untold
+returns-in-Ok-clause-untold g c =
     let says = subst (λ (t : List ℕ). IsScript t c.in_ok-script.script) c.deref.ensures.value c.in_ok-script.ensures.script in
-    untold_ends c.in_ok-script.script c.args.limit c.board-board.result.now c.in_ok-ran.ran.tally c.in_ok-ran.ran.stop _ _ c.in_ok-text.text.items c.conclude_settled.result c.in_ok-text.ensures says c.conclude_settled.ensures.untold
+    untold_ends c.in_ok-script.script c.args.limit c.board-board.result.now c.in-Ok.ran.tally c.in-Ok.ran.stop _ _ c.in_ok-text.text.items c.conclude_settled.result c.in_ok-text.ensures says c.conclude_settled.ensures.untold
 
-pub returns-clause-open : goal.returns-clause-open
-returns-clause-open g c = kept_unheld _ c.in_ok-ran.ran.stop c.conclude_settled.result c.in_ok-ran.ensures.open c.conclude_settled.ensures.stop
+pub returns-in-Ok-clause-open : goal.returns-in-Ok-clause-open
+returns-in-Ok-clause-open g c = kept_unheld _ c.in-Ok.ran.stop c.conclude_settled.result c.in-Ok.ensures.open c.conclude_settled.ensures.stop
+
+pub returns-in-Err-clause-untold : goal.returns-in-Err-clause-untold
+returns-in-Err-clause-untold g c =
+    let says = subst (λ (t : List ℕ). IsScript t c.in_ok-script.script) c.deref.ensures.value c.in_ok-script.ensures.script in
+    unsettled_ends c.in_ok-script.script _ _ c.in_ok-text.text.items c.in-Err.ending c.in_ok-text.ensures says c.in-Err.ensures.unsettled
