@@ -121,8 +121,8 @@ uint32_t seryugo_withdraw(struct seryugo *room, uint64_t seat);
  *
  * A call is tested for these refusals in this order: SERYUGO_GONE, SERYUGO_NO_SUCH, SERYUGO_WRONG_KIND, SERYUGO_JOURNAL_FULL,
  * SERYUGO_STALLED and SERYUGO_NO_MEMORY. SERYUGO_GONE changes nothing: a parked seat stays parked. After any other refusal the
- * seat is free, and nothing else is changed. An answered call adds one entry to the journal. The call that makes an object
- * writes its name, which no other object gets.
+ * seat is free, and nothing else is changed. Messages of bytes have two exceptions, below. An answered call adds one entry to the
+ * journal. The call that makes an object writes its name, which no other object gets.
  *
  * A call with `is_again` may block. Make it with false first. If it returns SERYUGO_PARKED, release the lock and sleep until the
  * seat is woken. Then make the call again with true, until it returns something else. After each call, also after one that
@@ -187,14 +187,16 @@ uint32_t seryugo_swap(struct seryugo *room, uint64_t seat, uint64_t variable, ui
  *
  * A call that sends copies the bytes once, before it returns: the buffer stays yours. A message has 0 to 2^32 - 1 bytes. A null
  * pointer with length 0 is the empty message. SERYUGO_OUT_OF_BOUNDS: the pointer is null and the length isn't 0, or the length
- * is larger. Then, and if there is no memory for the copy (SERYUGO_NO_MEMORY), nothing is changed. The copy of up to 14 bytes
- * allocates nothing.
+ * is larger. Then, and if there is no memory for the copy (SERYUGO_NO_MEMORY), nothing is changed: a parked seat stays parked. A
+ * null pointer is tested first, and the copy after SERYUGO_WRONG_HANDLE and SERYUGO_GONE. The copy of up to 14 bytes allocates
+ * nothing.
  *
  * A call that receives hands a message over: it writes the struct, and you own the message until you free it. Up to 14 bytes lie
  * in the struct itself. Nothing is copied of more: the journal, other receivers and you share them. The bytes never change, and
  * don't write to them. seryugo_bytes_at says where they are. You may copy the struct, and read the bytes by each copy until one of
  * them is freed. If there is no memory to keep a message, the call fails with SERYUGO_NO_MEMORY before anything is received, and
- * nothing is changed.
+ * nothing is changed: a parked seat stays parked. A call that would block never fails so, nor one that would get no message. A
+ * variable's message of up to 14 bytes never does. On an open feed's port this may come before SERYUGO_WRONG_KIND.
  *
  * One case is special: a seat that is parked in seryugo_bytes_recv, _get, _take or _swap makes its call again with is_again, and
  * it fails with SERYUGO_NO_MEMORY. Then the seat may still be parked, or be free. Make the call again with is_again: if that

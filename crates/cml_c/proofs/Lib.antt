@@ -2,3 +2,6 @@ mod HandleBox
 mod KeeperBox
 mod GoingOn
 mod Taking
+mod Needing
+mod Refusing
+mod GoingRound

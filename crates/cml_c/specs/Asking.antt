@@ -1,13 +1,18 @@
 -- What a seat's call returns to C.
-use Rattle.std.specs.Prelude.{ℕ, ◌≡◌, Bool, true, false}
+use Rattle.std.specs.Prelude.{ℕ, ◌≡◌, Bool, true, false, Option, Some}
 use Rattle.cml_log.specs.PlainLog.{chunk_of}
 use Rattle.cml_board.specs.declared.call.Call.{Call}
 use Rattle.cml_board.specs.declared.call.Call.TheVariants as call
 use Rattle.cml_board.specs.declared.entry.Reply.{Reply}
 use Rattle.cml_board.specs.declared.entry.Reply.TheVariants as reply
-use Rattle.cml_room.specs.Room.{RoomShown, MayAsk, MayAskAgain}
+use Rattle.cml_room.specs.Room.{RoomShown, MayAsk, state_of}
+use Rattle.cml_room.specs.declared.state.State.TheVariants.{Parked}
+use Rattle.cml_board.specs.Waiting.{want_in}
+use Rattle.cml_board.specs.declared.want.Want.{Want}
 use Rattle.cml_room.specs.Asking.{Asks}
-use Rattle.cml_room.specs.Woken.{HasAsked, IfHeard}
+use Rattle.cml_room.specs.Frames.{Turns}
+use Rattle.cml_room.specs.Rising.{news_by}
+use Rattle.cml_room.specs.Running.{asked_by}
 use Rattle.cml_board.specs.declared.outcome.Outcome.{Outcome}
 use Rattle.cml_board.specs.declared.outcome.Outcome.TheVariants as outcome
 use Rattle.cml_c.specs.declared.bare.Bare.{Bare}
@@ -16,6 +21,8 @@ use Rattle.cml_c.specs.declared.code.Code.{Code}
 use Rattle.cml_c.specs.declared.code.Code.TheVariants.{Done, Nothing, Put, Closed, Parked}
 use Rattle.cml_c.specs.declared.kept.Kept.{Kept}
 use Rattle.cml_c.specs.Codes.{number, of_refusal}
+use Rattle.cml_c.specs.declared.sending.Sending.{Sending}
+use Rattle.cml_c.specs.declared.sending.Sending.TheVariants as sending
 use Rattle.cml_c.specs.declared.kept.Resource.{Resource}
 use Rattle.cml_c.specs.Handles.{OnEither, OnNumbers, OnRoom}
 
@@ -59,16 +66,19 @@ written_outcome before (outcome.Answered answer) = written_reply before answer.r
 written_outcome before (outcome.WouldWait back) = before
 written_outcome before (outcome.Refused refusal back) = before
 
--- the seat may make the call for the first time, or again after it was parked
+-- the seat may make a call with this want for the first time, or again after it was parked
+abbrev pub MayWant : {M : Type 0} → Bool → RoomShown M → ℕ → Option Want → Type 0
+MayWant false room seat want = MayAsk room seat
+MayWant true room seat want = (on : Want) × (want ≡ Some on) × (state_of room seat ≡ Some (Parked on))
+
 abbrev pub MayMake : {M : Type 0} → Bool → RoomShown M → ℕ → Call M → Type 0
-MayMake false room seat call = MayAsk room seat
-MayMake true room seat call = MayAskAgain room seat call
+MayMake again room seat call = MayWant again room seat (want_in call)
 
 -- what becomes of the call in the room, with the code that tells it, and what is given
 pub record Makes {M : Type 0} (sure again : Bool) (seat : ℕ) (call : Call M) (code : ℕ) (Gives : Outcome M → Type 0) (old new : RoomShown M) : Type 0 where
   pub becomes : Outcome M
   pub asks : Asks chunk sure (MayMake again old seat call) old new seat call becomes
-  pub asked : IfHeard becomes (HasAsked seat old.notices new.notices)
+  pub turns : Turns seat (asked_by seat becomes) (news_by becomes) old new
   pub told : code ≡ number (told_outcome becomes)
   pub gives : Gives becomes
 
@@ -81,6 +91,13 @@ bare_call (bare.CopyPort port) = call.CopyPort port
 bare_call (bare.ClosePort port) = call.ClosePort port
 bare_call bare.NewIVar = call.NewIVar
 bare_call bare.NewMVar = call.NewMVar
+
+-- a call that sends this message
+abbrev pub sending_call : {M : Type 0} → Sending → M → Call M
+sending_call (sending.Send mailbox) message = call.Send mailbox message
+sending_call (sending.Cast channel) message = call.Cast channel message
+sending_call sending.MVarInit message = call.MVarInit message
+sending_call (sending.Put variable) message = call.Put variable message
 
 -- the same in a room that a handle leads to, where the name that is given is written
 abbrev pub Gives : {M : Type 0} → Bool → ℕ → Call M → ℕ → ℕ → Type 0 → ℕ → Resource M → Resource M → Type 0

@@ -2,7 +2,7 @@
 use Rattle.std.specs.Prelude.{ℕ, ◌==◌, if◌then◌else◌, ◌≡◌, ◌+◌, ◌<◌, ◌≤◌, ◌^◌, ◌⊎◌, List, [], ◌∷◌, length, drop, slice_get, Option, Some, None, Result, Ok, Err, ⊤}
 use Rattle.std.specs.Option.{option_map, option_or}
 use Rattle.cml_calls.specs.Table.{filled, make_at, give_at, ask_at}
-use Rattle.cml_board.specs.Objects.{made_call, given_call, asked_call}
+use Rattle.cml_board.specs.Objects.{made_call, given_call, asked_call, message_of}
 use Rattle.cml_board.specs.declared.call.Call.{Call}
 use Rattle.cml_board.specs.declared.call.Call.TheVariants as call
 use Rattle.cml_board.specs.declared.call.Name.{Name}
@@ -20,6 +20,7 @@ use Rattle.cml_c.specs.declared.kept.Kept.{Kept}
 use Rattle.cml_c.specs.declared.kept.Resource.{Resource}
 use Rattle.cml_c.specs.declared.kept.Resource.TheVariants.{Journal}
 use Rattle.cml_c.specs.Codes.{number}
+use Rattle.cml_c.specs.Entries.{maker_of, call_kind, call_object, reply_kind, reply_name, reply_message}
 use Rattle.cml_c.specs.Handles.{Seen, IsWrong, OnBytes, OnChecker}
 use Rattle.cml_c.specs.Messages.{NotCopied}
 
@@ -97,6 +98,23 @@ entry_with given = entry_of (who_in given.maker)
     (call_at given.call (record { 0 = given.object }) given.sent)
     (slice_get (replies (record { 0 = given.name }) given.got) given.reply)
 
+-- a message, or none of its bytes
+abbrev pub or_empty : Option (List ℕ) → List ℕ
+or_empty (Some message) = message
+or_empty None = []
+
+-- the parts of an entry, as C is shown them
+abbrev pub parts_of : Entry (List ℕ) → Parts
+parts_of entry = record {
+  maker = maker_of entry.who;
+  call = call_kind entry.call;
+  object = call_object entry.call;
+  sent = or_empty (message_of entry.call);
+  reply = reply_kind entry.reply;
+  name = reply_name entry.reply;
+  got = or_empty (reply_message entry.reply);
+}
+
 -- it is fed to the checker, if it is one; else nothing is changed
 abbrev pub FeedsEntry : {M : Type 0} → Option (Entry M) → ℕ → Seen M → Seen M → Type 0
 FeedsEntry (Some entry) code old new = FeedsIn (entry ∷ []) code old new
@@ -110,7 +128,8 @@ pub record CopiesNeither (sent got : List ℕ) (code : ℕ) (old new : Kept) : T
 abbrev pub FeedsParts : Parts → Kept → Kept → ℕ → Type 0
 FeedsParts given old new code = OnBytes (OnChecker (FeedsEntry (entry_with given) code)) ⊤ code old new ⊎ CopiesNeither given.sent given.got code old new
 
--- how many entries were found lawful, and the verdict where nothing more is fed
+-- the verdict is told, and how many entries were found lawful, and the checker is as it was
 pub record TellsVerdict {M : Type 0} (code after : ℕ) (old new : Seen M) : Type 0 where
-  pub verdict : FeedsIn [] code old new
+  pub told : code ≡ number (told_verdict (verdict_of old))
   pub count : after ≡ count_of old
+  pub checker : new ≡ old

@@ -1,11 +1,13 @@
 -- What the calls on feeds return to C.
-use Rattle.std.specs.Prelude.{ℕ, ◌≡◌, ◌⊎◌, [], ◌∷◌, ◌++◌, List, Option, Result, Bool}
+use Rattle.std.specs.Prelude.{ℕ, ◌≡◌, ◌<◌, ◌⊎◌, [], ◌∷◌, ◌++◌, length, List, Option, Result, Bool}
 use Rattle.cml_board.specs.declared.call.Name.{Name}
 use Rattle.cml_board.specs.declared.outcome.Refusal.{Refusal}
 use Rattle.cml_lanes.specs.Ends.{FeedShown, Ended}
+use Rattle.cml_lanes.specs.Floor.{KeepsRings, SameFeedRing}
 use Rattle.cml_lanes.specs.Feeds.{OpensAFeed, Ends}
 use Rattle.cml_room.specs.Room.{RoomShown, floor_of}
-use Rattle.cml_room.specs.Woken.{KeepsWoken}
+use Rattle.cml_room.specs.Frames.{KeepsSeats, Stirs}
+use Rattle.cml_room.specs.Rising.{MakesNoneDue}
 use Rattle.cml_c.specs.declared.code.Code.{Code}
 use Rattle.cml_c.specs.declared.code.Code.TheVariants.{Done, Nothing, NoMemory}
 use Rattle.cml_c.specs.declared.handle.Slot.{Slot}
@@ -18,8 +20,13 @@ use Rattle.cml_c.specs.Lanes.{OpensIn}
 use Rattle.cml_c.specs.declared.messages.SeryugoBytes.{SeryugoBytes}
 use Rattle.cml_c.specs.Messages.{IsHanded}
 
+-- the rings of the open feeds stay, and no seat becomes due
+pub record KeepsFeedRings {M : Type 0} (old new : RoomShown M) : Type 0 where
+  pub rings : (number : ℕ) → number < length old.feeds → SameFeedRing number (floor_of old) (floor_of new)
+  pub stirs : Stirs MakesNoneDue old new
+
 abbrev pub OpensFeed : {M : Type 0} → (Resource M → Kept) → Bool → Name → ℕ → Slot → Slot → ℕ → ℕ → ℕ → RoomShown M → RoomShown M → Type 0
-OpensFeed wrap sure channel capacity = OpensIn (λ feed. wrap (Feed feed)) (λ old new outcome. OpensAFeed chunk sure old new channel capacity outcome) capacity
+OpensFeed wrap sure channel capacity = OpensIn (λ feed. wrap (Feed feed)) (λ old new outcome. OpensAFeed chunk sure old new channel capacity outcome) KeepsFeedRings capacity
 
 -- this is the next message, which is taken
 pub record IsTaken {M : Type 0} (message : M) (told : ℕ) (old new : FeedShown M) : Type 0 where
@@ -45,10 +52,10 @@ TakesBytes told from to old new =
 abbrev pub TellsPort : {M : Type 0} → ℕ → ℕ → FeedShown M → FeedShown M → Type 0
 TellsPort told after old new = (told ≡ number Done) × (after ≡ old.port.0) × (new ≡ old)
 
--- the feed ends; no seat's state is changed, and the same seats count as woken
+-- the feed ends; the rings of the lanes and feeds stay, and the seats too
 pub record EndsFeed {M : Type 0} (feed code : ℕ) (old new : RoomShown M) : Type 0 where
   pub outcome : Result (Option (Ended M)) Refusal
   pub floor : Ends feed (floor_of old) (floor_of new) outcome
-  pub seats : new.seats ≡ old.seats
-  pub woken : KeepsWoken old.notices new.notices
+  pub rings : KeepsRings (floor_of old) (floor_of new)
+  pub kept : KeepsSeats old new
   pub told : code ≡ number (told_outcome outcome)

@@ -3,8 +3,9 @@ use Rattle.std.specs.Prelude.{ℕ, ◌≡◌, ◌⊎◌, Some, Vec, length}
 use Rattle.std.specs.declared.alloc.Global.{Global}
 use Rattle.cml_board.specs.declared.entry.Entry.{Entry}
 use Rattle.cml_lanes.specs.Cutting.{CutsFloor, IsBusy}
+use Rattle.cml_lanes.specs.Floor.{KeepsRings}
 use Rattle.cml_room.specs.Room.{RoomShown, floor_of}
-use Rattle.cml_room.specs.Woken.{KeepsWoken}
+use Rattle.cml_room.specs.Frames.{KeepsSeats}
 use Rattle.cml_c.specs.declared.code.Code.TheVariants.{Done, Busy, NoMemory}
 use Rattle.cml_c.specs.declared.handle.Slot.{Slot}
 use Rattle.cml_c.specs.declared.kept.Kept.{Kept}
@@ -18,8 +19,8 @@ use Rattle.cml_c.specs.Lanes.{NotOpened}
 pub record Takes {M : Type 0} (wrap : Resource M → Kept) (to : Slot) (code after : ℕ) (old new : RoomShown M) : Type 0 where
   pub told : code ≡ number Done
   pub cut : CutsFloor (floor_of old) (floor_of new)
-  pub seats : new.seats ≡ old.seats
-  pub woken : KeepsWoken old.notices new.notices
+  pub rings : KeepsRings (floor_of old) (floor_of new)
+  pub kept : KeepsSeats old new
   pub taken : Vec (Entry M) Global
   pub entries : IsJournal old taken.items
   pub written : to.kept ≡ Some (wrap (Journal taken))

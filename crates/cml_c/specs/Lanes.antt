@@ -1,12 +1,13 @@
 -- What the calls on lanes return to C.
-use Rattle.std.specs.Prelude.{ℕ, ◌≡◌, ◌≤◌, ◌⊎◌, Bool, true, false, List, Some, [], ◌∷◌, ◌++◌, length, Result, Ok, Err, ⊤}
+use Rattle.std.specs.Prelude.{ℕ, ◌≡◌, ◌<◌, ◌≤◌, ◌⊎◌, Bool, true, false, List, Some, [], ◌∷◌, ◌++◌, length, Result, Ok, Err, ⊤}
 use Rattle.cml_board.specs.declared.call.Name.{Name}
 use Rattle.cml_board.specs.declared.outcome.Refusal.{Refusal}
-use Rattle.cml_lanes.specs.Floor.{FloorShown}
+use Rattle.cml_lanes.specs.Floor.{FloorShown, KeepsRings, SameRing}
 use Rattle.cml_lanes.specs.Ends.{LaneShown, Ended}
 use Rattle.cml_lanes.specs.Lanes.{OpensALane, ClosesCounted, Drops}
 use Rattle.cml_room.specs.Room.{RoomShown, floor_of}
-use Rattle.cml_room.specs.Woken.{KeepsWoken}
+use Rattle.cml_room.specs.Frames.{KeepsSeats, Stirs}
+use Rattle.cml_room.specs.Rising.{MakesFewByOne}
 use Rattle.cml_c.specs.declared.code.Code.{Code}
 use Rattle.cml_c.specs.declared.code.Code.TheVariants.{Done, Gone, NoMemory, Full, StillOpen, OutOfBounds}
 use Rattle.cml_c.specs.declared.handle.Slot.{Slot}
@@ -16,7 +17,7 @@ use Rattle.cml_c.specs.declared.kept.Resource.TheVariants.{Lane, LaneEnd, Spent}
 use Rattle.cml_c.specs.Codes.{number, of_refusal, told_outcome}
 use Rattle.cml_c.specs.Handles.{IsWrong, OnBytes, OnRoom, OnLane}
 use Rattle.cml_c.specs.Asking.{chunk}
-use Rattle.cml_c.specs.Messages.{CopiesNone}
+use Rattle.cml_c.specs.Messages.{NotCopied}
 
 -- a ring may have room for so many messages
 abbrev pub IsCapacity : ℕ → Type 0
@@ -32,12 +33,11 @@ abbrev pub LeavesOpened : {X : Type 0} → (X → Kept) → Slot → Slot → Re
 LeavesOpened wrap from to (Ok opened) = to.kept ≡ Some (wrap opened.0)
 LeavesOpened wrap from to (Err refusal) = to ≡ from
 
--- this became of the opening, in a room whose seats stay, of which the same count as woken
-pub record Opens {M X : Type 0} (wrap : X → Kept) (becomes : FloorShown M → FloorShown M → Result (X × ℕ) Refusal → Type 0) (from to : Slot) (code before after : ℕ) (old new : RoomShown M) : Type 0 where
+-- this became of the opening, and of the rings and the seats
+pub record Opens {M X : Type 0} (wrap : X → Kept) (becomes : FloorShown M → FloorShown M → Result (X × ℕ) Refusal → Type 0) (Leaves : RoomShown M → RoomShown M → Type 0) (from to : Slot) (code before after : ℕ) (old new : RoomShown M) : Type 0 where
   pub outcome : Result (X × ℕ) Refusal
   pub floor : becomes (floor_of old) (floor_of new) outcome
-  pub seats : new.seats ≡ old.seats
-  pub woken : KeepsWoken old.notices new.notices
+  pub seats : Leaves old new
   pub told : code ≡ number (told_outcome outcome)
   pub written : after ≡ written_opened before outcome
   pub slot : LeavesOpened wrap from to outcome
@@ -50,13 +50,18 @@ pub record NotOpened {M : Type 0} (reason : Code) (from to : Slot) (code before 
   pub slot : to ≡ from
 
 -- the capacity is in its bounds, and this became of the opening, or there is no memory for the handle; or it is out of them
-abbrev pub OpensIn : {M X : Type 0} → (X → Kept) → (FloorShown M → FloorShown M → Result (X × ℕ) Refusal → Type 0) → ℕ → Slot → Slot → ℕ → ℕ → ℕ → RoomShown M → RoomShown M → Type 0
-OpensIn wrap becomes capacity from to code before after old new =
-    (IsCapacity capacity × (Opens wrap becomes from to code before after old new ⊎ NotOpened NoMemory from to code before after old new))
+abbrev pub OpensIn : {M X : Type 0} → (X → Kept) → (FloorShown M → FloorShown M → Result (X × ℕ) Refusal → Type 0) → (RoomShown M → RoomShown M → Type 0) → ℕ → Slot → Slot → ℕ → ℕ → ℕ → RoomShown M → RoomShown M → Type 0
+OpensIn wrap becomes Leaves capacity from to code before after old new =
+    (IsCapacity capacity × (Opens wrap becomes Leaves from to code before after old new ⊎ NotOpened NoMemory from to code before after old new))
     ⊎ (¬ (IsCapacity capacity) × NotOpened OutOfBounds from to code before after old new)
 
+-- the rings of the open lanes stay, and the seats too
+pub record KeepsLaneRings {M : Type 0} (old new : RoomShown M) : Type 0 where
+  pub rings : (number : ℕ) → number < length old.lanes → SameRing number (floor_of old) (floor_of new)
+  pub kept : KeepsSeats old new
+
 abbrev pub OpensLane : {M : Type 0} → (Resource M → Kept) → Name → ℕ → Slot → Slot → ℕ → ℕ → ℕ → RoomShown M → RoomShown M → Type 0
-OpensLane wrap target capacity = OpensIn (λ lane. wrap (Lane lane)) (λ old new outcome. OpensALane old new target capacity outcome) capacity
+OpensLane wrap target capacity = OpensIn (λ lane. wrap (Lane lane)) (λ old new outcome. OpensALane old new target capacity outcome) KeepsLaneRings capacity
 
 -- the code of a message that is sent
 abbrev pub told_sent : {X : Type 0} → Result ⊤ X → Code
@@ -76,9 +81,17 @@ pub record IsFull {M : Type 0} (told : ℕ) (old new : LaneShown M) : Type 0 whe
 abbrev pub Sends : {M : Type 0} → M → ℕ → Type 0 → ℕ → Resource M → Resource M → Type 0
 Sends message told = OnLane (λ old new. Accepts message told old new ⊎ IsFull told old new)
 
--- the bytes are copied, and sent; or they are not copied
+-- the bytes are not copied, and the lane is as it was
+pub record NotSent {M : Type 0} (bytes : List ℕ) (told : ℕ) (old new : LaneShown M) : Type 0 where
+  pub refused : NotCopied bytes told
+  pub same : new ≡ old
+
+-- they are copied, and sent; or they are not copied
+abbrev pub SendsCopied : List ℕ → ℕ → LaneShown (List ℕ) → LaneShown (List ℕ) → Type 0
+SendsCopied message told old new = (Accepts message told old new ⊎ IsFull told old new) ⊎ NotSent message told old new
+
 abbrev pub SendsBytes : List ℕ → Kept → Kept → ℕ → Type 0
-SendsBytes message old new told = OnBytes (Sends message told) ⊤ told old new ⊎ CopiesNone message ⊤ told old new
+SendsBytes message old new told = OnBytes (OnLane (SendsCopied message told)) ⊤ told old new
 
 -- the lane has finished: all that was sent on it is known; or its room has let go of it
 abbrev pub FinishesLane : {M : Type 0} → LaneShown M → Resource M → ℕ → Type 0
@@ -102,8 +115,8 @@ left_closed (Err back) = LaneEnd back.0
 pub record ClosesEnd {M : Type 0} (sure : Bool) (end : Ended M) (lane : Resource M) (told : ℕ) (old new : RoomShown M) : Type 0 where
   pub outcome : Result ⊤ (Ended M × Refusal)
   pub floor : ClosesCounted chunk sure (floor_of old) (floor_of new) end outcome
-  pub seats : new.seats ≡ old.seats
-  pub woken : KeepsWoken old.notices new.notices
+  pub rings : KeepsRings (floor_of old) (floor_of new)
+  pub stirs : Stirs MakesFewByOne old new
   pub code : told ≡ number (told_closed outcome)
   pub left : lane ≡ left_closed outcome
 
@@ -126,7 +139,7 @@ written_dropped before (Err refusal) = before
 pub record DropsLane {M : Type 0} (sure : Bool) (number_of code before after : ℕ) (old new : RoomShown M) : Type 0 where
   pub outcome : Result (ℕ × Bool) Refusal
   pub floor : Drops chunk sure number_of (floor_of old) (floor_of new) outcome
-  pub seats : new.seats ≡ old.seats
-  pub woken : KeepsWoken old.notices new.notices
+  pub rings : KeepsRings (floor_of old) (floor_of new)
+  pub stirs : Stirs MakesFewByOne old new
   pub told : code ≡ number (told_dropped outcome)
   pub written : after ≡ written_dropped before outcome

@@ -5,6 +5,7 @@ pub mod Lending
 pub mod Codes
 pub mod Handles
 pub mod Asking
+pub mod Blocks
 pub mod Messages
 pub mod Opening
 pub mod Seats

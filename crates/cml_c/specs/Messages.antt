@@ -12,7 +12,8 @@ use Rattle.cml_c.specs.declared.kept.Kept.{Kept}
 use Rattle.cml_c.specs.declared.messages.SeryugoBytes.{SeryugoBytes}
 use Rattle.cml_c.specs.Codes.{number}
 use Rattle.cml_c.specs.Handles.{OnBytes, OnRoom}
-use Rattle.cml_c.specs.Asking.{Makes, Gives}
+use Rattle.cml_c.specs.Asking.{MayMake, Makes, named_outcome}
+use Rattle.cml_c.specs.Blocks.{NeedsBlock}
 
 -- up to 14 bytes lie in the struct
 abbrev pub LiesIn : List ℕ → SeryugoBytes → Type 0
@@ -37,9 +38,9 @@ HandsOutcome from to (outcome.Answered answer) = HandsReply from to answer.reply
 HandsOutcome from to (outcome.WouldWait back) = to ≡ from
 HandsOutcome from to (outcome.Refused refusal back) = to ≡ from
 
--- a share of what is held is handed over, or there is no memory for it
+-- a share of what is held is handed over; or it has more than 14 bytes, and there is no memory for it
 abbrev pub HandsShare : List ℕ → ℕ → SeryugoBytes → SeryugoBytes → Type 0
-HandsShare held code from to = ((code ≡ number Done) × IsHanded held to) ⊎ ((code ≡ number NoMemory) × (to ≡ from))
+HandsShare held code from to = ((code ≡ number Done) × IsHanded held to) ⊎ ((code ≡ number NoMemory) × (14 < length held) × (to ≡ from))
 
 -- the same of a variable, which may be empty, or not be there
 abbrev pub HandsHeld : Option (Option (List ℕ)) → ℕ → SeryugoBytes → SeryugoBytes → Type 0
@@ -47,47 +48,50 @@ HandsHeld (Some (Some held)) code from to = HandsShare held code from to
 HandsHeld (Some None) code from to = (code ≡ number Nothing) × (to ≡ from)
 HandsHeld None code from to = (code ≡ number NoSuch) × (to ≡ from)
 
--- the call is made; or there is no memory to keep the message that it may give, and nothing is changed
-pub record HasNoMemory (from to : SeryugoBytes) (code : ℕ) (old new : RoomShown (List ℕ)) : Type 0 where
+-- the call needs a block, and there is no memory for it: nothing is changed
+pub record HasNoMemory (again : Bool) (seat : ℕ) (call : Call (List ℕ)) (from to : SeryugoBytes) (code : ℕ) (old new : RoomShown (List ℕ)) : Type 0 where
   pub told : code ≡ number NoMemory
+  pub needs : NeedsBlock again seat call old
   pub written : to ≡ from
   pub room : new ≡ old
 
+-- the call is made, or has no memory
 pub record MakesBytes (again : Bool) (seat : ℕ) (call : Call (List ℕ)) (code : ℕ) (from to : SeryugoBytes) (old new : RoomShown (List ℕ)) : Type 0 where
-  pub becomes : Makes false again seat call code (HandsOutcome from to) old new ⊎ HasNoMemory from to code old new
+  pub becomes : Makes false again seat call code (HandsOutcome from to) old new ⊎ HasNoMemory again seat call from to code old new
 
 -- a call in a room of bytes, with the content before and after of the place where a message is handed over
 abbrev pub CallsBytes : Bool → ℕ → Call (List ℕ) → Kept → Kept → ℕ → SeryugoBytes → SeryugoBytes → Type 0
 CallsBytes again seat call old new code from to = OnBytes (OnRoom (MakesBytes again seat call code from to)) (to ≡ from) code old new
 
--- a call that gives no message, with the content before and after of the place where a name is written
-abbrev pub NamesBytes : ℕ → Call (List ℕ) → Kept → Kept → ℕ → ℕ → ℕ → Type 0
-NamesBytes seat call old new code before after = OnBytes (Gives false seat call before after) (after ≡ before) code old new
-
--- the same where nothing is written
-abbrev pub NamesNoBytes : ℕ → Call (List ℕ) → Kept → Kept → ℕ → Type 0
-NamesNoBytes seat call old new code = (after : ℕ) × NamesBytes seat call old new code 0 after
-
 -- the bytes were not copied: they are too many, or there is no memory for them
 abbrev pub NotCopied : List ℕ → ℕ → Type 0
 NotCopied bytes code = ((code ≡ number NoMemory) × IsLong bytes) ⊎ ((code ≡ number OutOfBounds) × IsTooLong bytes)
 
--- they were not copied, and nothing is changed
-pub record CopiesNone (bytes : List ℕ) (same : Type 0) (code : ℕ) (old new : Kept) : Type 0 where
+-- they were not copied for a call that the seat may make: nothing is changed
+pub record CopiesNone {M : Type 0} (again : Bool) (seat : ℕ) (bytes : List ℕ) (call : Call M) (same : Type 0) (code : ℕ) (old new : RoomShown M) : Type 0 where
+  pub may : MayMake again old seat call
   pub refused : NotCopied bytes code
   pub unwritten : same
-  pub kept : new ≡ old
+  pub room : new ≡ old
 
--- the bytes are copied, and the call is made with them; or they are not
-abbrev pub SendsBytes : ℕ → List ℕ → Call (List ℕ) → Kept → Kept → ℕ → Type 0
-SendsBytes seat bytes call old new code =
-    NamesNoBytes seat call old new code ⊎ CopiesNone bytes ⊤ code old new
+-- the bytes are copied, and the call is made with them, and a name that it gives is written; or they are not copied
+abbrev pub MakesCopied : ℕ → List ℕ → Call (List ℕ) → ℕ → ℕ → ℕ → RoomShown (List ℕ) → RoomShown (List ℕ) → Type 0
+MakesCopied seat bytes call code before after old new =
+    Makes false false seat call code (λ becomes. after ≡ named_outcome before becomes) old new ⊎ CopiesNone false seat bytes call (after ≡ before) code old new
 
--- the same of a call that gives a name, and of one that gives a message
+-- the same in the room that a handle leads to
 abbrev pub FillsBytes : ℕ → List ℕ → Call (List ℕ) → Kept → Kept → ℕ → ℕ → ℕ → Type 0
 FillsBytes seat bytes call old new code before after =
-    NamesBytes seat call old new code before after ⊎ CopiesNone bytes (after ≡ before) code old new
+    OnBytes (OnRoom (MakesCopied seat bytes call code before after)) (after ≡ before) code old new
+
+-- the same of a call that gives none, and of one that gives a message
+abbrev pub SendsBytes : ℕ → List ℕ → Call (List ℕ) → Kept → Kept → ℕ → Type 0
+SendsBytes seat bytes call old new code = (after : ℕ) × FillsBytes seat bytes call old new code 0 after
+
+abbrev pub SwapsCopied : Bool → ℕ → List ℕ → Call (List ℕ) → ℕ → SeryugoBytes → SeryugoBytes → RoomShown (List ℕ) → RoomShown (List ℕ) → Type 0
+SwapsCopied again seat bytes call code from to old new =
+    MakesBytes again seat call code from to old new ⊎ CopiesNone again seat bytes call (to ≡ from) code old new
 
 abbrev pub SwapsBytes : Bool → ℕ → List ℕ → Call (List ℕ) → Kept → Kept → ℕ → SeryugoBytes → SeryugoBytes → Type 0
 SwapsBytes again seat bytes call old new code from to =
-    CallsBytes again seat call old new code from to ⊎ CopiesNone bytes (to ≡ from) code old new
+    OnBytes (OnRoom (SwapsCopied again seat bytes call code from to)) (to ≡ from) code old new

@@ -1,9 +1,9 @@
 -- What C gets of a journal whose text is read back.
-use Rattle.std.specs.Prelude.{ℕ, ◌≡◌, ◌⊎◌, Bool, true, false, List, [], ◌++◌, Option, Some, None, ⊤}
+use Rattle.std.specs.Prelude.{ℕ, ◌≡◌, ◌⊎◌, ◌↔◌, Bool, true, false, List, [], ◌++◌, Option, Some, None, ⊤}
 use Rattle.cml_board.specs.Checking.{count_of}
 use Rattle.cml_journal.specs.declared.stop.Halt.{Halt}
 use Rattle.cml_journal.specs.declared.stop.Halt.TheVariants as halt
-use Rattle.cml_journal.specs.Checks.{Progress, IsSoFar, HaltTells, is_whole}
+use Rattle.cml_journal.specs.Checks.{Progress, IsSoFar, HaltTells, IsLawfulJournal, is_whole}
 use Rattle.cml_journal.specs.Escapes.{message_of_word}
 use Rattle.cml_journal.specs.Numbers.{number_of}
 use Rattle.cml_c.specs.declared.code.Code.{Code}
@@ -74,5 +74,13 @@ told_end (Some halted) whole = told_halt halted
 told_end None true = Done
 told_end None false = Torn
 
-abbrev pub EndsSo : {M : Type 0} → ℕ → Progress M → Progress M → Type 0
-EndsSo code old new = (new ≡ old) × (code ≡ number (told_end old.halt (is_whole old)))
+-- the reading is as it was, and the code says whether the bytes that it took are a whole lawful journal, or what it stopped by
+pub record EndsSo {M : Type 0} (version : ℕ) (meaning : List ℕ → Option M) (code : ℕ) (old new : Progress M) : Type 0 where
+  pub reading : new ≡ old
+  pub told : code ≡ number (told_end old.halt (is_whole old))
+  pub whole : (bytes : List ℕ) → IsSoFar version meaning bytes old → (code ≡ number Done) ↔ IsLawfulJournal version meaning bytes (count_of old.checker)
+
+-- the same of whichever reading a handle leads to
+abbrev pub TellsEnd : ℕ → Kept → Kept → Type 0
+TellsEnd code (Numbers old) new = (left : Resource ℕ) × (new ≡ Numbers left) × OnReading (EndsSo 1 number_of code) ⊤ code old left
+TellsEnd code (Bytes old) new = (left : Resource (List ℕ)) × (new ≡ Bytes left) × OnReading (EndsSo 2 message_of_word code) ⊤ code old left

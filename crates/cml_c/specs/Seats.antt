@@ -1,21 +1,25 @@
 -- What C gets of a new seat, of one that leaves, and of one that withdraws its call.
 use Rattle.std.specs.Prelude.{ℕ, ◌≡◌, ◌≢◌, ◌⊎◌, [], ◌∷◌, ◌++◌, length, Some, None}
 use Rattle.cml_board.specs.declared.want.Want.{Want}
-use Rattle.cml_room.specs.Rising.{MakesFewDue, WantOf}
+use Rattle.cml_room.specs.Frames.{Turns}
+use Rattle.cml_room.specs.Rising.{MakesNoneDue}
 use Rattle.cml_room.specs.Room.{RoomShown, MayAsk, state_of, with_state, floor_of}
 use Rattle.cml_room.specs.declared.state.State.TheVariants.{Free, Left, Parked}
-use Rattle.cml_room.specs.Woken.{HasAsked, KeepsWoken}
+use Rattle.cml_room.specs.Running.{AskOf, Other, IsMade}
+use Rattle.cml_room.specs.Seats.{free_in, parked_in}
 use Rattle.cml_c.specs.declared.code.Code.TheVariants.{Done, Gone, NoMemory}
 use Rattle.cml_c.specs.Codes.{number}
 
--- a seat is made: it is free, and its number, which is written, is how many were made before; else there is no memory, and
--- nothing is changed
+-- a seat is made: it is free, and its number, which is written, is how many were made before; the same seats count as woken and are
+-- due. Else there is no memory, and nothing is changed
 pub record SeatIsMade {M : Type 0} (code before after : ℕ) (old new : RoomShown M) : Type 0 where
   pub told : code ≡ number Done
   pub number : after ≡ length old.seats
   pub seats : new.seats ≡ old.seats ++ Free ∷ []
   pub floor : floor_of new ≡ floor_of old
-  pub woken : KeepsWoken old.notices new.notices
+  pub step : IsMade Other old new
+  pub none : MakesNoneDue old new
+  pub alarm : new.all_due ≡ old.all_due
 
 pub record NoSeatIsMade {M : Type 0} (code before after : ℕ) (old new : RoomShown M) : Type 0 where
   pub told : code ≡ number NoMemory
@@ -25,13 +29,17 @@ pub record NoSeatIsMade {M : Type 0} (code before after : ℕ) (old new : RoomSh
 abbrev pub MakesSeat : {M : Type 0} → ℕ → ℕ → ℕ → RoomShown M → RoomShown M → Type 0
 MakesSeat code before after old new = SeatIsMade code before after old new ⊎ NoSeatIsMade code before after old new
 
--- a free seat leaves, and no other's state is changed; else it may make no call, and nothing is changed
+-- a free seat leaves, and no other's state is changed. Only if no seat is free then and some wait, all that wait may be due. Else the
+-- seat may make no call, and nothing is changed
 pub record SeatLeaves {M : Type 0} (seat code : ℕ) (old new : RoomShown M) : Type 0 where
   pub told : code ≡ number Done
   pub may : MayAsk old seat
   pub seats : new.seats ≡ with_state old seat Left
   pub floor : floor_of new ≡ floor_of old
-  pub woken : KeepsWoken old.notices new.notices
+  pub step : IsMade Other old new
+  pub none : MakesNoneDue old new
+  pub alarm : free_in new.seats ≢ 0 → new.all_due ≡ old.all_due
+  pub alone : parked_in new.seats ≡ 0 → new.all_due ≡ old.all_due
 
 pub record SeatMayNot {M : Type 0} (seat code : ℕ) (old new : RoomShown M) : Type 0 where
   pub told : code ≡ number Gone
@@ -49,8 +57,8 @@ pub record CallIsWithdrawn {M : Type 0} (seat code : ℕ) (old new : RoomShown M
   pub parked : state_of old seat ≡ Some (Parked on)
   pub seats : new.seats ≡ with_state old seat Free
   pub floor : floor_of new ≡ floor_of old
-  pub few : MakesFewDue old new (WantOf old seat) None
-  pub asked : HasAsked seat old.notices new.notices
+  pub turns : Turns seat (AskOf seat) None old new
+  pub alarm : new.all_due ≡ old.all_due
 
 pub record NoCallIsWithdrawn {M : Type 0} (seat code : ℕ) (old new : RoomShown M) : Type 0 where
   pub told : code ≡ number Gone

@@ -4,20 +4,24 @@ use Rattle.std.specs.Fmt.{decimal}
 use Rattle.cml_board.specs.declared.entry.Entry.{Entry}
 use Rattle.cml_journal.specs.Escapes.{bytes_text}
 use Rattle.cml_journal.specs.Streams.{text_of, piece_lines}
-use Rattle.cml_c.specs.declared.code.Code.TheVariants.{OutOfBounds}
+use Rattle.cml_c.specs.declared.code.Code.TheVariants.{Done, NoMemory, OutOfBounds}
 use Rattle.cml_c.specs.declared.kept.Kept.{Kept}
 use Rattle.cml_c.specs.declared.kept.Kept.TheVariants.{Numbers, Bytes}
 use Rattle.cml_c.specs.declared.kept.Resource.{Resource}
 use Rattle.cml_c.specs.declared.messages.SeryugoBytes.{SeryugoBytes}
 use Rattle.cml_c.specs.Codes.{number}
 use Rattle.cml_c.specs.Handles.{OnJournal}
-use Rattle.cml_c.specs.Messages.{HandsShare}
+use Rattle.cml_c.specs.Messages.{IsHanded}
+
+-- a new message is handed over, or there is no memory for it
+abbrev pub HandsNew : List ℕ → ℕ → SeryugoBytes → SeryugoBytes → Type 0
+HandsNew bytes code from to = ((code ≡ number Done) × IsHanded bytes to) ⊎ ((code ≡ number NoMemory) × (to ≡ from))
 
 -- the text of these entries as one piece, whose first has this position, is handed over, or there is no memory for it; or no
 -- position is behind them
 abbrev pub HandsText : {M : Type 0} → ℕ → (M → List ℕ) → ℕ → ℕ → SeryugoBytes → SeryugoBytes → List (Entry M) → Type 0
 HandsText version text at code from to entries =
-    ((at + length entries < 2 ^ 64) × HandsShare (text_of (piece_lines version text at entries)) code from to)
+    ((at + length entries < 2 ^ 64) × HandsNew (text_of (piece_lines version text at entries)) code from to)
     ⊎ ((2 ^ 64 ≤ at + length entries) × (code ≡ number OutOfBounds) × (to ≡ from))
 
 -- the same of the entries of a journal that was taken

@@ -3,9 +3,11 @@ ghost use Rattle.std.specs.Prelude.{false};
 ghost use Rattle.cml_board.specs.declared.call.Call.TheVariants.{Send, Cast, Recv, Poll, MVarInit, Put, Get, GetPoll, Take, TakePoll, Swap};
 ghost use Rattle.cml_c.specs.Messages.{CallsBytes, SendsBytes, FillsBytes, SwapsBytes};
 
-use crate::bytes_asking::{make_bytes_naming_call, make_call, make_plain_call};
+use crate::bytes_asking::make_call;
+use crate::bytes_sending::{make_nameless_sending_call, make_sending_call, make_swap};
 use crate::handle::Handle;
-use crate::messages::{SeryugoBytes, copied};
+use crate::messages::SeryugoBytes;
+use crate::sending::Sending;
 use cml_board::{Call, Name};
 use std::alloc::Global;
 
@@ -20,10 +22,7 @@ pub extern "C" fn seryugo_bytes_send_from(
 ) -> u32
     ensures { SendsBytes seat message.now (Send (record { 0 = mailbox }) message.now) room.old.kept room.new.kept result }
 {
-    match copied(alloc, message) {
-        Ok(bytes) => make_plain_call(room, seat, Call::Send(Name(mailbox), bytes)),
-        Err(code) => code.number(),
-    }
+    make_nameless_sending_call(alloc, room, seat, Sending::Send(Name(mailbox)), message)
 }
 
 /// Copies a message, and sends it to every port of a channel.
@@ -37,10 +36,7 @@ pub extern "C" fn seryugo_bytes_multicast_from(
 ) -> u32
     ensures { SendsBytes seat message.now (Cast (record { 0 = channel }) message.now) room.old.kept room.new.kept result }
 {
-    match copied(alloc, message) {
-        Ok(bytes) => make_plain_call(room, seat, Call::Cast(Name(channel), bytes)),
-        Err(code) => code.number(),
-    }
+    make_nameless_sending_call(alloc, room, seat, Sending::Cast(Name(channel)), message)
 }
 
 /// Receives the next message of a mailbox or a port, and hands it over. If there is none, the seat is parked.
@@ -90,10 +86,7 @@ pub extern "C" fn seryugo_bytes_mvar_init_from(
 ) -> u32
     ensures { FillsBytes seat message.now (MVarInit message.now) room.old.kept room.new.kept result variable.old variable.new }
 {
-    match copied(alloc, message) {
-        Ok(bytes) => make_bytes_naming_call(room, seat, Call::MVarInit(bytes), variable),
-        Err(code) => code.number(),
-    }
+    make_sending_call(alloc, room, seat, Sending::MVarInit, message, variable)
 }
 
 /// Fills an empty variable with a copy of these bytes.
@@ -107,10 +100,7 @@ pub extern "C" fn seryugo_bytes_put_from(
 ) -> u32
     ensures { SendsBytes seat message.now (Put (record { 0 = variable }) message.now) room.old.kept room.new.kept result }
 {
-    match copied(alloc, message) {
-        Ok(bytes) => make_plain_call(room, seat, Call::Put(Name(variable), bytes)),
-        Err(code) => code.number(),
-    }
+    make_nameless_sending_call(alloc, room, seat, Sending::Put(Name(variable)), message)
 }
 
 /// Reads a variable, which keeps what it holds. If it is empty, the seat is parked.
@@ -212,15 +202,5 @@ pub extern "C" fn seryugo_bytes_swap_from(
 ) -> u32
     ensures { SwapsBytes is_again seat message.now (Swap (record { 0 = variable }) message.now) room.old.kept room.new.kept result held.old held.new }
 {
-    match copied(alloc, message) {
-        Ok(bytes) => make_call(
-            alloc,
-            room,
-            seat,
-            is_again,
-            Call::Swap(Name(variable), bytes),
-            held,
-        ),
-        Err(code) => code.number(),
-    }
+    make_swap(alloc, room, seat, is_again, Name(variable), message, held)
 }

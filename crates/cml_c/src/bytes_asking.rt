@@ -1,15 +1,21 @@
 //! A seat's call in a room of bytes.
-ghost use Rattle.std.specs.Prelude.{◌≡◌};
+ghost use Rattle.std.specs.Prelude.{◌≡◌, false};
+ghost use Rattle.cml_room.specs.Asking.{Asks};
+ghost use Rattle.cml_room.specs.Frames.{Turns};
+ghost use Rattle.cml_room.specs.Rising.{news_by};
+ghost use Rattle.cml_room.specs.Running.{asked_by};
 ghost use Rattle.cml_c.specs.Codes.{number};
-ghost use Rattle.cml_c.specs.Asking.{told_outcome};
-ghost use Rattle.cml_c.specs.Messages.{CallsBytes, NamesBytes, NamesNoBytes, MakesBytes, HandsOutcome};
+ghost use Rattle.cml_c.specs.Asking.{MayMake, chunk, told_outcome};
+ghost use Rattle.cml_c.specs.Blocks.{GivesShort};
+ghost use Rattle.cml_c.specs.Messages.{CallsBytes, MakesBytes, HandsOutcome};
 
-use crate::asking::{code_of_outcome, code_of_reply, tell_name};
+use crate::asking::{code_of_outcome, code_of_reply};
+use crate::blocks::needs_block;
 use crate::code::Code;
 use crate::handle::Handle;
 use crate::keeper::Held;
-use crate::kept::{Kept, Resource, Stocked};
-use crate::messages::{SeryugoBytes, hand_over, new_block};
+use crate::kept::{Kept, Resource, RoomOf, Stocked};
+use crate::messages::{SeryugoBytes, hand_over, new_block, show_short};
 use cml_board::{Bytes, Call, Outcome, Reply};
 use std::alloc::Global;
 
@@ -33,7 +39,7 @@ pub(crate) fn make_call(
     }
 }
 
-fn make_in_room(
+pub(crate) fn make_in_room(
     alloc: Global,
     stocked: &mut Stocked<Bytes>,
     seat: u64,
@@ -45,16 +51,39 @@ fn make_in_room(
 {
     // The memory that keeps a long message is taken first, so that none is received without it.
     let Some(block) = block_of(alloc, &mut stocked.spare) else {
-        return Code::NoMemory.number();
+        return make_without_block(&mut stocked.room, seat, is_again, call, given);
     };
-    let outcome = if is_again {
-        stocked.room.ask_again(seat, call)
-    } else {
-        stocked.room.ask(seat, call)
-    };
+    let outcome = ask(&mut stocked.room, seat, is_again, call);
     let (code, left) = tell(block, outcome, given);
     stocked.spare = left;
     code.number()
+}
+
+/// Makes a call though there is no memory to keep a long message. If the call needs some, nothing is changed.
+fn make_without_block(
+    room: &mut RoomOf<Bytes>,
+    seat: u64,
+    is_again: bool,
+    call: Call<Bytes>,
+    given: &mut SeryugoBytes,
+) -> u32
+    ensures { MakesBytes is_again seat call result given.old given.new room.old room.new }
+{
+    if needs_block(room, seat, is_again, &call) {
+        drop(call);
+        return Code::NoMemory.number();
+    }
+    tell_short(ask(room, seat, is_again, call), given).number()
+}
+
+fn ask(room: &mut RoomOf<Bytes>, seat: u64, is_again: bool, call: Call<Bytes>) -> Outcome<Bytes>
+    ensures asks { Asks chunk false (MayMake is_again room.old seat call) room.old room.new seat call result }
+    ensures turns { Turns seat (asked_by seat result) (news_by result) room.old room.new }
+{
+    if is_again {
+        return room.ask_again(seat, call);
+    }
+    room.ask(seat, call)
 }
 
 /// The spare block, or a new one.
@@ -83,28 +112,20 @@ fn tell(
     }
 }
 
-/// Makes a call that gives a name and no message, and writes the name.
-pub(crate) fn make_bytes_naming_call(
-    handle: &mut Handle,
-    seat: u64,
-    call: Call<Bytes>,
-    name: &mut u64,
-) -> u32
-    ensures { NamesBytes seat call handle.old.kept handle.new.kept result name.old name.new }
+/// The same of a call that gave no long message.
+fn tell_short(outcome: Outcome<Bytes>, given: &mut SeryugoBytes) -> Code
+    requires { GivesShort outcome }
+    ensures code { result ≡ told_outcome outcome }
+    ensures written { HandsOutcome given.old given.new outcome }
 {
-    match handle.as_mut() {
-        Kept::Bytes(Resource::Room(room)) => tell_name(room.room.ask(seat, call), name),
-        _ => {
-            drop(call);
-            Code::WrongHandle.number()
-        }
+    match outcome {
+        Outcome::Answered(answer) => match answer.into_reply() {
+            Reply::Got(message) => {
+                show_short(message.as_slice(), given);
+                Code::Done
+            }
+            other => code_of_reply(&other),
+        },
+        other => code_of_outcome(&other),
     }
-}
-
-/// Makes one that gives neither.
-pub(crate) fn make_plain_call(handle: &mut Handle, seat: u64, call: Call<Bytes>) -> u32
-    ensures { NamesNoBytes seat call handle.old.kept handle.new.kept result }
-{
-    let mut name = 0;
-    make_bytes_naming_call(handle, seat, call, &mut name)
 }

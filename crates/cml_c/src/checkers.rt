@@ -3,7 +3,7 @@ ghost use Rattle.std.specs.Prelude.{◌≡◌, IfOk, Ok, ⊤};
 ghost use Rattle.cml_board.specs.History.{no_entries};
 ghost use Rattle.cml_c.specs.declared.kept.Kept.TheVariants as kept;
 ghost use Rattle.cml_c.specs.Opening.{OpensAChecker};
-ghost use Rattle.cml_c.specs.Checkers.{FeedsIn, FeedsFrom, FeedsTaken, FeedsJournal, TellsVerdict};
+ghost use Rattle.cml_c.specs.Checkers.{FeedsIn, FeedsFrom, FeedsTaken, FeedsJournal, TellsVerdict, told_verdict};
 ghost use Rattle.cml_c.specs.Handles.{OnEither, OnBoth, OnChecker};
 
 use crate::code::Code;
@@ -99,9 +99,18 @@ pub(crate) fn feed<M: Message>(checker: &mut Checker<M>, entries: &[Entry<M>]) -
         return Code::OutOfBounds.number();
     }
     match checker.feed(entries) {
-        Ok(Ok(())) => Code::Done.number(),
-        Ok(Err(_)) => Code::Unlawful.number(),
+        Ok(verdict) => code_of_verdict(verdict).number(),
         Err(_) => Code::NoMemory.number(),
+    }
+}
+
+/// The code of a checker's verdict.
+fn code_of_verdict(verdict: Result<(), u64>) -> Code
+    ensures { result ≡ told_verdict verdict }
+{
+    match verdict {
+        Ok(()) => Code::Done,
+        Err(_) => Code::Unlawful,
     }
 }
 
@@ -117,6 +126,5 @@ fn tell_verdict<M: Message>(checker: &mut Checker<M>, count: &mut u64) -> u32
     ensures { TellsVerdict result count.new checker.old checker.new }
 {
     *count = checker.entries();
-    let none: [Entry<M>; 0] = [];
-    feed(checker, &none)
+    code_of_verdict(checker.verdict()).number()
 }

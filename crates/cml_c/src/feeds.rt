@@ -1,6 +1,8 @@
 //! Feeds, on which a thread receives without the room's lock.
 ghost use Rattle.std.specs.Prelude.{◌≡◌, ⊤};
 ghost use Rattle.cml_lanes.specs.Feeds.{Pumps};
+ghost use Rattle.cml_room.specs.Frames.{Stirs};
+ghost use Rattle.cml_room.specs.Rising.{MakesNoneDue};
 ghost use Rattle.cml_c.specs.Asking.{chunk};
 ghost use Rattle.cml_c.specs.Floors.{Counts};
 ghost use Rattle.cml_c.specs.Handles.{OnEither, OnEitherKept, OnNumbers, OnBytes, OnRoom, OnFeed};
@@ -8,12 +10,12 @@ ghost use Rattle.cml_c.specs.Feeds.{OpensFeed, TakesNumber, TakesBytes, TellsPor
 
 use crate::code::Code;
 use crate::handle::{Handle, Slot};
-use crate::kept::{Kept, Resource, Sort, for_both, on_either, on_one};
+use crate::kept::{Kept, Resource, RoomOf, Sort, for_both, on_either, on_one};
 use crate::lanes::tell_count;
 use crate::messages::{SeryugoBytes, hand_over, new_block};
 use crate::rooms::code_of;
 use crate::telling::write_number;
-use cml_board::{Bytes, Name};
+use cml_board::{Bytes, Message, Name};
 use cml_lanes::{Feed, MAX_CAPACITY};
 use std::alloc::Global;
 
@@ -43,10 +45,29 @@ fn open<M: Sort>(
 ) -> u32
     ensures { OnRoom (OpensFeed M.KEPT M.SURE channel capacity feed.old feed.new result feed_number.old feed_number.new) ((feed_number.new ≡ feed_number.old) × (feed.new ≡ feed.old)) result resource.old resource.new }
 {
-    let Resource::Room(room) = resource else {
-        return Code::WrongHandle.number();
-    };
-    let room = &mut room.room;
+    match resource {
+        Resource::Room(room) => open_in(
+            alloc,
+            &mut room.room,
+            channel,
+            capacity,
+            feed,
+            feed_number,
+        ),
+        _ => Code::WrongHandle.number(),
+    }
+}
+
+fn open_in<M: Sort>(
+    alloc: Global,
+    room: &mut RoomOf<M>,
+    channel: Name,
+    capacity: usize,
+    feed: &mut Slot,
+    feed_number: &mut u64,
+) -> u32
+    ensures { OpensFeed M.KEPT M.SURE channel capacity feed.old feed.new result feed_number.old feed_number.new room.old room.new }
+{
     if capacity < 1 || capacity > MAX_CAPACITY {
         return Code::OutOfBounds.number();
     }
@@ -68,9 +89,24 @@ fn open<M: Sort>(
 /// Receives what an open feed is owed into its ring, while that has a free slot, and writes how many messages.
 #[unsafe(no_mangle)]
 pub extern "C" fn seryugo_feed_pump(room: &mut Handle, feed_number: u64, count: &mut u64) -> u32
-    ensures { OnEither (λ M sure. OnRoom (Counts (Pumps chunk sure feed_number) result count.old count.new)) (count.new ≡ count.old) result room.old.kept room.new.kept }
+    ensures { OnEither (λ M sure. OnRoom (Counts (Pumps chunk sure feed_number) (Stirs MakesNoneDue) result count.old count.new)) (count.new ≡ count.old) result room.old.kept room.new.kept }
 {
-    on_either!(room, Room(room) => tell_count(room.room.pump(feed_number), count))
+    for_both!(room.as_mut(), resource => pump(resource, feed_number, count))
+}
+
+fn pump<M: Message>(resource: &mut Resource<M>, feed_number: u64, count: &mut u64) -> u32
+    ensures { OnRoom (Counts (Pumps chunk M.SURE feed_number) (Stirs MakesNoneDue) result count.old count.new) (count.new ≡ count.old) result resource.old resource.new }
+{
+    match resource {
+        Resource::Room(room) => pump_in(&mut room.room, feed_number, count),
+        _ => Code::WrongHandle.number(),
+    }
+}
+
+fn pump_in<M: Message>(room: &mut RoomOf<M>, feed_number: u64, count: &mut u64) -> u32
+    ensures { Counts (Pumps chunk M.SURE feed_number) (Stirs MakesNoneDue) result count.old count.new room.old room.new }
+{
+    tell_count(room.pump(feed_number), count)
 }
 
 /// Takes the next number that was pumped, without a lock. Returns `Nothing` if none is seen.
@@ -125,5 +161,20 @@ pub extern "C" fn seryugo_feed_port(feed: &mut Handle, port: &mut u64) -> u32
 pub extern "C" fn seryugo_feed_end(room: &mut Handle, feed_number: u64) -> u32
     ensures { OnEither (λ M sure. OnRoom (EndsFeed feed_number result)) ⊤ result room.old.kept room.new.kept }
 {
-    on_either!(room, Room(room) => code_of(room.room.end_feed(feed_number)))
+    for_both!(room.as_mut(), resource => end(resource, feed_number))
+}
+
+fn end<M: Message>(resource: &mut Resource<M>, feed_number: u64) -> u32
+    ensures { OnRoom (EndsFeed feed_number result) ⊤ result resource.old resource.new }
+{
+    match resource {
+        Resource::Room(room) => end_in(&mut room.room, feed_number),
+        _ => Code::WrongHandle.number(),
+    }
+}
+
+fn end_in<M: Message>(room: &mut RoomOf<M>, feed_number: u64) -> u32
+    ensures { EndsFeed feed_number result room.old room.new }
+{
+    code_of(room.end_feed(feed_number))
 }

@@ -1,5 +1,6 @@
 //! The journal: memory that is reserved for it, and its cuts.
 ghost use Rattle.std.specs.Prelude.{◌≡◌, slice_get, ⊤};
+ghost use Rattle.cml_room.specs.Frames.{KeepsSeats};
 ghost use Rattle.cml_c.specs.Entries.{Finds, FindsBytes};
 ghost use Rattle.cml_c.specs.Floors.{Does};
 ghost use Rattle.cml_c.specs.Handles.{OnEither, OnEitherKept, OnNumbers, OnBytes, OnRoom, OnJournal};
@@ -10,24 +11,43 @@ use crate::bytes_entries::{SeryugoBytesEntry, hand_over_found};
 use crate::code::Code;
 use crate::entries::{SeryugoEntry, entry_of_place, write_found};
 use crate::handle::{Handle, Slot};
-use crate::kept::{Kept, Resource, RoomOf, Sort, for_both, on_either, on_one};
+use crate::kept::{Kept, Resource, RoomOf, Sort, for_both, on_one};
 use crate::rooms::code_of;
+use cml_board::Message;
 use std::alloc::Global;
 
 /// Reserves memory for `entries` more entries.
 #[unsafe(no_mangle)]
 pub extern "C" fn seryugo_reserve(room: &mut Handle, entries: usize) -> u32
-    ensures { OnEither (λ M sure. OnRoom (Does (ReservesSome entries) result)) ⊤ result room.old.kept room.new.kept }
+    ensures { OnEither (λ M sure. OnRoom (Does (ReservesSome entries) KeepsSeats result)) ⊤ result room.old.kept room.new.kept }
 {
-    on_either!(room, Room(room) => code_of(room.room.reserve(entries)))
+    for_both!(room.as_mut(), resource => reserve(resource, entries))
+}
+
+fn reserve<M: Message>(resource: &mut Resource<M>, entries: usize) -> u32
+    ensures { OnRoom (Does (ReservesSome entries) KeepsSeats result) ⊤ result resource.old resource.new }
+{
+    match resource {
+        Resource::Room(room) => code_of(room.room.reserve(entries)),
+        _ => Code::WrongHandle.number(),
+    }
 }
 
 /// Cuts the journal: drops its entries, so that it takes as many again. Keeps the reserved memory.
 #[unsafe(no_mangle)]
 pub extern "C" fn seryugo_cut(room: &mut Handle) -> u32
-    ensures { OnEither (λ M sure. OnRoom (Does CutsReserved result)) ⊤ result room.old.kept room.new.kept }
+    ensures { OnEither (λ M sure. OnRoom (Does CutsReserved KeepsSeats result)) ⊤ result room.old.kept room.new.kept }
 {
-    on_either!(room, Room(room) => code_of(room.room.cut()))
+    for_both!(room.as_mut(), resource => cut(resource))
+}
+
+fn cut<M: Message>(resource: &mut Resource<M>) -> u32
+    ensures { OnRoom (Does CutsReserved KeepsSeats result) ⊤ result resource.old resource.new }
+{
+    match resource {
+        Resource::Room(room) => code_of(room.room.cut()),
+        _ => Code::WrongHandle.number(),
+    }
 }
 
 /// Cuts the journal, and writes a handle to the entries that it had, and how many they are. The reserved memory goes with them.

@@ -6,13 +6,15 @@ ghost use Rattle.cml_c.specs.declared.kept.Resource.{Resource};
 ghost use Rattle.cml_c.specs.declared.kept.Resource.TheVariants as resource;
 
 use crate::keeper::Held;
-use cml_board::{BoardLog, Bytes, Checker, Entry, Message};
+use cml_board::{Board, BoardLog, Bytes, Checker, Entry, Message};
 use cml_journal::Check;
 use cml_lanes::{Feed, Lane, LaneEnd};
 use cml_room::Room;
 
-/// A room whose messages are of this type.
+/// A room whose messages are of this type, and its board.
 pub type RoomOf<M> = Room<M, BoardLog<M>>;
+
+pub type BoardOf<M> = Board<M, BoardLog<M>>;
 
 /// A room, with memory for the next long message that is handed over, unless it is used.
 #[derive(Drop)]

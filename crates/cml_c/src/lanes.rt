@@ -1,20 +1,22 @@
 //! Lanes, on which a thread sends without the room's lock.
 ghost use Rattle.std.specs.Prelude.{◌≡◌, ⊤};
 ghost use Rattle.cml_lanes.specs.Lanes.{Drains, Abandons};
+ghost use Rattle.cml_room.specs.Frames.{Stirs};
+ghost use Rattle.cml_room.specs.Rising.{MakesFewByOne, MakesNoneDue};
 ghost use Rattle.cml_c.specs.Codes.{number, told_outcome, written_count};
 ghost use Rattle.cml_c.specs.Asking.{chunk};
 ghost use Rattle.cml_c.specs.Floors.{Does, Counts};
 ghost use Rattle.cml_c.specs.Handles.{OnEither, OnEitherKept, OnNumbers, OnBytes, OnBoth, OnRoom};
-ghost use Rattle.cml_c.specs.Lanes.{OpensLane, Sends, SendsBytes, Finishes, Closes, ClosesLane, ClosesEnd, DropsLane, told_sent, told_dropped, written_dropped};
+ghost use Rattle.cml_c.specs.Lanes.{OpensLane, Sends, SendsBytes, SendsCopied, Finishes, Closes, ClosesLane, ClosesEnd, DropsLane, told_sent, told_dropped, written_dropped};
 
 use crate::code::Code;
 use crate::handle::{Handle, Slot};
-use crate::kept::{Kept, Resource, RoomOf, Sort, for_both, on_both, on_either, on_one};
+use crate::kept::{Kept, Resource, RoomOf, Sort, for_both, on_both, on_one};
 use crate::messages::copied;
 use crate::rooms::code_of;
 use crate::telling::write_number;
 use cml_board::{Bytes, Message, Name, Refusal};
-use cml_lanes::{LaneEnd, MAX_CAPACITY};
+use cml_lanes::{Lane, LaneEnd, MAX_CAPACITY};
 use std::alloc::Global;
 use std::mem;
 
@@ -43,10 +45,22 @@ fn open<M: Sort>(
 ) -> u32
     ensures { OnRoom (OpensLane M.KEPT target capacity lane.old lane.new result lane_number.old lane_number.new) ((lane_number.new ≡ lane_number.old) × (lane.new ≡ lane.old)) result resource.old resource.new }
 {
-    let Resource::Room(room) = resource else {
-        return Code::WrongHandle.number();
-    };
-    let room = &mut room.room;
+    match resource {
+        Resource::Room(room) => open_in(alloc, &mut room.room, target, capacity, lane, lane_number),
+        _ => Code::WrongHandle.number(),
+    }
+}
+
+fn open_in<M: Sort>(
+    alloc: Global,
+    room: &mut RoomOf<M>,
+    target: Name,
+    capacity: usize,
+    lane: &mut Slot,
+    lane_number: &mut u64,
+) -> u32
+    ensures { OpensLane M.KEPT target capacity lane.old lane.new result lane_number.old lane_number.new room.old room.new }
+{
     if capacity < 1 || capacity > MAX_CAPACITY {
         return Code::OutOfBounds.number();
     }
@@ -82,21 +96,15 @@ pub extern "C" fn seryugo_bytes_lane_send_from(
 ) -> u32
     ensures { SendsBytes message.now lane.old.kept lane.new.kept result }
 {
-    match copied(alloc, message) {
-        Ok(bytes) => send_bytes(lane.as_mut(), bytes),
-        Err(code) => code.number(),
-    }
+    on_one!(lane, Bytes(Lane(lane)) => send_copy(alloc, lane, message))
 }
 
-fn send_bytes(lane: &mut Kept, message: Bytes) -> u32
-    ensures { OnBytes (Sends message result) ⊤ result lane.old lane.new }
+fn send_copy(alloc: Global, lane: &mut Lane<Bytes>, message: &[u8]) -> u32
+    ensures { SendsCopied message.now result lane.old lane.new }
 {
-    match lane {
-        Kept::Bytes(Resource::Lane(lane)) => tell_sent(lane.send(message)),
-        _ => {
-            drop(message);
-            Code::WrongHandle.number()
-        }
+    match copied(alloc, message) {
+        Ok(bytes) => tell_sent(lane.send(bytes)),
+        Err(code) => code.number(),
     }
 }
 
@@ -174,9 +182,24 @@ fn close_end<M: Message>(room: &mut RoomOf<M>, end: LaneEnd<M>) -> (Resource<M>,
 /// Moves the messages that it sees on an open lane into the journal, and writes how many.
 #[unsafe(no_mangle)]
 pub extern "C" fn seryugo_lane_drain(room: &mut Handle, lane_number: u64, count: &mut u64) -> u32
-    ensures { OnEither (λ M sure. OnRoom (Counts (Drains chunk sure lane_number) result count.old count.new)) (count.new ≡ count.old) result room.old.kept room.new.kept }
+    ensures { OnEither (λ M sure. OnRoom (Counts (Drains chunk sure lane_number) (Stirs MakesFewByOne) result count.old count.new)) (count.new ≡ count.old) result room.old.kept room.new.kept }
 {
-    on_either!(room, Room(room) => tell_count(room.room.drain(lane_number), count))
+    for_both!(room.as_mut(), resource => drain(resource, lane_number, count))
+}
+
+fn drain<M: Message>(resource: &mut Resource<M>, lane_number: u64, count: &mut u64) -> u32
+    ensures { OnRoom (Counts (Drains chunk M.SURE lane_number) (Stirs MakesFewByOne) result count.old count.new) (count.new ≡ count.old) result resource.old resource.new }
+{
+    match resource {
+        Resource::Room(room) => drain_in(&mut room.room, lane_number, count),
+        _ => Code::WrongHandle.number(),
+    }
+}
+
+fn drain_in<M: Message>(room: &mut RoomOf<M>, lane_number: u64, count: &mut u64) -> u32
+    ensures { Counts (Drains chunk M.SURE lane_number) (Stirs MakesFewByOne) result count.old count.new room.old room.new }
+{
+    tell_count(room.drain(lane_number), count)
 }
 
 /// Moves the messages that it sees on an open lane, writes how many, and closes it if none was refused. Fails with `StillOpen`
@@ -185,7 +208,22 @@ pub extern "C" fn seryugo_lane_drain(room: &mut Handle, lane_number: u64, count:
 pub extern "C" fn seryugo_lane_drop(room: &mut Handle, lane_number: u64, count: &mut u64) -> u32
     ensures { OnEither (λ M sure. OnRoom (DropsLane sure lane_number result count.old count.new)) (count.new ≡ count.old) result room.old.kept room.new.kept }
 {
-    on_either!(room, Room(room) => tell_dropped(room.room.drop_lane(lane_number), count))
+    for_both!(room.as_mut(), resource => drop_lane(resource, lane_number, count))
+}
+
+fn drop_lane<M: Message>(resource: &mut Resource<M>, lane_number: u64, count: &mut u64) -> u32
+    ensures { OnRoom (DropsLane M.SURE lane_number result count.old count.new) (count.new ≡ count.old) result resource.old resource.new }
+{
+    match resource {
+        Resource::Room(room) => drop_in(&mut room.room, lane_number, count),
+        _ => Code::WrongHandle.number(),
+    }
+}
+
+fn drop_in<M: Message>(room: &mut RoomOf<M>, lane_number: u64, count: &mut u64) -> u32
+    ensures { DropsLane M.SURE lane_number result count.old count.new room.old room.new }
+{
+    tell_dropped(room.drop_lane(lane_number), count)
 }
 
 /// The code of the drop of a lane, and how many messages were moved, which is written.
@@ -206,9 +244,18 @@ fn tell_dropped(outcome: Result<(usize, bool), Refusal>, count: &mut u64) -> u32
 /// Closes an open lane at once, and drops the messages left on it.
 #[unsafe(no_mangle)]
 pub extern "C" fn seryugo_lane_abandon(room: &mut Handle, lane_number: u64) -> u32
-    ensures { OnEither (λ M sure. OnRoom (Does (Abandons lane_number) result)) ⊤ result room.old.kept room.new.kept }
+    ensures { OnEither (λ M sure. OnRoom (Does (Abandons lane_number) (Stirs MakesNoneDue) result)) ⊤ result room.old.kept room.new.kept }
 {
-    on_either!(room, Room(room) => code_of(room.room.abandon_lane(lane_number)))
+    for_both!(room.as_mut(), resource => abandon(resource, lane_number))
+}
+
+fn abandon<M: Message>(resource: &mut Resource<M>, lane_number: u64) -> u32
+    ensures { OnRoom (Does (Abandons lane_number) (Stirs MakesNoneDue) result) ⊤ result resource.old resource.new }
+{
+    match resource {
+        Resource::Room(room) => code_of(room.room.abandon_lane(lane_number)),
+        _ => Code::WrongHandle.number(),
+    }
 }
 
 /// The code of a call that gives a count, which is written.

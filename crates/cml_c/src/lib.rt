@@ -4,9 +4,11 @@
 
 mod asking;
 mod bare;
+mod blocks;
 mod bytes;
 mod bytes_asking;
 mod bytes_entries;
+mod bytes_sending;
 mod channels;
 mod checked_entries;
 mod checkers;
@@ -19,6 +21,7 @@ mod journals;
 mod keeper;
 mod kept;
 mod lanes;
+pub mod laws;
 mod mailboxes;
 mod messages;
 mod raw;
@@ -26,6 +29,7 @@ mod read_journals;
 mod readers;
 mod restoring;
 mod rooms;
+mod sending;
 mod telling;
 mod texts;
 mod variables;

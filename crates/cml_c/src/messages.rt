@@ -1,16 +1,16 @@
 //! Messages of bytes: how they are copied from C, and how they are handed to C.
-ghost use Rattle.std.specs.Prelude.{◌≡◌, ◌≤◌, length, IfOk, IfErr, option_map, option_copied};
+ghost use Rattle.std.specs.Prelude.{◌≡◌, ◌<◌, ◌≤◌, length, IfOk, IfErr, option_map, option_copied};
 ghost use Rattle.cml_c.specs.Codes.{number};
 ghost use Rattle.cml_c.specs.Messages.{IsHanded, NotCopied, HandsHeld, HandsShare};
 
 use crate::code::Code;
 use crate::keeper::{Held, Keeper, Share};
-use cml_board::{Bytes, Message};
+use cml_board::Bytes;
 use std::alloc::Global;
 use std::ptr;
 
 /// The most bytes of a message that lie in the struct itself.
-const IN_PLACE: usize = 14;
+pub(crate) const IN_PLACE: usize = 14;
 
 /// Where a message is written. Up to 14 bytes lie in the struct; more stay where they are until C frees the message.
 #[repr(C)]
@@ -68,20 +68,24 @@ pub(crate) fn hand_over_held(
 fn hand_over_share(alloc: Global, held: &Bytes, message: &mut SeryugoBytes) -> u32
     ensures { HandsShare held.now result message.old message.new }
 {
-    match held.share(alloc) {
+    match held.clone() {
         Ok(share) => hand_over_new(alloc, share, message),
         Err(_) => Code::NoMemory.number(),
     }
 }
 
-/// Hands over a message, unless there is no memory to keep it.
+/// Hands over a message, unless it is long, and there is no memory to keep it.
 pub(crate) fn hand_over_new(alloc: Global, given: Bytes, message: &mut SeryugoBytes) -> u32
     ensures { HandsShare given result message.old message.new }
 {
+    if given.len() <= IN_PLACE {
+        show_short(given.as_slice(), message);
+        return Code::Done.number();
+    }
     let Some(block) = new_block(alloc) else {
         return Code::NoMemory.number();
     };
-    drop(hand_over(block, given, message));
+    keep_long(block, given, message);
     Code::Done.number()
 }
 
@@ -94,7 +98,7 @@ pub(crate) fn new_block(alloc: Global) -> Option<Box<Held>> {
 /// Hands a message over. A long one is kept in the block, whose memory was there before the message was taken. For a short one the
 /// block is left.
 pub(crate) fn hand_over(
-    mut block: Box<Held>,
+    block: Box<Held>,
     message: Bytes,
     to: &mut SeryugoBytes,
 ) -> Option<Box<Held>>
@@ -104,16 +108,24 @@ pub(crate) fn hand_over(
         show_short(message.as_slice(), to);
         return Some(block);
     }
+    keep_long(block, message, to);
+    None
+}
+
+/// Keeps a long message in the block, and writes where it is.
+fn keep_long(mut block: Box<Held>, message: Bytes, to: &mut SeryugoBytes)
+    requires { 14 < length message }
+    ensures { IsHanded message to.new }
+{
     let (at, length) = place_of(message.as_slice());
     *block = Held { bytes: message };
     to.length = length;
     to.block = at;
     to.owner = Keeper::new(block).into_slot();
-    None
 }
 
 /// Writes a short message into the struct. What keeps a long one isn't read then, and is left as it was.
-fn show_short(bytes: &[u8], to: &mut SeryugoBytes)
+pub(crate) fn show_short(bytes: &[u8], to: &mut SeryugoBytes)
     requires { length bytes.now ≤ 14 }
     ensures { IsHanded bytes.now to.new }
 {

@@ -4,7 +4,7 @@ ghost use Rattle.cml_journal.specs.Checks.{IsSoFar};
 ghost use Rattle.cml_c.specs.declared.kept.Kept.TheVariants as kept;
 ghost use Rattle.cml_c.specs.Codes.{number};
 ghost use Rattle.cml_c.specs.Handles.{OnEither, OnReading};
-ghost use Rattle.cml_c.specs.ReadJournals.{OpensNumbers, OpensBytes, Takes, TakesPart, Tells, EndsSo, entries_read, lines_read, told_halt};
+ghost use Rattle.cml_c.specs.ReadJournals.{OpensNumbers, OpensBytes, Takes, TakesPart, Tells, TellsEnd, EndsSo, entries_read, lines_read, told_halt};
 
 use crate::code::Code;
 use crate::handle::{Handle, Slot};
@@ -91,17 +91,18 @@ pub extern "C" fn seryugo_reading_lines(reading: &mut Handle, lines: &mut u64) -
 /// stopped by.
 #[unsafe(no_mangle)]
 pub extern "C" fn seryugo_reading_end(reading: &mut Handle) -> u32
-    ensures { OnEither (λ M sure. OnReading (EndsSo result)) ⊤ result reading.old.kept reading.new.kept }
+    ensures { TellsEnd result reading.old.kept reading.new.kept }
 {
     on_either!(reading, Reading(reading) => tell_end(reading))
 }
 
 fn tell_end<M: Message + Written>(reading: &mut Check<M>) -> u32
-    ensures { EndsSo result reading.old reading.new }
+    ensures { EndsSo M.VERSION M.meaning result reading.old reading.new }
 {
+    let is_whole = reading.end();
     match reading.halt() {
         Some(halt) => code_of_halt(halt).number(),
-        None if reading.end() => Code::Done.number(),
+        None if is_whole => Code::Done.number(),
         None => Code::Torn.number(),
     }
 }

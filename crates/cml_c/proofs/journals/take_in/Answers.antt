@@ -7,8 +7,8 @@ returns-in-Ok-take_journal g c = inl
     (record {
       told = search rules;
       cut = search rules;
-      seats = search rules;
-      woken = search rules;
+      rings = search rules;
+      kept = search rules;
       taken = c.in-Ok-take_journal.entries;
       entries = search rules;
       written = search rules;

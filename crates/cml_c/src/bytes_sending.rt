@@ -1,0 +1,119 @@
+//! A seat's call that sends a copy of bytes from C.
+ghost use Rattle.cml_board.specs.declared.call.Call.TheVariants.{Swap};
+ghost use Rattle.cml_c.specs.Asking.{sending_call};
+ghost use Rattle.cml_c.specs.Messages.{FillsBytes, SendsBytes, SwapsBytes, MakesCopied, SwapsCopied};
+
+use crate::asking::tell_name;
+use crate::blocks::may_make;
+use crate::bytes_asking::make_in_room;
+use crate::code::Code;
+use crate::handle::Handle;
+use crate::kept::{Kept, Resource, RoomOf, Stocked};
+use crate::messages::{SeryugoBytes, copied};
+use crate::sending::Sending;
+use cml_board::{Bytes, Call, Name, Want};
+use std::alloc::Global;
+
+/// Copies a message and makes the call that sends it, and writes the name that the call gives.
+pub(crate) fn make_sending_call(
+    alloc: Global,
+    handle: &mut Handle,
+    seat: u64,
+    sending: Sending,
+    message: &[u8],
+    name: &mut u64,
+) -> u32
+    ensures { FillsBytes seat message.now (sending_call sending message.now) handle.old.kept handle.new.kept result name.old name.new }
+{
+    match handle.as_mut() {
+        Kept::Bytes(Resource::Room(room)) => send_in(
+            alloc,
+            &mut room.room,
+            seat,
+            sending,
+            message,
+            name,
+        ),
+        _ => Code::WrongHandle.number(),
+    }
+}
+
+/// The same of a call that gives no name.
+pub(crate) fn make_nameless_sending_call(
+    alloc: Global,
+    handle: &mut Handle,
+    seat: u64,
+    sending: Sending,
+    message: &[u8],
+) -> u32
+    ensures { SendsBytes seat message.now (sending_call sending message.now) handle.old.kept handle.new.kept result }
+{
+    let mut name = 0;
+    make_sending_call(alloc, handle, seat, sending, message, &mut name)
+}
+
+fn send_in(
+    alloc: Global,
+    room: &mut RoomOf<Bytes>,
+    seat: u64,
+    sending: Sending,
+    message: &[u8],
+    name: &mut u64,
+) -> u32
+    ensures { MakesCopied seat message.now (sending_call sending message.now) result name.old name.new room.old room.new }
+{
+    match copied(alloc, message) {
+        Ok(bytes) => tell_name(room.ask(seat, sending.into_call(bytes)), name),
+        Err(code) => {
+            if may_make(room, seat, false, None) {
+                return code.number();
+            }
+            Code::Gone.number()
+        }
+    }
+}
+
+/// Copies a message and makes the call that swaps it for another, and hands that over.
+pub(crate) fn make_swap(
+    alloc: Global,
+    handle: &mut Handle,
+    seat: u64,
+    is_again: bool,
+    variable: Name,
+    message: &[u8],
+    held: &mut SeryugoBytes,
+) -> u32
+    ensures { SwapsBytes is_again seat message.now (Swap variable message.now) handle.old.kept handle.new.kept result held.old held.new }
+{
+    match handle.as_mut() {
+        Kept::Bytes(Resource::Room(room)) => swap_in(
+            alloc, room, seat, is_again, variable, message, held,
+        ),
+        _ => Code::WrongHandle.number(),
+    }
+}
+
+fn swap_in(
+    alloc: Global,
+    stocked: &mut Stocked<Bytes>,
+    seat: u64,
+    is_again: bool,
+    variable: Name,
+    message: &[u8],
+    held: &mut SeryugoBytes,
+) -> u32
+    ensures { SwapsCopied is_again seat message.now (Swap variable message.now) result held.old held.new stocked.old.room stocked.new.room }
+{
+    match copied(alloc, message) {
+        Ok(bytes) => {
+            let call = Call::Swap(variable, bytes);
+            make_in_room(alloc, stocked, seat, is_again, call, held)
+        }
+        Err(code) => {
+            if may_make(&stocked.room, seat, is_again, Some(Want::Swap(variable))) {
+                return code.number();
+            }
+            Code::Gone.number()
+        }
+    }
+}
