@@ -15,7 +15,7 @@ use Rattle.cml_board.specs.declared.entry.Who.TheVariants.{Seat, Lane, Feed}
 use Rattle.cml_board.specs.declared.entry.Reply.{Reply}
 use Rattle.cml_board.specs.declared.entry.Reply.TheVariants as reply
 use Rattle.cml_board.specs.declared.entry.Entry.{Entry}
-use Rattle.cml_board.specs.Origins.{Origin, channel, port, kind_by, copy_of}
+use Rattle.cml_board.specs.Origins.{Origin, port, kind_by, copy_of}
 use Rattle.cml_calls.specs.Kinds.{is_port}
 use Rattle.cml_board.specs.History.{Lawful, Fits, made, begun_by, if_made, new_name, origin_of, kind_of, is_open, answer, sent, got}
 use Rattle.cml_board.proofs.Closing.{kind_kept}

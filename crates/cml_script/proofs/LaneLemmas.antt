@@ -1,5 +1,5 @@
 -- What lanes moved, beside what threads sent by them.
-use Rattle.std.proofs.Common.{◌≡◌, ℕ, zero, suc, ◌+◌, ◌<◌, ◌≤◌, Bool, true, false, ◌&&◌, ◌||◌, eqb, cond, List, [], ◌∷◌, ◌++◌, length, take, drop, reverse, slice_get, Option, Some, None, refl, sym, ap, subst, ◌∙◌, append_assoc, inl, inr, arith}
+use Rattle.std.proofs.Common.{◌≡◌, ℕ, zero, suc, ◌+◌, ◌≤◌, Bool, true, false, ◌&&◌, ◌||◌, eqb, cond, List, [], ◌∷◌, ◌++◌, length, take, drop, reverse, slice_get, Option, Some, refl, sym, ap, subst, ◌∙◌, append_assoc, inl, inr, arith}
 use Rattle.std.specs.Prelude.{◌≢◌, ◌↔◌, IsTrue, MatchOption}
 use Rattle.std.specs.Bool.{then_some}
 use Rattle.std.specs.Option.{option_map, option_map_or, option_and_then}
@@ -16,9 +16,9 @@ use Rattle.cml_grammar.specs.Script.{SourceLine, Lines}
 use Rattle.cml_grammar.specs.Meaning.{names_of}
 use Rattle.cml_grammar.specs.Reading.{source_of, ReadsStep, ReadsLane, used_by}
 use Rattle.cml_grammar.specs.Rings.{Laid, lane_of}
-use Rattle.cml_script.specs.Schedule.{History, number_of, is_seated, route_of, call_on}
+use Rattle.cml_script.specs.Schedule.{History, number_of, route_of, call_on}
 use Rattle.cml_script.specs.Left.{is_by_lane, is_laid}
-use Rattle.cml_script.specs.Lanes.{is_of_name, is_laid_to, call_to, sends_to, is_moved_to, is_moved_on, moved_to, IsInOrder, IsInOrderAt, IsOnLine, AreOnLines, IsNextLaid, IsSent, IsNotSent, IsBehind, IsAstray}
+use Rattle.cml_script.specs.Lanes.{is_of_name, is_laid_to, call_to, sends_to, is_moved_to, is_moved_on, moved_to, IsInOrder, IsInOrderAt, IsOnLine, AreOnLines, IsNextLaid, IsSent, IsNotSent, IsBehind}
 use Rattle.cml_script.proofs.LineLemmas.{step_seated, step_route}
 use Rattle.cml_script.proofs.JournalLemmas.{before_more}
 use Rattle.cml_script.proofs.ListLemmas.{taken_more}

@@ -1,5 +1,4 @@
 use Rattle.std.specs.Prelude.{option_copied}
-use Rattle.cml_board.specs.History.{kind_of}
 use Rattle.cml_script.proofs.CountLemmas.{some_held, kind_there}
 use Rattle.cml_script.proofs.report.write_held.Goals as goal
 

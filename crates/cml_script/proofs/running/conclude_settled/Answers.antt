@@ -1,4 +1,4 @@
-use Rattle.std.proofs.Common.{rules, refl, inr}
+use Rattle.std.proofs.Common.{refl}
 use Rattle.cml_script.proofs.ReplayLemmas.{text_under, refused_untold}
 use Rattle.cml_script.proofs.running.conclude_settled.Goals as goal
 

@@ -1,6 +1,6 @@
-use Rattle.std.proofs.Common.{List, ℕ, ◌≡◌, subst}
+use Rattle.std.proofs.Common.{List, ℕ, subst}
 use Rattle.cml_grammar.specs.Script.{IsScript}
-use Rattle.cml_script.proofs.ReplayLemmas.{read_run, untold_ends, unsettled_ends}
+use Rattle.cml_script.proofs.ReplayLemmas.{read_run, untold_ends}
 use Rattle.cml_script.proofs.HeldLemmas.{kept_unheld}
 use Rattle.cml_script.proofs.running.run_read.Goals as goal
 
@@ -16,8 +16,3 @@ returns-in-Ok-clause-untold g c =
 
 pub returns-in-Ok-clause-open : goal.returns-in-Ok-clause-open
 returns-in-Ok-clause-open g c = kept_unheld _ c.in-Ok.ran.stop c.conclude_settled.result c.in-Ok.ensures.open c.conclude_settled.ensures.stop
-
-pub returns-in-Err-clause-untold : goal.returns-in-Err-clause-untold
-returns-in-Err-clause-untold g c =
-    let says = subst (λ (t : List ℕ). IsScript t c.in_ok-script.script) c.deref.ensures.value c.in_ok-script.ensures.script in
-    unsettled_ends c.in_ok-script.script _ _ c.in_ok-text.text.items c.in-Err.ending c.in_ok-text.ensures says c.in-Err.ensures.unsettled
