@@ -43,18 +43,25 @@ replay_from_c() {
 # refused PROGRAM N: with its N-th request for memory refused, a program that makes each call ends with status 5: the call that
 # asked fails, and all that was opened before is closed.
 refused() {
-    REFUSE=$2 LD_PRELOAD="$work/refuse.so" "$work/$1"
+    REFUSE=$2 TOLD="$work/met" LD_PRELOAD="$work/refuse.so" "$work/$1"
     [ $? -eq 5 ]
 }
 
-# refuse_each PROGRAM LINE: each request of the library's in turn, until a run makes no more, and ends with this line. The last
-# request is the C library's own, for what is printed.
+# refuse_each PROGRAM LINE: each request of the library's in turn, until a run makes no more. A run ends with status 5; or with this
+# line, if the call did without, as one that then blocks. The last request is the C library's own, for what is printed.
 refuse_each() {
     request=1
-    while refused "$1" $request > "$work/printed" 2>&1; do
+    failures=0
+    while rm -f "$work/met"; do
+        if refused "$1" $request > "$work/printed" 2>&1; then
+            failures=$((failures + 1))
+        else
+            grep -q "$2" "$work/printed" || return
+        fi
+        [ -e "$work/met" ] || break
         request=$((request + 1))
     done
-    grep -q "$2" "$work/printed" && [ $request -gt 20 ]
+    [ $failures -gt 20 ]
 }
 
 # Each request for memory of a program that makes a call again if there is none: each run ends well. The requests come in no
