@@ -21,9 +21,8 @@ pub use base_laws::{bases_tell_answers, bases_tell_messages, bases_tell_objects}
 pub use board::{Board, BoardLog};
 pub use call::{Call, Name};
 pub use checking::{Checker, check};
-pub use cml_bytes::{Bytes, TooLong};
 pub use cml_calls::{Ask, Give, Kind, Make, ReplyKind, Shape, Takers};
-pub use cml_text::{BadText, Text};
+pub use cml_messages::{BadText, Bytes, Text, TooLong};
 pub use entry::{Entry, Reply, Who};
 pub use expected::{Expected, Unlawful};
 pub use laws::{calls_wait_by_want, lawful_at_every_position, replies_suit_calls, reserved_lasts};

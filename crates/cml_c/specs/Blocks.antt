@@ -11,7 +11,7 @@ use Rattle.cml_board.specs.declared.entry.Reply.{Reply}
 use Rattle.cml_board.specs.declared.entry.Reply.TheVariants.{Got}
 use Rattle.cml_board.specs.declared.outcome.Outcome.{Outcome}
 use Rattle.cml_board.specs.declared.outcome.Outcome.TheVariants.{Answered}
-use Rattle.cml_bytes.specs.Sizes.{IsShort}
+use Rattle.cml_messages.specs.Sizes.{IsShort}
 use Rattle.cml_room.specs.Room.{RoomShown}
 use Rattle.cml_c.specs.Asking.{MayMake}
 

@@ -1,6 +1,6 @@
 -- What a call in a room of bytes returns to C, and the messages that it hands over.
 use Rattle.std.specs.Prelude.{ℕ, ◌≡◌, ◌<◌, ◌⊎◌, Bool, false, List, length, take, Option, Some, None, ⊤}
-use Rattle.cml_bytes.specs.Sizes.{IsShort, IsLong, IsTooLong}
+use Rattle.cml_messages.specs.Sizes.{IsShort, IsLong, IsTooLong}
 use Rattle.cml_board.specs.declared.call.Call.{Call}
 use Rattle.cml_board.specs.declared.entry.Reply.{Reply}
 use Rattle.cml_board.specs.declared.entry.Reply.TheVariants as reply

@@ -1,6 +1,6 @@
 -- What the words of a line mean where each suits its place.
 use Rattle.std.proofs.Common.{◌≡◌, ℕ, ◌==◌, true, false, if◌then◌else◌, List, [], ◌∷◌, map, length, slice_get, Option, Some, refl, sym, ap, ◌∙◌, subst, Bor, inl, inr, true≢false, arith}
-use Rattle.cml_text.specs.Text.{is_text}
+use Rattle.cml_messages.specs.Text.{is_text}
 use Rattle.std.specs.Option.{option_map}
 use Rattle.std.specs.List.{find, zip}
 use Rattle.std.proofs.lemmas.Bool.{ne_eqb}

@@ -1,8 +1,8 @@
 -- Names and numbers: what the look-ups of a map of texts give, and which words are numbers.
 use Rattle.std.proofs.Common.{◌≡◌, ◌≢◌, ℕ, suc, ◌^◌, ◌<◌, ◌≤◌, Bool, true, false, not, cond, ◌&&◌, ◌||◌, ◌==◌, nat_lt, List, [], ◌∷◌, ◌++◌, length, slice_get, position, Option, Some, None, is_some, Result, Ok, Err, refl, sym, ap, ◌∙◌, arith, get_or, eq-eqb, if◌then◌else◌, String, string_bytes, true≢false}
 use Rattle.std.proofs.Common.{◌⊎◌, inl, inr, subst}
-use Rattle.cml_text.specs.Text.{is_text}
-use Rattle.cml_text.proofs.TextLemmas.{number_is_text}
+use Rattle.cml_messages.specs.Text.{is_text}
+use Rattle.cml_messages.proofs.TextLemmas.{number_is_text}
 use Rattle.std.specs.Fmt.{decimal}
 use Rattle.std.proofs.lemmas.Fmt.{decimal-digits_value, digits_decimal, digits_value-decimal, decimal_nonempty, first_decimal, decimal_digit}
 use Rattle.std.proofs.lemmas.Bool.{or_cases, cases_lt}

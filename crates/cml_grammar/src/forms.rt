@@ -9,7 +9,7 @@ ghost use Rattle.cml_grammar.specs.Shown.{shown};
 
 use crate::names::{Named, seat_of};
 use cml_calls::{Ask, Give, Kind, Takers};
-use cml_text::Text;
+use cml_messages::Text;
 use indexmap::IndexMap;
 
 /// The places behind `lane`.

@@ -2,7 +2,7 @@
 ghost use Rattle.std.specs.Prelude.{◌≡◌, ◌+◌, ◌^◌, ◌<◌, [], ◌∷◌, length, map, Some, true, is_some, All, IfOk};
 ghost use Rattle.std.specs.Option.{option_map};
 ghost use Rattle.std.specs.Str.Parse.{digits_value};
-ghost use Rattle.cml_text.specs.Text.{is_text};
+ghost use Rattle.cml_messages.specs.Text.{is_text};
 ghost use Rattle.cml_grammar.specs.Names.{is_capacity, is_given, position_of, seat_of, thread_count};
 ghost use Rattle.cml_grammar.specs.Forms.{declared_places, lane_places, step_places, fresh_word, owner_of, named_by};
 ghost use Rattle.cml_grammar.specs.Faults.{ends_by};
@@ -14,7 +14,7 @@ ghost use Rattle.cml_grammar.specs.Suiting.{AllSuit};
 use crate::forms::{Action, Declares, FeedMaking, Makes, Verb, fresh_word};
 use crate::names::{Named, Users, capacity_in, position_of, seat_of};
 use crate::script::{Lane, Line};
-use cml_text::Text;
+use cml_messages::Text;
 use indexmap::IndexMap;
 use std::alloc::{AllocError, Global};
 

@@ -13,7 +13,7 @@ use Rattle.cml_board.specs.declared.entry.Who.TheVariants.{Seat, Lane, Feed}
 use Rattle.cml_board.specs.declared.entry.Reply.{Reply}
 use Rattle.cml_board.specs.declared.entry.Reply.TheVariants.{Done, Made, Got, Nothing, Put, Closed}
 use Rattle.cml_board.specs.Objects.{object_in, message_of, row_of}
-use Rattle.cml_text.specs.Text.{is_text_byte}
+use Rattle.cml_messages.specs.Text.{is_text_byte}
 use Rattle.cml_grammar.specs.Words.{is_bad_byte}
 use Rattle.cml_journal.specs.NumberLaws.{number_printed}
 use Rattle.cml_journal.specs.Written.{IsWritten}

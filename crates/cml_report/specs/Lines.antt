@@ -14,7 +14,7 @@ use Rattle.cml_grammar.specs.Words.{words_of}
 use Rattle.cml_grammar.specs.Forms.{verb_of}
 use Rattle.cml_grammar.specs.declared.forms.Verb.{Verb}
 use Rattle.cml_grammar.specs.declared.forms.Verb.TheVariants as verb
-use Rattle.cml_text.specs.Text.{is_text}
+use Rattle.cml_messages.specs.Text.{is_text}
 
 -- the texts of a line, wherever they lie in memory
 abbrev pub Words : Type 0

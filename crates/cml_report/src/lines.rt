@@ -8,7 +8,7 @@ ghost use Rattle.cml_report.specs.Shown.{texts, shown_actor, shown_act, shown_ob
 use crate::report::{Act, Actor, End, Line, Object};
 use cml_calls::{Ask, Give, ReplyKind};
 use cml_grammar::{Verb, is_name, number_of};
-use cml_text::is_text;
+use cml_messages::is_text;
 
 /// Finds the line that these words are behind `count` lines of the first part: the last line, a line of the second part, or
 /// a line of the first, in this order.

@@ -1,7 +1,7 @@
 //! Where bytes lie.
 ghost use Rattle.std.specs.Prelude.{◌≡◌, ◌<◌, ◌≤◌, ◌^◌, length, IfOk, OnErr};
 ghost use Rattle.std.specs.Arc.{arc_value};
-ghost use Rattle.cml_bytes.specs.Sizes.{IsShort, IsLong};
+ghost use Rattle.cml_messages.specs.Sizes.{IsShort, IsLong};
 
 use crate::few::Few;
 use std::alloc::{AllocError, Global};
@@ -38,7 +38,7 @@ fn block<const N: usize>(alloc: Global, source: &[u8]) -> Result<Arc<Few<N>>, Al
 }
 
 impl Place {
-    ghost use Rattle.cml_bytes.specs.Place.{bytes_of, IsPlaced};
+    ghost use Rattle.cml_messages.specs.Place.{bytes_of, IsPlaced};
 
     /// Copies these bytes to the least place that has room for them.
     pub(crate) fn of_slice(alloc: Global, source: &[u8]) -> Result<Place, AllocError>

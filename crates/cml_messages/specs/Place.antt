@@ -1,9 +1,9 @@
 -- Which bytes lie at a place, and how many may.
 use Rattle.std.specs.Prelude.{ℕ, List}
 use Rattle.std.specs.Arc.{arc_value}
-use Rattle.cml_bytes.specs.Sizes.{IsShort, IsLong}
-use Rattle.cml_bytes.specs.declared.place.Place.{Place}
-use Rattle.cml_bytes.specs.declared.place.Place.TheVariants.{Here, Block31, Block63, Block127, Block255, Whole}
+use Rattle.cml_messages.specs.Sizes.{IsShort, IsLong}
+use Rattle.cml_messages.specs.declared.place.Place.{Place}
+use Rattle.cml_messages.specs.declared.place.Place.TheVariants.{Here, Block31, Block63, Block127, Block255, Whole}
 
 -- the bytes at the place: those in the value itself, in the block, or in the vector
 abbrev pub bytes_of : Place → List ℕ

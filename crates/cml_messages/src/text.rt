@@ -1,10 +1,10 @@
 //! A text: one word, short enough for a line.
 ghost use Rattle.std.specs.Prelude.{◌≡◌, ◌<◌, ◌^◌, true, false, IfOk};
 ghost use Rattle.std.specs.Fmt.{decimal};
-ghost use Rattle.cml_bytes.specs.Sizes.{IsShort};
-ghost use Rattle.cml_text.specs.Text.{is_text_byte, is_text};
+ghost use Rattle.cml_messages.specs.Sizes.{IsShort};
+ghost use Rattle.cml_messages.specs.Text.{is_text_byte, is_text};
 
-use cml_bytes::Bytes;
+use crate::bytes::Bytes;
 use itoa::Buffer;
 use std::alloc::{AllocError, Global};
 use std::error::Error;
@@ -25,7 +25,7 @@ pub struct Text {
 
 impl Model for Text {
     ghost use Rattle.std.specs.Prelude.{◌≡◌, ℕ, List, true};
-    ghost use Rattle.cml_text.specs.Text.{is_text};
+    ghost use Rattle.cml_messages.specs.Text.{is_text};
 
     ghost Value = { List ℕ };
 

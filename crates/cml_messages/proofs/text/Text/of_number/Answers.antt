@@ -1,8 +1,8 @@
 use Rattle.std.proofs.Common.{◌≡◌, ◌∙◌, ap, subst, IfOk, length, arith}
 use Rattle.std.proofs.lemmas.Fmt.{length-decimal-le}
-use Rattle.cml_text.specs.Text.{is_text}
-use Rattle.cml_text.proofs.TextLemmas.{number_is_text}
-use Rattle.cml_text.proofs.text.Text.of_number.Goals as goal
+use Rattle.cml_messages.specs.Text.{is_text}
+use Rattle.cml_messages.proofs.TextLemmas.{number_is_text}
+use Rattle.cml_messages.proofs.text.Text.of_number.Goals as goal
 
 pub returns-in_err-bytes-clause-short : goal.returns-in_err-bytes-clause-short
 returns-in_err-bytes-clause-short c =

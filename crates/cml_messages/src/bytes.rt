@@ -1,5 +1,5 @@
 ghost use Rattle.std.specs.Prelude.{◌≡◌, ◌↔◌, ◌<◌, ◌^◌, [], length, IsTrue, IsOk, IsErr, IfOk, OnErr, IsOkAnd};
-ghost use Rattle.cml_bytes.specs.Sizes.{IsShort, IsTooLong};
+ghost use Rattle.cml_messages.specs.Sizes.{IsShort, IsTooLong};
 
 use crate::place::Place;
 use std::alloc::{AllocError, Global};
@@ -24,7 +24,7 @@ const _: () = prove!(mem::size_of::<Bytes>() == 16);
 
 impl Model for Bytes {
     ghost use Rattle.std.specs.Prelude.{ℕ, List};
-    ghost use Rattle.cml_bytes.specs.Place.{bytes_of, IsPlaced};
+    ghost use Rattle.cml_messages.specs.Place.{bytes_of, IsPlaced};
 
     ghost Value = { List ℕ };
 

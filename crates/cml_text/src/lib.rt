@@ -1,6 +1,0 @@
-//! Words as messages.
-#![tactic(auto)]
-
-mod text;
-
-pub use text::{BadText, Text, is_text};
