@@ -16,7 +16,7 @@ done
 kit=$(dirname "$(rt doc)")
 work=$(mktemp -d)
 trap 'rm -rf "$work"' EXIT
-. tests/tried.sh
+. tests/lib/tried.sh
 echo 'compiling the library without a proof'
 library "$work/libcml_c.a"
 SERYUGO_ARCHIVE="$work/libcml_c.a" SERYUGO_SCRIPT_ARCHIVE=/nowhere sh bindings/install.sh "$prefix" | grep -v '^left out'

@@ -29,7 +29,7 @@ step() {
     esac
 }
 
-. tests/beside.sh
+. tests/lib/beside.sh
 
 # As many proofs at once as there are processors. Without RT_JOBS `rt ci` expects more memory of a proof than it takes, and
 # begins with the largest crate only when nearly all others have ended.

@@ -4,7 +4,7 @@
 # try rooms, two of them with threads. They run under valgrind and the sanitizers too. Then the tests of the crate of bindings/rust
 # run, four files of them under valgrind, and its documented examples. What isn't there is named as left out, and counts for
 # nothing. The last line is `N passed, M failed`.
-. "$(dirname "$0")/cases.sh"
+. "$(dirname "$0")/lib/cases.sh"
 rooms=$(absolute "$1")
 replay=$(absolute "$2")
 cd "$(dirname "$0")/.." || exit 1
@@ -110,7 +110,7 @@ sanitizers_from_c() {
 }
 
 refusals_from_c() {
-    check 'requests for memory can be refused' cc -O2 -shared -fPIC -o "$work/refuse.so" tests/refuse.c -ldl
+    check 'requests for memory can be refused' cc -O2 -shared -fPIC -o "$work/refuse.so" tests/lib/refuse.c -ldl
     [ -x "$work/calls" ] && check 'each request for memory refused' refuse_each calls 'each call returns'
     [ -x "$work/messages" ] && check 'the same with messages of bytes' refuse_each messages 'each call returns'
     [ -x "$work/keep" ] && check 'the same with journals that are kept' refuse_each keep 'each journal is kept'

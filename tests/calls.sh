@@ -5,7 +5,7 @@
 # the same. Left out are the tables on a message whose share always fails and on how many messages live.
 # The last line is `N passed, M failed`.
 program=$(cd "$(dirname "$1")" && pwd)/$(basename "$1")
-cd "$(dirname "$0")" || exit 1
+cd "$(dirname "$0")/tables" || exit 1
 
 # compare TABLE WORDS..: compares the program's output with these words and the table, case by case. The program writes a
 # text in quotes.

@@ -6,7 +6,7 @@
 # The last line is `N passed, M failed`.
 LC_ALL=C
 export LC_ALL
-. "$(dirname "$0")/cases.sh"
+. "$(dirname "$0")/lib/cases.sh"
 program=$(absolute "$1")
 cd "$(dirname "$0")/.." || exit 1
 

@@ -5,7 +5,7 @@
 # left: each client gets each message of its room once, in one order with all others. The last line is `N passed, M failed`.
 LC_ALL=C
 export LC_ALL
-. "$(dirname "$0")/cases.sh"
+. "$(dirname "$0")/lib/cases.sh"
 given=$(absolute "$1")
 shift
 checker=

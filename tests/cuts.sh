@@ -17,11 +17,11 @@
 # By `take` each case ends with a line `pieces`: all that was handed over, fed to a checker piece by piece, is lawful.
 # The table of how many messages live is left out, since each cut drops some, or keeps some longer.
 #
-# Then tables of random calls (tests/some_calls.awk) are performed with the cuts that are strewn in, without them, and with
+# Then tables of random calls (tests/models/some_calls.awk) are performed with the cuts that are strewn in, without them, and with
 # a cut behind each line: the outcomes of all other lines must be the same.
 # The last line is `N passed, M failed`.
 program=$(cd "$(dirname "$1")" && pwd)/$(basename "$1")
-cd "$(dirname "$0")" || exit 1
+cd "$(dirname "$0")/tables" || exit 1
 work=$(mktemp -d) || exit 1
 trap 'rm -rf "$work"' EXIT
 
@@ -85,7 +85,7 @@ same() {
 
 # random SEED: a table of random calls, performed in each way.
 random() {
-    awk -v seed="$1" -f calls.awk -f some_calls.awk > "$work/strewn"
+    awk -v seed="$1" -f ../models/calls.awk -f ../models/some_calls.awk > "$work/strewn"
     grep -v -x 'cut\|take' "$work/strewn" > "$work/plain"
     "$program" < "$work/strewn" > "$work/told"
     grep -v '^\(cut\|take\): ' "$work/told" > "$work/with"

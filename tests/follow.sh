@@ -7,7 +7,7 @@
 # Without Redis, hiredis or a compiler the test is left out. The last line is `N passed, M failed`.
 LC_ALL=C
 export LC_ALL
-. "$(dirname "$0")/cases.sh"
+. "$(dirname "$0")/lib/cases.sh"
 library=$(absolute "$1")
 checker=$(absolute "$2")
 shift 2

@@ -4,7 +4,7 @@
 # one. The crate in Rust finds the library, and so do the crates beside it, for serde and for tokio. The package for Python is
 # tested, and installed by pip. Then bindings/try.sh installs the library without a proof. What isn't there is named and counts
 # for nothing. The last line is `N passed, M failed`.
-. "$(dirname "$0")/cases.sh"
+. "$(dirname "$0")/lib/cases.sh"
 rooms=$(absolute "$1")
 replay=${2:+$(absolute "$2")}
 cd "$(dirname "$0")/.." || exit 1

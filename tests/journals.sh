@@ -6,7 +6,7 @@
 # the next. Of these the program has to say just what the plain program journal_judge.awk says. The last line is `N passed, M failed`.
 LC_ALL=C
 export LC_ALL
-. "$(dirname "$0")/cases.sh"
+. "$(dirname "$0")/lib/cases.sh"
 program=$(absolute "$1")
 few=$2
 cd "$(dirname "$0")/.." || exit 1
@@ -56,7 +56,7 @@ pieces=$(printf '%s' "$pieces" | tr -d '\n')
 cut='journal 1 / from 10 / seat 0 recv 2: 5 / end 11'
 
 # each_call VERSION: a journal of each call of the table on each kind of object that takes it, with each reply.
-each_call() { awk -v part=journal -v version="$1" -f tests/calls.awk -f tests/each_call.awk; }
+each_call() { awk -v part=journal -v version="$1" -f tests/models/calls.awk -f tests/models/each_call.awk; }
 
 lawful() {
     told 'all kinds of calls' 0 'lawful 33' none "$all"
@@ -234,7 +234,7 @@ read_so() {
 # Short reads change nothing. A read that fails ends the check, and one that is interrupted is made again.
 reads() {
     command -v cc > /dev/null || { echo 'skipped: there is no C compiler to make reads short'; return; }
-    cc -O1 -shared -fPIC -o "$work/reads.so" tests/reads.c -ldl || { fail 'reads.c is built'; return; }
+    cc -O1 -shared -fPIC -o "$work/reads.so" tests/lib/reads.c -ldl || { fail 'reads.c is built'; return; }
     script "$pieces" > "$work/in"
     for most in 1 2 3 5 7 10 14 15 16 17 31 64 602 603; do
         read_so READ_MOST=$most
@@ -253,7 +253,7 @@ reads() {
 }
 
 # change NAME STEP: all that is nearly the journal on standard input.
-change() { awk -v to="$work/cases/$1" -v step="$2" -f tests/calls.awk -f tests/journal_changes.awk; }
+change() { awk -v to="$work/cases/$1" -v step="$2" -f tests/models/calls.awk -f tests/models/journal_changes.awk; }
 
 # Each changed journal is a file in the folder of cases.
 changed() {
@@ -265,7 +265,7 @@ changed() {
     script "$pieces" | change pieces "$step"
     script "$cut" | change cut "$step"
     for seed in 1 2; do
-        awk -v seed=$seed -v count=60 -f tests/calls.awk -f tests/journal_judge.awk -f tests/some_journals.awk > "$work/cases/random$seed"
+        awk -v seed=$seed -v count=60 -f tests/models/calls.awk -f tests/models/journal_judge.awk -f tests/models/some_journals.awk > "$work/cases/random$seed"
         change random$seed $((step * 29)) < "$work/cases/random$seed"
     done
 }
@@ -291,7 +291,7 @@ says='
 judged() {
     find "$work/cases" -type f > "$work/files"
     xargs -P "$(nproc 2> /dev/null || echo 2)" -n 200 sh -c "$says" says "$work/said" "$program" < "$work/files"
-    xargs -n 1000 awk -v state=1 -f tests/calls.awk -f tests/journal_judge.awk < "$work/files" > "$work/judged"
+    xargs -n 1000 awk -v state=1 -f tests/models/calls.awk -f tests/models/journal_judge.awk < "$work/files" > "$work/judged"
     cat "$work"/said.* | awk '
         /^== / { name = $2; next }
         FNR == NR { judged[name] = judged[name] " / " $0; next }

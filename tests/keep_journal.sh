@@ -5,7 +5,7 @@
 # once, in order; and what was acknowledged is there, byte for byte, from each run on. The last line is `N passed, M failed`.
 LC_ALL=C
 export LC_ALL
-. "$(dirname "$0")/cases.sh"
+. "$(dirname "$0")/lib/cases.sh"
 rooms=$(absolute "$1")
 checker=$(absolute "$2")
 shift 2

@@ -17,6 +17,6 @@ step() {
     esac
 }
 
-. tests/beside.sh
+. tests/lib/beside.sh
 [ $# -gt 0 ] || set -- $steps
 beside tests/libraries.sh "$@"

@@ -1,15 +1,15 @@
 #!/bin/sh
-# The built program from outside: `sh tests/program.sh PROGRAM`. Each example, the cases of tests/faults and
-# tests/reports (tests/tables.sh says how they are written), each step of the table of calls (tests/each_call.awk), each exit status,
-# many texts for which the plain program of tests/plain.awk says what is to come, and threads that take their steps in any order
-# (tests/runs.sh). Its last line is `N passed, M failed`.
+# The built program from outside: `sh tests/program.sh PROGRAM`. Each example, the cases of tests/tables/faults and
+# tests/tables/reports (tests/lib/tables.sh says how they are written), each step of the table of calls (tests/models/each_call.awk), each exit status,
+# many texts for which the plain program of tests/models/plain.awk says what is to come, and threads that take their steps in any order
+# (tests/lib/runs.sh). Its last line is `N passed, M failed`.
 LC_ALL=C
 export LC_ALL
-. "$(dirname "$0")/cases.sh"
+. "$(dirname "$0")/lib/cases.sh"
 program=$(absolute "$1")
 cd "$(dirname "$0")/.." || exit 1
-. tests/tables.sh
-. tests/runs.sh
+. tests/lib/tables.sh
+. tests/lib/runs.sh
 
 examples() {
     for example in examples/*.cml; do
@@ -61,7 +61,7 @@ each_call() {
 }
 
 # from_table PART
-from_table() { awk -v part="$1" -v version="${version:-1}" -f tests/calls.awk -f tests/each_call.awk; }
+from_table() { awk -v part="$1" -v version="${version:-1}" -f tests/models/calls.awk -f tests/models/each_call.awk; }
 
 # same CASE WANTED FOUND: the last run performed all steps, and its lines are these.
 same() {
@@ -188,7 +188,7 @@ long_texts() {
 
 # one_byte_changed NAME: each text that differs in one byte from standard input.
 one_byte_changed() {
-    od -An -v -tu1 | awk -f tests/one_byte_changes.awk > "$work/texts"
+    od -An -v -tu1 | awk -f tests/models/one_byte_changes.awk > "$work/texts"
     agree "one byte of $1 changed"
 }
 
@@ -267,7 +267,7 @@ octal() { awk '{ printf "%s ", $1; for (i = 2; i <= NF; i++) printf "\\%03o", $i
 
 # agree CASE: for each text of $work/texts, the program and the plain program do the same.
 agree() {
-    awk -f tests/calls.awk -f tests/plain.awk "$work/texts" > "$work/want"
+    awk -f tests/models/calls.awk -f tests/models/plain.awk "$work/texts" > "$work/want"
     octal < "$work/texts" | while read -r limit text; do
         # shellcheck disable=SC2059
         printf "$text" | "$program" replay --limit "$limit" 2>&1
@@ -286,7 +286,7 @@ agree() {
 }
 
 examples
-fault_tables tests/faults/*.txt
+fault_tables tests/tables/faults/*.txt
 each_call
 odd_texts
 odd_messages
@@ -306,7 +306,7 @@ beginnings
 each_message
 other_versions
 # Some 2,000 of each version.
-awk -v scripts=4000 -f tests/calls.awk -f tests/some_scripts.awk > "$work/texts"
+awk -v scripts=4000 -f tests/models/calls.awk -f tests/models/some_scripts.awk > "$work/texts"
 agree 'scripts of all lines'
 runs
 

@@ -2,14 +2,14 @@
 # The tests in minutes, without a proof: `sh tests/quick.sh`. It proves nothing. Code that does what the tests look at passes
 # here, even where it breaks a contract; `rt ci` refuses that.
 #
-# It compiles the programs and the test crates as `rt try` does (tests/tried.sh). It runs each test function, the tables of
+# It compiles the programs and the test crates as `rt try` does (tests/lib/tried.sh). It runs each test function, the tables of
 # calls, those with cuts too, the guide, each example with its report and its chart, each fault, and the library from C.
 # As many steps run at once as there are processors. `sh tests/quick.sh NAME..` runs some steps alone.
 # The last line is `N passed, M failed`.
 top=$(cd "$(dirname "$0")/.." && pwd) || exit 1
 cd "$top" || exit 1
 kit=$(dirname "$(rt doc)")
-. tests/tried.sh
+. tests/lib/tried.sh
 
 # The steps, those that take longest first. Each prints lines `N passed, M failed`, and before them what failed.
 steps() {
@@ -136,7 +136,7 @@ has_c() {
     return 1
 }
 
-. tests/beside.sh
+. tests/lib/beside.sh
 [ $# -gt 0 ] || set -- $(steps)
 echo "This proves nothing. $# steps are tried, and some take minutes:"
 beside tests/quick.sh "$@"

@@ -3,9 +3,9 @@
 # one fail. All except the guide run once more with all later ones failing too. Each run must end, whatever fails.
 #
 # The guide prints of each example what it prints with memory, or that there was no memory, or the result for another
-# thread: a stall, or the same result without that thread's last entries. The tables of calls of tests/board, tests/floors
-# and tests/halls, what `cml` does with scripts and journals, and `cml_chart` with reports, are looked at by
-# tests/refuse_each.sh.
+# thread: a stall, or the same result without that thread's last entries. The tables of calls of tests/tables/board, tests/tables/floors
+# and tests/tables/halls, what `cml` does with scripts and journals, and `cml_chart` with reports, are looked at by
+# tests/lib/refuse_each.sh.
 #
 # It needs a C compiler for what refuses (`cc`, or CC); where there is none it tells that it was left out.
 # The last line is `N passed, M failed`.
@@ -20,7 +20,7 @@ cc=${CC:-cc}
 command -v "$cc" > /dev/null || { echo "left out: no C compiler to refuse memory with"; echo "0 passed, 0 failed"; exit 0; }
 work=$(mktemp -d) || exit 1
 trap 'rm -rf "$work"' EXIT
-"$cc" -O1 -shared -fPIC -o "$work/refuse.so" tests/refuse.c -ldl || exit 1
+"$cc" -O1 -shared -fPIC -o "$work/refuse.so" tests/lib/refuse.c -ldl || exit 1
 
 passed=0
 failed=0
@@ -62,19 +62,19 @@ guide_refused() {
 }
 
 # Each step of the table of calls, with each reply that it may have.
-awk -v part=script -f tests/calls.awk -f tests/each_call.awk | sed 's/: .*//' > "$work/each_call.cml"
+awk -v part=script -f tests/models/calls.awk -f tests/models/each_call.awk | sed 's/: .*//' > "$work/each_call.cml"
 
 # Each sweep's words, a line each. A few tables are performed with texts too. A text of more than 14 bytes takes memory when it is
 # made. The numbers of the other sweeps take memory for each share.
 sweeps() {
     for table in board/mailboxes board/variables floors/feeds floors/lanes; do
-        echo "texts once tests/$table.rows $rows texts"
+        echo "texts once tests/tables/$table.rows $rows texts"
     done
     for how in once rest; do
-        for table in tests/board/*.rows tests/floors/*.rows tests/halls/*.rows; do
+        for table in tests/tables/board/*.rows tests/tables/floors/*.rows tests/tables/halls/*.rows; do
             echo "table $how $table $rows"
         done
-        for script in examples/*.cml tests/all_lines.cml "$work/each_call.cml"; do
+        for script in examples/*.cml tests/tables/all_lines.cml "$work/each_call.cml"; do
             grep -q '^\(lane\|feed\) ' "$script" || echo "replay $how $script $cml replay"
             echo "run $how $script $cml run"
             echo "threads $how $script $cml run"
@@ -92,10 +92,10 @@ sweeps() {
     done
 }
 
-# The sweeps side by side. Each has to meet as many refusals as tests/refused.least says, and else one: or it tries less
+# The sweeps side by side. Each has to meet as many refusals as tests/tables/refused.least says, and else one: or it tries less
 # than it did.
 all_refused() {
-    sweeps | xargs -P "$(nproc 2> /dev/null || echo 2)" -L 1 sh tests/refuse_each.sh "$work" > "$work/told"
+    sweeps | xargs -P "$(nproc 2> /dev/null || echo 2)" -L 1 sh tests/lib/refuse_each.sh "$work" > "$work/told"
     awk '
         FNR == NR { least[$1 " " $2 " " $3] = $4; next }
         !/ met$/ { print; next }
@@ -114,7 +114,7 @@ all_refused() {
             for (kind in runs) print kind ": " runs[kind] " runs met " met[kind] " refusals"
             print passed + 0, failed + 0 > "/dev/stderr"
         }
-    ' tests/refused.least "$work/told" 2> "$work/sums"
+    ' tests/tables/refused.least "$work/told" 2> "$work/sums"
     read -r more_passed more_failed < "$work/sums"
     passed=$((passed + more_passed))
     failed=$((failed + more_failed))

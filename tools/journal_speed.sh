@@ -1,5 +1,5 @@
 #!/bin/sh
-# What it costs to check a journal: `sh tests/journal_speed.sh CML`, or `sh tests/journal_speed.sh CML ENTRIES` for another number of
+# What it costs to check a journal: `sh tools/journal_speed.sh CML`, or `sh tools/journal_speed.sh CML ENTRIES` for another number of
 # entries than 10,000,001. `cml check` has 64 MB. It prints the verdict, and how many nanoseconds of a processor an entry took. It is
 # no test: what is printed depends on the machine. What it costs to write a journal, to check it and to go on from it by the
 # library is printed by the example `journals` of bindings/rust/seryugo.

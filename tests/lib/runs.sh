@@ -1,5 +1,5 @@
 # The cases of `cml run`, for tests/program.sh. Its threads come in another order each time, so no report is known
-# beforehand: tests/interleaved.awk makes the report that the threads' order gives, and the two are to be the same.
+# beforehand: tests/models/interleaved.awk makes the report that the threads' order gives, and the two are to be the same.
 
 # The examples whose end depends on the order: in some orders all steps are performed, in others it stalls.
 either_end='chat_room late_reader philosophers three_philosophers'
@@ -7,7 +7,7 @@ either_end='chat_room late_reader philosophers three_philosophers'
 # in_some_order LIMIT SCRIPT REPORT..: whether each of these reports is one that some order of the threads gives; where
 # `short` is set, one in which the pump of that message of feeds stopped there.
 in_some_order() {
-    awk -v short="${short:-0}" -f tests/calls.awk -f tests/plain.awk -f tests/rings.awk -f tests/interleaved.awk "$@" > "$work/want"
+    awk -v short="${short:-0}" -f tests/models/calls.awk -f tests/models/plain.awk -f tests/models/rings.awk -f tests/models/interleaved.awk "$@" > "$work/want"
     shift 2
     cat "$@" > "$work/got"
     [ -s "$work/want" ] && cmp -s "$work/want" "$work/got"
@@ -27,8 +27,8 @@ ran() {
 
 # order_tables: what is taken for a report, and what is not.
 order_tables() {
-    each_block possible tests/orders/possible.txt tests/orders/possible_rings.txt
-    each_block impossible tests/orders/impossible.txt tests/orders/impossible_rings.txt
+    each_block possible tests/tables/orders/possible.txt tests/tables/orders/possible_rings.txt
+    each_block impossible tests/tables/orders/impossible.txt tests/tables/orders/impossible_rings.txt
 }
 
 possible() {
@@ -189,7 +189,7 @@ little_memory() {
 some_runs() {
     : > "$work/statuses"
     : > "$work/bad"
-    awk -v scripts=400 -v one_in=2 -f tests/calls.awk -f tests/some_scripts.awk | octal | while read -r limit text; do
+    awk -v scripts=400 -v one_in=2 -f tests/models/calls.awk -f tests/models/some_scripts.awk | octal | while read -r limit text; do
         # shellcheck disable=SC2059
         printf "$text" > "$work/in"
         run run --limit "$limit" < "$work/in"
@@ -216,7 +216,7 @@ runs() {
     many_runs "$(busiest)" 200
     many_runs examples/philosophers.cml 200
     many_runs examples/philosophers_without_stall.cml 200
-    many_runs tests/lanes_and_feeds.cml 1000
+    many_runs tests/tables/lanes_and_feeds.cml 1000
     crowds
     run_orders
     run_faults

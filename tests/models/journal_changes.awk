@@ -1,4 +1,4 @@
-# Changed journals: `awk -v to=FOLDER/NAME -f tests/calls.awk -f tests/journal_changes.awk JOURNAL` writes a file NAME.KIND.NUMBER for each text that is
+# Changed journals: `awk -v to=FOLDER/NAME -f tests/models/calls.awk -f tests/models/journal_changes.awk JOURNAL` writes a file NAME.KIND.NUMBER for each text that is
 # nearly this journal. Each byte becomes another, and in a short journal two others; each entry has each other reply, and some other
 # calls; each line is left out, doubled, or exchanged with the next; so is each piece; the text ends behind each byte. With
 # `-v step=7` bytes and ends are every seventh, and entries every fifth.

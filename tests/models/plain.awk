@@ -1,5 +1,5 @@
 # The plain program: what docs/FORMATS.md says of a script, written down once more, with lists that are gone through
-# from the first item on. With the calls (tests/calls.awk) it shares nothing with the crates, so what both say alike is said twice.
+# from the first item on. With the calls (tests/models/calls.awk) it shares nothing with the crates, so what both say alike is said twice.
 #
 # Each line of input is a limit and then the bytes of one script, as numbers. For each script it prints the report, or
 # the line of its fault, and then the exit status.

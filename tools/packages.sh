@@ -1,5 +1,5 @@
 #!/bin/sh
-# Installs what some tests use, from Debian's packages: `sh tests/packages.sh`. Without root, without `apt-get` or without a network
+# Installs what some tests use, from Debian's packages: `sh tools/packages.sh`. Without root, without `apt-get` or without a network
 # it installs nothing. Then each test whose package is missing says that it is left out. It never fails.
 packages='pkg-config valgrind redis-server redis-tools libhiredis-dev librust-serde-dev librust-serde-derive-dev librust-bincode-dev
 librust-tokio-dev librust-crossbeam-channel-dev python3-venv python3-setuptools python3-wheel make'
@@ -13,11 +13,11 @@ done
 DEBIAN_FRONTEND=noninteractive
 export DEBIAN_FRONTEND
 if ! timeout 120 apt-get update -qq -o APT::Update::Error-Mode=any -o Acquire::http::Timeout=20 > /dev/null 2>&1; then
-    echo "tests/packages.sh: not installed, since apt-get finds no packages:$missing"
+    echo "tools/packages.sh: not installed, since apt-get finds no packages:$missing"
     exit 0
 fi
 for package in $missing; do
     timeout 120 apt-get install -y -qq --no-install-recommends "$package" > /dev/null 2>&1 ||
-        echo "tests/packages.sh: $package could not be installed"
+        echo "tools/packages.sh: $package could not be installed"
 done
 exit 0

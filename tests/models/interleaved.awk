@@ -1,4 +1,4 @@
-# Which report an order of the threads gives: `awk -f tests/calls.awk -f tests/plain.awk -f tests/rings.awk -f tests/interleaved.awk LIMIT
+# Which report an order of the threads gives: `awk -f tests/models/calls.awk -f tests/models/plain.awk -f tests/models/rings.awk -f tests/models/interleaved.awk LIMIT
 # SCRIPT REPORT..`.
 #
 # Of each report only the order is taken: each line of its first part names the thread that takes its next step there,
@@ -11,7 +11,7 @@
 # where a thread takes a step that waits there, or that the journal has no room for, or has none left; nor where at the
 # end a thread could go on. For once each thread that has steps left waits, no thread ever goes on; and before that no
 # call fails in a stall. So all that are left wait for what is not there at the end, whichever call failed first.
-# tests/rings.awk says what can't be of lanes and feeds.
+# tests/models/rings.awk says what can't be of lanes and feeds.
 #
 # A script with a fault has no report: then its fault is printed.
 

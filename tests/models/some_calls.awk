@@ -1,4 +1,4 @@
-# A table of random calls from a seed: `awk -v seed=3 -f tests/calls.awk -f tests/some_calls.awk`. Its cases are on boards, floors and halls
+# A table of random calls from a seed: `awk -v seed=3 -f tests/models/calls.awk -f tests/models/some_calls.awk`. Its cases are on boards, floors and halls
 # by turns, each with calls on objects of all kinds, most by good names, and with cuts strewn in. A case that ends with a
 # line `pieces` has no cut that drops anything.
 

@@ -1,7 +1,7 @@
 # The judge of journals: what docs/FORMATS.md says under "Journals", and what a lawful history is, written down once more. With the
-# calls (tests/calls.awk) it shares nothing with the crates, so what both say alike is said twice.
+# calls (tests/models/calls.awk) it shares nothing with the crates, so what both say alike is said twice.
 #
-#     awk -f tests/calls.awk -f tests/journal_judge.awk FILE..
+#     awk -f tests/models/calls.awk -f tests/models/journal_judge.awk FILE..
 #
 # For each file it prints `== FILE`, then what the program that checks journals writes to standard output, and then `status N`
 # with what the program writes to standard error. With `-v state=1` it prints the lines of the objects too.

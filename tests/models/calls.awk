@@ -1,4 +1,4 @@
-# The calls, for the plain programs and for those that make up cases: `awk -f tests/calls.awk -f tests/plain.awk ..`. Each row has a
+# The calls, for the plain programs and for those that make up cases: `awk -f tests/models/calls.awk -f tests/models/plain.awk ..`. Each row has a
 # call's word, the kinds of objects that take it, whether it gives a message, its replies, whether it may block, and how often it is
 # chosen by chance. Behind the table is what the calls do. It shares nothing with the crates, so what both say alike is said twice.
 #

@@ -1,4 +1,4 @@
-# What lanes and feeds do in a run, for tests/interleaved.awk.
+# What lanes and feeds do in a run, for tests/models/interleaved.awk.
 #
 # A lane's messages come in the order in which its thread sent them; behind the thread's own steps before them, and
 # before its next own step that may wait. No more of them are out of the journal than the lane has room for. A thread has

@@ -1,5 +1,5 @@
 #!/bin/sh
-# For tests/refused.sh: sh tests/refuse_each.sh WORK KIND HOW INPUT PROGRAM WORDS..
+# For tests/refused.sh: sh tests/lib/refuse_each.sh WORK KIND HOW INPUT PROGRAM WORDS..
 # runs the program on the input once for each request that it makes, with that one refused (`once`) or with it and all later
 # ones (`rest`), until a run makes no more; and looks at each run as its KIND wants it:
 #
@@ -123,8 +123,8 @@ case $kind in
     table | texts) judge_table ;;
     *)
         work=$room
-        . tests/tables.sh
-        . tests/runs.sh
+        . tests/lib/tables.sh
+        . tests/lib/runs.sh
         judge_script
         ;;
 esac

@@ -1,4 +1,4 @@
-# Invented journals: `awk -v seed=1 -v count=60 -f tests/calls.awk -f tests/journal_judge.awk -f tests/some_journals.awk` prints a
+# Invented journals: `awk -v seed=1 -v count=60 -f tests/models/calls.awk -f tests/models/journal_judge.awk -f tests/models/some_journals.awk` prints a
 # lawful journal of random calls, in pieces, in version 1 or 2. The judge gives each reply. A call that would wait, or that its object doesn't take, is left out.
 
 BEGIN {

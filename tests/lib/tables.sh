@@ -1,5 +1,5 @@
-# The tables of tests/faults and tests/reports, on each case of which tests/program.sh runs the built program, and those
-# of tests/orders, which tests/runs.sh has for what it compares with. To add a case, write it into the table of its
+# The tables of tests/tables/faults and tests/tables/reports, on each case of which tests/program.sh runs the built program, and those
+# of tests/tables/orders, which tests/lib/runs.sh has for what it compares with. To add a case, write it into the table of its
 # theme, or begin a table: nothing else is to be touched. Take what is expected from docs/FORMATS.md and not from the
 # program.
 #
@@ -61,7 +61,7 @@ told() {
 
 # report_tables: each report is what `replay` writes, except for scripts with lanes or feeds, which it refuses. `run` writes
 # it too if no thread could go before another.
-report_tables() { each_block report_block tests/reports/*.txt; }
+report_tables() { each_block report_block tests/tables/reports/*.txt; }
 
 # report_block CASE LIMIT SCRIPT REPORT
 report_block() {

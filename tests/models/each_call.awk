@@ -1,6 +1,6 @@
-# Each call of the table, made up by what the table says of it: `awk -f tests/calls.awk -v part=kinds -f tests/each_call.awk`.
+# Each call of the table, made up by what the table says of it: `awk -f tests/models/calls.awk -v part=kinds -f tests/models/each_call.awk`.
 #
-# For `kinds` it prints tables of faults, as tests/tables.sh has them: each step on an object of each kind.
+# For `kinds` it prints tables of faults, as tests/lib/tables.sh has them: each step on an object of each kind.
 # For `script` it prints a script in which one thread makes each step on each kind of object that takes it, once for each reply that it
 # may have. Behind each step is `: ` and that reply.
 # For `journal` it prints the journal of that script. With `-v version=2` messages are texts.
