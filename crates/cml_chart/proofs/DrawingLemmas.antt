@@ -3,10 +3,10 @@ use Rattle.std.proofs.Common.{◌≡◌, ℕ, ◌≤◌, inl, inr, List, length,
 use Rattle.std.proofs.lemmas.Bool.{lt-ltb}
 use Rattle.cml_grammar.specs.Script.{Lines}
 use Rattle.cml_grammar.specs.Words.{parts_of}
-use Rattle.cml_report.specs.declared.faults.What.TheVariants as what
-use Rattle.cml_report.specs.declared.report.Report.{Report}
-use Rattle.cml_report.specs.Reading.{told, wrong_at, told_from, nothing_yet}
-use Rattle.cml_report.specs.Shown.{shown_report}
+use Rattle.cml_chart.specs.declared.report.faults.What.TheVariants as what
+use Rattle.cml_chart.specs.declared.report.Report.{Report}
+use Rattle.cml_chart.specs.Reading.{told, wrong_at, told_from, nothing_yet}
+use Rattle.cml_chart.specs.Shown.{shown_report}
 use Rattle.cml_chart.specs.declared.chart.Course.{Course}
 use Rattle.cml_chart.specs.Following.{IsCourse}
 use Rattle.cml_chart.specs.Drawing.{IsRead, IsDrawnOf}

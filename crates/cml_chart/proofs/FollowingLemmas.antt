@@ -4,8 +4,8 @@ use Rattle.std.specs.List.{filter_map, cons_option}
 use Rattle.std.specs.Option.{option_to_list}
 use Rattle.std.proofs.lemmas.List.{append-nil, append_assoc}
 use Rattle.std.proofs.lemmas.Option.{same_Some, none-some, slice_get-get_or}
-use Rattle.cml_report.specs.Lines.{Thing}
-use Rattle.cml_report.specs.Shown.{texts}
+use Rattle.cml_chart.specs.Lines.{Thing}
+use Rattle.cml_chart.specs.Shown.{texts}
 use denote.Ref.{Bor}
 use Rattle.cml_chart.specs.Plan.{Made}
 use Rattle.cml_chart.specs.Following.{strange_thing}

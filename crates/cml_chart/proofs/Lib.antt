@@ -1,3 +1,5 @@
+mod WordLemmas
+mod ReadingLemmas
 mod NameLemmas
 mod FollowingLemmas
 mod DrawingLemmas

@@ -1,10 +1,10 @@
 -- What is a chart of a report.
 use Rattle.std.specs.Prelude.{ℕ, suc, ◌≡◌, ◌+◌, ◌&&◌, nat_lt, nat_le, List, [], ◌∷◌, ◌++◌, length, map, Option, Some, None, if◌then◌else◌}
 use Rattle.std.specs.Option.{option_map, option_map_or}
-use Rattle.cml_report.specs.declared.faults.What.TheVariants.{NameTaken, UnknownName}
-use Rattle.cml_report.specs.declared.faults.Fault.{Fault}
-use Rattle.cml_report.specs.Lines.{Words, Deed, Thing}
-use Rattle.cml_report.specs.Shown.{shown_act}
+use Rattle.cml_chart.specs.declared.report.faults.What.TheVariants.{NameTaken, UnknownName}
+use Rattle.cml_chart.specs.declared.report.faults.Fault.{Fault}
+use Rattle.cml_chart.specs.Lines.{Words, Deed, Thing}
+use Rattle.cml_chart.specs.Shown.{shown_act}
 use Rattle.cml_chart.specs.declared.chart.Row.{Row}
 use Rattle.cml_chart.specs.declared.chart.Chart.{Chart}
 use Rattle.cml_chart.specs.Threads.{Standing}

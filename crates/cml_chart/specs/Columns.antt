@@ -5,7 +5,7 @@ use Rattle.std.specs.List.{list_any}
 use Rattle.std.specs.Option.{option_map_or}
 use Rattle.std.specs.Str.{bytes_eq}
 use Rattle.cml_chart.specs.Threads.{Standing}
-use Rattle.cml_report.specs.Lines.{Words, Doer, thread, lane, feed, Deed, Thing}
+use Rattle.cml_chart.specs.Lines.{Words, Doer, thread, lane, feed, Deed, Thing}
 
 -- what the column of who acts is called
 abbrev pub doer_text : Doer → List ℕ

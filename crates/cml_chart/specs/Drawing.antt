@@ -5,10 +5,10 @@ use Rattle.cml_grammar.specs.Input.{IsReadUpTo}
 use Rattle.cml_grammar.specs.declared.fault.Fault.{Fault as ScriptFault}
 use Rattle.cml_grammar.specs.Faults.{fault_of}
 use Rattle.cml_grammar.specs.Script.{Lines, IsScript}
-use Rattle.cml_report.specs.declared.faults.Fault.{Fault}
-use Rattle.cml_report.specs.Lines.{Deed, Thing, Ended}
-use Rattle.cml_report.specs.Shown.{shown_report}
-use Rattle.cml_report.specs.Reading.{told, report, wrong}
+use Rattle.cml_chart.specs.declared.report.faults.Fault.{Fault}
+use Rattle.cml_chart.specs.Lines.{Deed, Thing, Ended}
+use Rattle.cml_chart.specs.Shown.{shown_report}
+use Rattle.cml_chart.specs.Reading.{told, report, wrong}
 use Rattle.cml_chart.specs.declared.command_line.Order.{Order}
 use Rattle.cml_chart.specs.declared.chart.Course.{Course}
 use Rattle.cml_chart.specs.declared.ending.Ending.{Ending}

@@ -1,8 +1,8 @@
 -- How the drawing of a report ends, and the exit status of each ending.
 use Rattle.std.specs.Prelude.{ℕ, Bool, true, false}
-use Rattle.cml_report.specs.declared.faults.What.{What}
-use Rattle.cml_report.specs.declared.faults.What.TheVariants as what
-use Rattle.cml_report.specs.declared.faults.Fault.{Fault}
+use Rattle.cml_chart.specs.declared.report.faults.What.{What}
+use Rattle.cml_chart.specs.declared.report.faults.What.TheVariants as what
+use Rattle.cml_chart.specs.declared.report.faults.Fault.{Fault}
 use Rattle.cml_grammar.specs.declared.fault.What.{What as WrongScript}
 use Rattle.cml_grammar.specs.declared.fault.What.TheVariants as wrong
 use Rattle.cml_grammar.specs.declared.fault.Fault.{Fault as ScriptFault}

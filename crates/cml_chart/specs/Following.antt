@@ -5,11 +5,11 @@ use Rattle.std.specs.Str.{bytes_eq}
 use Rattle.std.specs.Str.Parse.{digits_value}
 use Rattle.cml_grammar.specs.Names.{is_number}
 use Rattle.cml_grammar.specs.Script.{Lines}
-use Rattle.cml_report.specs.declared.faults.What.TheVariants.{OtherScript}
-use Rattle.cml_report.specs.declared.faults.Fault.{Fault}
-use Rattle.cml_report.specs.declared.report.Report.{Report}
-use Rattle.cml_report.specs.Shown.{shown_act, shown_object}
-use Rattle.cml_report.specs.Lines.{Words, Doer, thread, lane, feed, Deed, Thing}
+use Rattle.cml_chart.specs.declared.report.faults.What.TheVariants.{OtherScript}
+use Rattle.cml_chart.specs.declared.report.faults.Fault.{Fault}
+use Rattle.cml_chart.specs.declared.report.Report.{Report}
+use Rattle.cml_chart.specs.Shown.{shown_act, shown_object}
+use Rattle.cml_chart.specs.Lines.{Words, Doer, thread, lane, feed, Deed, Thing}
 use Rattle.cml_chart.specs.Columns.{is_among}
 use Rattle.cml_chart.specs.Chart.{IsChart, chart_fault}
 use Rattle.cml_chart.specs.Threads.{Standing, perform, shown_threads}

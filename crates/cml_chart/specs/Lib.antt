@@ -1,3 +1,6 @@
+pub mod Lines
+pub mod Reading
+pub mod Shown
 pub mod Threads
 pub mod Columns
 pub mod Chart

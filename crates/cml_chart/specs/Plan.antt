@@ -11,8 +11,8 @@ use Rattle.cml_grammar.specs.declared.names.Named.TheVariants as called
 use Rattle.cml_grammar.specs.Script.{SourceLine, Lines}
 use Rattle.cml_grammar.specs.Meaning.{names_of as given_by, action_of, seat_of_step}
 use Rattle.cml_grammar.specs.Rings.{capacity_of}
-use Rattle.cml_report.specs.Lines.{Words, makes_port}
-use Rattle.cml_report.specs.Shown.{texts}
+use Rattle.cml_chart.specs.Lines.{Words, makes_port}
+use Rattle.cml_chart.specs.Shown.{texts}
 use Rattle.cml_chart.specs.declared.plan.Made.{Made as ReadMade}
 use Rattle.cml_chart.specs.declared.plan.Plan.{Plan}
 use Rattle.cml_chart.specs.Columns.{names_of, each_once}

@@ -2,8 +2,8 @@
 use Rattle.std.specs.Prelude.{ℕ, ◌+◌, Bool, true, false, List, [], ◌∷◌, ◌++◌, map, slice_get, Option, Some, None, codes, if◌then◌else◌}
 use Rattle.std.specs.Option.{option_map, option_map_or}
 use Rattle.std.specs.Str.{bytes_eq}
-use Rattle.cml_report.specs.Lines.{Words, Deed}
-use Rattle.cml_report.specs.Shown.{texts}
+use Rattle.cml_chart.specs.Lines.{Words, Deed}
+use Rattle.cml_chart.specs.Shown.{texts}
 use Rattle.cml_chart.specs.declared.following.Thread.{Thread}
 
 -- a thread, the lines of its steps that have rows, and how many of these were performed

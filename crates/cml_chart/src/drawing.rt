@@ -10,9 +10,9 @@ use crate::ending::Ending;
 use crate::marks::{add_declared, add_drawn};
 use crate::picture::Picture;
 use crate::plain::draw_plain;
+use crate::report::read_report;
 use crate::svg::draw_svg;
 use cml_grammar::{Script, Unread, read_script, read_up_to, write_whole};
-use cml_report::read_report;
 use std::alloc::{AllocError, Global};
 use std::io::{Read, Write};
 

@@ -3,7 +3,7 @@ ghost use Rattle.std.specs.Prelude.{◌≡◌};
 ghost use Rattle.cml_chart.specs.declared.ending.Ending.TheVariants as ending;
 ghost use Rattle.cml_chart.specs.Endings.{ending_of_fault, ending_of_script_fault, is_shown, status};
 
-use cml_report::{Fault, What};
+use crate::report::{Fault, What};
 use std::alloc::AllocError;
 use thiserror::Error;
 

@@ -1,8 +1,8 @@
 //! Whether a report is one of a script, and how far its threads have come.
 ghost use Rattle.std.specs.Prelude.{◌≡◌, ◌⊎◌, ◌≤◌, ◌+◌, length, map, IfOk, IfErr, OnOk, Ok, Err, Some, None, true, false, MatchOption};
 ghost use Rattle.std.specs.Option.{option_map};
-ghost use Rattle.cml_report.specs.declared.faults.What.TheVariants.{Memory, OtherScript};
-ghost use Rattle.cml_report.specs.Shown.{texts, shown_act, shown_object, shown_actor};
+ghost use Rattle.cml_chart.specs.declared.report.faults.What.TheVariants.{Memory, OtherScript};
+ghost use Rattle.cml_chart.specs.Shown.{texts, shown_act, shown_object, shown_actor};
 ghost use Rattle.cml_chart.specs.Columns.{names_of};
 ghost use Rattle.cml_chart.specs.Threads.{shown_thread, shown_threads, stands_at, tells, advanced, perform};
 ghost use Rattle.cml_chart.specs.Plan.{shown_made};
@@ -10,8 +10,8 @@ ghost use Rattle.cml_chart.specs.Following.{is_feed, is_made, pass, follow, stra
 
 use crate::chart::is_among;
 use crate::plan::{Made, Plan, fill};
+use crate::report::{Act, Actor, Fault, Object, Report, What};
 use cml_grammar::{Script, number_of};
-use cml_report::{Act, Actor, Fault, Object, Report, What};
 use indexmap::IndexSet;
 use std::alloc::{AllocError, Global};
 

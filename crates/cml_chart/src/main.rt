@@ -10,6 +10,7 @@ mod marks;
 mod picture;
 mod plain;
 mod plan;
+mod report;
 mod svg;
 
 use cml_shell::{NoOrder, end, words};

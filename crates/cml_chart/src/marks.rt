@@ -1,8 +1,8 @@
 //! Which ports are open, and which of them a multicast goes to.
 use crate::chart::{Added, Chart, Row, column_of};
+use crate::report::Act;
 use cml_calls::{Ask, Give};
 use cml_grammar::{Script, Verb, split_words};
-use cml_report::Act;
 use std::alloc::{AllocError, Global};
 
 /// A port that is open, and its channel.

@@ -1,8 +1,8 @@
 //! What is drawn of a run, as lines of text or as SVG: its columns, some rows of its chart, and what is written at them.
 use crate::chart::{Added, Course};
 use crate::marks::Drawn;
+use crate::report::{Act, makes_port, replies_to};
 use cml_calls::ReplyKind;
-use cml_report::{Act, makes_port, replies_to};
 use std::fmt::Write;
 
 /// A column: its name, the kind over that, and what is said of an object under it, with a space in front.

@@ -3,15 +3,15 @@ ghost use Rattle.std.specs.Prelude.{◌≡◌, ◌++◌, [], map, filter_map, sl
 ghost use Rattle.std.specs.Option.{option_map, option_map_or, option_and_then, option_to_list};
 ghost use Rattle.cml_grammar.specs.Meaning.{names_of as given_by};
 ghost use Rattle.cml_grammar.specs.Reading.{source_of, ReadsStep};
-ghost use Rattle.cml_report.specs.Shown.{texts};
+ghost use Rattle.cml_chart.specs.Shown.{texts};
 ghost use Rattle.cml_chart.specs.Columns.{names_of};
 ghost use Rattle.cml_chart.specs.Threads.{shown_threads};
 ghost use Rattle.cml_chart.specs.Plan.{made_at, declared_in, port_in, feed_in, object_in, objects_in, targets_in, thread_in, threads_in, is_feed, is_apart, begins, own_in, own_steps, shown_made, IsPlan};
 
 use crate::chart::{Added, add_name};
 use crate::following::Thread;
+use crate::report::makes_port;
 use cml_grammar::{Action, Declaration, Named, Script, Step, Verb, split_words};
-use cml_report::makes_port;
 use indexmap::IndexSet;
 use std::alloc::{AllocError, Global};
 

@@ -4,7 +4,7 @@ use crate::marks::Drawn;
 use crate::picture::{
     Picture, is_missed, points_back, points_out, push_label, push_note, push_step,
 };
-use cml_report::Act;
+use crate::report::Act;
 use std::alloc::Global;
 use std::fmt;
 use std::fmt::Write;

@@ -1,5 +1,5 @@
 use Rattle.std.proofs.Common.{◌≡◌, ◌+◌, drop, map}
-use Rattle.cml_report.specs.Shown.{shown_act, texts}
+use Rattle.cml_chart.specs.Shown.{shown_act, texts}
 use Rattle.cml_chart.specs.Columns.{names_of}
 use Rattle.cml_chart.specs.Threads.{shown_threads}
 use Rattle.cml_chart.specs.Following.{follow}

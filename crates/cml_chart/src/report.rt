@@ -1,9 +1,17 @@
-//! What the lines of a report are, each with its line as a whole. All texts are parts of the report that was read.
+//! Reports of runs: what a text says, line by line, and what is wrong with it. Each line is kept as a whole. All texts are
+//! parts of the report that was read.
+mod faults;
+mod lines;
+mod reading;
+
 use cml_grammar::Verb;
+pub(crate) use faults::{Fault, What};
+pub(crate) use lines::{makes_port, replies_to};
+pub(crate) use reading::read_report;
 
 /// Who acts in a line of the first part: a thread by its name, a lane or a feed by its number.
 #[derive(Clone, Copy)]
-pub enum Actor<'a> {
+pub(crate) enum Actor<'a> {
     Thread(&'a str),
     Lane(&'a str),
     Feed(&'a str),
@@ -11,35 +19,35 @@ pub enum Actor<'a> {
 
 /// A line of the first part: what an actor did with an object, and the reply.
 #[derive(Clone, Copy)]
-pub struct Act<'a> {
-    pub actor: Actor<'a>,
-    pub verb: Verb,
+pub(crate) struct Act<'a> {
+    pub(crate) actor: Actor<'a>,
+    pub(crate) verb: Verb,
     /// The step's word.
-    pub word: &'a str,
+    pub(crate) word: &'a str,
     /// The object that is used, or the port that is made.
-    pub object: &'a str,
+    pub(crate) object: &'a str,
     /// The message that is given, or the channel or port of which a port is made.
-    pub with: Option<&'a str>,
+    pub(crate) with: Option<&'a str>,
     /// The reply's word, or the message that came: in version 2 with `=` before it.
-    pub reply: &'a str,
-    pub line: &'a str,
+    pub(crate) reply: &'a str,
+    pub(crate) line: &'a str,
 }
 
 /// A line of the second part: an object, and its state at the end.
 #[derive(Clone, Copy)]
-pub struct Object<'a> {
+pub(crate) struct Object<'a> {
     /// The kind's word.
-    pub kind: &'a str,
-    pub name: &'a str,
-    pub line: &'a str,
+    pub(crate) kind: &'a str,
+    pub(crate) name: &'a str,
+    pub(crate) line: &'a str,
 }
 
 /// The last line: how the run stopped.
 #[derive(Clone, Copy)]
-pub struct End<'a> {
+pub(crate) struct End<'a> {
     /// How the run stopped: `done`, `stalled`, `full` or `held`.
-    pub stop: &'a str,
-    pub line: &'a str,
+    pub(crate) stop: &'a str,
+    pub(crate) line: &'a str,
 }
 
 /// A line of a report.
@@ -52,8 +60,8 @@ pub(crate) enum Line<'a> {
 
 /// A whole report.
 #[derive(Drop)]
-pub struct Report<'a> {
-    pub acts: Vec<Act<'a>>,
-    pub objects: Vec<Object<'a>>,
-    pub end: End<'a>,
+pub(crate) struct Report<'a> {
+    pub(crate) acts: Vec<Act<'a>>,
+    pub(crate) objects: Vec<Object<'a>>,
+    pub(crate) end: End<'a>,
 }

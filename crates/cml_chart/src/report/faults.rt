@@ -1,6 +1,6 @@
 //! What is wrong with a report, and on which line.
 ghost use Rattle.std.specs.Prelude.{◌≡◌};
-ghost use Rattle.cml_report.specs.declared.faults.What.TheVariants.{Memory};
+ghost use Rattle.cml_chart.specs.declared.report.faults.What.TheVariants.{Memory};
 
 use std::alloc::{AllocError, AllocFailed};
 use std::error::Error;
@@ -9,7 +9,7 @@ use thiserror::Error;
 
 /// The reasons why a text is no report, or is not of its script, or has no chart, in the order in which they are tested.
 #[derive(Clone, Copy, Debug, PartialEq, Eq, Error)]
-pub enum What {
+pub(crate) enum What {
     #[error("no line end")]
     NoLineEnd,
     #[error("bad bytes")]
@@ -34,14 +34,14 @@ pub enum What {
 
 /// A fault of a report. `line` counts from 1; it is 0 for `TooLong` and `Memory`, which concern no line.
 #[derive(Clone, Copy, Debug, PartialEq, Eq)]
-pub struct Fault {
-    pub line: u64,
-    pub what: What,
+pub(crate) struct Fault {
+    pub(crate) line: u64,
+    pub(crate) what: What,
 }
 
 impl What {
     /// Returns this fault at a line.
-    pub fn at(self, line: u64) -> Fault
+    pub(crate) fn at(self, line: u64) -> Fault
         ensures { result ≡ record { line = line; what = self } }
     {
         Fault { line, what: self }

@@ -2,8 +2,8 @@
 ghost use Rattle.std.specs.Prelude.{◌≡◌};
 ghost use Rattle.std.specs.Option.{option_map};
 ghost use Rattle.cml_grammar.specs.Names.{is_number};
-ghost use Rattle.cml_report.specs.Lines.{doer_of, row_of, makes_port, says, may_answer, may_do, behind_step, object_of, deed_by, deed_of, is_closing, thing_of, may_leave, ended_of, line_by, before_colon, is_message, is_for, fits};
-ghost use Rattle.cml_report.specs.Shown.{texts, shown_actor, shown_act, shown_object, shown_end, shown_line};
+ghost use Rattle.cml_chart.specs.Lines.{doer_of, row_of, makes_port, says, may_answer, may_do, behind_step, object_of, deed_by, deed_of, is_closing, thing_of, may_leave, ended_of, line_by, before_colon, is_message, is_for, fits};
+ghost use Rattle.cml_chart.specs.Shown.{texts, shown_actor, shown_act, shown_object, shown_end, shown_line};
 
 use crate::report::{Act, Actor, End, Line, Object};
 use cml_calls::{Ask, Give, ReplyKind};
@@ -117,7 +117,7 @@ fn may_do(actor: Actor<'_>, verb: Verb, reply: &str) -> bool
 }
 
 /// Returns the kinds of reply that a step may have.
-pub fn replies_to(verb: Verb) -> &'static [ReplyKind]
+pub(crate) fn replies_to(verb: Verb) -> &'static [ReplyKind]
     ensures { result.now ≡ (row_of verb).replies }
 {
     match verb {
@@ -127,7 +127,7 @@ pub fn replies_to(verb: Verb) -> &'static [ReplyKind]
 }
 
 /// Says whether a step makes a port. The report then has the port's name.
-pub fn makes_port(verb: Verb) -> bool
+pub(crate) fn makes_port(verb: Verb) -> bool
     ensures { result ≡ makes_port verb }
 {
     replies_to(verb).contains(&ReplyKind::Made)

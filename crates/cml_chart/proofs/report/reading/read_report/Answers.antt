@@ -1,8 +1,8 @@
 use Rattle.std.proofs.Common.{subst, sym, arith}
-use Rattle.cml_report.specs.Shown.{so_far}
-use Rattle.cml_report.specs.Reading.{IsFaultOf}
-use Rattle.cml_report.proofs.ReadingLemmas.{reads_on, stops}
-use Rattle.cml_report.proofs.reading.read_report.Goals as goal
+use Rattle.cml_chart.specs.Shown.{so_far}
+use Rattle.cml_chart.specs.Reading.{IsFaultOf}
+use Rattle.cml_chart.proofs.ReadingLemmas.{reads_on, stops}
+use Rattle.cml_chart.proofs.report.reading.read_report.Goals as goal
 
 pub returns-in-Err-clause-fault : goal.returns-in-Err-clause-fault
 returns-in-Err-clause-fault c =

@@ -1,8 +1,8 @@
 use Rattle.std.proofs.Common.{◌≡◌, ◌≤◌, ◌+◌, length}
 use Rattle.cml_grammar.specs.Words.{parts_of}
-use Rattle.cml_report.specs.Reading.{told, told_from}
-use Rattle.cml_report.specs.Shown.{so_far, line_count}
-use Rattle.cml_report.proofs.reading.read_report.Given as goal
+use Rattle.cml_chart.specs.Reading.{told, told_from}
+use Rattle.cml_chart.specs.Shown.{so_far, line_count}
+use Rattle.cml_chart.proofs.report.reading.read_report.Given as goal
 
 abbrev pub invariant-loop-line : goal.invariant-loop-line
 invariant-loop-line l =

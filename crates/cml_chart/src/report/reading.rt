@@ -1,11 +1,11 @@
 //! A report's lines, read one by one.
 ghost use Rattle.std.specs.Prelude.{◌≡◌, ◌⊎◌, ◌≤◌, ◌+◌, Ok, Err, IfOk, IfErr, OnOk, length};
-ghost use Rattle.cml_report.specs.declared.faults.What.TheVariants.{Memory};
-ghost use Rattle.cml_report.specs.Shown.{shown_line, shown_report, so_far, line_count};
-ghost use Rattle.cml_report.specs.Reading.{told, told_at_end, with_line, with_text, wrong, IsFaultOf};
+ghost use Rattle.cml_chart.specs.declared.report.faults.What.TheVariants.{Memory};
+ghost use Rattle.cml_chart.specs.Shown.{shown_line, shown_report, so_far, line_count};
+ghost use Rattle.cml_chart.specs.Reading.{told, told_at_end, with_line, with_text, wrong, IsFaultOf};
 
-use crate::faults::{Fault, What};
-use crate::lines::line_by;
+use crate::report::faults::{Fault, What};
+use crate::report::lines::line_by;
 use crate::report::{Act, End, Line, Object, Report};
 use cml_grammar::{cut_line, has_bad_byte, split_words};
 use std::alloc::Global;
@@ -23,7 +23,7 @@ pub(crate) struct Reading<'a> {
 }
 
 /// Reads a report. Takes time in proportion to the text's length, whatever the text is.
-pub fn read_report(alloc: Global, text: &[u8]) -> Result<Report<'_>, Fault>
+pub(crate) fn read_report(alloc: Global, text: &[u8]) -> Result<Report<'_>, Fault>
     ensures report { IfOk result (λ report. told text.now ≡ shown_report report) }
     ensures few { IfOk result (λ report. length report.acts.items + length report.objects.items ≤ 33554432) }
     ensures fault { IfErr result (λ fault. IsFaultOf text.now fault) }

@@ -3,10 +3,10 @@ use Rattle.std.specs.Prelude.{ℕ, ◌+◌, ◌≡◌, ◌⊎◌, ◌||◌, not,
 use Rattle.std.specs.Option.{option_map_or}
 use Rattle.std.specs.List.{list_any}
 use Rattle.cml_grammar.specs.Words.{parts_of, is_bad_byte}
-use Rattle.cml_report.specs.declared.faults.What.{What}
-use Rattle.cml_report.specs.declared.faults.What.TheVariants.{NoLineEnd, BadBytes, NoReportLine, OutOfPlace, NoEndLine, TooLong, Memory}
-use Rattle.cml_report.specs.declared.faults.Fault.{Fault}
-use Rattle.cml_report.specs.Lines.{Deed, Thing, Ended, Line, deed, thing, ended, line_of}
+use Rattle.cml_chart.specs.declared.report.faults.What.{What}
+use Rattle.cml_chart.specs.declared.report.faults.What.TheVariants.{NoLineEnd, BadBytes, NoReportLine, OutOfPlace, NoEndLine, TooLong, Memory}
+use Rattle.cml_chart.specs.declared.report.faults.Fault.{Fault}
+use Rattle.cml_chart.specs.Lines.{Deed, Thing, Ended, Line, deed, thing, ended, line_of}
 
 -- the lines so far: those of the first part, of the second, and the last one
 pub record SoFar : Type 0 where

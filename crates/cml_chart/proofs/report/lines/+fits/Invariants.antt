@@ -1,5 +1,5 @@
 use Rattle.std.proofs.Common.{length}
-use Rattle.cml_report.proofs.lines.+fits.Given as goal
+use Rattle.cml_chart.proofs.report.lines.+fits.Given as goal
 
 abbrev pub decreases-fits : goal.decreases-fits
 decreases-fits l = length l.form.now

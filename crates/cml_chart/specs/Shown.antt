@@ -2,17 +2,17 @@
 use Rattle.std.specs.Prelude.{ℕ, ◌+◌, List, length, map}
 use Rattle.std.specs.Option.{option_map}
 use denote.Ref.{Bor}
-use Rattle.cml_report.specs.declared.report.Actor.{Actor}
-use Rattle.cml_report.specs.declared.report.Actor.TheVariants as actor
-use Rattle.cml_report.specs.declared.report.Act.{Act}
-use Rattle.cml_report.specs.declared.report.Object.{Object}
-use Rattle.cml_report.specs.declared.report.End.{End}
-use Rattle.cml_report.specs.declared.report.Report.{Report}
-use Rattle.cml_report.specs.declared.report.Line.{Line as ReadLine}
-use Rattle.cml_report.specs.declared.report.Line.TheVariants as read
-use Rattle.cml_report.specs.declared.reading.Reading.{Reading}
-use Rattle.cml_report.specs.Reading.{SoFar, Told, report}
-use Rattle.cml_report.specs.Lines.{Words, Doer, thread, lane, feed, Deed, Thing, Ended, Line, deed, thing, ended}
+use Rattle.cml_chart.specs.declared.report.Actor.{Actor}
+use Rattle.cml_chart.specs.declared.report.Actor.TheVariants as actor
+use Rattle.cml_chart.specs.declared.report.Act.{Act}
+use Rattle.cml_chart.specs.declared.report.Object.{Object}
+use Rattle.cml_chart.specs.declared.report.End.{End}
+use Rattle.cml_chart.specs.declared.report.Report.{Report}
+use Rattle.cml_chart.specs.declared.report.Line.{Line as ReadLine}
+use Rattle.cml_chart.specs.declared.report.Line.TheVariants as read
+use Rattle.cml_chart.specs.declared.report.reading.Reading.{Reading}
+use Rattle.cml_chart.specs.Reading.{SoFar, Told, report}
+use Rattle.cml_chart.specs.Lines.{Words, Doer, thread, lane, feed, Deed, Thing, Ended, Line, deed, thing, ended}
 
 abbrev pub texts : List (Bor (List ℕ)) → Words
 texts words = map (λ w. w.now) words

@@ -1,2 +1,0 @@
-mod WordLemmas
-mod ReadingLemmas
