@@ -2,13 +2,10 @@
 # The static libraries, over what `rt ci` has proved here: `sh tests/archives.sh` behind it writes crates/NAME/out/libNAME.a for
 # each crate that crates.txt calls a static library. `rt lib` in the crate's folder writes the same, but proves for it all that
 # lies below once more, while `rt ci` proves a static library and builds none. The last line is `N passed, M failed`.
+. "$(dirname "$0")/lib/cases.sh"
 cd "$(dirname "$0")/.." || exit 1
-work=$(mktemp -d) || exit 1
-trap 'rm -rf "$work"' EXIT
 top=$PWD
 kit=$(dirname "$(rt doc)")
-passed=0
-failed=0
 
 # libraries NAME: the words that name those of its line in crates.txt, and the folders of all libraries that they need.
 libraries() {
@@ -42,12 +39,10 @@ done
 wait
 for name in $names; do
     if [ ! -e "$work/$name.failed" ]; then
-        passed=$((passed + 1))
+        pass
     else
-        failed=$((failed + 1))
-        echo "failed: the archive of $name"
+        fail "the archive of $name"
         tail -n 20 "$work/$name"
     fi
 done
-echo "$passed passed, $failed failed"
-[ $failed -eq 0 ] && [ $passed -gt 0 ]
+count

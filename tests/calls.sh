@@ -4,7 +4,8 @@
 # `== its name`. Then the tables are performed with texts for messages, the digits of their numbers: each outcome must be
 # the same. Left out are the tables on a message whose share always fails and on how many messages live.
 # The last line is `N passed, M failed`.
-program=$(cd "$(dirname "$1")" && pwd)/$(basename "$1")
+. "$(dirname "$0")/lib/cases.sh"
+program=$(absolute "$1")
 cd "$(dirname "$0")/tables" || exit 1
 
 # compare TABLE WORDS..: compares the program's output with these words and the table, case by case. The program writes a
@@ -27,9 +28,9 @@ compare() {
         END {
             if ((getline want < table) > 0) wrong = wrong "\n    nothing more, where the table has\n    " want
             end()
-            print passed + 0, failed + 0 > "/dev/stderr"
+            print passed + 0, failed + 0
         }
-    ' 2>&1
+    '
 }
 
 for table in board/*.rows floors/*.rows halls/*.rows; do
@@ -38,8 +39,6 @@ for table in board/*.rows floors/*.rows halls/*.rows; do
         */fussy.rows | */living.rows) ;;
         *) compare "$table" texts ;;
     esac
-done | awk '
-    /^[0-9]+ [0-9]+$/ { passed += $1; failed += $2; next }
-    { print }
-    END { print passed + 0 " passed, " failed + 0 " failed"; exit failed > 0 || passed == 0 }
-'
+done > "$work/compared"
+add_counts "$work/compared"
+count

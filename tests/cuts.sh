@@ -20,10 +20,9 @@
 # Then tables of random calls (tests/models/some_calls.awk) are performed with the cuts that are strewn in, without them, and with
 # a cut behind each line: the outcomes of all other lines must be the same.
 # The last line is `N passed, M failed`.
-program=$(cd "$(dirname "$1")" && pwd)/$(basename "$1")
+. "$(dirname "$0")/lib/cases.sh"
+program=$(absolute "$1")
 cd "$(dirname "$0")/tables" || exit 1
-work=$(mktemp -d) || exit 1
-trap 'rm -rf "$work"' EXIT
 
 # compare WAY TABLE: what the program writes by this way, held against the table case by case.
 compare() {
@@ -123,8 +122,6 @@ random() {
     for seed in 1 2 3 4 5; do
         random "$seed"
     done
-} | awk '
-    /^[0-9]+ [0-9]+$/ { passed += $1; failed += $2; next }
-    { print }
-    END { print passed + 0 " passed, " failed + 0 " failed"; exit failed > 0 || passed == 0 }
-'
+} > "$work/compared"
+add_counts "$work/compared"
+count

@@ -1,15 +1,12 @@
 #!/bin/sh
 # The wrong edits in crates/*/edits: `sh tests/edits.sh [NAME..]` checks that the prover refuses each edit of the crates that
-# are named, or of all crates. `rt ci` itself tries those in crates/*/must-fail, which guard what the README and
-# docs/PROVED.md promise. If you change a crate, try the others of that crate by this script.
+# are named, or of all crates. `rt ci` itself tries those in crates/*/must-fail, which guard what the README promises. If you
+# change a crate, try the others of that crate by this script.
 #
-# `rt ci` tries them on a copy of the crates, in which they are in must-fail/. It proves there what it has not passed before,
-# and each crate once more before its first edit. It keeps the result of each edit, and tries the edit again only if
-# something has changed on which it rests. The last line is `N passed, M failed`.
+# `rt must-fail` tries them on a copy of the crates, in which they are in must-fail/. It proves the crate once more before its
+# first edit, and the libraries below that no check of yours has proved in their folders. The last line is `N passed, M failed`.
+. "$(dirname "$0")/lib/cases.sh"
 cd "$(dirname "$0")/.." || exit 1
-work=$(mktemp -d) || exit 1
-trap 'rm -rf "$work"' EXIT
-trap 'exit 1' HUP INT TERM
 
 if [ $# -eq 0 ]; then
     for folder in crates/*/edits; do
@@ -18,8 +15,8 @@ if [ $# -eq 0 ]; then
 fi
 for name; do
     if [ ! -d "crates/$name/edits" ]; then
-        echo "there is no folder crates/$name/edits"
-        echo '0 passed, 1 failed'
+        fail "there is no folder crates/$name/edits"
+        count
         exit 1
     fi
 done
@@ -33,15 +30,16 @@ for folder in crates/*; do
             *) cp -a "$part" "$work/$folder" || exit 1 ;;
         esac
     done
+    if [ -f "$folder/out/rlib/stamp" ]; then
+        mkdir "$work/$folder/out" && cp -a "$folder/out/rlib" "$work/$folder/out" || exit 1
+    fi
 done
 for name; do
     cp -a "crates/$name/edits" "$work/crates/$name/must-fail" || exit 1
 done
 
-RT_JOBS=${RT_JOBS:-$(nproc 2> /dev/null || echo 2)}
-export RT_JOBS
-(cd "$work" && rt ci "$@" 2>&1) | tee "$work/told"
+(cd "$work" && rt must-fail "$@" 2>&1) | tee "$work/told"
 edits=$(find "$work"/crates/*/must-fail -name '*.edit' | wc -l)
 passed=$(grep -c '^rt: must-fail .*: refused, as it must be' "$work/told")
-echo "$passed passed, $((edits - passed)) failed"
-[ "$passed" -eq "$edits" ] && [ "$edits" -gt 0 ]
+failed=$((edits - passed))
+count

@@ -6,31 +6,23 @@
 # is higher: with a lower one the C library tries in vain to make a heap for the thread at each request. There two million
 # messages, each with two entries, must not fit uncut either.
 # The last line is `N passed, M failed`.
-program=$(cd "$(dirname "$1")" && pwd)/$(basename "$1")
-passed=0
-failed=0
+. "$(dirname "$0")/lib/cases.sh"
+program=$(absolute "$1")
 
-# expect CASE KILOBYTES STATUS WORD..: the program's status with these words, within so much address space.
-expect() {
+# within CASE KILOBYTES STATUS WORD..: the program's status with these words, in this much address space.
+within() {
     name=$1
     kilobytes=$2
     wanted=$3
     shift 3
     told=$( (ulimit -v $kilobytes && exec timeout 100 "$program" "$@") 2>&1)
     status=$?
-    if [ $status -eq "$wanted" ]; then
-        passed=$((passed + 1))
-    else
-        failed=$((failed + 1))
-        echo "failed: $name: status $status, $told"
-    fi
+    if [ $status -eq "$wanted" ]; then pass; else fail "$name: status $status, $told"; fi
 }
 
-expect 'ten million messages through each log' 40000 0 10000000 log8
-expect 'a journal that is cut' 40000 0 10000000 soak1
-expect 'journals that grow' 40000 1 1000000
-expect 'a journal that a thread takes' 200000 0 2000000 soak2
-expect 'journals that grow beside threads' 200000 1 2000000
-
-echo "$passed passed, $failed failed"
-[ $failed -eq 0 ]
+within 'ten million messages through each log' 40000 0 10000000 log8
+within 'a journal that is cut' 40000 0 10000000 soak1
+within 'journals that grow' 40000 1 1000000
+within 'a journal that a thread takes' 200000 0 2000000 soak2
+within 'journals that grow beside threads' 200000 1 2000000
+count

@@ -9,21 +9,16 @@
 #
 # It needs a C compiler for what refuses (`cc`, or CC); where there is none it tells that it was left out.
 # The last line is `N passed, M failed`.
-whole() { echo "$(cd "$(dirname "$1")" && pwd)/$(basename "$1")"; }
-guide=$(whole "$1")
-rows=$(whole "$2")
-cml=$(whole "$3")
-chart=$(whole "$4")
+. "$(dirname "$0")/lib/cases.sh"
+guide=$(absolute "$1")
+rows=$(absolute "$2")
+cml=$(absolute "$3")
+chart=$(absolute "$4")
 cd "$(dirname "$0")/.." || exit 1
 expected=$(pwd)/crates/cml_guide/stdout
 cc=${CC:-cc}
-command -v "$cc" > /dev/null || { echo "left out: no C compiler to refuse memory with"; echo "0 passed, 0 failed"; exit 0; }
-work=$(mktemp -d) || exit 1
-trap 'rm -rf "$work"' EXIT
+command -v "$cc" > /dev/null || leave_out 'refused memory' "$cc"
 "$cc" -O1 -shared -fPIC -o "$work/refuse.so" tests/lib/refuse.c -ldl || exit 1
-
-passed=0
-failed=0
 
 # other_than EXPECTED PRINTED: the first line that isn't what is printed with memory, nor tells what was refused or what that
 # came to. A thread that was refused when all others needed of it was done leaves the same result with fewer entries.
@@ -49,16 +44,15 @@ guide_refused() {
         [ -e "$work/told" ] || break
         other=$(other_than "$expected" "$work/printed")
         if [ "$status" -ne 124 ] && [ -z "$other" ]; then
-            passed=$((passed + 1))
+            pass
         else
-            failed=$((failed + 1))
-            echo "failed: the guide with request $number refused: status $status, $other"
+            fail "the guide with request $number refused: status $status, $other"
         fi
         grep -q 'NoMemory\|AllocError' "$work/printed" && met=$((met + 1))
         number=$((number + 1))
     done
     echo "the guide: an example met the refusal in $met of $((number - 1)) runs"
-    [ "$met" -gt 0 ] || failed=$((failed + 1))
+    [ "$met" -gt 0 ] || fail 'no example of the guide met a refusal'
 }
 
 # Each step of the table of calls, with each reply that it may have.
@@ -112,15 +106,12 @@ all_refused() {
         END {
             for (name in least) if (!(name in seen)) { failed++; print "failed: not run: " name }
             for (kind in runs) print kind ": " runs[kind] " runs met " met[kind] " refusals"
-            print passed + 0, failed + 0 > "/dev/stderr"
+            print passed + 0, failed + 0
         }
-    ' tests/tables/refused.least "$work/told" 2> "$work/sums"
-    read -r more_passed more_failed < "$work/sums"
-    passed=$((passed + more_passed))
-    failed=$((failed + more_failed))
+    ' tests/tables/refused.least "$work/told" > "$work/sums"
+    add_counts "$work/sums"
 }
 
 guide_refused
 all_refused
-echo "$passed passed, $failed failed"
-[ "$failed" -eq 0 ]
+count

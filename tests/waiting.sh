@@ -4,23 +4,15 @@
 # that takes longer than its time limit is killed, and has failed. A wake-up may be lost once in a million calls, so there are
 # many, also on two processors, where a thread is more often stopped at a bad moment.
 # The last line is `N passed, M failed`.
-bench=$(cd "$(dirname "$1")" && pwd)/$(basename "$1")
-cml=$(cd "$(dirname "$2")" && pwd)/$(basename "$2")
-work=$(mktemp -d) || exit 1
-trap 'rm -rf "$work"' EXIT
-passed=0
-failed=0
+. "$(dirname "$0")/lib/cases.sh"
+bench=$(absolute "$1")
+cml=$(absolute "$2")
 
 # ends COMMAND..: it ends well, and in time.
 ends() {
     told=$(timeout 100 "$@" 2>&1)
     status=$?
-    if [ $status -eq 0 ]; then
-        passed=$((passed + 1))
-    else
-        failed=$((failed + 1))
-        echo "failed: $*: status $status, $(echo "$told" | tail -n 3)"
-    fi
+    if [ $status -eq 0 ]; then pass; else fail "$*: status $status, $(echo "$told" | tail -n 3)"; fi
 }
 
 # everywhere COMMAND..: the same, on all processors and on two.
@@ -31,9 +23,9 @@ everywhere() {
     fi
 }
 
-# script NAME HEAD STEPS: a script with these declarations, threads A0, A1 and so on, and the steps that an awk program writes
+# make_script NAME THREADS ROUNDS HEAD STEPS: a script with these declarations, threads A0, A1 and so on, and the steps that an awk program writes
 # for each thread and round. `say` writes a step of a thread.
-script() {
+make_script() {
     awk -v threads="$2" -v rounds="$3" "
         function say(thread, step) { print \"A\" thread \" \" step }
         BEGIN {
@@ -46,19 +38,19 @@ script() {
 }
 
 # A token goes round sixteen threads, which the first has sent to itself.
-script token 16 1500 \
+make_script token 16 1500 \
     'for (i = 0; i < threads; i++) print "mailbox m" i' \
     'if (k + i == 0) say(0, "send m0 1"); say(i, "recv m" i); say(i, "send m" (i + 1) % threads " 1")'
 # Eight threads take two of four variables each, those with lower numbers first, and put them back.
-script locks 8 1000 \
+make_script locks 8 1000 \
     'for (i = 0; i < 4; i++) print "mvar v" i " 1"' \
     'a = (i + k) % 3; say(i, "take v" a); say(i, "take v" a + 1); say(i, "put v" a " 1"); say(i, "put v" a + 1 " 1")'
 # One multicasts to the eight others, and after each message waits until the last of them says that it came.
-script ports 9 1500 \
+make_script ports 9 1500 \
     'print "channel c\nmailbox m"; for (i = 1; i < threads; i++) print "port c p" i' \
     'if (i > 0) say(i, "recv p" i); else say(0, "multicast c " k); if (i == threads - 1) say(i, "send m 1"); if (i == 0) say(0, "recv m")'
 # Four receive what four others send.
-script crowd 8 4000 \
+make_script crowd 8 4000 \
     'print "mailbox m"' \
     'say(i, i < 4 ? "recv m" : "send m " k)'
 
@@ -72,6 +64,4 @@ for _ in 1 2 3; do
         everywhere sh -c "exec '$cml' run < '$work/$name.cml'"
     done
 done
-
-echo "$passed passed, $failed failed"
-[ $failed -eq 0 ]
+count

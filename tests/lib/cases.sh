@@ -12,6 +12,17 @@ fail() {
     echo "failed: $*"
 }
 
+# add_counts FILE: shows what the file tells, and counts the cases of its lines `PASSED FAILED`.
+add_counts() {
+    grep -v '^[0-9]* [0-9]*$' "$1"
+    while read -r more_passed more_failed; do
+        passed=$((passed + more_passed))
+        failed=$((failed + more_failed))
+    done << END
+$(grep '^[0-9]* [0-9]*$' "$1")
+END
+}
+
 # count: the last line. It ends well if there was a case, and none failed.
 count() {
     echo "$passed passed, $failed failed"
