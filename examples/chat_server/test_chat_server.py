@@ -1,8 +1,9 @@
 """The chat server, tried by clients: `python3 test_chat_server.py CHAT_SERVER [CHECK WORD..]`.
 
-CHAT_SERVER is the built program, with `chat_load` beside it; or the archive of cml_c, with which both are built and their own
-tests run. The rest is the command that checks a journal. The server is killed again and again, and each one goes on from the file
-that the one before left: each client gets each message of its room once, in one order with all others.
+CHAT_SERVER is the built program, with `chat_load` beside it; or the archive of cml_c, with which
+both are built and their own tests run. The rest is the command that checks a journal. The server is
+killed again and again, and each one goes on from the file that the one before left: each client
+gets each message of its room once, in one order with all others.
 """
 
 import os
@@ -21,7 +22,8 @@ from cases import TOP, Cases, has, left_out, main, wait_until  # noqa: E402
 # How many messages a second are received at the least: a tenth of what the server is made for.
 LEAST_RATE = 2000
 
-# How often the server is killed while a hundred clients talk, and how many connections that must cost at the least.
+# How often the server is killed while a hundred clients talk, and how many connections that must
+# cost at the least.
 KILLS, LEAST_LOST = 6, 100
 
 
@@ -33,7 +35,6 @@ class ChatServer(Cases):
 
     @classmethod
     def setUpClass(cls):
-        super().setUpClass()
         given = pathlib.Path(cls.words[0]).resolve()
         cls.checker = cls.words[1:]
         if cls.checker:
@@ -48,7 +49,9 @@ class ChatServer(Cases):
     @classmethod
     def cargo(cls, word):
         """Runs cargo on a copy of the sources, so that nothing is left beside them."""
-        kit = subprocess.run(["rt", "doc"], capture_output=True, text=True, check=True).stdout.strip()
+        kit = subprocess.run(
+            ["rt", "doc"], capture_output=True, text=True, check=True
+        ).stdout.strip()
         named = {
             "SERYUGO_ARCHIVES": str(cls.archive.parent),
             "SERYUGO_KIT": str(pathlib.Path(kit).parent / "c"),
@@ -73,15 +76,18 @@ class ChatServer(Cases):
         return cls.work / "target/release"
 
     def launch(self, *options, stdin=subprocess.DEVNULL, wrapper=()):
-        """Starts the server on the journal, where the last one listened, and waits until it listens.
+        """Starts the server on the journal, where the last one listened, and waits until it
+        listens.
 
-        The first one gets a port below those that the system gives to clients: a client that tries again and again could get the
-        server's port.
+        The first one gets a port below those that the system gives to clients: a client that tries
+        again and again could get the server's port.
         """
         listen = self.address or f"127.0.0.1:{random.randrange(10000, 30000)}"
         words = [*wrapper, self.program, "--listen", listen, "--journal", self.journal, *options]
         self.server = self.start(*words, stdin=stdin)
-        wait_until("the server listens or ends", lambda: self.server.said() or not self.server.runs(), 30)
+        wait_until(
+            "the server listens or ends", lambda: self.server.said() or not self.server.runs(), 30
+        )
         listening = re.match(r"listening on ([0-9.:]*) ", self.server.said())
         if listening:
             self.address = listening[1]
@@ -166,7 +172,9 @@ class ChatServer(Cases):
         tested = self.cargo("test")
         with self.case("the tests of the sources pass"):
             self.assertEqual(tested.status, 0, tested.said() + tested.errors())
-        for _ in range(sum(map(int, re.findall(r"^test result: ok. (\d+) passed", tested.said(), re.M)))):
+        for _ in range(
+            sum(map(int, re.findall(r"^test result: ok. (\d+) passed", tested.said(), re.M)))
+        ):
             with self.case("a test of the sources"):
                 pass
 
@@ -176,29 +184,67 @@ class ChatServer(Cases):
         anywhere = ("--listen", "127.0.0.1:0")
         self.refuses("no words", 2, "chat_server: --listen is missing; see chat_server --help")
         self.refuses("an unknown word", 2, "chat_server: unknown word: --foo", "--foo")
-        self.refuses("a wrong address", 2, "chat_server: --listen can't be here", "--listen", "here")
-        self.refuses("a wrong limit", 2, "chat_server: --owed-limit can't be 0", "--owed-limit", "0")
-        self.refuses("a word twice", 2, "chat_server: --journal is there twice", "--journal", "a", "--journal", "b")
+        self.refuses(
+            "a wrong address", 2, "chat_server: --listen can't be here", "--listen", "here"
+        )
+        self.refuses(
+            "a wrong limit", 2, "chat_server: --owed-limit can't be 0", "--owed-limit", "0"
+        )
+        self.refuses(
+            "a word twice",
+            2,
+            "chat_server: --journal is there twice",
+            "--journal",
+            "a",
+            "--journal",
+            "b",
+        )
         second = self.work / "second"
-        self.refuses("a port in use", 3, "chat_server: can't listen: ", "--listen", self.address, "--journal", second)
-        self.refuses("a folder", 4, f"chat_server: {self.work}: ", *anywhere, "--journal", self.work)
+        self.refuses(
+            "a port in use",
+            3,
+            "chat_server: can't listen: ",
+            "--listen",
+            self.address,
+            "--journal",
+            second,
+        )
+        self.refuses(
+            "a folder", 4, f"chat_server: {self.work}: ", *anywhere, "--journal", self.work
+        )
         nowhere = self.work / "none/journal"
-        self.refuses("a file in no folder", 4, f"chat_server: {nowhere}: ", *anywhere, "--journal", nowhere)
-        self.refuses("a device", 5, "chat_server: /dev/null is no journal", *anywhere, "--journal", "/dev/null")
+        self.refuses(
+            "a file in no folder", 4, f"chat_server: {nowhere}: ", *anywhere, "--journal", nowhere
+        )
+        self.refuses(
+            "a device",
+            5,
+            "chat_server: /dev/null is no journal",
+            *anywhere,
+            "--journal",
+            "/dev/null",
+        )
         in_use = f"chat_server: {self.journal}: another server has the file"
         self.refuses("a file in use", 6, in_use, *anywhere, "--journal", self.journal)
         self.no_journal("a text", "Shopping\nmilk\n")
         self.no_journal("a text of one line without its end", "milk")
         self.no_journal("a journal of numbers", "journal 1\nseat 0 mailbox: made 0\nend 1\n")
-        self.no_journal("a journal of another program", "journal 2\nseat 0 mailbox: made 0\nend 1\n")
+        self.no_journal(
+            "a journal of another program", "journal 2\nseat 0 mailbox: made 0\nend 1\n"
+        )
         begun = "journal 2\nseat 0 mvar =chat%201: made 0\n"
         self.no_journal("an unlawful journal", f"{begun}seat 0 recv 0: =a\nend 2\n")
-        self.no_journal("a journal with a record of nothing", f"{begun}seat 0 mvar =room%20a: made 1\nend 2\n")
+        self.no_journal(
+            "a journal with a record of nothing", f"{begun}seat 0 mvar =room%20a: made 1\nend 2\n"
+        )
         self.expect("help", self.run_program(self.program, "--help"), 0, True, "")
         self.crash()
 
     def test_restarts(self):
-        """What one server leaves and the next one finds: after a kill, with a piece of which the disk has only some bytes."""
+        """What one server leaves and the next one finds.
+
+        It was killed, and the disk has only some bytes of a piece.
+        """
         self.begin()
         self.loads("before")
         self.crash()
@@ -214,8 +260,8 @@ class ChatServer(Cases):
     def test_mends(self):
         """A server that was killed between two calls.
 
-        It left a message that was received and not multicast, a port that no member reads, and a place that was ended by its port
-        alone.
+        It left a message that was received and not multicast, a port that no member reads, and a
+        place that was ended by its port alone.
         """
         lines = [
             "journal 2",
@@ -242,12 +288,16 @@ class ChatServer(Cases):
         self.loads("mended")
         self.crash()
         with self.case("a port that no member reads is closed"):
-            self.assertRegex(self.journal.read_text(), re.compile(r"^seat \d* close 8: done$", re.M))
+            self.assertRegex(
+                self.journal.read_text(), re.compile(r"^seat \d* close 8: done$", re.M)
+            )
         self.lawful("what was mended")
 
     def test_all_a_client_may_say(self):
         """All that a client may say, and what the server bounds."""
-        self.begin("--client-limit", 20, "--room-limit", 20, "--member-limit", 40, "--owed-limit", 300)
+        self.begin(
+            "--client-limit", 20, "--room-limit", 20, "--member-limit", 40, "--owed-limit", 300
+        )
         self.loads("cases")
         self.crash()
         self.lawful("all cases")
@@ -292,7 +342,10 @@ class ChatServer(Cases):
         self.lawful("of servers that were killed")
 
     def test_full(self):
-        """A journal of 20 entries is full all the time. The threads that find it full wait, and nothing is lost."""
+        """A journal of 20 entries is full all the time.
+
+        The threads that find it full wait, and nothing is lost.
+        """
         self.begin("--entry-limit", 20)
         self.everyone("a full journal", "--clients", 20, "--messages", 50, "--rooms", 2)
         self.crash()
@@ -313,7 +366,16 @@ class ChatServer(Cases):
     def test_flat(self):
         """The server's memory doesn't grow with the messages."""
         self.begin()
-        memory = ("--clients", 4, "--messages", 12500, "--rooms", 2, "--pid", self.server.process.pid)
+        memory = (
+            "--clients",
+            4,
+            "--messages",
+            12500,
+            "--rooms",
+            2,
+            "--pid",
+            self.server.process.pid,
+        )
         self.everyone("memory", *memory)
         self.crash()
         self.lawful("of many messages")

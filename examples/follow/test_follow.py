@@ -1,247 +1,51 @@
 """A second machine that follows by Redis: `python3 test_follow.py LIBRARY CHECK WORD..`.
 
-LIBRARY is the archive of cml_c, or the folder that bindings/install.sh installed into, and CHECK the command that checks a journal.
-Six clients put and get while the leader is killed ten times, a follower twice and Redis once, and an old leader is stopped,
-replaced and continued. What was answered is kept: each put is received once, in order, and the journal in Redis is lawful. So is a
-piece that an old leader adds before the next one's first entry. Wrong streams, and a Redis that has lost its file, are refused by
-name.
+LIBRARY is the archive of cml_c, or the folder that bindings/install.sh installed into, and CHECK
+the command that checks a journal. Six clients put and get while the leader is killed ten times, a
+follower twice and Redis once, and an old leader is stopped, replaced and continued. What was
+answered is kept: each put is received once, in order, and the journal in Redis is lawful. So is a
+piece that an old leader adds before the next one's first entry. Wrong streams, and a Redis that has
+lost its file, are refused by name.
 """
 
 import collections
 import hashlib
 import itertools
-import os
-import pathlib
-import random
 import re
 import shutil
 import signal
-import socket
 import subprocess
 import sys
-import threading
 import time
 
-FOLDER = pathlib.Path(__file__).resolve().parent
-sys.path.insert(0, str(FOLDER.parents[1] / "tests/lib"))
-from cases import TOP, Cases, has, left_out, main, wait_until  # noqa: E402
+from service import FOLDER, PLACES, Client, Service, free_port  # noqa: I001
+from cases import TOP, has, left_out, main, wait_until
 
-PLACES = (1, 2, 3)
 QUEUES = (1, 2, 3)
 # How many leaders may be replaced unasked, on a machine that is too busy.
 MOST_UNASKED = 5
 LEAST_PUTS = 300
 
 
-def is_free(port):
-    with socket.socket() as tried:
-        return tried.connect_ex(("127.0.0.1", port)) != 0
-
-
-def free_port():
-    """A port for Redis with four free ones after it: three for the servers, and one for those that are refused."""
-    ports = (random.randrange(20000, 30000, 5) for _ in itertools.count())
-    return next(port for port in ports if all(is_free(port + near) for near in range(5)))
-
-
-class Client:
-    """A client that asks again and again, until its standard input ends."""
-
-    def __init__(self, tests, number, requests):
-        self.number = number
-        places = [tests.port + place for place in PLACES]
-        words = [tests.program, "client", "--every", "30", number, *places]
-        self.program = tests.start(*words, stdin=subprocess.PIPE)
-        threading.Thread(target=self.write, args=(requests,), daemon=True).start()
-
-    def write(self, requests):
-        try:
-            for request in requests:
-                self.program.process.stdin.write(f"{request}\n".encode())
-        except (BrokenPipeError, ValueError):
-            pass
-
-    def answers(self):
-        return self.program.said().splitlines()
-
-
-class Follow(Cases):
+class Follow(Service):
     """One run: each test goes on from what the one before left."""
-
-    @classmethod
-    def setUpClass(cls):
-        super().setUpClass()
-        given = pathlib.Path(cls.words[0]).resolve()
-        cls.checker = [str(pathlib.Path(cls.words[1]).resolve()), *cls.words[2:]]
-        prefix = given if given.is_dir() else cls.install_rooms(given)
-        os.environ["PKG_CONFIG_PATH"] = str(prefix / "lib/pkgconfig")
-        built = cls.make("built")
-        if built.status != 0:
-            raise AssertionError(f"the program is built: {built.said()}{built.errors()}")
-        cls.program = cls.work / "built/follow"
-        cls.port = free_port()
-        cls.servers = {}
-        cls.stopped = None
-        cls.unasked = 0
-        cls.fronts = []
-        cls.clients = []
-
-    @classmethod
-    def make(cls, out, *words):
-        """Builds the program, with these words for the compiler too."""
-        return cls.run_program("make", "-C", FOLDER, f"OUT={cls.work / out}", f"CHECKED={' '.join(words)}", seconds=300)
-
-    def holds(self, name, condition, *shown):
-        with self.case(name):
-            self.assertTrue(condition, shown)
-        return condition
-
-    def wait_for(self, name, condition):
-        """A case: the condition holds within a minute."""
-        with self.case(name):
-            wait_until(name, condition)
-            return True
-        return False
-
-    # ---- Redis ----
-
-    def ask_redis(self, *words, stdin=None):
-        ran = subprocess.run(
-            ["redis-cli", "-p", str(self.port), *map(str, words)], input=stdin, capture_output=True, text=True, check=False
-        )
-        return ran.stdout + ran.stderr
-
-    def start_redis(self):
-        folder = self.work / "redis"
-        folder.mkdir(exist_ok=True)
-        kept = ["--save", "", "--appendonly", "yes", "--appendfsync", "always"]
-        cls = type(self)
-        cls.redis = self.start("redis-server", "--port", self.port, "--bind", "127.0.0.1", "--dir", folder, *kept)
-        self.wait_for("Redis answers", lambda: self.ask_redis("ping") == "PONG\n")
-
-    def kill_redis(self):
-        self.redis.kill()
-
-    # ---- three servers, each at its own place ----
-
-    def serve(self, place, stream="letters", lease=1500):
-        """Starts a new server there."""
-        words = ["serve", "--lease", lease, self.port, stream, self.port + place]
-        self.servers[place] = self.start(self.program, *words)
-
-    def says(self, place, pattern):
-        return re.search(f"^{pattern}", self.servers[place].said(), re.M)
-
-    def leads(self, place):
-        return place != self.stopped and self.servers[place].runs() and self.says(place, "leads by")
-
-    def leader(self):
-        """The place of a leader that runs, once there is one: a case."""
-        found = []
-        self.wait_for("a server leads", lambda: found.extend(place for place in PLACES if self.leads(place)) or found)
-        return found[0]
-
-    def revive(self):
-        """On a machine that is too busy a leader may be replaced unasked.
-
-        That is no fault if it is rare, and a new server takes its place.
-        """
-        for place in PLACES:
-            server = self.servers[place]
-            if not server.runs():
-                if server.ends() != 6:
-                    self.holds(f"server {place} runs", False, server.ends(), server.errors())
-                type(self).unasked += 1
-                self.serve(place)
-
-    # ---- clients ----
-
-    def start_clients(self):
-        """Three put numbered words into three queues, and three get what is there."""
-        for number in PLACES:
-            puts = (f"put q{(n + number) % 3 + 1} {number}.{n}" for n in itertools.count(1))
-            self.clients.append(Client(self, number, puts))
-            self.clients.append(Client(self, f"1{number}", itertools.repeat(f"get q{number}")))
-
-    def stop_clients(self):
-        """Each client stops after the answer to its last request."""
-        for client in self.clients:
-            client.program.signal(signal.SIGTERM)
-        for client in self.clients:
-            self.holds("a client ends well", client.program.ends() == 0, client.program.errors())
-
-    def clients_go_on(self, name):
-        """A case: each client has some more answers."""
-        before = {client: len(client.answers()) for client in self.clients}
-        have_more = lambda: all(len(client.answers()) >= before[client] + 5 for client in self.clients)  # noqa: E731
-        self.wait_for(f"{name}: each client has answers", have_more)
-
-    # ---- what is killed ----
-
-    def dump(self):
-        return subprocess.run([self.program, "dump", str(self.port), "letters"], capture_output=True, check=False).stdout
-
-    def keep_front(self):
-        """Keeps how many bytes the journal in Redis has, and their sum."""
-        front = self.dump()
-        self.fronts.append((len(front), hashlib.sha256(front).digest()))
-
-    def kill_leader(self):
-        self.revive()
-        leader = self.leader()
-        self.servers[leader].kill()
-        self.holds("a leader is killed", self.servers[leader].ends() == -signal.SIGKILL)
-        self.keep_front()
-        self.serve(leader)
-        self.leader()
-
-    def kill_leaders(self, most):
-        """Kills this many leaders at random times, while clients ask."""
-        for _ in range(most):
-            time.sleep(random.randrange(10) / 10)
-            self.kill_leader()
-            self.clients_go_on("after a kill of the leader")
-
-    def kill_follower(self):
-        self.revive()
-        follower = self.leader() % 3 + 1
-        self.servers[follower].kill()
-        self.holds("a follower is killed", self.servers[follower].ends() == -signal.SIGKILL)
-        self.serve(follower)
-        self.wait_for("a new follower has read the stream", lambda: self.says(follower, "follows behind [1-9]"))
-        self.clients_go_on("after a kill of a follower")
-
-    # ---- requests ----
-
-    def says_to(self, name, expected, *requests):
-        """A case: what the leader answers to these requests."""
-        asked = self.run_program(self.program, "ask", self.port + self.leader(), *requests)
-        with self.case(name):
-            self.assertEqual(asked.said().splitlines(), expected, asked.errors())
-
-    # ---- named errors ----
-
-    def refuses(self, name, status, error, *words):
-        """A case: the program ends so by these words, with this in an error."""
-        ended = self.run_program(self.program, *words, seconds=20)
-        self.holds(name, ended.status == status and re.search(error, ended.errors(), re.M), ended.status, ended.errors())
-
-    def refuses_stream(self, name, stream, error):
-        """A case: a server that would follow this stream ends so."""
-        self.refuses(name, 2, error, "serve", "--lease", "100", self.port, stream, self.port + 4)
-
-    def add(self, stream, number, piece):
-        """Adds a piece; in it each `/` is a line feed."""
-        self.ask_redis("-x", "XADD", stream, number, "piece", stdin=piece.replace("/", "\n"))
-
-    # ---- the run ----
 
     def test_words(self):
         away = (self.port, "letters", self.port + 4)
         no_redis = f"redis 127.0.0.1:{self.port}: Connection refused"
         self.refuses("no words", 3, "^usage: follow serve")
-        self.refuses("a word that is no address", 3, "x is no address", "serve", "x", "letters", "1")
-        self.refuses("a lease that is too short", 3, "at least 100 milliseconds", "serve", "--lease", "99", *away)
+        self.refuses(
+            "a word that is no address", 3, "x is no address", "serve", "x", "letters", "1"
+        )
+        self.refuses(
+            "a lease that is too short",
+            3,
+            "at least 100 milliseconds",
+            "serve",
+            "--lease",
+            "99",
+            *away,
+        )
         self.refuses("a Redis that is not there", 4, no_redis, "serve", *away)
         self.refuses("the same, by dump", 4, no_redis, "dump", self.port, "letters")
 
@@ -252,19 +56,26 @@ class Follow(Cases):
     def stop(self, place):
         """A case: a server ends by SIGTERM."""
         self.servers[place].signal(signal.SIGTERM)
-        self.holds(f"server {place} is stopped", self.servers[place].ends() == 0, self.servers[place].errors())
+        self.holds(
+            f"server {place} is stopped",
+            self.servers[place].ends() == 0,
+            self.servers[place].errors(),
+        )
 
     def test_window(self):
         """An old leader adds a piece between a follower's last read and its first entry.
 
-        The lease is removed, and from then on Redis holds back all commands that write: the leader's piece, and the follower's
-        request for the lease, which it makes once a read found nothing. Redis then performs both before the follower can add its
-        first entry. So the piece comes after that read and before that entry. The new leader has to have it. The leader has just
-        renewed its lease, so it renews no more for ten seconds.
+        The lease is removed, and from then on Redis holds back all commands that write: the
+        leader's piece, and the follower's request for the lease, which it makes once a read found
+        nothing. Redis then performs both before the follower can add its first entry. So the piece
+        comes after that read and before that entry. The new leader has to have it. The leader has
+        just renewed its lease, so it renews no more for ten seconds.
         """
         self.start_redis()
         self.serve(1, "window", 40000)
-        self.wait_for("a leader of its own stream", lambda: self.says(1, "leads by epoch 1 behind 0 entries"))
+        self.wait_for(
+            "a leader of its own stream", lambda: self.says(1, "leads by epoch 1 behind 0 entries")
+        )
         self.serve(2, "window", 40000)
         self.wait_for("a follower of it", lambda: self.says(2, "follows behind 0 entries"))
         early = self.run_program(self.program, "ask", self.port + 1, "9 1 put late a")
@@ -296,7 +107,10 @@ class Follow(Cases):
         self.kill_follower()
 
     def test_restarts_redis(self):
-        """Redis comes back with its file. The followers connect again, and so does the leader, unless it was replaced."""
+        """Redis comes back with its file.
+
+        The followers connect again, and so does the leader, unless it was replaced.
+        """
         self.revive()
         self.kill_redis()
         time.sleep(0.2)
@@ -313,7 +127,12 @@ class Follow(Cases):
         """
         broken = 0
         for _ in range(60):
-            broken += int(re.sub(r"\D", "", self.ask_redis("CLIENT", "KILL", "TYPE", "normal", "SKIPME", "yes")) or 0)
+            broken += int(
+                re.sub(
+                    r"\D", "", self.ask_redis("CLIENT", "KILL", "TYPE", "normal", "SKIPME", "yes")
+                )
+                or 0
+            )
             time.sleep(0.02)
         self.holds("connections are broken", broken > 20, broken)
         self.clients_go_on("after broken connections")
@@ -330,7 +149,11 @@ class Follow(Cases):
         self.clients_go_on("while the old leader is stopped")
         server.signal(signal.SIGCONT)
         replaced = "replaced: another process leads, and Redis refused piece"
-        self.holds("an old leader ends", server.ends() == 6 and replaced in server.errors(), server.errors())
+        self.holds(
+            "an old leader ends",
+            server.ends() == 6 and replaced in server.errors(),
+            server.errors(),
+        )
         self.serve(old)
         type(self).stopped = None
         self.keep_front()
@@ -342,13 +165,17 @@ class Follow(Cases):
         """A request that is repeated is performed once, also by another leader."""
         put, get = "9 1 put once a b", "9 2 get once"
         answers = ["9 1 done"] * 3 + ["9 2 message a b"] * 2 + ["9 3 count 0"]
-        self.says_to("a put thrice, a get twice", answers, put, put, put, get, get, "9 3 count once")
+        self.says_to(
+            "a put thrice, a get twice", answers, put, put, put, get, get, "9 3 count once"
+        )
         last = ["refused: the last request of client 9 was 3"]
         self.says_to("an old number", last, put)
         self.says_to("a number too large", last, "9 5 put once a b")
         self.kill_leader()
         repeated = ["9 last 3", "9 3 count 0", "9 4 nothing"]
-        self.says_to("repeated to the next leader", repeated, "9 last", "9 3 count other", "9 4 get once")
+        self.says_to(
+            "repeated to the next leader", repeated, "9 last", "9 3 count other", "9 4 get once"
+        )
         no_requests = ["refused: the first word is no client's number", "refused: put has no text"]
         self.says_to("lines that are no requests", no_requests, "x", "9 5 put q")
         long = ["refused: a line has more than 4096 bytes", "9 last 4"]
@@ -357,8 +184,8 @@ class Follow(Cases):
     def test_hold(self):
         """While Redis is stopped, no put is answered.
 
-        It is stopped for longer than the leader waits for it, so the leader sends the piece a second time, and then Redis has both.
-        The put is performed once, and answered.
+        It is stopped for longer than the leader waits for it, so the leader sends the piece a
+        second time, and then Redis has both. The put is performed once, and answered.
         """
         leader = self.port + self.leader()
         self.redis.signal(signal.SIGSTOP)
@@ -374,7 +201,9 @@ class Follow(Cases):
         """An entry with an earlier leader's epoch is refused, however large its number is."""
         epoch = int(self.says(self.leader(), r"leads by epoch (\d+) ")[1])
         told = self.ask_redis("XADD", "letters", f"{epoch - 1}-18446744073709551615", "piece", "x")
-        self.holds(f"an entry of an epoch before {epoch}", epoch > 1 and "equal or smaller" in told, told)
+        self.holds(
+            f"an entry of an epoch before {epoch}", epoch > 1 and "equal or smaller" in told, told
+        )
 
     def drained(self, queue):
         """What is left in a queue is received too."""
@@ -385,11 +214,16 @@ class Follow(Cases):
         return client
 
     def test_each_put_once(self):
-        """Each put that was answered was received once, and each producer's in order at each queue; the journal has no other."""
+        """Each put that was answered was received once.
+
+        Each producer's are in order at each queue, and the journal has no other.
+        """
         puts, received, last = set(), collections.Counter(), {}
         for client in self.clients + [self.drained(queue) for queue in QUEUES]:
             if client.number in PLACES:
-                puts.update(f"{client.number}.{n + 1}" for n in range(client.answers().count("done")))
+                puts.update(
+                    f"{client.number}.{n + 1}" for n in range(client.answers().count("done"))
+                )
                 continue
             words = [line.split()[1] for line in client.answers() if line.startswith("message ")]
             received.update(words)
@@ -399,39 +233,83 @@ class Follow(Cases):
                 self.assertGreater(int(number), last.get(at, 0), f"{word} is out of order")
                 last[at] = int(number)
         journal = self.dump()
-        kept = collections.Counter(re.findall(r"^seat \d+ send \d+ =(\d+\.\d+):", journal.decode(), re.M))
+        kept = collections.Counter(
+            re.findall(r"^seat \d+ send \d+ =(\d+\.\d+):", journal.decode(), re.M)
+        )
         with self.case("each put once"):
             self.assertGreaterEqual(len(puts), LEAST_PUTS)
             self.assertEqual(received, collections.Counter(puts))
             self.assertEqual(kept, collections.Counter(puts))
-        checked = subprocess.run(self.checker, input=journal, capture_output=True, check=False).stdout.decode()
+        checked = subprocess.run(
+            self.checker, input=journal, capture_output=True, check=False
+        ).stdout.decode()
         entries = sum(b":" in line for line in journal.splitlines())
         self.holds("the journal is lawful", checked == f"lawful {entries}\n", checked, entries)
         for size, front in self.fronts:
-            self.holds(f"the first {size} bytes are still there", hashlib.sha256(journal[:size]).digest() == front)
-        print(f"the leader was killed 10 times; {len(puts)} puts were answered, in {entries} entries of the journal")
+            self.holds(
+                f"the first {size} bytes are still there",
+                hashlib.sha256(journal[:size]).digest() == front,
+            )
+        print(
+            f"the leader was killed 10 times; {len(puts)} puts were answered, "
+            f"in {entries} entries of the journal"
+        )
         self.holds("few leaders were replaced unasked", self.unasked <= MOST_UNASKED, self.unasked)
 
     def test_streams(self):
         self.ask_redis("SET", "word", "x")
-        self.refuses_stream("a key that is no stream", "word", "word: this key of Redis holds something else, and no stream")
+        self.refuses_stream(
+            "a key that is no stream",
+            "word",
+            "word: this key of Redis holds something else, and no stream",
+        )
         self.ask_redis("XADD", "other", "1-1", "color", "red")
-        self.refuses_stream("a stream of something else", "other", "stream other: entry 1-1 is something else: neither")
+        self.refuses_stream(
+            "a stream of something else",
+            "other",
+            "stream other: entry 1-1 is something else: neither",
+        )
         self.add("orphan", "2-2", "journal 2/end 0/")
-        self.refuses_stream("a piece without a leader", "orphan", "stream orphan: piece 2-2 is no leader's")
+        self.refuses_stream(
+            "a piece without a leader", "orphan", "stream orphan: piece 2-2 is no leader's"
+        )
         made = "journal 2/seat 0 mailbox: made 0/"
         faulty = [
-            ("a torn line", "torn", [made + "seat 0 send 0 =a: d"], "piece 1-2 is torn behind line 2"),
+            (
+                "a torn line",
+                "torn",
+                [made + "seat 0 send 0 =a: d"],
+                "piece 1-2 is torn behind line 2",
+            ),
             ("a piece without its end", "endless", [made], "piece 1-2 is torn behind line 2"),
-            ("a piece that is doubled", "doubled", [made + "end 1/"] * 2, "piece 1-3 has a fault: line 5 .*behind 1 entries"),
+            (
+                "a piece that is doubled",
+                "doubled",
+                [made + "end 1/"] * 2,
+                "piece 1-3 has a fault: line 5 .*behind 1 entries",
+            ),
             (
                 "a piece that is missing",
                 "missing",
-                ["journal 2/seat 0 mvar =queue%20a: made 0/seat 0 mailbox: made 1/end 2/", None, "journal 2/from 3/end 3/"],
+                [
+                    "journal 2/seat 0 mvar =queue%20a: made 0/seat 0 mailbox: made 1/end 2/",
+                    None,
+                    "journal 2/from 3/end 3/",
+                ],
                 "piece 1-4 has a fault: line 6 .*behind 2 entries",
             ),
-            ("an entry that is unlawful", "unlawful", [made + "seat 0 poll 0: =a/end 2/"], "piece 1-2 is unlawful at entry 1"),
-            ("a journal of numbers", "numbers", ["journal 1/seat 0 mailbox: made 0/end 1/"], "piece 1-2 has a fault: line 1 "),
+            (
+                "an entry that is unlawful",
+                "unlawful",
+                [made + "seat 0 poll 0: =a/end 2/"],
+                "piece 1-2 is unlawful at entry 1",
+            ),
+            (
+                "a journal of numbers",
+                "numbers",
+                ["journal 1/seat 0 mailbox: made 0/end 1/"],
+                "piece 1-2 has a fault: line 1 ",
+            ),
         ]
         for name, stream, pieces, error in faulty:
             self.ask_redis("XADD", stream, "1-1", "leader", "x")
@@ -441,9 +319,13 @@ class Follow(Cases):
             self.refuses_stream(name, stream, f"stream {stream}: {error}")
         self.ask_redis("XADD", "stranger", "1-1", "leader", "x")
         self.add("stranger", "1-2", made + "end 1/")
-        self.refuses_stream("another program's journal", "stranger", "object 0 of the journal is another program's")
+        self.refuses_stream(
+            "another program's journal", "stranger", "object 0 of the journal is another program's"
+        )
         self.ask_redis("CONFIG", "SET", "appendfsync", "everysec")
-        self.refuses_stream("a Redis that keeps less", "word", "appendfsync is everysec, not always")
+        self.refuses_stream(
+            "a Redis that keeps less", "word", "appendfsync is everysec, not always"
+        )
         self.ask_redis("CONFIG", "SET", "appendfsync", "always")
 
     def watched(self, name, *command):
@@ -451,9 +333,15 @@ class Follow(Cases):
         server = self.start(*command, "serve", "--lease", "5000", self.port, name, self.port + 4)
         requests = "put q a\nget q\ncount q\nget q\n"
         words = [self.program, "client", "1", str(self.port + 4)]
-        told = subprocess.run(words, input=requests, capture_output=True, text=True, timeout=60, check=False).stdout
+        told = subprocess.run(
+            words, input=requests, capture_output=True, text=True, timeout=60, check=False
+        ).stdout
         server.signal(signal.SIGTERM)
-        is_right = (server.ends(), server.errors(), told) == (0, "", "done\nmessage a\ncount 0\nnothing\n")
+        is_right = (server.ends(), server.errors(), told) == (
+            0,
+            "",
+            "done\nmessage a\ncount 0\nnothing\n",
+        )
         self.holds(f"a run under {name}", is_right, told, server.errors())
 
     def test_watched(self):
@@ -462,7 +350,14 @@ class Follow(Cases):
         else:
             print("left out: a run under sanitizers: the compiler has none")
         if has("valgrind"):
-            self.watched("valgrind", "valgrind", "--quiet", "--leak-check=full", "--error-exitcode=99", self.program)
+            self.watched(
+                "valgrind",
+                "valgrind",
+                "--quiet",
+                "--leak-check=full",
+                "--error-exitcode=99",
+                self.program,
+            )
         else:
             print("left out: a run under valgrind: there is no valgrind")
 
@@ -471,7 +366,9 @@ class Follow(Cases):
 
         def shown(text):
             text = re.sub("at port [0-9]*", "at port N", re.sub("^    ", "", text, flags=re.M))
-            return re.search(r"^put greetings hello: done$.*?^the one at port[^\n]*$", text, re.M | re.S)
+            return re.search(
+                r"^put greetings hello: done$.*?^the one at port[^\n]*$", text, re.M | re.S
+            )
 
         copy = self.work / "follow"
         shutil.copytree(FOLDER, copy, ignore=shutil.ignore_patterns("out"))
@@ -485,14 +382,21 @@ class Follow(Cases):
         self.revive()
         self.leader()
         for place in PLACES:
-            self.wait_for(f"server {place} has read the stream", lambda place=place: self.says(place, "follows behind"))
+            self.wait_for(
+                f"server {place} has read the stream",
+                lambda place=place: self.says(place, "follows behind"),
+            )
         self.kill_redis()
         shutil.rmtree(self.work / "redis")
         self.start_redis()
         for place in PLACES:
             server = self.servers[place]
             lost = "is gone: Redis has lost what it kept"
-            self.holds(f"server {place} of a Redis without its file", server.ends() == 2 and lost in server.errors(), server.errors())
+            self.holds(
+                f"server {place} of a Redis without its file",
+                server.ends() == 2 and lost in server.errors(),
+                server.errors(),
+            )
 
 
 if __name__ == "__main__":

@@ -1,4 +1,5 @@
-"""What the tests of the programs in `examples/` share: a folder, programs that run and are stopped at the end, and the count of cases.
+"""What the tests of the programs in `examples/` share: a folder, programs that run and are stopped
+at the end, and the count of cases.
 
 Each `subTest` is a case. The last line is `N passed, M failed`.
 """
@@ -98,14 +99,14 @@ class Program:
 
 
 class Cases(unittest.TestCase):
-    """Tests in the order in which they are written, in one folder. `words` are the words of the command line."""
+    """Tests in the order in which they are written, in one folder.
+
+    `words` are the words of the command line.
+    """
 
     words = []
-
-    @classmethod
-    def setUpClass(cls):
-        cls.work = pathlib.Path(tempfile.mkdtemp())
-        cls.running = []
+    work = None
+    running = []
 
     @classmethod
     def tearDownClass(cls):
@@ -113,7 +114,7 @@ class Cases(unittest.TestCase):
             if program.runs():
                 program.signal(signal.SIGCONT)
                 program.kill()
-        shutil.rmtree(cls.work, ignore_errors=True)
+        cls.running.clear()
 
     @classmethod
     def start(cls, *words, **how):
@@ -131,9 +132,16 @@ class Cases(unittest.TestCase):
 
     @classmethod
     def install_rooms(cls, archive):
-        """Installs the library of rooms of this archive, and not that of scripts; returns the folder."""
+        """Installs the library of rooms of this archive, and not that of scripts.
+
+        Returns the folder.
+        """
         prefix = cls.work / "installed"
-        named = {**os.environ, "SERYUGO_ARCHIVE": str(archive), "SERYUGO_SCRIPT_ARCHIVE": "/nowhere"}
+        named = {
+            **os.environ,
+            "SERYUGO_ARCHIVE": str(archive),
+            "SERYUGO_SCRIPT_ARCHIVE": "/nowhere",
+        }
         done = cls.run_program("sh", TOP / "bindings/install.sh", prefix, env=named, seconds=600)
         if done.status != 0:
             raise AssertionError(done.said() + done.errors())
@@ -144,9 +152,13 @@ class Cases(unittest.TestCase):
         return self.subTest(name)
 
     def expect(self, name, program, status, out=None, err=None):
-        """A case: how a program ended, and what it wrote. A text is all of it, True is some, and None says nothing of it."""
+        """A case: how a program ended, and what it wrote.
+
+        A text is all of it, True is some, and None says nothing of it.
+        """
         with self.case(name):
-            shown = f"status {program.status}, output {program.said()[:300]}, errors {program.errors()[:300]}"
+            said, errors = program.said()[:300], program.errors()[:300]
+            shown = f"status {program.status}, output {said}, errors {errors}"
             self.assertEqual(program.status, status, shown)
             for told, wanted in (program.said(), out), (program.errors(), err):
                 if wanted is True:
@@ -155,11 +167,15 @@ class Cases(unittest.TestCase):
                     self.assertEqual(told.rstrip("\n"), wanted, shown)
 
 
-def main(tests):
-    """Runs the tests of this class with the words of the command line, and ends the program."""
-    tests.words = sys.argv[1:]
+def main(*classes):
+    """Runs the tests of these classes with the words of the command line, and ends the program."""
+    Cases.words = sys.argv[1:]
     os.environ["LC_ALL"] = "C"
     result = Counted()
-    unittest.TestSuite(tests(name) for name in vars(tests) if name.startswith("test_")).run(result)
+    with tempfile.TemporaryDirectory() as work:
+        Cases.work = pathlib.Path(work)
+        for tests in classes:
+            names = [name for name in vars(tests) if name.startswith("test_")]
+            unittest.TestSuite(map(tests, names)).run(result)
     print(f"{result.passed} passed, {result.failed} failed")
     sys.exit(result.failed > 0 or result.passed == 0)
