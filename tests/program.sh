@@ -2,7 +2,7 @@
 # The built program from outside: `sh tests/program.sh PROGRAM`. Each example, the cases of tests/tables/faults and
 # tests/tables/reports (tests/lib/tables.sh says how they are written), each step of the table of calls (tests/models/each_call.awk), each exit status,
 # many texts for which the plain program of tests/models/plain.awk says what is to come, and threads that take their steps in any order
-# (tests/lib/runs.sh). Its last line is `N passed, M failed`.
+# (tests/lib/runs.sh). With the word `few` it leaves out journals of 65,537 entries. Its last line is `N passed, M failed`.
 LC_ALL=C
 export LC_ALL
 . "$(dirname "$0")/lib/cases.sh"
@@ -220,19 +220,83 @@ endings() {
         "$(printf 'mailbox m: sent 0 got 0 waits 0\nmailbox k: not made\nend: full 0 left 1')" none
 }
 
-usages() {
-    for words in '' 'play' 'replay hello.cml' 'replay --limit' 'replay --limit 0' 'replay --limit 4294967297' \
-        'replay --limit x' 'replay --limit 4 --limit 4' '--limit 4 replay' 'replay --seed 4' 'help me' \
-        'run hello.cml' 'run --limit' 'run --limit 0' 'run --limit 4294967297' 'run --limit x' \
-        'run --limit 4 --limit 4' '--limit 4 run' 'run --seed 4' 'run replay' 'replay run'; do
-        # shellcheck disable=SC2086
-        run $words < /dev/null
-        expect "the words '$words'" 3 none some
+# with_words ROW: runs the program with the words of a row of tests/tables/words, on a script of five entries or on a journal of two.
+with_words() {
+    case $1 in
+        check*) script 'journal 1 / seat 0 mailbox: made 0 / seat 1 send 0 5: done / end 2' > "$work/in" ;;
+        *) script 'cml 1 / mailbox m / thread A / A send m 1 / A send m 2 / A recv m / A recv m' > "$work/in" ;;
+    esac
+    row=$1
+    set --
+    for word in $row; do
+        [ "$word" != "''" ] || word=
+        set -- "$@" "$word"
     done
-    for words in '--help' '-h' 'help' 'replay --help' 'help replay' 'run --help' 'help run'; do
+    run "$@" < "$work/in"
+}
+
+# each_row TABLE FUNCTION: calls the function with each row of a table of words.
+each_row() {
+    while IFS= read -r row; do
+        case $row in '#'*) ;; *) "$2" "$row" ;; esac
+    done < "tests/tables/words/$1" || fail "$1: not read"
+}
+
+understood_row() {
+    [ -n "$1" ] || return
+    with_words "${1%% | *}"
+    rest=${1#* | }
+    if [ "$status" = "${rest%% | *}" ] && [ "$(tail -n 1 "$work/out")" = "${rest#* | }" ] && [ ! -s "$work/err" ]; then
+        pass
+    else
+        fail "the words '${1%% | *}': status $status, output $(tail -n 1 "$work/out"), errors $(head -c 300 "$work/err")"
+    fi
+}
+
+refused_row() {
+    [ -n "$1" ] || return
+    with_words "$1"
+    expect "the words '$1'" 3 none some
+}
+
+help_row() {
+    [ -n "$1" ] || return
+    with_words "${1%% | *}"
+    if [ "$status" = 0 ] && grep -qF -e "${1#* | }" "$work/out" && [ ! -s "$work/err" ]; then
+        pass
+    else
+        fail "the words '${1%% | *}' don't show '${1#* | }': status $status, errors $(head -c 300 "$work/err")"
+    fi
+}
+
+usages() {
+    each_row understood.txt understood_row
+    each_row refused.txt refused_row
+    each_row help.txt help_row
+    run < /dev/null
+    expect 'the name alone' 3 none some
+    for phrase in 'Usage: cml <COMMAND>' replay; do
+        grep -qF -e "$phrase" "$work/err" && pass || fail "the name alone doesn't show '$phrase'"
+    done
+    mkdir "$work/a path"
+    ln -s "$program" "$work/a path/cml"
+    "$work/a path/cml" replay < examples/lock.cml > "$work/out" 2> "$work/err"
+    status=$?
+    expect 'a name with a space' 0 "$(cat examples/lock.report)" none
+}
+
+# most_entries COMMAND: without a limit a journal takes 65,536 entries.
+most_entries() {
+    awk 'BEGIN { print "cml 1\nmailbox m\nthread A"; for (i = 0; i < 65536; i++) print "A send m 5" }' > "$work/in"
+    for row in '| 6 | end: full 65535 left 1' '--limit 4294967296 | 0 | end: done 65536'; do
         # shellcheck disable=SC2086
-        run $words < /dev/null
-        expect "the words '$words'" 0 some none
+        run "$1" ${row%%|*} < "$work/in"
+        rest=${row#*| }
+        if [ "$status" = "${rest%% | *}" ] && [ "$(tail -n 1 "$work/out")" = "${rest#* | }" ]; then
+            pass
+        else
+            fail "65,537 entries, by $1 ${row%%|*}: status $status, $(tail -n 1 "$work/out")"
+        fi
     done
 }
 
@@ -295,6 +359,7 @@ report_tables
 usages
 for command in replay run; do
     endings "$command"
+    [ "$2" = few ] || most_entries "$command"
     troubles "$command"
 done
 for example in examples/late_reader.cml examples/swap.cml; do

@@ -1,1 +1,4 @@
+pub mod CommandLine
 pub mod Endings
+pub mod Checking
+pub mod Lines

@@ -1,5 +1,9 @@
 //! How the program ends.
+ghost use Rattle.std.specs.Prelude.{◌≡◌};
+ghost use Rattle.cml.specs.Endings.{is_script_shown};
 
+use crate::check;
+use cml_script::status_of;
 use thiserror::Error;
 
 /// How the program ends: as what it did ends. It shows as the line for standard error.
@@ -10,7 +14,7 @@ pub(crate) enum Ending {
     Performed(cml_script::Ending),
     /// A journal was checked.
     #[error("{0}")]
-    Checked(cml_check::Ending),
+    Checked(check::Ending),
 }
 
 impl cml_shell::Ending for Ending {
@@ -30,15 +34,28 @@ impl cml_shell::Ending for Ending {
 
     fn status(&self) -> u8 {
         match self {
-            Ending::Performed(ending) => cml_shell::Ending::status(ending),
-            Ending::Checked(ending) => cml_shell::Ending::status(ending),
+            Ending::Performed(ending) => status_of(ending),
+            Ending::Checked(ending) => ending.status(),
         }
     }
 
     fn is_shown(&self) -> bool {
         match self {
-            Ending::Performed(ending) => cml_shell::Ending::is_shown(ending),
-            Ending::Checked(ending) => cml_shell::Ending::is_shown(ending),
+            Ending::Performed(ending) => is_script_shown(ending),
+            Ending::Checked(ending) => ending.is_shown(),
         }
     }
+}
+
+/// Whether standard error shows how a script ended, because no report says it.
+fn is_script_shown(ending: &cml_script::Ending) -> bool
+    ensures { result ≡ is_script_shown ending.now }
+{
+    !matches!(
+        ending,
+        cml_script::Ending::Done
+            | cml_script::Ending::Stalled
+            | cml_script::Ending::Full
+            | cml_script::Ending::Held
+    )
 }

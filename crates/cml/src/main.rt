@@ -1,11 +1,15 @@
 //! `cml`: replays or runs the script on standard input, or checks the journal there, and writes to standard output what came of it.
 #![tactic(auto)]
 
+mod asked;
+mod check;
+mod command_line;
 mod ending;
 
-use cml_check::check;
-use cml_script::{Form, OpenGate, Order, order, replay, replay_journal, run, run_journal};
+use asked::Order;
+use cml_script::{Form, OpenGate, replay, replay_journal, run, run_journal};
 use cml_shell::{NoOrder, end, words};
+use command_line::order;
 use ending::Ending;
 use std::process::ExitCode;
 use std::sync::Wait;
@@ -34,6 +38,6 @@ fn obey<R: Threads + Wait + Sync>(rt: &HostRuntime, system: &R) -> Result<Ending
         Order::Run(limit, Form::Journal) => {
             Ending::Performed(run_journal(system, alloc, input, output, limit, &OpenGate))
         }
-        Order::Check(state) => Ending::Checked(check(system, alloc, input, output, state)),
+        Order::Check(state) => Ending::Checked(check::check(system, alloc, input, output, state)),
     })
 }

@@ -8,14 +8,6 @@ pub mod BindingLemmas
 pub mod ReadyLemmas
 pub mod StandLemmas
 pub mod ReportLemmas
-pub mod RefusalLemmas
-pub mod LimitTexts
-pub mod LimitLemmas
-pub mod LimitWalks
-pub mod LimitTaken
-pub mod StateLevel
-pub mod SubcommandLemmas
-pub mod CommandLineLemmas
 pub mod FitLemmas
 pub mod UseLemmas
 pub mod CountLemmas

@@ -1,5 +1,5 @@
 -- How a run ends, by what stopped it, and the exit status of each ending.
-use Rattle.std.specs.Prelude.{ℕ, Bool, true, false}
+use Rattle.std.specs.Prelude.{ℕ}
 use Rattle.cml_grammar.specs.declared.fault.What.{What}
 use Rattle.cml_grammar.specs.declared.fault.What.TheVariants as what
 use Rattle.cml_grammar.specs.declared.fault.Fault.{Fault}
@@ -38,11 +38,3 @@ status ending.NoMemory = 5
 status ending.Full = 6
 status (ending.NotLawful at) = 7
 status ending.Held = 1
-
--- whether standard error shows it: a report tells the endings that have one
-abbrev pub is_shown : Ending → Bool
-is_shown ending.Done = false
-is_shown ending.Stalled = false
-is_shown ending.Full = false
-is_shown ending.Held = false
-is_shown _ = true

@@ -29,5 +29,4 @@ pub mod Course
 pub mod Endings
 pub mod Replay
 pub mod Running
-pub mod CommandLine
 pub mod Laws

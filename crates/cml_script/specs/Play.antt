@@ -1,8 +1,8 @@
 -- A whole script, performed and reported.
 use Rattle.std.specs.Prelude.{ℕ, ◌≡◌, List}
 use Rattle.cml_grammar.specs.Script.{Lines}
-use Rattle.cml_script.specs.declared.asked.Form.{Form}
-use Rattle.cml_script.specs.declared.asked.Form.TheVariants.{Report}
+use Rattle.cml_script.specs.declared.form.Form.{Form}
+use Rattle.cml_script.specs.declared.form.Form.TheVariants.{Report}
 use Rattle.cml_script.specs.declared.stop.Stop.{Stop}
 use Rattle.cml_script.specs.Schedule.{History, Schedule}
 use Rattle.cml_script.specs.Report.{no_rings}

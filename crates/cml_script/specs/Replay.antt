@@ -7,8 +7,8 @@ use Rattle.cml_grammar.specs.Script.{Lines, IsScript}
 use Rattle.cml_grammar.specs.declared.fault.What.TheVariants.{NeedsRun}
 use Rattle.cml_grammar.specs.Faults.{fault_of, at_line}
 use Rattle.cml_grammar.specs.Rings.{first_ring}
-use Rattle.cml_script.specs.declared.asked.Form.{Form}
-use Rattle.cml_script.specs.declared.asked.Form.TheVariants.{Report, Journal}
+use Rattle.cml_script.specs.declared.form.Form.{Form}
+use Rattle.cml_script.specs.declared.form.Form.TheVariants.{Report, Journal}
 use Rattle.cml_script.specs.declared.stop.Stop.{Stop}
 use Rattle.cml_script.specs.declared.stop.Stop.TheVariants as stop
 use Rattle.cml_script.specs.declared.ending.Ending.{Ending}

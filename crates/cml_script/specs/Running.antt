@@ -5,8 +5,8 @@ use Rattle.cml_board.specs.History.{no_entries, entries_in, Lawful}
 use Rattle.cml_board.specs.Shown.{Shown}
 use Rattle.cml_board.specs.Counts.{got_count}
 use Rattle.cml_grammar.specs.Script.{Lines, IsScript}
-use Rattle.cml_script.specs.declared.asked.Form.{Form}
-use Rattle.cml_script.specs.declared.asked.Form.TheVariants.{Report, Journal}
+use Rattle.cml_script.specs.declared.form.Form.{Form}
+use Rattle.cml_script.specs.declared.form.Form.TheVariants.{Report, Journal}
 use Rattle.cml_script.specs.declared.stop.Stop.{Stop}
 use Rattle.cml_script.specs.declared.stop.Stop.TheVariants as stop
 use Rattle.cml_script.specs.declared.ending.Ending.{Ending}

@@ -3,8 +3,8 @@ use Rattle.std.specs.Prelude.{ℕ, List, reverse}
 use Rattle.cml_grammar.specs.Script.{Lines}
 use Rattle.cml_journal.specs.Words.{script_word}
 use Rattle.cml_journal.specs.Streams.{text_of, piece_lines}
-use Rattle.cml_script.specs.declared.asked.Form.{Form}
-use Rattle.cml_script.specs.declared.asked.Form.TheVariants.{Report, Journal}
+use Rattle.cml_script.specs.declared.form.Form.{Form}
+use Rattle.cml_script.specs.declared.form.Form.TheVariants.{Report, Journal}
 use Rattle.cml_script.specs.declared.stop.Stop.{Stop}
 use Rattle.cml_script.specs.Schedule.{History}
 use Rattle.cml_script.specs.Report.{Tallied, report}

@@ -1,7 +1,7 @@
 //! How a run of a script ends.
 ghost use Rattle.std.specs.Prelude.{◌≡◌};
 ghost use Rattle.cml_script.specs.declared.ending.Ending.TheVariants as ending;
-ghost use Rattle.cml_script.specs.Endings.{ending_of_fault, ending_of_stop, ending_of_unread, is_shown, status};
+ghost use Rattle.cml_script.specs.Endings.{ending_of_fault, ending_of_stop, ending_of_unread, status};
 
 use crate::stop::Stop;
 use cml_grammar::{Fault, Unread, What};
@@ -81,31 +81,6 @@ impl From<Fault> for Ending {
             What::Memory => Ending::NoMemory,
             _ => Ending::Fault(fault),
         }
-    }
-}
-
-impl cml_shell::Ending for Ending {
-    ghost status = { status };
-
-    ghost is_shown = { is_shown };
-
-    fn no_memory() -> Ending {
-        Ending::NoMemory
-    }
-
-    fn write_fault() -> Ending {
-        Ending::WriteFault
-    }
-
-    fn status(&self) -> u8 {
-        status_of(self)
-    }
-
-    fn is_shown(&self) -> bool {
-        !matches!(
-            self,
-            Ending::Done | Ending::Stalled | Ending::Full | Ending::Held
-        )
     }
 }
 

@@ -1,12 +1,11 @@
 //! Scripts of threads, replayed on one board or run on a switchboard, and their reports.
 #![tactic(auto)]
 
-mod asked;
 mod auditing;
 mod binding;
 mod calls;
-mod command_line;
 mod ending;
+mod form;
 mod laws;
 mod objects;
 mod perform;
@@ -25,11 +24,10 @@ mod verdict;
 mod whole;
 mod writing;
 
-pub use asked::{Form, Order};
 pub use auditing::audit;
 pub use cml_grammar::{Fault, Script, What, read_script};
-pub use command_line::order;
 pub use ending::{Ending, status_of};
+pub use form::Form;
 pub use laws::{
     reports_tell_what_is_left, schedules_are_one, scripts_have_a_schedule, stalled_threads_wait,
 };

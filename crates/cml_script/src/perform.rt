@@ -5,7 +5,7 @@ ghost use Rattle.cml_grammar.specs.Rings.{first_ring};
 ghost use Rattle.cml_script.specs.Schedule.{declared_count, Ends};
 ghost use Rattle.cml_script.specs.Play.{IsPlayed, IsPlayedAs};
 
-use crate::asked::Form;
+use crate::form::Form;
 use crate::stage::Stage;
 use crate::stop::Stop;
 use crate::tally::Tally;

@@ -2,8 +2,8 @@
 ghost use Rattle.std.specs.Prelude.{◌≤◌, ◌^◌, IfOk, IfErr, string_bytes};
 ghost use Rattle.cml_script.specs.Replay.{AreAll, IsPlayedText, IsPlayedTextAs, EndsUnplayed, EndsUnplayedText, Replays, ReplaysAs, ReplaysJournal};
 
-use crate::asked::Form;
 use crate::ending::Ending;
+use crate::form::Form;
 use crate::perform::{Played, play_as};
 use crate::read::read_all;
 use crate::writing::write_played;

@@ -13,8 +13,8 @@ mod rings;
 mod stalling;
 mod worker;
 
-use crate::asked::Form;
 use crate::ending::Ending;
+use crate::form::Form;
 use crate::perform::Played;
 use crate::read::read_all;
 use crate::stop::Stop;

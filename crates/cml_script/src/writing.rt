@@ -5,8 +5,8 @@ ghost use Rattle.cml_script.specs.Audit.{IsOfScript};
 ghost use Rattle.cml_script.specs.Replay.{Writes};
 ghost use Rattle.cml_script.specs.Written.{journal_text, text_as};
 
-use crate::asked::Form;
 use crate::ending::Ending;
+use crate::form::Form;
 use crate::perform::Played;
 use crate::report::report;
 use crate::stop::Stop;

@@ -7,9 +7,9 @@ ghost use Rattle.cml_script.specs.Running.{IsReportOf, IsTextOf, IsRefused, IsTa
 
 use super::lanes::are_sent_in_order;
 use super::stalling::nobody_goes_on;
-use crate::asked::Form;
 use crate::auditing::audit;
 use crate::ending::Ending;
+use crate::form::Form;
 use crate::perform::Played;
 use crate::plan::{Plan, count_feeds};
 use crate::scene::{count_moved, unperformed};

@@ -1,0 +1,4 @@
+pub mod Words
+pub mod Levels
+pub mod CommandLineLemmas
+pub mod Telling

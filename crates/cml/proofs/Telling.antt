@@ -1,0 +1,297 @@
+-- What an ending says of what was read and checked.
+use Rattle.std.proofs.Common.{◌≡◌, inl, inr, ℕ, ◌+◌, ◌<◌, ◌≤◌, take, drop, length, add-one, Bool, true, false, List, [], ◌++◌, reverse, Option, Some, None, Ok, refl, sym, ap, ◌∙◌, subst, append_assoc}
+use Rattle.std.proofs.lemmas.List.{append-nil, take_all, take_at, take-append-drop}
+use Rattle.std.proofs.KnownBytes.{Consumes-nil, Consumes-trans}
+use Rattle.std.specs.Io.KnownBytes.{Appends, Consumes, IsAtEnd}
+use Rattle.cml_journal.specs.declared.stop.Stop.{Stop}
+use Rattle.cml_journal.specs.declared.stop.Stop.TheVariants as stop
+use Rattle.cml_board.specs.declared.entry.Entry.{Entry}
+use Rattle.cml_board.specs.declared.expected.Expected.{Expected}
+use Rattle.cml_board.specs.Checking.{expected_of}
+use Rattle.cml_board.specs.Makers.{RestoredShown}
+use Rattle.cml_journal.specs.Lines.{line_of}
+use Rattle.cml_journal.specs.Feeding.{State, Read}
+use Rattle.cml_journal.specs.Checks.{Progress, IsSoFar, Goes, StopsIn, ShowsUnlawful, IsLawfulJournal, IsRestored}
+use Rattle.std.specs.Fmt.{decimal}
+use Rattle.std.specs.Global.{Global}
+use Rattle.std.specs.Prelude.{String, string_bytes}
+use Rattle.cml.specs.declared.check.ending.Ending.{Ending}
+use Rattle.cml.specs.declared.check.ending.Ending.TheVariants.{Lawful as lawful, Unlawful, Fault, Torn, BehindCut, ReadFault, WriteFault, NoMemory}
+use Rattle.cml_journal.specs.Numbers.{number_of}
+use Rattle.cml_journal.specs.Escapes.{bytes_text, message_of_word}
+use Rattle.cml.specs.Lines.{Writes, answer_text, lines_for, object_line, object_lines, state_lines, told_state}
+use Rattle.cml.specs.Checking.{IsSilent, IsRead, IsFront, GivesCut, EndsInFront, is_behind_cut, IsVerdict, TellsAs, ConcludesAs, ConcludesBy, is_of_bytes, Tells, EndsAs, EndsIn, IsEarly, IsHeardOut, IsStateOf, IsToldLawful, IsToldUnlawful, Concludes}
+
+-- a front that is all
+short_front : (front : List ℕ) → length front ≤ 15 → front ≡ take 15 (front ++ [])
+short_front front few = sym (ap (take 15) (append-nil front) ∙ take_all 15 front few)
+
+module _ {M : Type 0} (version : ℕ) (meaning : List ℕ → Option M) (text : M → List ℕ) where
+  -- ---- a stop
+  told_unlawful : (bytes : List ℕ) (at position : ℕ) (line entry answer : String Global) (new : Progress M)
+      → (shows : ShowsUnlawful version meaning bytes at new) → string_bytes line ≡ line_of text shows.entry
+      → (position ≡ at) × (entry ≡ line) × ((expected : Expected M) → expected_of new.checker ≡ Some expected → string_bytes answer ≡ answer_text text expected)
+      → IsToldUnlawful version meaning text bytes position (string_bytes entry) (string_bytes answer)
+  told_unlawful bytes at position line entry answer new shows is ends =
+      subst (λ (k : ℕ). IsToldUnlawful version meaning text bytes k (string_bytes entry) (string_bytes answer)) (sym ends.0) (record {
+        entry = shows.entry;
+        expected = shows.expected;
+        is = shows.is;
+        told = ap (λ (s : String Global). string_bytes s) ends.1 ∙ is;
+        answered = ends.2 shows.expected (ap expected_of shows.shown);
+      })
+
+  pub ends_as_stopped : (old new : Progress M) (bytes : List ℕ) (told : Stop) (ending : Ending) → EndsAs text new told ending
+      → StopsIn version meaning text old bytes new told → EndsIn version meaning text old bytes ending
+  ends_as_stopped old new bytes (stop.Unlawful at line) (Unlawful position entry answer) ends stops =
+      (tt, λ asked before so. let tells = stops before so in told_unlawful (before ++ bytes) at position line entry answer new tells.0 tells.1 ends)
+  ends_as_stopped old new bytes (stop.Unlawful at line) NoMemory ends stops = (tt, λ asked before so. tt)
+  ends_as_stopped old new bytes (stop.Unlawful at line) (lawful count state) ends stops = absurd ends
+  ends_as_stopped old new bytes (stop.Unlawful at line) (Fault number what) ends stops = absurd ends
+  ends_as_stopped old new bytes (stop.Unlawful at line) (Torn number) ends stops = absurd ends
+  ends_as_stopped old new bytes (stop.Unlawful at line) BehindCut ends stops = absurd ends
+  ends_as_stopped old new bytes (stop.Unlawful at line) ReadFault ends stops = absurd ends
+  ends_as_stopped old new bytes (stop.Unlawful at line) WriteFault ends stops = absurd ends
+  ends_as_stopped old new bytes (stop.Fault line what) ending ends stops =
+      subst (λ (e : Ending). EndsIn version meaning text old bytes e) (sym ends) (tt, λ asked before so. (stops before so).is)
+  ends_as_stopped old new bytes stop.NoMemory ending ends stops =
+      subst (λ (e : Ending). EndsIn version meaning text old bytes e) (sym ends) (tt, λ asked before so. tt)
+
+  -- ---- the end
+  pub told_lawful : (asked : Bool) (bytes : List ℕ) (progress : Progress M) (count : ℕ) (state : String Global) → IsLawfulJournal version meaning bytes count
+      → IsStateOf version meaning text asked bytes progress (string_bytes state) → IsSoFar version meaning bytes progress → IsToldLawful version meaning text asked bytes count (string_bytes state)
+  told_lawful asked bytes progress count state is told so = record {
+    is = is;
+    told = told so ∙ ap (λ (es : List (Entry M)). told_state text asked (reverse es)) (same_entries (so.read) is.read);
+  }
+    where
+      same_entries : {a b : State} {xs ys : List (Entry M)} {read : Read M} → read ≡ Ok (a, xs) → read ≡ Ok (b, ys) → xs ≡ ys
+      same_entries {a} {b} {xs} {ys} one other = let both : (a, xs) ≡ (b, ys) = cc in ap (λ (p : State × List (Entry M)). p.1) both
+
+  -- the lines of a board that has made what was read so far
+  pub state_restored : (bytes : List ℕ) (progress : Progress M) (restored : RestoredShown M) (lines : List ℕ)
+      → (IsSoFar version meaning bytes progress → IsRestored version meaning bytes 1 restored) → lines ≡ state_lines text restored.board.history
+      → IsStateOf version meaning text true bytes progress lines
+  state_restored bytes progress restored lines restores is so =
+      let of = restores so in
+      is ∙ ap (state_lines text) of.made.history ∙ ap (λ (es : List (Entry M)). state_lines text (reverse es)) (same_entries of.read so.read)
+    where
+      same_entries : {a b : State} {xs ys : List (Entry M)} {read : Read M} → read ≡ Ok (a, xs) → read ≡ Ok (b, ys) → xs ≡ ys
+      same_entries {a} {b} {xs} {ys} one other = let both : (a, xs) ≡ (b, ys) = cc in ap (λ (p : State × List (Entry M)). p.1) both
+
+  -- ---- a reader
+  heard_early : (ending : Ending) (new : Option (List ℕ)) → IsEarly ending → IsHeardOut ending new
+  heard_early (lawful count state) new is = absurd is
+  heard_early (Torn line) new is = absurd is
+  heard_early (Unlawful at line answer) new is = tt
+  heard_early (Fault line what) new is = tt
+  heard_early NoMemory new is = tt
+  heard_early BehindCut new is = tt
+  heard_early ReadFault new is = tt
+  heard_early WriteFault new is = tt
+
+  heard_at_end : (ending : Ending) (new : Option (List ℕ)) → IsAtEnd new → IsHeardOut ending new
+  heard_at_end (lawful count state) new end = end
+  heard_at_end (Torn line) new end = end
+  heard_at_end (Unlawful at line answer) new end = tt
+  heard_at_end (Fault line what) new end = tt
+  heard_at_end NoMemory new end = tt
+  heard_at_end BehindCut new end = tt
+  heard_at_end ReadFault new end = tt
+  heard_at_end WriteFault new end = tt
+
+  -- it was not asked yet
+  pub concludes_in_front : (asked : Bool) (check : Progress M) (front : List ℕ) (old : Option (List ℕ)) (ending : Ending) → IsFront front old → IsSoFar version meaning [] check
+      → EndsIn version meaning text check front ending → Concludes version meaning text asked front old old ending
+  concludes_in_front asked check front old ending long so ends = record {
+    bytes = [];
+    long = short_front front long.most;
+    given = Consumes-nil old;
+    heard = heard_early ending old ends.0;
+    told = subst (λ (b : List ℕ). Tells version meaning text asked b ending) (sym (append-nil front)) (ends.1 asked [] so);
+  }
+
+  -- there was no memory for a check
+  pub concludes_without : (asked : Bool) (front : List ℕ) (old : Option (List ℕ)) → IsFront front old → Concludes version meaning text asked front old old NoMemory
+  concludes_without asked front old long = record {
+    bytes = [];
+    long = short_front front long.most;
+    given = Consumes-nil old;
+    heard = tt;
+    told = tt;
+  }
+
+  -- it was at its end
+  pub concludes_short : (asked : Bool) (check later : Progress M) (front : List ℕ) (old : Option (List ℕ)) (ending : Ending) → IsFront front old → length front < 15
+      → IsSoFar version meaning [] check → Goes version meaning check front later → ((all : List ℕ) → IsSoFar version meaning all later → Tells version meaning text asked all ending)
+      → Concludes version meaning text asked front old old ending
+  concludes_short asked check later front old ending long few so goes tells = record {
+    bytes = [];
+    long = short_front front long.most;
+    given = Consumes-nil old;
+    heard = heard_at_end ending old (long.ended few);
+    told = tells (front ++ []) (subst (λ (b : List ℕ). IsSoFar version meaning b later) (sym (append-nil front)) (goes [] so));
+  }
+
+  pub concludes_early : (asked : Bool) (check : Progress M) (front bytes more : List ℕ) (old mid new : Option (List ℕ)) (ending : Ending) → length front ≡ 15 → Consumes old mid bytes → Consumes mid new more
+      → IsSoFar version meaning (front ++ bytes) check → EndsIn version meaning text check more ending → Concludes version meaning text asked front old new ending
+  concludes_early asked check front bytes more old mid new ending long first second so ends = record {
+    bytes = bytes ++ more;
+    long = sym (take_at front (bytes ++ more) 15 long);
+    given = Consumes-trans old mid new bytes more first second;
+    heard = heard_early ending new ends.0;
+    told = subst (λ (b : List ℕ). Tells version meaning text asked b ending) (append_assoc front bytes more) (ends.1 asked (front ++ bytes) so);
+  }
+
+  pub so_on : (check later : Progress M) (front bytes more : List ℕ) → IsSoFar version meaning (front ++ bytes) check → Goes version meaning check more later
+      → IsSoFar version meaning (front ++ (bytes ++ more)) later
+  so_on check later front bytes more so goes = subst (λ (b : List ℕ). IsSoFar version meaning b later) (append_assoc front bytes more) (goes (front ++ bytes) so)
+
+  pub concludes_at_end : (asked : Bool) (check later : Progress M) (front bytes more : List ℕ) (old mid new : Option (List ℕ)) (ending : Ending) → length front ≡ 15 → Consumes old mid bytes → Consumes mid new more
+      → IsSoFar version meaning (front ++ bytes) check → Goes version meaning check more later → IsAtEnd new
+      → ((all : List ℕ) → IsSoFar version meaning all later → Tells version meaning text asked all ending) → Concludes version meaning text asked front old new ending
+  concludes_at_end asked check later front bytes more old mid new ending long first second so goes end tells = record {
+    bytes = bytes ++ more;
+    long = sym (take_at front (bytes ++ more) 15 long);
+    given = Consumes-trans old mid new bytes more first second;
+    heard = heard_at_end ending new end;
+    told = tells (front ++ (bytes ++ more)) (so_on check later front bytes more so goes);
+  }
+
+-- ---- a front
+pub verdict_behind : (asked : Bool) (old mid new : Option (List ℕ)) (front : List ℕ) (ending : Ending) → Consumes old mid front → is_behind_cut front ≡ false
+    → ConcludesBy asked front mid new ending → IsVerdict asked old new ending
+verdict_behind asked old mid new front ending first uncut concluded = by (is_of_bytes front) refl concluded
+  where
+    never : is_behind_cut front ≡ true → ⊥
+    never cut = cc
+
+    by : (b : Bool) → is_of_bytes front ≡ b → ConcludesAs b asked front mid new ending → IsVerdict asked old new ending
+    by true is ends = record {
+      front = front;
+      rest = ends.bytes;
+      long = ends.long;
+      given = Consumes-trans old mid new front ends.bytes first ends.given;
+      heard = ends.heard;
+      cut = λ cut. absurd (never cut);
+      told = subst (λ (b : Bool). TellsAs b asked (front ++ ends.bytes) ending) (sym is) ends.told;
+    }
+    by false is ends = record {
+      front = front;
+      rest = ends.bytes;
+      long = ends.long;
+      given = Consumes-trans old mid new front ends.bytes first ends.given;
+      heard = ends.heard;
+      cut = λ cut. absurd (never cut);
+      told = subst (λ (b : Bool). TellsAs b asked (front ++ ends.bytes) ending) (sym is) ends.told;
+    }
+
+silent_heard : (ending : Ending) (new : Option (List ℕ)) → IsSilent ending → IsHeardOut ending new
+silent_heard ReadFault new silent = tt
+silent_heard WriteFault new silent = tt
+silent_heard NoMemory new silent = tt
+silent_heard BehindCut new silent = tt
+silent_heard (lawful count state) new silent = absurd silent
+silent_heard (Unlawful at line answer) new silent = absurd silent
+silent_heard (Fault line what) new silent = absurd silent
+silent_heard (Torn line) new silent = absurd silent
+
+silent_tells : {M : Type 0} (version : ℕ) (meaning : List ℕ → Option M) (text : M → List ℕ) (asked : Bool) (bytes : List ℕ) (ending : Ending) → IsSilent ending
+    → Tells version meaning text asked bytes ending
+silent_tells version meaning text asked bytes ReadFault silent = tt
+silent_tells version meaning text asked bytes WriteFault silent = tt
+silent_tells version meaning text asked bytes NoMemory silent = tt
+silent_tells version meaning text asked bytes BehindCut silent = absurd silent
+silent_tells version meaning text asked bytes (lawful count state) silent = absurd silent
+silent_tells version meaning text asked bytes (Unlawful at line answer) silent = absurd silent
+silent_tells version meaning text asked bytes (Fault line what) silent = absurd silent
+silent_tells version meaning text asked bytes (Torn line) silent = absurd silent
+
+silent_told : (of_bytes asked : Bool) (bytes : List ℕ) (ending : Ending) → IsSilent ending → TellsAs of_bytes asked bytes ending
+silent_told true asked bytes ending silent = silent_tells 2 message_of_word bytes_text asked bytes ending silent
+silent_told false asked bytes ending silent = silent_tells 1 number_of decimal asked bytes ending silent
+
+pub verdict_silent : (asked : Bool) (old new : Option (List ℕ)) (ending : Ending) → IsSilent ending → IsRead old new → IsVerdict asked old new ending
+verdict_silent asked old new ending silent read =
+    let bytes = read.0 in
+    let all : take 15 bytes ++ drop 15 bytes ≡ bytes = take-append-drop 15 bytes in record {
+      front = take 15 bytes;
+      rest = drop 15 bytes;
+      long = ap (take 15) (sym all);
+      given = subst (Consumes old new) (sym all) read.1;
+      heard = silent_heard ending new silent;
+      cut = λ cut. inr silent;
+      told = silent_told (is_of_bytes (take 15 bytes)) asked (take 15 bytes ++ drop 15 bytes) ending silent;
+    }
+
+cut_told : (of_bytes asked : Bool) (bytes : List ℕ) → is_behind_cut bytes ≡ true → TellsAs of_bytes asked bytes BehindCut
+cut_told true asked bytes cut = cut
+cut_told false asked bytes cut = cut
+
+verdict_cut : (asked : Bool) (old new : Option (List ℕ)) → GivesCut old new → IsVerdict asked old new BehindCut
+verdict_cut asked old new gives =
+    let all = sym (append-nil gives.front) in record {
+      front = gives.front;
+      rest = [];
+      long = short_front gives.front gives.most;
+      given = subst (Consumes old new) all gives.given;
+      heard = tt;
+      cut = λ cut. inl refl;
+      told = cut_told (is_of_bytes gives.front) asked (gives.front ++ []) (subst (λ (b : List ℕ). is_behind_cut b ≡ true) all gives.cut);
+    }
+
+-- a check that ends in the front
+pub verdict_in_front : (asked : Bool) (old new : Option (List ℕ)) (ending : Ending) → EndsInFront old new ending → IsVerdict asked old new ending
+verdict_in_front asked old new BehindCut ends = verdict_cut asked old new ends
+verdict_in_front asked old new ReadFault ends = verdict_silent asked old new ReadFault ends.0 ends.1
+verdict_in_front asked old new WriteFault ends = verdict_silent asked old new WriteFault ends.0 ends.1
+verdict_in_front asked old new NoMemory ends = verdict_silent asked old new NoMemory ends.0 ends.1
+verdict_in_front asked old new (lawful count state) ends = absurd ends.0
+verdict_in_front asked old new (Unlawful at line answer) ends = absurd ends.0
+verdict_in_front asked old new (Fault line what) ends = absurd ends.0
+verdict_in_front asked old new (Torn line) ends = absurd ends.0
+
+pub silent_in_front : (old new : Option (List ℕ)) (ending : Ending) → IsSilent ending → IsRead old new → EndsInFront old new ending
+silent_in_front old new ReadFault silent read = (silent, read)
+silent_in_front old new WriteFault silent read = (silent, read)
+silent_in_front old new NoMemory silent read = (silent, read)
+silent_in_front old new BehindCut silent read = absurd silent
+silent_in_front old new (lawful count state) silent read = absurd silent
+silent_in_front old new (Unlawful at line answer) silent read = absurd silent
+silent_in_front old new (Fault line what) silent read = absurd silent
+silent_in_front old new (Torn line) silent read = absurd silent
+
+-- the front is behind a cut
+pub cut_in_front : (old new : Option (List ℕ)) (front : List ℕ) (ending : Ending) → Consumes old new front → length front ≤ 15 → (ending ≡ BehindCut) × (is_behind_cut front ≡ true)
+    → EndsInFront old new ending
+cut_in_front old new front ending given most cut =
+    subst (λ (e : Ending). EndsInFront old new e) (sym cut.0) (record { front = front; given = given; most = most; cut = cut.1 })
+
+pub read_on_from : (old mid new : Option (List ℕ)) (front : List ℕ) → Consumes old mid front → IsRead mid new → IsRead old new
+read_on_from old mid new front first second = (front ++ second.0, Consumes-trans old mid new front second.0 first second.1)
+
+pub verdict_unwritten : (asked : Bool) (old new : Option (List ℕ)) (ending why : Ending) → IsVerdict asked old new ending → IsSilent why → IsVerdict asked old new why
+verdict_unwritten asked old new ending why verdict silent = verdict_silent asked old new why silent (verdict.front ++ verdict.rest, verdict.given)
+
+-- ---- what is written
+pub writes_line : (old new : Option (List ℕ)) (ending : Ending) (line : List ℕ) → line ≡ lines_for ending → Appends old new line → Writes ending old new
+writes_line old new ending line is appends = by ending (subst (Appends old new) is appends)
+  where
+    by : (e : Ending) → Appends old new (lines_for e) → Writes e old new
+    by (lawful count state) h = h
+    by (Unlawful at entry answer) h = h
+    by (Fault number what) h = h
+    by (Torn number) h = h
+    by BehindCut h = h
+    by ReadFault h = h
+    by WriteFault h = tt
+    by NoMemory h = h
+
+pub writes_nothing : (old : Option (List ℕ)) → Appends old old []
+writes_nothing None = tt
+writes_nothing (Some xs) = sym (append-nil xs)
+
+-- one more object
+pub lines_more : {M : Type 0} (text : M → List ℕ) (history : List (Entry M)) (number : ℕ)
+    → object_lines text history number ++ object_line text history number ≡ object_lines text history (number + 1)
+lines_more text history number = rw add-one refl

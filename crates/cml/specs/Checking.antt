@@ -1,0 +1,155 @@
+-- What a check tells of the bytes of a journal.
+use Rattle.std.specs.Prelude.{◌≡◌, ◌⊎◌, ℕ, ◌<◌, ◌≤◌, Bool, true, false, ◌||◌, nat_eq, codes, string_bytes, List, ◌++◌, take, length, reverse, String, Option, Some, None, Result, Ok, Err, ⊤}
+use Rattle.std.specs.Io.KnownBytes.{Consumes, IsAtEnd}
+use Rattle.cml_board.specs.declared.entry.Entry.{Entry}
+use Rattle.cml_board.specs.History.{Lawful}
+use Rattle.cml_journal.specs.declared.stop.Stop.{Stop}
+use Rattle.cml_journal.specs.declared.stop.Stop.TheVariants as stop
+use Rattle.cml_journal.specs.Feeding.{State, waiting_at, end_of, reading}
+use Rattle.cml_journal.specs.Checks.{Progress, IsSoFar, IsUnlawfulJournal, IsFaultyJournal, IsLawfulJournal}
+use Rattle.std.specs.List.{starts_with}
+use Rattle.cml_journal.specs.Numbers.{number_of}
+use Rattle.cml_journal.specs.Escapes.{bytes_text, message_of_word}
+use Rattle.cml_journal.specs.Lines.{line_of}
+use Rattle.std.specs.Fmt.{decimal}
+use Rattle.std.specs.Global.{Global}
+use Rattle.cml_board.specs.declared.expected.Expected.{Expected}
+use Rattle.cml_board.specs.Checking.{expected_of}
+use Rattle.cml.specs.Lines.{answer_text, told_state}
+use Rattle.cml.specs.declared.check.ending.Ending.{Ending}
+use Rattle.cml.specs.declared.check.ending.Ending.TheVariants.{Lawful as lawful, Unlawful, Fault, Torn, BehindCut, ReadFault, WriteFault, NoMemory}
+
+-- the ending by what stopped a check: there may be no memory for the right answer to the call
+abbrev pub EndsAs : {M : Type 0} → (M → List ℕ) → Progress M → Stop → Ending → Type 0
+EndsAs {M} text progress (stop.Unlawful at line) (Unlawful position entry answer) =
+    (position ≡ at) × (entry ≡ line) × ((expected : Expected M) → expected_of progress.checker ≡ Some expected → string_bytes answer ≡ answer_text text expected)
+EndsAs text progress (stop.Unlawful at line) NoMemory = ⊤
+EndsAs text progress (stop.Unlawful at line) ending = ⊥
+EndsAs text progress (stop.Fault line what) ending = ending ≡ Fault line what
+EndsAs text progress stop.NoMemory ending = ending ≡ NoMemory
+
+-- how a check ends that gave this
+abbrev pub ending_of : Result (ℕ × String Global) Ending → Ending
+ending_of (Ok found) = lawful found.0 found.1
+ending_of (Err ending) = ending
+
+-- where a check is lawful or torn, the reader is at its end
+abbrev pub IsHeardOut : Ending → Option (List ℕ) → Type 0
+IsHeardOut (lawful count state) new = IsAtEnd new
+IsHeardOut (Torn line) new = IsAtEnd new
+IsHeardOut ending new = ⊤
+
+-- an ending that may come before the reader's end
+abbrev pub IsEarly : Ending → Type 0
+IsEarly (lawful count state) = ⊥
+IsEarly (Torn line) = ⊥
+IsEarly ending = ⊤
+
+-- the front of a journal of bytes
+abbrev pub is_of_bytes : List ℕ → Bool
+is_of_bytes front = starts_with nat_eq front (codes "journal 2")
+
+-- the front of a journal that begins behind a cut
+abbrev pub is_behind_cut : List ℕ → Bool
+is_behind_cut front = starts_with nat_eq front (codes "journal 1\nfrom ") || starts_with nat_eq front (codes "journal 2\nfrom ")
+
+-- the first bytes that a reader gave, with this left: they are 15, unless it is at its end
+pub record IsFront (front : List ℕ) (left : Option (List ℕ)) : Type 0 where
+  pub most : length front ≤ 15
+  pub ended : length front < 15 → IsAtEnd left
+
+module _ {M : Type 0} (version : ℕ) (meaning : List ℕ → Option M) (text : M → List ℕ) where
+  -- the bytes are read without a fault, and so many lines end, modulo 2^64. All entries in them are lawful, and there is no line
+  -- or the last piece has no end
+  pub record IsTornJournal (bytes : List ℕ) (lines : ℕ) : Type 0 where
+    pub state : State
+    pub entries : List (Entry M)
+    pub read : reading version meaning (waiting_at 0) bytes ≡ Ok (state, entries)
+    pub counted : lines ≡ state.lines
+    pub torn : (end_of state ≡ None) ⊎ (state.lines ≡ 0)
+    pub lawful : Lawful (reverse entries)
+
+  -- the bytes are a whole journal of so many lawful entries, and these are the lines of its objects, if they are asked for
+  pub record IsToldLawful (asked : Bool) (bytes : List ℕ) (count : ℕ) (state : List ℕ) : Type 0 where
+    pub is : IsLawfulJournal version meaning bytes count
+    pub told : state ≡ told_state text asked (reverse is.entries)
+
+  -- this is the line of the first entry that is unlawful, and the right answer to its call
+  pub record IsToldUnlawful (bytes : List ℕ) (at : ℕ) (line answer : List ℕ) : Type 0 where
+    pub entry : Entry M
+    pub expected : Expected M
+    pub is : IsUnlawfulJournal version meaning bytes at entry expected
+    pub told : line ≡ line_of text entry
+    pub answered : answer ≡ answer_text text expected
+
+  -- what an ending says of the bytes of a journal
+  abbrev pub Tells : Bool → List ℕ → Ending → Type 0
+  Tells asked bytes (lawful count state) = IsToldLawful asked bytes count (string_bytes state)
+  Tells asked bytes (Unlawful at line answer) = IsToldUnlawful bytes at (string_bytes line) (string_bytes answer)
+  Tells asked bytes (Fault line what) = IsFaultyJournal version meaning bytes line what
+  Tells asked bytes (Torn line) = IsTornJournal bytes line
+  Tells asked bytes BehindCut = is_behind_cut bytes ≡ true
+  Tells asked bytes ending = ⊤
+
+  -- these are the lines of the objects of what was read so far, if they are asked for
+  abbrev pub IsStateOf : Bool → List ℕ → Progress M → List ℕ → Type 0
+  IsStateOf asked bytes progress state = (so : IsSoFar version meaning bytes progress) → state ≡ told_state text asked (reverse so.entries)
+
+  -- a check ends in these bytes, behind any others
+  abbrev pub EndsIn : Progress M → List ℕ → Ending → Type 0
+  EndsIn old bytes ending = IsEarly ending × ((asked : Bool) (before : List ℕ) → IsSoFar version meaning before old → Tells asked (before ++ bytes) ending)
+
+  -- a reader gave some bytes, and this is how the check of them ends behind the first 15 bytes, or behind all if they are fewer
+  pub record Concludes (asked : Bool) (front : List ℕ) (old new : Option (List ℕ)) (ending : Ending) : Type 0 where
+    pub bytes : List ℕ
+    pub long : front ≡ take 15 (front ++ bytes)
+    pub given : Consumes old new bytes
+    pub heard : IsHeardOut ending new
+    pub told : Tells asked (front ++ bytes) ending
+
+-- the check behind a front, whose messages are bytes or numbers
+abbrev pub ConcludesAs : Bool → Bool → List ℕ → Option (List ℕ) → Option (List ℕ) → Ending → Type 0
+ConcludesAs true asked front old new ending = Concludes 2 message_of_word bytes_text asked front old new ending
+ConcludesAs false asked front old new ending = Concludes 1 number_of decimal asked front old new ending
+
+abbrev pub ConcludesBy : Bool → List ℕ → Option (List ℕ) → Option (List ℕ) → Ending → Type 0
+ConcludesBy asked front old new ending = ConcludesAs (is_of_bytes front) asked front old new ending
+
+-- an ending that says nothing of a journal
+abbrev pub IsSilent : Ending → Type 0
+IsSilent ReadFault = ⊤
+IsSilent WriteFault = ⊤
+IsSilent NoMemory = ⊤
+IsSilent ending = ⊥
+
+-- a reader gave some bytes
+abbrev pub IsRead : Option (List ℕ) → Option (List ℕ) → Type 0
+IsRead old new = (bytes : List ℕ) × Consumes old new bytes
+
+-- what an ending says of a journal whose messages are bytes, or numbers
+abbrev pub TellsAs : Bool → Bool → List ℕ → Ending → Type 0
+TellsAs true asked bytes ending = Tells 2 message_of_word bytes_text asked bytes ending
+TellsAs false asked bytes ending = Tells 1 number_of decimal asked bytes ending
+
+-- a reader gave a front that is behind a cut, and no more was asked for
+pub record GivesCut (old new : Option (List ℕ)) : Type 0 where
+  pub front : List ℕ
+  pub given : Consumes old new front
+  pub most : length front ≤ 15
+  pub cut : is_behind_cut front ≡ true
+
+-- a check ends in the front
+abbrev pub EndsInFront : Option (List ℕ) → Option (List ℕ) → Ending → Type 0
+EndsInFront old new BehindCut = GivesCut old new
+EndsInFront old new ending = IsSilent ending × IsRead old new
+
+-- a reader gave the first 15 bytes, or all if they are fewer, and the rest, and this is how their check ends. By these first bytes
+-- the messages are numbers or bytes, and the journal begins behind a cut or doesn't. It may be asked for the lines of the objects
+pub record IsVerdict (asked : Bool) (old new : Option (List ℕ)) (ending : Ending) : Type 0 where
+  pub front : List ℕ
+  pub rest : List ℕ
+  pub long : front ≡ take 15 (front ++ rest)
+  pub given : Consumes old new (front ++ rest)
+  pub heard : IsHeardOut ending new
+  pub cut : is_behind_cut front ≡ true → (ending ≡ BehindCut) ⊎ IsSilent ending
+  pub told : TellsAs (is_of_bytes front) asked (front ++ rest) ending

@@ -1,0 +1,69 @@
+//! How a check ends.
+
+ghost use Rattle.std.specs.Prelude.{◌≡◌};
+ghost use Rattle.cml.specs.declared.check.ending.Ending.TheVariants.{NoMemory};
+ghost use Rattle.cml.specs.Endings.{status_of_check, is_check_shown};
+
+use cml_journal::What;
+use std::alloc::{AllocError, AllocFailed};
+use thiserror::Error;
+
+/// How the check of a journal ends. It shows as the line for standard error. Of a lawful or an unlawful journal standard output
+/// says that.
+#[derive(Debug, Drop, Error)]
+pub enum Ending {
+    /// All entries are lawful. The number says how many they are. The lines of the objects are behind, if they are asked for.
+    #[error("cml: lawful {0}")]
+    Lawful(u64, String),
+    /// The entry at this position is the first unlawful one. Behind it are its line, and the right answer to its call.
+    #[error("cml: unlawful at {0}: {1}")]
+    Unlawful(u64, String, String),
+    /// This line has a fault.
+    #[error("journal: line {0}: {1}")]
+    Fault(u64, What),
+    /// The last piece has no end. So many lines have ended.
+    #[error("journal: torn behind line {0}")]
+    Torn(u64),
+    /// The journal begins behind a cut.
+    #[error("journal: begins behind a cut")]
+    BehindCut,
+    /// The journal could not be read.
+    #[error("cml: read failed")]
+    ReadFault,
+    /// The verdict could not be written.
+    #[error("cml: write failed")]
+    WriteFault,
+    /// There was no memory.
+    #[error("cml: no memory")]
+    NoMemory,
+}
+
+impl From<AllocError> for Ending {
+    ghost from_gives = { λ _ ending. ending ≡ NoMemory };
+
+    fn from(_error: AllocError) -> Ending {
+        Ending::NoMemory
+    }
+}
+
+impl Ending {
+    /// The exit status.
+    pub(crate) fn status(&self) -> u8
+        ensures { result ≡ status_of_check self.now }
+    {
+        match self {
+            Ending::Lawful(_, _) => 0,
+            Ending::Unlawful(_, _, _) => 7,
+            Ending::Fault(_, _) | Ending::Torn(_) | Ending::BehindCut => 2,
+            Ending::ReadFault | Ending::WriteFault => 4,
+            Ending::NoMemory => 5,
+        }
+    }
+
+    /// Whether standard error shows the line.
+    pub(crate) fn is_shown(&self) -> bool
+        ensures { result ≡ is_check_shown self.now }
+    {
+        !matches!(self, Ending::Lawful(_, _) | Ending::Unlawful(_, _, _))
+    }
+}

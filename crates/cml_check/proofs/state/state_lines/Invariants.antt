@@ -1,6 +1,0 @@
-use Rattle.std.proofs.Common.{◌≡◌, string_bytes}
-use Rattle.cml_check.specs.Lines.{object_lines}
-use Rattle.cml_check.proofs.state.state_lines.Given as goal
-
-abbrev pub invariant-loop-number : goal.invariant-loop-number
-invariant-loop-number g l = (string_bytes l.lines ≡ object_lines g.M.Written.text l.board.history l.number) × (l.board.history ≡ l.fn.board.history)
