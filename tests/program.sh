@@ -285,7 +285,7 @@ so_many_reads() {
     counted "$name" "$meant" "$told" "$counts"
 }
 
-# Interrupted reads are made again, so often and no more.
+# The program makes an interrupted read again, up to a limit.
 interrupted_reads() {
     short_script
     run replay < "$work/in"
@@ -329,7 +329,7 @@ long_streams() {
     fi
 }
 
-# writes_up_to MOST ROOM STATUS ERR: where a write takes so many bytes at most, and so many have room, just these are written.
+# writes_up_to MOST ROOM STATUS ERR: a write takes so many bytes at most, and so many have room. The program writes just these.
 writes_up_to() {
     run_so replay WRITE_MOST="$1" WRITE_ROOM="$2"
     head -c "$2" "$work/report" > "$work/want"
@@ -340,7 +340,7 @@ writes_up_to() {
     fi
 }
 
-# Short writes leave nothing out, and a write that fails anywhere is told.
+# Short writes leave nothing out. The program reports a write that fails, wherever it fails.
 short_writes() {
     short_script
     run replay < "$work/in"
