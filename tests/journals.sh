@@ -225,27 +225,20 @@ streams() {
     expect 'a line in two parts' 0 'lawful 1' none
 }
 
-# read_so VARIABLE=VALUE..: checks the journal where reads of standard input are so.
-read_so() {
-    env LD_PRELOAD="$work/reads.so" "$@" timeout 60 "$program" check < "$work/in" > "$work/out" 2> "$work/err"
-    status=$?
-}
-
 # Short reads change nothing. A read that fails ends the check, and one that is interrupted is made again.
 reads() {
-    command -v cc > /dev/null || { echo 'skipped: there is no C compiler to make reads short'; return; }
-    cc -O1 -shared -fPIC -o "$work/reads.so" tests/lib/reads.c -ldl || { fail 'reads.c is built'; return; }
+    make_streams || return
     script "$pieces" > "$work/in"
     for most in 1 2 3 5 7 10 14 15 16 17 31 64 602 603; do
-        read_so READ_MOST=$most
+        run_so check READ_MOST=$most
         expect "at most $most bytes at a read" 0 'lawful 23' none
     done
     number=1
     while rm -f "$work/met"; do
-        read_so READ_MOST=16 READ_FAILS=$number READ_ERROR=4 TOLD="$work/met"
+        run_so check READ_MOST=16 READ_FAILS=$number READ_ERROR=4 TOLD="$work/met"
         [ -e "$work/met" ] || break
         expect "read $number interrupted" 0 'lawful 23' none
-        read_so READ_MOST=16 READ_FAILS=$number READ_ERROR=5
+        run_so check READ_MOST=16 READ_FAILS=$number READ_ERROR=5
         expect "read $number failed" 4 none 'cml: read failed'
         number=$((number + 1))
     done

@@ -2,7 +2,8 @@
 # The built program from outside: `sh tests/program.sh PROGRAM`. Each example, the cases of tests/tables/faults and
 # tests/tables/reports (tests/lib/tables.sh says how they are written), each step of the table of calls (tests/models/each_call.awk), each exit status,
 # many texts for which the plain program of tests/models/plain.awk says what is to come, and threads that take their steps in any order
-# (tests/lib/runs.sh). With the word `few` it leaves out journals of 65,537 entries. Its last line is `N passed, M failed`.
+# (tests/lib/runs.sh), and reads and writes that are short or fail anywhere (tests/lib/streams.c). With the word `few` it leaves out
+# journals of 65,537 entries. Its last line is `N passed, M failed`.
 LC_ALL=C
 export LC_ALL
 . "$(dirname "$0")/lib/cases.sh"
@@ -326,6 +327,110 @@ troubles() {
     expect "little memory, by $1" 5 none 'cml: no memory'
 }
 
+# A script whose report has 72 bytes.
+short_script() { script 'cml 1 / mailbox m / thread A / A send m 5' > "$work/in"; }
+
+# counted CASE STATUS ERR COUNTS: what the last run did, which wrote nothing, and how many reads it made.
+counted() {
+    if [ "$status" = "$2" ] && holds "$work/out" none && holds "$work/err" "$3" && holds "$work/counts" "$4"; then
+        pass
+    else
+        fail "$1: status $status, errors $(head -c 300 "$work/err"), $(cat "$work/counts")"
+    fi
+}
+
+# so_many_reads CASE STATUS ERR COUNTS VARIABLE=VALUE..
+so_many_reads() {
+    name=$1
+    meant=$2
+    told=$3
+    counts=$4
+    shift 4
+    run_so replay COUNTED="$work/counts" "$@"
+    counted "$name" "$meant" "$told" "$counts"
+}
+
+# The program makes an interrupted read again, up to a limit.
+interrupted_reads() {
+    short_script
+    run replay < "$work/in"
+    cp "$work/out" "$work/report"
+    run_so replay READ_MOST=1 READ_AGAIN=2
+    expect 'one byte a read, and two interruptions before each' 0 "$(cat "$work/report")" none
+    so_many_reads 'interruptions without end behind three bytes' 4 'cml: read failed' '2097152 reads gave 3 bytes' \
+        READ_MOST=1 READ_FAILS=4 READ_REST=1 READ_ERROR=4
+    so_many_reads 'nothing but interruptions' 4 'cml: read failed' '2097152 reads gave 0 bytes' \
+        READ_FAILS=1 READ_REST=1 READ_ERROR=4
+    so_many_reads 'lines without end' 2 'script: too long' '17 reads gave 1048577 bytes' READ_LINES=1
+    so_many_reads 'the last read gives a byte too many' 2 'script: too long' '2097152 reads gave 1048577 bytes' \
+        READ_LINES=1 READ_MOST=1 READ_LATE=1048575
+    so_many_reads 'the last read gives the last byte of a script' 4 'cml: read failed' '2097152 reads gave 1048576 bytes' \
+        READ_LINES=1 READ_MOST=1 READ_LATE=1048576
+}
+
+# Each read of a script fails in turn.
+failed_reads() {
+    short_script
+    number=1
+    while rm -f "$work/met"; do
+        run_so replay READ_MOST=1 READ_AGAIN=2 READ_FAILS=$number READ_ERROR=5 TOLD="$work/met"
+        [ -e "$work/met" ] || break
+        expect "read $number failed" 4 none 'cml: read failed'
+        number=$((number + 1))
+    done
+    if [ "$number" -gt 108 ]; then pass; else fail "only $number reads of a script"; fi
+}
+
+# A long script, read and written byte by byte.
+long_streams() {
+    { script 'cml 1 / mailbox m / thread A'; awk 'BEGIN { for (i = 0; i < 150; i++) print "A send m " i "\nA recv m" }'; } > "$work/in"
+    run replay < "$work/in"
+    mv "$work/out" "$work/report"
+    run_so replay READ_MOST=1 READ_AGAIN=2 WRITE_MOST=1
+    if [ "$status" = 0 ] && cmp -s "$work/report" "$work/out" && [ "$(wc -c < "$work/report")" -gt 3000 ]; then
+        pass
+    else
+        fail "a long script byte by byte: status $status"
+    fi
+}
+
+# writes_up_to MOST ROOM STATUS ERR: a write takes so many bytes at most, and so many have room. The program writes just these.
+writes_up_to() {
+    run_so replay WRITE_MOST="$1" WRITE_ROOM="$2"
+    head -c "$2" "$work/report" > "$work/want"
+    if [ "$status" = "$3" ] && cmp -s "$work/want" "$work/out" && holds "$work/err" "$4"; then
+        pass
+    else
+        fail "$1 bytes a write, room for $2: status $status, errors $(head -c 300 "$work/err")"
+    fi
+}
+
+# Short writes leave nothing out. The program reports a write that fails, wherever it fails.
+short_writes() {
+    short_script
+    run replay < "$work/in"
+    mv "$work/out" "$work/report"
+    bytes=$(wc -c < "$work/report")
+    for most in 1 2 3 4 5 6 7; do
+        writes_up_to "$most" "$bytes" 0 none
+    done
+    room=0
+    while [ "$room" -lt "$bytes" ]; do
+        writes_up_to 1 "$room" 4 'cml: write failed'
+        writes_up_to 7 "$room" 4 'cml: write failed'
+        room=$((room + 1))
+    done
+    if [ "$room" -gt 50 ]; then pass; else fail "a report of only $room bytes"; fi
+}
+
+streams() {
+    make_streams || return
+    interrupted_reads
+    failed_reads
+    long_streams
+    short_writes
+}
+
 # Texts as printf writes them, each behind its limit.
 octal() { awk '{ printf "%s ", $1; for (i = 2; i <= NF; i++) printf "\\%03o", $i; print "" }'; }
 
@@ -362,6 +467,7 @@ for command in replay run; do
     [ "$2" = few ] || most_entries "$command"
     troubles "$command"
 done
+streams
 for example in examples/late_reader.cml examples/swap.cml; do
     one_byte_changed "$example" < "$example"
 done

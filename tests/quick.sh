@@ -22,7 +22,6 @@ steps() {
     echo cml_chart
     echo cml_script_c
     echo cml_guide
-    echo cml_caller
     echo cml_bench
     echo cml_queueing
     echo guide

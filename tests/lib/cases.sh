@@ -67,6 +67,20 @@ run() {
     status=$?
 }
 
+# make_streams: builds what makes reads and writes short, or makes them fail. The head of tests/lib/streams.c has its variables.
+make_streams() {
+    command -v cc > /dev/null || { echo 'left out: there is no C compiler to make reads and writes short'; return 1; }
+    cc -O1 -shared -fPIC -o "$work/streams.so" tests/lib/streams.c -ldl || { fail 'streams.c is built'; return 1; }
+}
+
+# run_so COMMAND VARIABLE=VALUE..: runs the program on $work/in where reads and writes are so.
+run_so() {
+    command=$1
+    shift
+    timeout 60 env LD_PRELOAD="$work/streams.so" "$@" "$program" "$command" < "$work/in" > "$work/out" 2> "$work/err"
+    status=$?
+}
+
 # expect CASE STATUS OUT ERR: what the last run did; OUT and ERR are `none`, `some`, or all of a text.
 expect() {
     if [ "$status" = "$2" ] && holds "$work/out" "$3" && holds "$work/err" "$4"; then

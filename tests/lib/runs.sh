@@ -150,13 +150,25 @@ few_for_many() {
     }'
 }
 
+# always CASE STATUS REPORT SCRIPT: so the script ends in each of twenty runs. The lines of both are parted by ` / `.
+always() {
+    script "$4" > "$work/in"
+    for round in 1 2 3 4 5 6 7 8 9 10 11 12 13 14 15 16 17 18 19 20; do
+        run run < "$work/in"
+        expect "$1, round $round" "$2" "$(script "$3")" none
+    done
+}
+
 # Where each order gives the same report.
 run_orders() {
-    script 'cml 1 / channel c / port c p / thread A / thread B / A recv p / B close p' > "$work/in"
-    run run < "$work/in"
-    steps='B close p: done / A recv p: closed'
-    expect 'a port that is closed while a thread waits for it, or before' 0 \
-        "$(script "$steps / channel c: sent 0 kept 0 first 0 / port p: start 0 got 0 closed / end: done 2")" none
+    always 'a port that is closed while a thread waits for it, or before' 0 \
+        'B close p: done / A recv p: closed / channel c: sent 0 kept 0 first 0 / port p: start 0 got 0 closed / end: done 2' \
+        'cml 1 / channel c / port c p / thread A / thread B / A recv p / B close p'
+    always 'a word that another thread waits for' 0 \
+        'A send m =x: done / B recv m: ==x / mailbox m: sent 1 got 1 waits 0 / end: done 2' \
+        'cml 2 / mailbox m / thread A / thread B / A send m =x / B recv m'
+    always 'a thread that waits alone' 1 'mailbox m: sent 0 got 0 waits 0 / end: stalled 0 left 1' \
+        'cml 1 / mailbox m / thread B / B recv m'
 }
 
 run_faults() {

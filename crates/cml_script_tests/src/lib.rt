@@ -1,4 +1,4 @@
-//! Tests of what no clause of `cml_script` says and no script shows.
+//! Tests of what no clause of `cml_script` and `cml_grammar` says and no script shows.
 #![tactic(auto)]
 
 #[cfg(test)]

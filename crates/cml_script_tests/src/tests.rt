@@ -1,7 +1,18 @@
-//! Streams that fail or give little, journals, the texts of endings, and what threads do.
+//! What a script is read as, journals, the texts of endings, a caller that records what it makes, and what threads do.
+mod answers;
 mod auditing;
+mod caller;
+mod concluding;
 mod endings;
+mod flushing;
 mod hold;
+mod reading;
 mod runs;
-mod scenes;
-mod streams;
+mod scripts;
+
+use std::process::Abort;
+
+/// Compares a text with the expected one.
+fn same(rt: &impl Abort, text: String, expected: &str, case: &str) {
+    assert_eq!(rt; text.as_str(), expected, "{case}");
+}

@@ -9,12 +9,12 @@ const LOOKS: usize = 100_000_000;
 /// Holds one thread until a step of another was answered.
 #[derive(Drop)]
 pub struct Hold {
-    held: Option<usize>,
+    held: usize,
     is_answered: AtomicBool,
 }
 
 impl Hold {
-    pub fn new(held: Option<usize>) -> Hold {
+    pub fn new(held: usize) -> Hold {
         Hold {
             held,
             is_answered: AtomicBool::new(false),
@@ -26,7 +26,7 @@ impl Gate for Hold {
     ghost opens = { λ _. false };
 
     fn before(&self, thread: usize, _step: usize) -> bool {
-        if self.held != Some(thread) {
+        if self.held != thread {
             return true;
         }
         for _ in 0..LOOKS {
@@ -38,7 +38,7 @@ impl Gate for Hold {
     }
 
     fn after(&self, thread: usize, _step: usize) {
-        if self.held != Some(thread) {
+        if self.held != thread {
             self.is_answered.store(true, Ordering::SeqCst);
         }
     }
