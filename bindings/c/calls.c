@@ -4,8 +4,8 @@
 
 #include <string.h>
 
-static struct seryugo room, lane, feed, journal, checker;
-static bool has_room, has_lane, has_feed, has_journal, has_checker;
+static struct seryugo room, lane, feed, journal, checker, other_room, other_lane;
+static bool has_room, has_lane, has_feed, has_journal, has_checker, has_other_room, has_other_lane;
 
 static void free_all(void)
 {
@@ -14,6 +14,8 @@ static void free_all(void)
     close_one(&has_journal, journal);
     close_one(&has_checker, checker);
     close_one(&has_room, room);
+    close_one(&has_other_lane, other_lane);
+    close_one(&has_other_room, other_room);
 }
 
 /* The library and the header have one version, which the header has as a text too. */
@@ -25,6 +27,48 @@ static void try_the_version(void)
     IS(SERYUGO_VERSION_NUMBER, version);
     snprintf(text, sizeof text, "%u.%u.%u", (unsigned)(version >> 16), (unsigned)(version >> 8 & 255), (unsigned)(version & 255));
     IS(0, strcmp(text, SERYUGO_VERSION));
+}
+
+/* A new room with a lane of two slots to its mailbox. */
+static void open_room_with_lane(struct seryugo *made, bool *has_made, struct seryugo *made_lane, bool *has_made_lane)
+{
+    uint64_t seat = 77, mailbox = 77, number = 77;
+
+    RETURNS(DONE, seryugo_room_open(100, made));
+    *has_made = true;
+    RETURNS(DONE, seryugo_new_seat(made, &seat));
+    RETURNS(DONE, seryugo_new_mailbox(made, seat, &mailbox));
+    RETURNS(DONE, seryugo_lane_open(made, mailbox, 2, made_lane, &number));
+    *has_made_lane = true;
+    IS(0, number);
+}
+
+/* The end of another room's lane of the same number, with another count of messages, closes nothing. The lane's end closes it. */
+static void try_an_end_of_another_room(void)
+{
+    uint64_t count = 77, message = 77;
+
+    open_room_with_lane(&room, &has_room, &lane, &has_lane);
+    open_room_with_lane(&other_room, &has_other_room, &other_lane, &has_other_lane);
+    RETURNS(DONE, seryugo_lane_send(&other_lane, 5));
+    RETURNS(DONE, seryugo_lane_send(&other_lane, 6));
+    RETURNS(FULL, seryugo_lane_send(&other_lane, 7));
+    RETURNS(DONE, seryugo_lane_finish(&other_lane));
+    RETURNS(DONE, seryugo_lane_send(&lane, 5));
+    RETURNS(UNSEEN, seryugo_lane_close(&room, &other_lane));
+    RETURNS(DONE, seryugo_lane_drain(&room, 0, &count));
+    IS(0, count);
+    RETURNS(DONE, seryugo_lane_send(&lane, 6));
+    RETURNS(DONE, seryugo_lane_finish(&lane));
+    RETURNS(DONE, seryugo_lane_close(&room, &lane));
+    RETURNS(DONE, seryugo_recv(&room, 0, 0, false, &message));
+    IS(5, message);
+    RETURNS(DONE, seryugo_recv(&room, 0, 0, false, &message));
+    IS(6, message);
+    RETURNS(NOTHING, seryugo_recv_poll(&room, 0, 0, &message));
+    RETURNS(DONE, seryugo_lane_drop(&other_room, 0, &count));
+    IS(2, count);
+    free_all();
 }
 
 static void try_rooms(uint64_t *one, uint64_t *two)
@@ -314,6 +358,7 @@ int main(void)
     uint64_t one, two;
 
     try_the_version();
+    try_an_end_of_another_room();
     try_rooms(&one, &two);
     try_mailboxes(one, two);
     try_channels(one);

@@ -1,7 +1,10 @@
 mod counting;
 mod crew;
 mod cutting;
+mod dropping;
+mod floors;
 mod forms;
+mod logs;
 mod refusing;
 mod restoring;
 mod rings;
@@ -14,6 +17,7 @@ mod verdict;
 use crew::Crew;
 use scene::{Scene, performed};
 use std::process::Abort;
+use std::test::Fail;
 
 /// How many entries a journal takes if a scene needs no limit.
 const MANY: u64 = 65_536;
@@ -52,9 +56,27 @@ fn plays_scenes_of_threads(rt: HostRuntime) {
         );
     }
     is_same(&rt, counting::told(rt.alloc()).as_str(), counting::TOLD);
+    is_same(&rt, floors::told(rt.alloc()).as_str(), floors::TOLD);
     is_same(
         &rt,
         restoring::told(&rt, rt.alloc()).as_str(),
         restoring::TOLD,
     );
+}
+
+/// A feed's end gives what is left of it.
+#[test]
+fn feeds_give_what_is_left(rt: HostRuntime) -> Result<(), Fail> {
+    let is_given = floors::gives_what_was_pumped(rt.alloc())?;
+    assert!(rt; is_given, "given otherwise");
+    Ok(())
+}
+
+/// Both logs do what any log does.
+#[test]
+fn logs_are_alike(rt: HostRuntime) -> Result<(), Fail> {
+    let are_alike = logs::all_agree(rt.alloc())? && logs::are_refused(rt.alloc());
+    let are_dropped = dropping::are_dropped(&rt, rt.alloc())?;
+    assert!(rt; are_alike && are_dropped, "a log is unlike a plain list");
+    Ok(())
 }

@@ -3,7 +3,7 @@ ghost use Rattle.std.specs.Prelude.{◌≡◌, ◌^◌};
 
 use super::scene::{alone, tell};
 use cml_board::{BoardLog, Call, Name};
-use cml_threads::{Count, Hall, Left, PARTS};
+use cml_threads::{Count, Hall, Left, PARTS, Seat};
 use std::alloc::Global;
 use std::marker::Brand;
 use std::sync::ledger::{Blank, Ledger};
@@ -37,16 +37,22 @@ fn count_in<Led: Ledger>(alloc: Global, blank: Blank) -> Option<Count>
     }
 }
 
-/// A seat makes a mailbox, and receives what a lane brought there: what it leaves.
+/// A seat makes a mailbox, and receives what a lane brought there: what it leaves. If the lane isn't closed, nothing is received.
 fn used<Led: Ledger>(hall: &mut Hall<u64, BoardLog<u64>, Led>) -> Option<Left<Led>> {
     let mut seat = hall.new_seat().ok()?;
-    hall.ask(&mut seat, Call::NewMailbox);
-    let is_closed = brings_two(hall);
-    hall.ask(&mut seat, Call::Recv(MAILBOX));
-    if is_closed {
-        return Some(seat.into_left());
+    ask(hall, &mut seat, Call::NewMailbox);
+    if brings_two(hall) {
+        ask(hall, &mut seat, Call::Recv(MAILBOX));
     }
-    None
+    Some(seat.into_left())
+}
+
+fn ask<Led: Ledger>(
+    hall: &mut Hall<u64, BoardLog<u64>, Led>,
+    seat: &mut Seat<Led>,
+    call: Call<u64>,
+) {
+    drop(hall.ask(seat, call));
 }
 
 /// Whether a lane brought two messages to the mailbox, and was closed by its end.

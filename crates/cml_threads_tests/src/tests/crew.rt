@@ -4,7 +4,7 @@ use super::scene::Numbers;
 use super::steps::{Step, taken};
 use super::{senders, verdict};
 use cml_board::{Answer, Call, Name, Refusal};
-use cml_lanes::Lane;
+use cml_lanes::{Feed, Lane};
 use cml_threads::{Left, Seat};
 use std::alloc::Global;
 use std::sync::ledger::Ledger;
@@ -23,8 +23,12 @@ const CUTS: u64 = 1_000_000;
 /// How many of the crowd receive; as many send.
 const RECEIVERS: u64 = 4;
 
-/// A seat that comes first makes the two mailboxes.
-const MAILBOXES: &[Step] = &[Step::Form(Form::Mailbox), Step::Form(Form::Mailbox)];
+/// A seat that comes first makes the two mailboxes and a channel.
+const OBJECTS: &[Step] = &[
+    Step::Form(Form::Mailbox),
+    Step::Form(Form::Mailbox),
+    Step::Form(Form::MChannel),
+];
 
 const TO: Name = Name(0);
 
@@ -43,7 +47,7 @@ pub enum Crew {
     Refused,
     /// Eight receive, and no thread sends: the calls of all eight fail with `Stalled`.
     Stalled,
-    /// Four send, each on its lane, one drains the lanes, and two receive.
+    /// Five send, each on its lane, one drains the lanes, two receive, and one takes from a feed.
     Senders,
 }
 
@@ -53,6 +57,7 @@ pub enum Job<Led: Ledger> {
     /// The calls of a seat.
     Call(Seat<Led>),
     Send(Lane<u64>),
+    Take(Feed<u64>),
     Drain,
 }
 
@@ -129,7 +134,7 @@ pub fn perform<Led: Ledger + Send + Sync, R: Threads + Wait + Sync>(
 ) {
     let mut lefts = Vec::new(alloc);
     let mut all = Vec::new(alloc);
-    if let Some(first) = taken(rt, text, &board, MAILBOXES) {
+    if let Some(first) = taken(rt, text, &board, OBJECTS) {
         lefts.push(first).is_ok();
     }
     work_together(rt, alloc, &board, crew, &mut lefts, &mut all);
@@ -213,6 +218,10 @@ fn work<Led: Ledger, R: Wait>(
         Job::Call(seat) => Some(called(rt, board, seat, crew, end, &mut made)),
         Job::Send(lane) => {
             made.refusal = senders::send_all(rt, board, lane).err();
+            None
+        }
+        Job::Take(feed) => {
+            made.refusal = senders::take_all(feed).err();
             None
         }
         Job::Drain => {

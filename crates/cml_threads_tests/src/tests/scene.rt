@@ -130,7 +130,7 @@ fn end<Led: Ledger>(text: &mut String, board: Numbers<Led>, lefts: Vec<Left<Led>
     }
 }
 
-fn tell_journal(text: &mut String, journal: &[Entry<u64>]) {
+pub fn tell_journal(text: &mut String, journal: &[Entry<u64>]) {
     for entry in journal.iter() {
         tell(text, &(entry.who, &entry.call, &entry.reply));
     }

@@ -17,70 +17,73 @@ macro_rules! seven_alike {
 /// Each is confirmed, and received what the other sent.
 pub const CALLERS: &str = "Ok(Made(Name(0)))
 Ok(Made(Name(1)))
+Ok(Made(Name(2)))
 (200, 200, None)
 (200, 200, None)
 (200, true)
-Count { seats: 402, rings: 0, total: 402 }
+Count { seats: 403, rings: 0, total: 403 }
 Ok(Ok(()))
 ";
 
 /// All that four sent was received by the four others, each once.
 pub const CROWD: &str = seven_alike!(
-    "Ok(Made(Name(0)))\nOk(Made(Name(1)))\n(2500, 2500, None)\n",
+    "Ok(Made(Name(0)))\nOk(Made(Name(1)))\nOk(Made(Name(2)))\n(2500, 2500, None)\n",
     "(2500, 2500, None)\n",
-    "(10000, true)\nCount { seats: 20002, rings: 0, total: 20002 }\nOk(Ok(()))\n"
+    "(10000, true)\nCount { seats: 20003, rings: 0, total: 20003 }\nOk(Ok(()))\n"
 );
 
 /// The same. What was cut away can't be confirmed, but it was counted.
 pub const FULL: &str = "Ok(Made(Name(0)))
 Ok(Made(Name(1)))
+Ok(Made(Name(2)))
 (10000, true)
-Count { seats: 20002, rings: 0, total: 20002 }
+Count { seats: 20003, rings: 0, total: 20003 }
 ";
 
 /// One fills the journal, and all are refused.
 pub const REFUSED: &str = seven_alike!(
-    "Ok(Made(Name(0)))\nOk(Made(Name(1)))\n",
+    "Ok(Made(Name(0)))\nOk(Made(Name(1)))\nOk(Made(Name(2)))\n",
     "(0, 0, Some(JournalFull))\n",
-    "(1998, 1998, Some(JournalFull))\n(0, true)\nCount { seats: 2000, rings: 0, total: 2000 }\nOk(Ok(()))\n"
+    "(1997, 1997, Some(JournalFull))\n(0, true)\nCount { seats: 2000, rings: 0, total: 2000 }\nOk(Ok(()))\n"
 );
 
 /// The calls of all fail with `Stalled`.
 pub const STALLED: &str = seven_alike!(
-    "Ok(Made(Name(0)))\nOk(Made(Name(1)))\n(0, 0, Some(Stalled))\n",
+    "Ok(Made(Name(0)))\nOk(Made(Name(1)))\nOk(Made(Name(2)))\n(0, 0, Some(Stalled))\n",
     "(0, 0, Some(Stalled))\n",
-    "(0, true)\nCount { seats: 2, rings: 0, total: 2 }\nOk(Ok(()))\n"
+    "(0, true)\nCount { seats: 3, rings: 0, total: 3 }\nOk(Ok(()))\n"
 );
 
 /// Two more lanes are let go, and no lane takes a drain any more. What was sent on four was received, each once and in its
-/// lane's order: the two mailboxes and the receives are of seats, all sends of lanes.
-pub const SENDERS: &str = "Ok(Made(Name(0)))
+/// lane's order: the objects and the receives are of seats, all sends of lanes. What was sent on the fifth came out of the feed.
+pub const SENDERS: &str = seven_alike!(
+    "Ok(Made(Name(0)))
 Ok(Made(Name(1)))
+Ok(Made(Name(2)))
 true
 true
 Ok((0, true))
 Ok(())
-Err(NoSuch)
-Err(NoSuch)
-Err(NoSuch)
-Err(NoSuch)
-Err(NoSuch)
-Err(NoSuch)
-(500, 500, None)
-(500, 500, None)
+",
+    "Err(NoSuch)\n",
+    "(2000, 2000, None)
+(2000, 2000, None)
 (0, 0, None)
 (0, 0, None)
 (0, 0, None)
 (0, 0, None)
 (0, 0, None)
-(1000, true)
-Count { seats: 1002, rings: 1000, total: 2002 }
+(0, 0, None)
+(0, 0, None)
+(4000, true)
+Count { seats: 4003, rings: 6001, total: 10004 }
 Ok(Ok(()))
 Lane(0) in order
 Lane(1) in order
 Lane(2) in order
 Lane(3) in order
-";
+"
+);
 
 /// Writes for each thread how many answers it had, how many of them the journal confirms, and the refusal of a call. Then it
 /// writes how many messages were received, and whether each was once; the counts; and whether the journal is lawful.

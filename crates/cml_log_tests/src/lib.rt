@@ -1,5 +1,0 @@
-//! Tests that any log of numbers passes.
-#![tactic(auto)]
-
-#[cfg(test)]
-mod tests;
