@@ -1,11 +1,14 @@
 #!/bin/sh
-# The static libraries, over what `rt ci` has proved here: `sh tests/archives.sh` behind it writes crates/NAME/out/libNAME.a for
-# each crate that crates.txt calls a static library. `rt lib` in the crate's folder writes the same, but proves for it all that
-# lies below once more, while `rt ci` proves a static library and builds none. The last line is `N passed, M failed`.
+# The static libraries, over what `rt ci` has proved here: `sh tests/archives.sh` after it writes crates/NAME/out/libNAME.a for
+# each crate that crates.txt calls a static library. `rt ci` proves a static library and keeps nothing of that proof, so the
+# first run here proves it once more. It keeps what it proved in the user's cache. A later run builds from that, if all that
+# the proof read is the same: the compiler compares every file and library. `rt lib` in the crate's folder writes the same
+# archive, but proves for it all that lies below. The last line is `N passed, M failed`.
 . "$(dirname "$0")/lib/cases.sh"
 cd "$(dirname "$0")/.." || exit 1
 top=$PWD
 kit=$(dirname "$(rt doc)")
+cache=${XDG_CACHE_HOME:-$HOME/.cache}/seryugo
 
 # libraries NAME: the words that name those of its line in crates.txt, and the folders of all libraries that they need.
 libraries() {
@@ -21,20 +24,29 @@ libraries() {
     done
 }
 
-# build NAME: proves the crate, and writes its archive.
+# archive NAME CHECKED: writes the archive from what a check wrote into the folder CHECKED. It fails if that check read anything else.
+archive() {
+    [ -d "$2" ] && "$kit/bin/rattle" build $words --crate-checked "$2" --toolchain "$kit/toolchain" --backend llvm -o "out/lib$1.a"
+}
+
+# keep NAME CHECKED: keeps what the check wrote, for a later run. Without room for it, a later run proves the crate again.
+keep() {
+    mkdir -p "$cache" && rm -rf "$cache/$1" && mv "$2" "$cache/$1"
+} 2> /dev/null
+
+# build NAME: writes the archive, from an earlier proof if there is one.
 build() {
-    words=$(libraries "$1")
-    (
-        cd "crates/$1" && mkdir -p out &&
-            "$kit/bin/rattle" build --crate-name "$1" src/lib.rt --crate-type staticlib $words \
-                --antt-project "$kit/rattle/logic/antt-project.json" --logic-built "$kit/logic_built" --links "$1=" \
-                --toolchain "$kit/toolchain" --backend llvm -o "out/lib$1.a"
-    )
+    words="--crate-name $1 src/lib.rt --crate-type staticlib $(libraries "$1") --links $1="
+    words="$words --antt-project $kit/rattle/logic/antt-project.json"
+    cd "crates/$1" && mkdir -p out || return
+    archive "$1" "$cache/$1" && return
+    "$kit/bin/rattle" check $words --logic-built "$kit/logic_built" -o "$work/$1.checked" && archive "$1" "$work/$1.checked" || return
+    keep "$1" "$work/$1.checked" || true
 }
 
 names=$(sed -n 's/^\([a-z_]*\) staticlib:.*/\1/p' crates.txt)
 for name in $names; do
-    { build "$name" > "$work/$name" 2>&1 || echo > "$work/$name.failed"; } &
+    (build "$name") > "$work/$name" 2>&1 || echo > "$work/$name.failed" &
 done
 wait
 for name in $names; do
