@@ -103,14 +103,14 @@ does() {
 # The programs in C of bindings/c make each call of the library, on one thread and on several.
 calls_from_c() {
     has_c || return
-    build_with_c cml_c "$room_values" "$owned_by_c" calls threads || return
+    build_with_c cml_c calls threads || return
     does calls env TRIED=calls timeout 60 "$program"
     does threads env TRIED=threads timeout 60 "$program"
 }
 
 replays_from_c() {
     has_c || return
-    build_with_c cml_script_c 'let mut found = SeryugoEnd { status: 0, line: 0, length: 0 };' '' replay || return
+    build_with_c cml_script_c replay || return
     for report in examples/*.report; do
         does "$(basename "$report")" replays "${report%.report}"
     done
