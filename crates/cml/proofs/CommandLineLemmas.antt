@@ -1,25 +1,25 @@
 -- Which words the program understands, and what is read of them.
-use Rattle.std.proofs.Common.{◌≡◌, ◌⊎◌, ◌∙◌, ◌&&◌, ap, ap₂, subst, sym, refl, inl, inr, false, not, is_some, List, [], ◌∷◌, Option, Some, None, Result, Ok, Err, IfOk, IsErrAnd, MatchResult, codes}
-use Rattle.std.specs.Prelude.{IfSome, ◌≤◌, ◌^◌, find, fold}
-use Rattle.std.specs.Str.{bytes_eq}
-use Rattle.clap.specs.Walk.{Names, Row, Text, Walk, answers_to, finished, has_long, has_short, nothing_held, rows_after, settled, subcommand_met, idle, walk, walk_from, walked}
-use Rattle.clap.specs.Words.{subcommand_of}
+use Rattle.std.proofs.Common.{◌≡◌, ◌⊎◌, ◌∙◌, ◌&&◌, ap, subst, sym, refl, inl, inr, false, not, is_some, List, [], ◌∷◌, Some, None, Result, Ok, Err, IfOk, IsErrAnd, MatchResult, codes, IfSome, ◌≤◌, ◌^◌, find, fold, bytes_eq, ◌++◌, arith, ℕ, Bool, true, slice_index_or, ne_eqb, ◌==◌}
+use Rattle.clap.specs.Walk.{Names, Text, Walk, answers_to, has_long, has_short, nothing_held, rows_after, subcommand_met, idle, walk, walk_from, walked, one_of}
+use Rattle.clap.specs.Words.{kind_of, subcommand_of}
 use Rattle.clap.specs.Simple.{Shape, built, entered, label_of, names_of}
-use Rattle.clap.specs.Kinds.{IsAmong, Kinds, or_else}
-use Rattle.clap.specs.Faults.{built_fault, check_fault, defaults_fault, entered_fault, level_fault, settle_fault, walk_fault}
+use Rattle.clap.specs.Kinds.{IsAmong, Kinds, or_else, value_kinds}
+use Rattle.clap.specs.Faults.{built_fault, defaults_fault, level_fault, walk_fault}
 use Rattle.clap.specs.declared.error.kind.ErrorKind.{ErrorKind}
 use Rattle.clap.specs.declared.error.kind.ErrorKind.TheVariants as kind
 use Rattle.clap.specs.declared.error.Error.{Error}
-use Rattle.clap.specs.Values.{kind_of}
 use Rattle.clap.proofs.FaultLemmas.{stopped_fault}
 use Rattle.clap.proofs.OnLiterals.{clap_on_literals}
 use Rattle.clap.proofs.WalkLemmas.{walk_stopped}
 use Rattle.cml_shell.specs.Statuses.{error_status}
-use Rattle.cml.specs.CommandLine.{AsksFor, AsksHelp, HasOrder, Reads, asked_of, faults_of, limit_of, usage}
+use Rattle.cml.specs.CommandLine.{AsksFor, AsksHelp, HasOrder, Reads, asked_of, faults_of, limit_of, usage, AreUses, FindsBoth, FindsFlag, Flag, form_if, IsLimitOption, Limit, ReadsAs, Use, given_by, state_by}
 use Rattle.cml.specs.declared.asked.Order.{Order}
 use Rattle.cml.specs.declared.asked.Order.TheVariants.{Replay, Run, Check}
-use Rattle.cml.proofs.Words.{IsBare, Refused, help_alone, none_of_both, other_is_refused, same_or_other, some_kind}
-use Rattle.cml.proofs.Levels.{below, taken_below, understood_below, below_check, taken_check, understood_check}
+use Rattle.cml.proofs.Words.{Found, IsBare, IsOrOther, Uses, a_flag, a_value, dashes, flagged, help, help_alone, holding, limit_parser, limited, long_help, neither, none_of_both, same_or_other, some_kind, turn_of, uses_of}
+use Rattle.clap.specs.Lexer.{long_of, short_of}
+use Rattle.cml_script.specs.declared.form.Form.{Form}
+use Rattle.cml_script.specs.declared.form.Form.TheVariants.{Report, Journal}
+use Rattle.clap.proofs.KindLemmas.{value_kinds-ok}
 
 -- the program's own level of words
 abbrev top : Shape
@@ -28,163 +28,229 @@ top = (built usage).top
 abbrev names : Names
 names = names_of (built usage)
 
-abbrev start : Walk
-start = walk_from nothing_held
-
--- what the program's level and its subcommand's make of the words, and what they make of them after the walk
+-- what the program's level and its subcommand's make of the words
 abbrev fault_at : List Text → Kinds
 fault_at asked = built_fault (built usage) nothing_held asked
 
-abbrev fault_after : Walk → Kinds → Kinds
-fault_after w words = or_else words (or_else (entered_fault (built usage) w.stopped) (or_else (settle_fault top.rules top.args_override_self w.held)
-    (or_else (defaults_fault (settled top.rules w.held).rows top.rules) (check_fault top (finished top.rules w.held) (is_some (entered (built usage) w.stopped))))))
+-- ---- the three levels
 
-nothing_else : (kinds : Kinds) → or_else kinds [] ≡ kinds
-nothing_else [] = refl
-nothing_else (k ∷ ks) = refl
+-- the level of words below the subcommand of this name, whose options are the limit and `--journal`
+abbrev below : Text → Shape
+below name = record (slice_index_or (built usage).subs 0 (built usage).top) { name = name }
 
--- ---- the words behind a subcommand's name are left to its level
+-- the level of words below `check`
+abbrev below_check : Shape
+below_check = slice_index_or (built usage).subs 2 (built usage).top
 
-abbrev IsFound : Text → Shape → Type 0
-IsFound name s = find (λ sub. answers_to name (label_of sub)) (built usage).subs ≡ Some s
+uses_below : (name : Text) (words : List Text) → level_fault (below name) [] nothing_held words false [] ≡ [] → Uses (below name) (codes "journal") words
+uses_below name =
+    uses_of (below name) (codes "journal") (record { once = refl; short = λ x. help_alone (λ a. not (is_some a.index) && has_short a x); others = refl })
+    (λ word. found word (same_or_other _ word) (same_or_other _ word)) refl refl refl
+  where
+    found : (word : Text) → IsOrOther (codes "limit") word → IsOrOther (codes "journal") word → Found (below name) (codes "journal") word
+    found word (inl is) own = limited (sym is) (rw (← is) refl) refl
+    found word (inr l) (inl is) = flagged (rw (← is) refl) (rw (← is) refl)
+    found word (inr l) (inr j) = neither (rw (l, j) (help_alone (λ a. not (is_some a.index) && has_long a word)))
 
-module _ (name : Text) (s : Shape) (met : subcommand_met names idle name ≡ Some name) (other : bytes_eq name (codes "help") ≡ false) (found : IsFound name s) where
-  abbrev stopped_at : List Text → Walk
-  stopped_at rest = record start { stopped = Some (name, rest) }
+uses_check : (words : List Text) → level_fault below_check [] nothing_held words false [] ≡ [] → Uses below_check (codes "state") words
+uses_check =
+    uses_of below_check (codes "state") (record { once = refl; short = λ x. help_alone (λ a. not (is_some a.index) && has_short a x); others = refl })
+    (λ word. found word (same_or_other _ word)) refl refl refl
+  where
+    found : (word : Text) → IsOrOther (codes "state") word → Found below_check (codes "state") word
+    found word (inl is) = flagged (rw (← is) refl) (rw (← is) refl)
+    found word (inr other) = neither (rw other (help_alone (λ a. not (is_some a.index) && has_long a word)))
 
-  stops : (rest : List Text) → stopped_at rest ≡ walk top.rules names nothing_held (name ∷ rest)
-  unfolding walked
-  stops rest = walk_stopped top.rules names start name [] rest ∙ ap (λ w. fold (walked top.rules names) w rest) (rw met refl)
+-- ---- the words after a subcommand's name are left to its level
 
-  no_fault_yet : (rest : List Text) → walk_fault top names start (name ∷ rest) ≡ []
+module _ (name : Text) (level : Shape) (met : subcommand_met names idle name ≡ Some name) (other : bytes_eq name (codes "help") ≡ false)
+    (found : find (λ sub. answers_to name (label_of sub)) (built usage).subs ≡ Some level) where
+  stops : (rest : List Text) → (record (walk_from nothing_held) { stopped = Some (name, rest) } ≡ walk top.rules names nothing_held (name ∷ rest))
+      × (walk_fault top names (walk_from nothing_held) (name ∷ rest) ≡ [])
   unfolding walk_fault walked
-  no_fault_yet rest = rw (met, other) (stopped_fault top names start (name, []) rest)
-
-  after_stop : (rest : List Text) → fault_after (stopped_at rest) [] ≡ or_else (level_fault s [] nothing_held rest false []) []
-  unfolding clap_on_literals
-  after_stop rest = rw found refl
+  stops rest = (
+    walk_stopped top.rules names (walk_from nothing_held) name [] rest ∙ ap (λ w. fold (walked top.rules names) w rest) (rw met refl),
+    rw (met, other) (stopped_fault top names (walk_from nothing_held) (name, []) rest),
+  )
 
   -- the words are at fault as the subcommand's level says
-  fault_behind : (rest : List Text) → fault_at (name ∷ rest) ≡ level_fault s [] nothing_held rest false []
-  fault_behind rest = ap₂ fault_after (sym (stops rest)) (no_fault_yet rest) ∙ after_stop rest ∙ nothing_else _
+  fault_below : (rest : List Text) → fault_at (name ∷ rest) ≡ or_else (level_fault level [] nothing_held rest false []) []
+  unfolding defaults_fault
+  fault_below rest = rw (← (stops rest).0, (stops rest).1, found) refl
+
+  -- so words without fault leave none to the level
+  left : (words : List Text) (word : Text) (rest : List Text) → faults_of words ≡ [] → asked_of words ≡ word ∷ rest → name ≡ word
+      → (asked_of words ≡ name ∷ rest) × (level_fault level [] nothing_held rest false [] ≡ [])
+  left words word rest fine are is =
+      let named = are ∙ ap (λ w. w ∷ rest) (sym is) in (named, (none_of_both _ _ (sym (fault_below rest) ∙ ap fault_at (sym named) ∙ fine)).0)
 
   -- and what is found is found there
-  found_behind : (words rest : List Text) → asked_of words ≡ name ∷ rest → Some (s.name, rows_after s.rules [] rest) ≡ subcommand_of usage words
-  found_behind words rest are =
-      rw found refl ∙ ap (λ (w : Walk). entered (built usage) w.stopped) (stops rest) ∙ ap (λ asked. entered (built usage) (walk top.rules names nothing_held asked).stopped) (sym are)
+  has_order : (words rest : List Text) (order : Order) → asked_of words ≡ name ∷ rest → level_fault level [] nothing_held rest false [] ≡ []
+      → HasOrder (Some (level.name, rows_after level.rules [] rest)) order → (faults_of words ≡ []) × HasOrder (subcommand_of usage words) order
+  has_order words rest order are none has =
+      let order_at : Walk → Type 0 = λ w. HasOrder (entered (built usage) w.stopped) order in
+      (ap fault_at are ∙ fault_below rest ∙ ap (λ kinds. or_else kinds []) none, rw are (subst order_at (stops rest).0 (rw found has)))
 
 -- ---- words without fault ask for an order
 
-bare : IsBare top
-bare = record { once = refl; short = λ x. help_alone (λ a. not (is_some a.index) && has_short a x); others = refl }
-
 -- no words at all, `help`, and `--` with what follows it are refused
-odd_words : (words rest : List Text) → words ≡ [] ⊎ (words ≡ codes "help" ∷ rest ⊎ words ≡ codes "--" ∷ rest) → Refused (fault_at words)
+odd_words : (words rest : List Text) → words ≡ [] ⊎ (words ≡ codes "help" ∷ rest ⊎ words ≡ codes "--" ∷ rest) → fault_at words ≡ [] → ⊥
 unfolding clap_on_literals
 odd_words words rest (inl is) = rw is (some_kind _ _)
 odd_words words rest (inr (inl is)) = rw is (some_kind _ _)
 odd_words words [] (inr (inr is)) = rw is (some_kind _ _)
 odd_words words (word ∷ more) (inr (inr is)) = rw is (some_kind _ _)
 
-other_first : (word : Text) (rest : List Text) → subcommand_met names idle word ≡ None → bytes_eq word (codes "--") ≡ false → Refused (fault_at (word ∷ rest))
+other_first : (word : Text) (rest : List Text) → subcommand_met names idle word ≡ None → fault_at (word ∷ rest) ≡ [] → ⊥
 unfolding walk_fault
-other_first word rest met dashes none =
+other_first word rest met none =
+    let bare : IsBare top = record { once = refl; short = λ x. help_alone (λ a. not (is_some a.index) && has_short a x); others = refl } in
     let first = (none_of_both _ _ (none_of_both _ _ none).0).0 in
-    other_is_refused top bare names [] None word met dashes (λ flag value e. help_alone (λ a. not (is_some a.index) && has_long a flag)) first
+    elim (turn_of top bare names idle [] None word met first) [
+      | dashes is ↦ odd_words (word ∷ rest) rest (inr (inr (ap (λ w. w ∷ rest) is))) none
+      | a_flag name value e d fine ↦ long_help top.rules _ value (holding [] None) (help_alone (λ a. not (is_some a.index) && has_long a name)) fine
+      | a_value d is stray ↦ stray refl
+    ]
 
 pub understood : (words : List Text) → faults_of words ≡ [] → (order : Order) × AsksFor words order
 understood words fine = by_words (asked_of words) refl
   where
-    by_first : (word : Text) (rest : List Text) → asked_of words ≡ word ∷ rest → (order : Order) × AsksFor words order
-    by_first word rest are = elim (same_or_other (codes "replay") word) [
-      | inl is ↦
-          let by = understood_below (codes "replay") rest (sym (fault_behind (codes "replay") (below (codes "replay")) refl refl refl rest) ∙ ap fault_at (ap (λ w. w ∷ rest) is ∙ sym are) ∙ fine) in
-          (Replay by.0 by.1, record { uses = by.2; rest = rest; gives = by.3; reads = by.4; are = are ∙ ap (λ w. w ∷ rest) (sym is) })
-      | inr r ↦ elim (same_or_other (codes "run") word) [
-        | inl is ↦
-            let by = understood_below (codes "run") rest (sym (fault_behind (codes "run") (below (codes "run")) refl refl refl rest) ∙ ap fault_at (ap (λ w. w ∷ rest) is ∙ sym are) ∙ fine) in
-            (Run by.0 by.1, record { uses = by.2; rest = rest; gives = by.3; reads = by.4; are = are ∙ ap (λ w. w ∷ rest) (sym is) })
-        | inr u ↦ elim (same_or_other (codes "check") word) [
-          | inl is ↦
-              let by = understood_check rest (sym (fault_behind (codes "check") below_check refl refl refl rest) ∙ ap fault_at (ap (λ w. w ∷ rest) is ∙ sym are) ∙ fine) in
-              (Check by.0, record { uses = by.1; rest = rest; gives = by.2; reads = by.3; are = are ∙ ap (λ w. w ∷ rest) (sym is) })
-          | inr k ↦ elim (same_or_other (codes "help") word) [
-            | inl is ↦ absurd (odd_words (asked_of words) rest (inr (inl (are ∙ ap (λ w. w ∷ rest) (sym is)))) fine)
-            | inr h ↦ elim (same_or_other word (codes "--")) [
-              | inl is ↦ absurd (odd_words (asked_of words) rest (inr (inr (are ∙ ap (λ w. w ∷ rest) is))) fine)
-              | inr d ↦ absurd (other_first word rest (rw (r, u, k, h) refl) d (ap fault_at (sym are) ∙ fine))
-            ]
-          ]
-        ]
-      ]
-    ]
+    by_first : (word : Text) (rest : List Text) → asked_of words ≡ word ∷ rest → IsOrOther (codes "replay") word → IsOrOther (codes "run") word → IsOrOther (codes "check") word
+        → IsOrOther (codes "help") word → (order : Order) × AsksFor words order
+    by_first word rest are (inl is) run_or check_or help_or =
+        let here = left (codes "replay") (below (codes "replay")) refl refl refl words word rest fine are is in
+        let by = uses_below (codes "replay") rest here.1 in
+        (Replay by.2.0.0 by.2.0.1, record { uses = by.0; rest = rest; gives = by.2.1; reads = by.1; are = here.0 })
+    by_first word rest are (inr r) (inl is) check_or help_or =
+        let here = left (codes "run") (below (codes "run")) refl refl refl words word rest fine are is in
+        let by = uses_below (codes "run") rest here.1 in
+        (Run by.2.0.0 by.2.0.1, record { uses = by.0; rest = rest; gives = by.2.1; reads = by.1; are = here.0 })
+    by_first word rest are (inr r) (inr u) (inl is) help_or =
+        let here = left (codes "check") below_check refl refl refl words word rest fine are is in
+        let by = uses_check rest here.1 in
+        let state = by.3 (λ has. cc) in
+        (Check state.0, record { uses = by.0; rest = rest; gives = state.1; reads = by.1; are = here.0 })
+    by_first word rest are (inr r) (inr u) (inr k) (inl is) = absurd (odd_words (asked_of words) rest (inr (inl (are ∙ ap (λ w. w ∷ rest) (sym is)))) fine)
+    by_first word rest are (inr r) (inr u) (inr k) (inr h) = absurd (other_first word rest (rw (r, u, k, h) refl) (ap fault_at (sym are) ∙ fine))
 
     by_words : (asked : List Text) → asked_of words ≡ asked → (order : Order) × AsksFor words order
     by_words [] are = absurd (odd_words (asked_of words) [] (inl are) fine)
-    by_words (word ∷ rest) are = by_first word rest are
+    by_words (word ∷ rest) are = by_first word rest are (same_or_other _ word) (same_or_other _ word) (same_or_other _ word) (same_or_other _ word)
+
+-- ---- the levels take the words of an order
+
+-- a text that may be a limit is no flag, and passes
+abbrev pub Fits : Text → Type 0
+Fits text = (bytes_eq text (codes "--") ≡ false) × (long_of text ≡ None) × (short_of text ≡ None) × (value_kinds false limit_parser text ≡ [])
+
+pub number_fits : (text : Text) (limit : ℕ) → ReadsAs text limit → 1 ≤ limit → limit ≤ 2 ^ 32 → Fits text
+number_fits [] limit reads least most = let bad = reads.0.0 in absurd (omega arith)
+number_fits (x ∷ xs) limit reads least most =
+    let is = reads.1 in
+    let h : (x == 45) ≡ false = ne_eqb x 45 (λ e. let bad = subst (λ y. ReadsAs (y ∷ xs) limit) e reads in omega (arith, bad.0.1.0)) in
+    (rw h refl, rw h refl, rw h refl, value_kinds-ok false limit_parser (x ∷ xs) (reads.0, omega arith, omega arith, omega arith))
+
+-- the words of a limit's option, or none where the text is the default
+abbrev IsGiven : List Text → Text → Type 0
+IsGiven words text = ((words ≡ []) × (text ≡ codes "65536")) ⊎ IsLimitOption words text
+
+module _ (name : Text) where
+  -- the level finds no fault in the words, and this limit's text and flag
+  abbrev Takes : List Text → Text → Bool → Type 0
+  Takes words text set = (level_fault (below name) [] nothing_held words false [] ≡ []) × (one_of (codes "limit") (rows_after (below name).rules [] words) ≡ Some text)
+      × FindsFlag (λ id. one_of id (rows_after (below name).rules [] words)) (codes "journal") set
+
+  takes : (text : Text) (given end : List Text) → Fits text → IsGiven given text → AreUses (codes "--journal") [] end
+      → Takes (given ++ end) text false × Takes (given ++ codes "--journal" ∷ end) text true × Takes (codes "--journal" ∷ (given ++ end)) text true
+  unfolding clap_on_literals
+  takes text given end fits (inl none) (inl e) = rw (none.0, none.1, e) ((refl, refl, refl), (refl, refl, refl), (refl, refl, refl))
+  takes text given end fits (inl none) (inr e) = rw (none.0, none.1, e) ((refl, refl, refl), (refl, refl, refl), (refl, refl, refl))
+  takes text given end (d, l, s, p) (inr (inl two)) (inl e) =
+      rw (two, e) ((rw (d, l, s, p) refl, rw (d, l, s) refl, rw (d, l, s) refl), (rw (d, l, s, p) refl, rw (d, l, s) refl, rw (d, l, s) refl), (rw (d, l, s, p) refl, rw (d, l, s) refl, rw (d, l, s) refl))
+  takes text given end (d, l, s, p) (inr (inl two)) (inr e) =
+      rw (two, e) ((rw (d, l, s, p) refl, rw (d, l, s) refl, rw (d, l, s) refl), (rw (d, l, s, p) refl, rw (d, l, s) refl, rw (d, l, s) refl), (rw (d, l, s, p) refl, rw (d, l, s) refl, rw (d, l, s) refl))
+  takes text given end (d, l, s, p) (inr (inr one)) (inl e) = rw (one, e) ((rw p refl, refl, refl), (rw p refl, refl, refl), (rw p refl, refl, refl))
+  takes text given end (d, l, s, p) (inr (inr one)) (inr e) = rw (one, e) ((rw p refl, refl, refl), (rw p refl, refl, refl), (rw p refl, refl, refl))
+
+  -- the level takes these words as this limit and this form
+  abbrev IsTakenAs : List Text → ℕ × Form → Type 0
+  IsTakenAs words both = (level_fault (below name) [] nothing_held words false [] ≡ []) × FindsBoth (λ id. one_of id (rows_after (below name).rules [] words)) both
+
+  taken_with : (given end : List Text) (limit : ℕ) → (text : Text) × IsGiven given text × ReadsAs text limit × (1 ≤ limit) × (limit ≤ 2 ^ 32) → AreUses (codes "--journal") [] end
+      → IsTakenAs (given ++ end) (limit, Report) × IsTakenAs (given ++ codes "--journal" ∷ end) (limit, Journal) × IsTakenAs (codes "--journal" ∷ (given ++ end)) (limit, Journal)
+  taken_with given end limit (text, how, reads, least, most) stop =
+      let by = takes text given end (number_fits text limit reads least most) how stop in
+      let found : (words : List Text) (set : Bool) → Takes words text set → IsTakenAs words (limit, form_if set) =
+      λ words set by. (by.0, ((text, reads, least, most, by.1), set, by.2, refl)) in
+      (found _ false by.0, found _ true by.1, found _ true by.2)
+
+  default : (text : Text) × IsGiven [] text × ReadsAs text 65536 × (1 ≤ 65536) × (65536 ≤ 2 ^ 32)
+  default = (codes "65536", inl (refl, refl), ((omega arith, (omega arith, (omega arith, (omega arith, (omega arith, (omega arith, tt)))))), refl), omega arith, omega arith)
+
+  taken_below : (uses : List Use) (words : List Text) → AreUses (codes "--journal") uses words → IfSome (given_by uses) (IsTakenAs words)
+  taken_below [] words end = (taken_with [] words 65536 default end).0
+  taken_below (Flag ∷ []) words (first, rest, is, flag, end) = rw (is, flag) (taken_with [] rest 65536 default end).1
+  taken_below (Limit n ∷ []) words (first, rest, is, one, end) = rw is (taken_with first rest n (one.0, inr one.1, one.2, one.3, one.4) end).0
+  taken_below (Limit n ∷ Flag ∷ []) words (first, rest, is, one, (second, last, also, flag, end)) =
+      rw (is, also, flag) (taken_with first last n (one.0, inr one.1, one.2, one.3, one.4) end).1
+  taken_below (Flag ∷ Limit n ∷ []) words (first, rest, is, flag, (second, last, also, one, end)) =
+      rw (is, flag, also) (taken_with second last n (one.0, inr one.1, one.2, one.3, one.4) end).2
+  taken_below _ words reads = tt
+
+-- the level takes the option, and finds it
+taken_check : (uses : List Use) (words : List Text) → AreUses (codes "--state") uses words
+    → IfSome (state_by uses) (λ state. (level_fault below_check [] nothing_held words false [] ≡ []) × FindsFlag (λ id. one_of id (rows_after below_check.rules [] words)) (codes "state") state)
+unfolding clap_on_literals
+taken_check [] words (inl e) = rw e (refl, refl)
+taken_check [] words (inr e) = rw e (refl, refl)
+taken_check (Flag ∷ []) words (first, rest, is, flag, inl e) = rw (is, flag, e) (refl, refl)
+taken_check (Flag ∷ []) words (first, rest, is, flag, inr e) = rw (is, flag, e) (refl, refl)
+taken_check _ words reads = tt
 
 -- ---- words that ask for an order are without fault, and a parse finds the order
 
-abbrev IsTaken : List Text → Order → Type 0
-IsTaken words order = (faults_of words ≡ []) × HasOrder (subcommand_of usage words) order × IfSome (limit_of order) (λ limit. (1 ≤ limit) × (limit ≤ 2 ^ 32))
+abbrev pub IsTaken : List Text → Order → Type 0
+IsTaken words order = ((faults_of words ≡ []) × HasOrder (subcommand_of usage words) order) × IfSome (limit_of order) (λ limit. (1 ≤ limit) × (limit ≤ 2 ^ 32))
 
-taken : (words : List Text) (order : Order) → AsksFor words order → IsTaken words order
+pub taken : (words : List Text) (order : Order) → AsksFor words order → IsTaken words order
 taken words (Replay limit form) asks =
-    let by = rw asks.gives at (taken_below (codes "replay") asks.uses asks.rest asks.reads) in (
-      ap fault_at asks.are ∙ fault_behind (codes "replay") (below (codes "replay")) refl refl refl asks.rest ∙ by.0,
-      subst (λ f. HasOrder f (Replay limit form)) (found_behind (codes "replay") (below (codes "replay")) refl refl refl words asks.rest asks.are) (refl, by.1),
-      (by.1.0.2, by.1.0.3),
-    )
+    let by = rw asks.gives at (taken_below (codes "replay") asks.uses asks.rest asks.reads) in
+    let has = has_order (codes "replay") (below (codes "replay")) refl refl refl words asks.rest (Replay limit form) asks.are by.0 (refl, by.1) in
+    (has, (by.1.0.2, by.1.0.3))
 taken words (Run limit form) asks =
-    let by = rw asks.gives at (taken_below (codes "run") asks.uses asks.rest asks.reads) in (
-      ap fault_at asks.are ∙ fault_behind (codes "run") (below (codes "run")) refl refl refl asks.rest ∙ by.0,
-      subst (λ f. HasOrder f (Run limit form)) (found_behind (codes "run") (below (codes "run")) refl refl refl words asks.rest asks.are) (refl, by.1),
-      (by.1.0.2, by.1.0.3),
-    )
+    let by = rw asks.gives at (taken_below (codes "run") asks.uses asks.rest asks.reads) in
+    let has = has_order (codes "run") (below (codes "run")) refl refl refl words asks.rest (Run limit form) asks.are by.0 (refl, by.1) in
+    (has, (by.1.0.2, by.1.0.3))
 taken words (Check state) asks =
-    let by = rw asks.gives at (taken_check asks.uses asks.rest asks.reads) in (
-      ap fault_at asks.are ∙ fault_behind (codes "check") below_check refl refl refl asks.rest ∙ by.0,
-      subst (λ f. HasOrder f (Check state)) (found_behind (codes "check") below_check refl refl refl words asks.rest asks.are) (refl, by.1),
-      tt,
-    )
+    let by = rw asks.gives at (taken_check asks.uses asks.rest asks.reads) in
+    (has_order (codes "check") below_check refl refl refl words asks.rest (Check state) asks.are by.0 (refl, by.1), tt)
 
 -- ---- what is read of the words, by what a parse found
-
-pub no_order_is_lost : (words : List Text) (found : Option (Text × List Row)) → faults_of words ≡ [] → found ≡ subcommand_of usage words
-    → ((asked : Order) → HasOrder found asked → ◌≡◌ {A = Option Order} None (Some asked)) → ⊥
-no_order_is_lost words found fine same read =
-    let asks = understood words fine in
-    let lost = read asks.0 (subst (λ f. HasOrder f asks.0) (sym same) (taken words asks.0 asks.1).1) in
-    cc
 
 pub told : (words : List Text) (read : Result Order Error) → Reads words read → IfOk read (λ order. AsksFor words order)
 told words (Err error) reads = tt
 told words (Ok order) reads =
     let asks = understood words reads.0 in
-    subst (AsksFor words) (sym (reads.1 asks.0 (taken words asks.0 asks.1).1)) asks.1
+    subst (AsksFor words) (sym (reads.1 asks.0 (taken words asks.0 asks.1).0.1)) asks.1
 
 pub told_asked : (words : List Text) (read : Result Order Error) → Reads words read → (asked : Order) → AsksFor words asked
     → MatchResult read (λ order. order ≡ asked) (λ error. kind_of error ≡ kind.OutOfMemory)
-told_asked words (Ok order) reads asked asks = reads.1 asked (taken words asked asks).1
+told_asked words (Ok order) reads asked asks = reads.1 asked (taken words asked asks).0.1
 told_asked words (Err error) (inl memory, done) asked asks = memory
-told_asked words (Err error) (inr among, done) asked asks = absurd (subst (IsAmong (kind_of error)) (taken words asked asks).0 among)
+told_asked words (Err error) (inr among, done) asked asks = absurd (subst (IsAmong (kind_of error)) (taken words asked asks).0.0 among)
 
 pub told_range : (words : List Text) (read : Result Order Error) → Reads words read → IfOk read (λ order. IfSome (limit_of order) (λ limit. (1 ≤ limit) × (limit ≤ 2 ^ 32)))
 told_range words (Err error) reads = tt
-told_range words (Ok order) reads = (taken words order (told words (Ok order) reads)).2
+told_range words (Ok order) reads = (taken words order (told words (Ok order) reads)).1
 
 -- ---- help
 
 help_is_shown : (words : List Text) → AsksHelp words → faults_of words ≡ kind.DisplayHelp ∷ []
 unfolding clap_on_literals
-help_is_shown words (help, inl long, inl h) = rw (h, long) refl
-help_is_shown words (help, inr short, inl h) = rw (h, short) refl
-help_is_shown words (help, inl long, inr (inl h)) = rw (h, long) refl
-help_is_shown words (help, inr short, inr (inl h)) = rw (h, short) refl
-help_is_shown words (help, inl long, inr (inr (inl h))) = rw (h, long) refl
-help_is_shown words (help, inr short, inr (inr (inl h))) = rw (h, short) refl
-help_is_shown words (help, inl long, inr (inr (inr h))) = rw (h, long) refl
-help_is_shown words (help, inr short, inr (inr (inr h))) = rw (h, short) refl
+help_is_shown words (help, is, inl h) = elim is [ inl e ↦ rw (h, e) refl | inr e ↦ rw (h, e) refl ]
+help_is_shown words (help, is, inr (inl h)) = elim is [ inl e ↦ rw (h, e) refl | inr e ↦ rw (h, e) refl ]
+help_is_shown words (help, is, inr (inr (inl h))) = elim is [ inl e ↦ rw (h, e) refl | inr e ↦ rw (h, e) refl ]
+help_is_shown words (help, is, inr (inr (inr h))) = elim is [ inl e ↦ rw (h, e) refl | inr e ↦ rw (h, e) refl ]
 
 pub told_help : (words : List Text) (read : Result Order Error) → Reads words read → AsksHelp words
     → IsErrAnd read (λ error. (kind_of error ≡ kind.DisplayHelp) ⊎ (kind_of error ≡ kind.OutOfMemory))

@@ -1,4 +1,3 @@
 pub mod Words
-pub mod Levels
 pub mod CommandLineLemmas
 pub mod Telling

@@ -1,48 +1,36 @@
--- Words as `clap` reads them: which a level refuses, what a flag looks like, and which texts are the number of `--limit`.
-use Rattle.std.proofs.Common.{◌≡◌, ◌⊎◌, subst, refl, inl, inr, Bool, true, false, cond, ℕ, List, [], ◌∷◌, Option, Some, None, is_some, codes, ◌∙◌, ◌++◌, ◌≤◌, ◌^◌, ◌+◌, suc, ap, ap₂, sym, arith, eqb-true, ne_eqb}
-use Rattle.std.specs.Prelude.{fold, find, slice_get, ◌==◌, option_and_then}
-use Rattle.std.specs.Str.{bytes_eq, chars}
+-- Words as `clap` reads them, and which of them a level understands whose options are a flag and perhaps `--limit`.
+use Rattle.std.proofs.Common.{◌≡◌, ◌⊎◌, refl, inl, inr, Bool, true, false, ℕ, List, [], ◌∷◌, Option, Some, None, codes, ◌∙◌, ◌++◌, ◌+◌, suc, ap, ap₂, subst, sym, arith, eqb-true, fold, find, slice_get, ◌==◌, option_and_then, bytes_eq, chars}
 use Rattle.std.proofs.lemmas.Bool.{cases_Bool, true_from_ne_false}
 use Rattle.std.proofs.lemmas.Slice.Eq.{bytes_eq-Decides}
-use Rattle.clap.specs.Walk.{Held, Names, Row, Rule, Text, Waiting, Walk, arg_by_index, arg_by_long, arg_by_short, attached_value, bundle_met, idle, long_or_other, nothing_held, option, plain_word, positional, subcommand_met, takes_values, walk_from, walked}
+use Rattle.clap.specs.Walk.{Held, Names, Row, Rule, Text, Waiting, Walk, arg_by_index, arg_by_long, arg_by_short, bundle_met, idle, long_or_other, nothing_held, option, plain_word, subcommand_met, walked, arg_by_id, settled_rows, used}
 use Rattle.clap.specs.Simple.{Shape, filled, help_rule}
 use Rattle.clap.specs.Kinds.{Kinds, or_else, value_kinds}
 use Rattle.clap.specs.Lexer.{long_of, short_of, long_of_rest, name_and_value, strip_byte}
-use Rattle.clap.specs.Faults.{flag_word_fault, flags_fault, level_fault, long_fault, option_fault, react_fault, settle_fault, short_fault, stray_fault, turn_fault, walk_fault}
+use Rattle.clap.specs.Faults.{flag_word_fault, flags_fault, level_fault, long_fault, settle_fault, short_fault, stray_fault, turn_fault, walk_fault, use_fault}
 use Rattle.clap.specs.declared.error.kind.ErrorKind.{ErrorKind}
-use Rattle.clap.specs.declared.error.kind.ErrorKind.TheVariants.{TooManyValues}
 use Rattle.std.proofs.lemmas.Option.{cond_some, option_and_then_some}
 use native.Mathlib.Numerals.{unary_clauses}
-use Rattle.std.specs.Str.Parse.{IsNumeral, without_leading_plus}
-use Rattle.clap.specs.Values.{IsUnsignedIn}
 use Rattle.clap.specs.ValueTests.{accepts}
 use Rattle.clap.specs.declared.builder.value_parser.ValueParser.{ValueParser}
 use Rattle.clap.specs.declared.builder.value_parser.ValueParser.TheVariants as parser
-use Rattle.clap.proofs.KindLemmas.{value_kinds-ok}
 use Rattle.clap.proofs.ValueTestLemmas.{accepts-Accepts}
-use Rattle.cml.specs.CommandLine.{ReadsAs}
+use Rattle.cml.specs.CommandLine.{AreOfUse, AreUses, Flag, IsLimitOption, Limit, Use, flag_rule, given_by, limit_rule, state_by}
+use Rattle.cml_script.specs.declared.form.Form.{Form}
 
--- there is a kind of error
-abbrev pub Refused : Kinds → Type 0
-Refused kinds = kinds ≡ [] → ⊥
-
-pub some_kind : (k : ErrorKind) (ks : Kinds) → Refused (k ∷ ks)
+pub some_kind : (k : ErrorKind) (ks : Kinds) → k ∷ ks ≡ [] → ⊥
 some_kind k ks none = cc
 
 pub none_of_both : (a b : Kinds) → or_else a b ≡ [] → (a ≡ []) × (b ≡ [])
 none_of_both [] b none = (refl, none)
 none_of_both (k ∷ ks) b none = cc
 
-pub first_refused : (a b : Kinds) → Refused a → Refused (or_else a b)
-first_refused a b bad none = bad (none_of_both a b none).0
+abbrev pub IsOrOther : Text → Text → Type 0
+IsOrOther a b = (a ≡ b) ⊎ (bytes_eq a b ≡ false)
 
-pub next_refused : (a b : Kinds) → Refused b → Refused (or_else a b)
-next_refused a b bad none = bad (none_of_both a b none).1
-
-pub same_or_other : (a b : Text) → (a ≡ b) ⊎ (bytes_eq a b ≡ false)
+pub same_or_other : (a b : Text) → IsOrOther a b
 same_or_other a b = elim (cases_Bool (bytes_eq a b)) [ inl same ↦ inl ((bytes_eq-Decides a b).0 same) | inr other ↦ inr other ]
 
--- ---- flags that are refused
+-- ---- the flag help is refused
 
 abbrev pub holding : List Row → Option (Text × List Text) → Held
 holding rows pending = record { rows = rows; pending = pending; skip = 0 }
@@ -51,7 +39,7 @@ abbrev pub standing : Waiting → Bool → Held → Walk
 standing waiting is_trailing held =
     record { held = held; waiting = waiting; position = 1; is_trailing = is_trailing; stopped = None }
 
--- the flag help, as a level has it, or none: behind a level's options there is help alone
+-- the flag help, as a level has it, or none: after a level's options there is help alone
 abbrev pub help : Rule
 help = filled help_rule
 
@@ -61,59 +49,14 @@ IsHelpAlone rule = (rule ≡ None) ⊎ (rule ≡ Some help)
 pub help_alone : (p : Rule → Bool) → IsHelpAlone (find p (help ∷ []))
 help_alone p = elim (cases_Bool (p help)) [ inl t ↦ inr (rw t refl) | inr t ↦ inl (rw t refl) ]
 
--- a flag is refused, in a word of its own or among short ones
-pub record IsRefusedFlag (c : List Rule) (rule : Option Rule) (h : Held) : Type 0 where
-  pub long : (value : Option Text) → Refused (long_fault c false rule value h)
-  pub short : (rest : Text) (next : Held → Kinds) → Refused (short_fault c false rule rest h next)
+pub long_help : (c : List Rule) (rule : Option Rule) (value : Option Text) (h : Held) → IsHelpAlone rule → long_fault c false rule value h ≡ [] → ⊥
+long_help c rule value h (inl e) none = some_kind _ _ (rw e at none)
+long_help c rule None h (inr e) none = some_kind _ _ (none_of_both (settle_fault c false h) _ (rw e at none)).1
+long_help c rule (Some text) h (inr e) none = some_kind _ _ (rw e at none)
 
-pub help_is_refused : (c : List Rule) (rule : Option Rule) (h : Held) → IsHelpAlone rule → IsRefusedFlag c rule h
-help_is_refused c rule h (inl e) = rw e (record { long = λ value. some_kind _ _; short = λ rest next. some_kind _ _ })
-help_is_refused c rule h (inr e) = rw e (record { long = long; short = λ rest next. first_refused _ _ (next_refused (settle_fault c false h) _ (some_kind _ _)) })
-  where
-    long : (value : Option Text) → Refused (long_fault c false (Some help) value h)
-    long None = next_refused (settle_fault c false h) _ (some_kind _ _)
-    long (Some text) = some_kind _ _
-
--- where what is pending is at fault, each flag is refused
-pub faulty_flag : (c : List Rule) (rule : Option Rule) (h : Held) → Refused (settle_fault c false h) → IsRefusedFlag c rule h
-faulty_flag c None h bad = record { long = λ value. some_kind _ _; short = λ rest next. some_kind _ _ }
-faulty_flag c (Some a) h bad = elim (cases_Bool (takes_values a)) [
-  | inl t ↦ record { long = λ value. rw t (as_option value); short = λ rest next. rw t (as_option (attached_value rest)) }
-  | inr t ↦ record { long = λ value. rw t (as_flag value); short = λ rest next. rw t (first_refused _ _ (first_refused _ _ bad)) }
-]
-  where
-    as_option : (value : Option Text) → Refused (option_fault c false a value h)
-    as_option None = bad
-    as_option (Some text) = first_refused _ _ bad
-
-    as_flag : (value : Option Text) → Refused (cond (is_some value) (TooManyValues ∷ []) (react_fault c false a [] h))
-    as_flag None = first_refused _ _ bad
-    as_flag (Some text) = some_kind _ _
-
--- a word is a flag that is refused, or no flag
-abbrev FlagOrPlain : List Rule → Held → Text → Type 0
-FlagOrPlain c h word = Refused (flag_word_fault c false (long_of word) word h)
-    ⊎ ((waiting : Waiting) → long_or_other c waiting word (long_of word) h ≡ plain_word c waiting word h)
-
-pub flag_or_plain : (c : List Rule) (rows : List Row) (pending : Option (Text × List Text)) (word : Text)
-    → ((name : Text) (value : Option Text) → long_of word ≡ Some (name, value) → IsRefusedFlag c (arg_by_long c name) (holding rows pending))
-    → ((x : ℕ) → IsRefusedFlag c (arg_by_short c x) (holding rows pending)) → FlagOrPlain c (holding rows pending) word
-unfolding flags_fault bundle_met
-flag_or_plain c rows pending word long short = by_long (long_of word) refl
-  where
-    by_first : (f : ℕ) (fs : Text) (first : Option ℕ) → slice_get (chars (f ∷ fs)) 0 ≡ first → long_of word ≡ None → short_of word ≡ Some (f ∷ fs)
-        → FlagOrPlain c (holding rows pending) word
-    by_first f fs None is e g = inr (λ waiting. rw (e, g, is) refl)
-    by_first f fs (Some x) is e g = inl (rw (e, g, is) ((short x).short _ _))
-
-    by_short : (flags : Option Text) → long_of word ≡ None → short_of word ≡ flags → FlagOrPlain c (holding rows pending) word
-    by_short None e g = inr (λ waiting. rw (e, g) refl)
-    by_short (Some []) e g = inr (λ waiting. rw (e, g) refl)
-    by_short (Some (f ∷ fs)) e g = by_first f fs (slice_get (chars (f ∷ fs)) 0) refl e g
-
-    by_long : (flag : Option (Text × Option Text)) → long_of word ≡ flag → FlagOrPlain c (holding rows pending) word
-    by_long (Some p) e = inl (rw e ((long p.0 p.1 e).long p.1))
-    by_long None e = by_short (short_of word) e refl
+short_help : (c : List Rule) (rule : Option Rule) (rest : Text) (h : Held) (next : Held → Kinds) → IsHelpAlone rule → short_fault c false rule rest h next ≡ [] → ⊥
+short_help c rule rest h next (inl e) none = some_kind _ _ (rw e at none)
+short_help c rule rest h next (inr e) none = some_kind _ _ (none_of_both (settle_fault c false h) _ (none_of_both _ _ (rw e at none)).0).1
 
 -- ---- a level whose one flag besides its options is help, and which takes no other words
 
@@ -122,46 +65,44 @@ pub record IsBare (s : Shape) : Type 0 where
   pub short : (x : ℕ) → IsHelpAlone (arg_by_short s.rules x)
   pub others : arg_by_index s.rules 1 ≡ None
 
-module _ (s : Shape) (bare : IsBare s) where
-  stray_is_refused : Refused (stray_fault s)
-  stray_is_refused = elim (cases_Bool s.is_leaf) [ inl t ↦ rw t (some_kind _ _) | inr t ↦ rw t (some_kind _ _) ]
+-- a word without fault: `--`, a flag, or a word for what waits
+pub data Turn (s : Shape) (waiting : Waiting) (h : Held) (word : Text) : Type 0 where
+  dashes : word ≡ codes "--" → Turn s waiting h word
+  a_flag : (name : Text) (value : Option Text) → long_of word ≡ Some (name, value) → bytes_eq word (codes "--") ≡ false
+      → long_fault s.rules false (arg_by_long s.rules name) value h ≡ [] → Turn s waiting h word
+  a_value : bytes_eq word (codes "--") ≡ false → long_or_other s.rules waiting word (long_of word) h ≡ plain_word s.rules waiting word h → (waiting ≡ idle → ⊥) → Turn s waiting h word
 
-  -- between options, a word is refused that is no subcommand's, nor `--`, nor an option's
-  pub other_is_refused : (names : Names) (rows : List Row) (pending : Option (Text × List Text)) (word : Text) → subcommand_met names idle word ≡ None
-      → bytes_eq word (codes "--") ≡ false → ((name : Text) (value : Option Text) → long_of word ≡ Some (name, value) → IsHelpAlone (arg_by_long s.rules name))
-      → Refused (turn_fault s names (standing idle false (holding rows pending)) word)
-  other_is_refused names rows pending word met dashes own =
-      elim (flag_or_plain s.rules rows pending word (λ name value e. help_is_refused s.rules _ _ (own name value e)) (λ x. help_is_refused s.rules _ _ (bare.short x))) [
-        | inl bad ↦ rw (met, dashes, bare.once) (first_refused _ _ bad)
-        | inr plain ↦ rw (met, dashes, plain idle, bare.others) (next_refused _ _ stray_is_refused)
-      ]
+module _ (s : Shape) (bare : IsBare s) where
+  no_stray : stray_fault s ≡ [] → ⊥
+  no_stray none = elim (cases_Bool s.is_leaf) [ inl t ↦ some_kind _ _ (rw t at none) | inr t ↦ some_kind _ _ (rw t at none) ]
+
+  pub turn_of : (names : Names) (waiting : Waiting) (rows : List Row) (pending : Option (Text × List Text)) (word : Text) → subcommand_met names waiting word ≡ None
+      → turn_fault s names (standing waiting false (holding rows pending)) word ≡ [] → Turn s waiting (holding rows pending) word
+  unfolding flags_fault bundle_met
+  turn_of names waiting rows pending word met none = elim (same_or_other word (codes "--")) [ inl d ↦ dashes d | inr d ↦ by d (long_of word) (short_of word) _ refl refl refl ]
+    where
+      value : bytes_eq word (codes "--") ≡ false → long_or_other s.rules waiting word (long_of word) (holding rows pending) ≡ plain_word s.rules waiting word (holding rows pending)
+          → Turn s waiting (holding rows pending) word
+      value d plain = a_value d plain (λ is. no_stray (none_of_both (flag_word_fault s.rules s.args_override_self (long_of word) word (holding rows pending)) _ (rw (met, d, plain, is, bare.others) at none)).1)
+
+      by : bytes_eq word (codes "--") ≡ false → (long : Option (Text × Option Text)) (short : Option Text) (first : Option ℕ) → long_of word ≡ long → short_of word ≡ short
+          → option_and_then (λ flags. slice_get (chars flags) 0) short ≡ first → Turn s waiting (holding rows pending) word
+      by d (Some p) short first e g is = a_flag p.0 p.1 e d (none_of_both _ _ (rw (met, d, e, bare.once) at none)).0
+      by d None (Some (f ∷ fs)) (Some x) e g is = absurd (short_help _ _ _ _ _ (bare.short x) (none_of_both _ _ (rw (met, d, e, g, is, bare.once) at none)).0)
+      by d None short first e g is = value d (simp (e, g, is))
 
   -- the words to come, and the end, have no fault
   abbrev pub IsFine : Walk → List Text → Type 0
   IsFine w words = (walk_fault s [] w words ≡ []) × (settle_fault s.rules s.args_override_self (fold (walked s.rules []) w words).held ≡ [])
 
-  pub first_turn : (w : Walk) (word : Text) (rest : List Text) → IsFine w (word ∷ rest)
-      → (turn_fault s [] w word ≡ []) × IsFine (walked s.rules [] w word) rest
+  pub first_turn : (w : Walk) (word : Text) (rest : List Text) → IsFine w (word ∷ rest) → (turn_fault s [] w word ≡ []) × IsFine (walked s.rules [] w word) rest
   unfolding walk_fault
   first_turn w word rest fine = let words = none_of_both _ _ fine.0 in (words.0, (words.1, fine.1))
 
-  pub fine_at_start : (rest : List Text) → level_fault s [] nothing_held rest false [] ≡ [] → IsFine (walk_from nothing_held) rest
-  fine_at_start rest none = let words = none_of_both _ _ none in (words.0, (none_of_both _ _ words.1).0)
-
   -- after `--` there is no word
-  pub dashes_end : (waiting : Waiting) (h : Held) (rest : List Text) → IsFine (standing waiting false h) (codes "--" ∷ rest)
-      → (rest ≡ []) × (settle_fault s.rules s.args_override_self h ≡ [])
-  unfolding walk_fault walked
-  dashes_end waiting h rest fine = ends rest (subst (λ w. IsFine w rest) (trails waiting) (first_turn (standing waiting false h) (codes "--") rest fine).1)
-    where
-      trails : (v : Waiting) → walked s.rules [] (standing v false h) (codes "--") ≡ standing v true h
-      trails idle = refl
-      trails (option id) = refl
-      trails positional = refl
-
-      ends : (more : List Text) → IsFine (standing waiting true h) more → (more ≡ []) × (settle_fault s.rules s.args_override_self h ≡ [])
-      ends [] left = (refl, left.1)
-      ends (word ∷ more) left = let bad = (first_turn (standing waiting true h) word more left).0 in absurd (stray_is_refused (rw bare.others at bad))
+  pub trailing_end : (waiting : Waiting) (h : Held) (rest : List Text) → IsFine (standing waiting true h) rest → (rest ≡ []) × (settle_fault s.rules false h ≡ [])
+  trailing_end waiting h [] fine = (refl, rw bare.once at fine.1)
+  trailing_end waiting h (word ∷ more) fine = absurd (no_stray (rw bare.others at (first_turn (standing waiting true h) word more fine).0))
 
 -- ---- words that begin with two hyphens
 
@@ -185,7 +126,7 @@ rejoined (x ∷ xs) = elim (cases_Bool (x == 61)) [
       rw (t, up) (simp unary_clauses (simp unary_clauses at more))
 ]
 
-long_word_is : (word name : Text) (value : Option Text) → long_of word ≡ Some (name, value) → word ≡ 45 ∷ 45 ∷ (name ++ with_equals value)
+pub long_word_is : (word name : Text) (value : Option Text) → long_of word ≡ Some (name, value) → word ≡ 45 ∷ 45 ∷ (name ++ with_equals value)
 long_word_is word name value h =
     option_and_then_some long_of_rest (option_and_then (strip_byte 45) (strip_byte 45 word)) (name, value) h (λ rest there named.
     option_and_then_some (strip_byte 45) (strip_byte 45 word) rest there (λ more first second.
@@ -197,36 +138,129 @@ long_word_is word name value h =
         let same : name_and_value (x ∷ xs) ≡ (name, value) = cc in
         rejoined (x ∷ xs) ∙ ap (λ (p : Text × Option Text). p.0 ++ with_equals p.1) same
 
--- the word is no flag of this name
-abbrev pub IsOther : Text → Text → Type 0
-IsOther flag word = (name : Text) (value : Option Text) → long_of word ≡ Some (name, value) → bytes_eq flag name ≡ false
-
--- a word is the flag of this name, with or without a value, or it is not
-pub named_or_other : (flag word : Text) → ((value : Option Text) × (word ≡ 45 ∷ 45 ∷ (flag ++ with_equals value))) ⊎ IsOther flag word
-named_or_other flag word = by_long (long_of word) refl
-  where
-    by_long : (long : Option (Text × Option Text)) → long_of word ≡ long → ((value : Option Text) × (word ≡ 45 ∷ 45 ∷ (flag ++ with_equals value))) ⊎ IsOther flag word
-    by_long None e = inr (λ name value f. cc)
-    by_long (Some p) e = elim (same_or_other flag p.0) [
-      | inl is ↦ inl (p.1, long_word_is word flag p.1 (e ∙ ap (λ name. Some (name, p.1)) (sym is)))
-      | inr other ↦ inr (λ name value f. let is : p.0 ≡ name = cc in subst (λ n. bytes_eq flag n ≡ false) is other)
-    ]
-
--- ---- the number
+-- ---- a level whose options are one flag and perhaps the limit
 
 abbrev pub limit_parser : ValueParser
 limit_parser = parser.Unsigned 1 4294967296
 
-pub passed_number : (text : Text) → or_else (value_kinds false limit_parser text) [] ≡ [] → IsUnsignedIn 1 4294967296 text
-passed_number text none = accepts-Accepts false limit_parser text (true_from_ne_false (accepts false limit_parser text) (λ t. some_kind _ _ (rw t at none)))
+-- the limit and a flag, as a level has them
+abbrev pub the_limit : Rule
+the_limit = filled limit_rule
 
--- a text that may be a limit is no flag, and passes
-abbrev pub Fits : Text → Type 0
-Fits text = (bytes_eq text (codes "--") ≡ false) × (long_of text ≡ None) × (short_of text ≡ None) × (value_kinds false limit_parser text ≡ [])
+abbrev pub the_flag : Text → Rule
+the_flag own = filled (flag_rule own)
 
-pub number_fits : (text : Text) (limit : ℕ) → ReadsAs text limit → 1 ≤ limit → limit ≤ 2 ^ 32 → Fits text
-number_fits [] limit reads least most = let bad = reads.0.0 in absurd (omega arith)
-number_fits (x ∷ xs) limit reads least most =
-    let is = reads.1 in
-    let h : (x == 45) ≡ false = ne_eqb x 45 (λ e. let bad = subst (λ y. IsNumeral 10 (without_leading_plus (y ∷ xs))) e reads.0 in omega (arith, bad.1.0)) in
-    (rw h refl, rw h refl, rw h refl, value_kinds-ok false limit_parser (x ∷ xs) (reads.0, omega arith, omega arith, omega arith))
+-- between two words: these options were used, and perhaps this text is the limit's
+abbrev past : List Row → Option (Text × List Text) → Walk
+past rows pending = standing idle false (holding rows pending)
+
+-- the limit's text is to come
+abbrev waits : List Row → Walk
+waits rows = standing (option (codes "limit")) false (holding rows (Some (codes "limit", [])))
+
+abbrev pub HasLimit : Shape → Type 0
+HasLimit s = arg_by_id s.rules (codes "limit") ≡ Some the_limit
+
+-- what a level has under a flag's name: the limit, its own flag, or no option
+pub data Found (s : Shape) (own name : Text) : Type 0 where
+  limited : name ≡ codes "limit" → arg_by_long s.rules name ≡ Some the_limit → HasLimit s → Found s own name
+  flagged : name ++ [] ≡ own → arg_by_long s.rules name ≡ Some (the_flag own) → Found s own name
+  neither : IsHelpAlone (arg_by_long s.rules name) → Found s own name
+
+-- the words are options and their end, where these rows are of those before them
+data Path (s : Shape) (own : Text) : List Row → List Text → Type 0 where
+  ends : {rows : List Row} {words : List Text} → AreUses (45 ∷ 45 ∷ own) [] words → Path s own rows words
+  limits : {rows : List Row} {words : List Text} → (first rest : List Text) (text : Text) → HasLimit s → words ≡ first ++ rest → IsLimitOption first text
+      → use_fault false the_limit (text ∷ []) rows ≡ [] → Path s own (used the_limit (text ∷ []) rows) rest → Path s own rows words
+  flags : {rows : List Row} {words : List Text} → (rest : List Text) → words ≡ (45 ∷ 45 ∷ own) ∷ rest
+      → use_fault false (the_flag own) [] rows ≡ [] → Path s own (used (the_flag own) [] rows) rest → Path s own rows words
+
+-- these words are options of the level, each at most once
+abbrev pub Uses : Shape → Text → List Text → Type 0
+Uses s own words = (uses : List Use) × AreUses (45 ∷ 45 ∷ own) uses words × ((both : ℕ × Form) × (given_by uses ≡ Some both))
+    × ((HasLimit s → ⊥) → (state : Bool) × (state_by uses ≡ Some state))
+
+module _ (s : Shape) (own : Text) (bare : IsBare s) (found : (name : Text) → Found s own name)
+    (same : bytes_eq own own ≡ true) (apart : bytes_eq (codes "limit") own ≡ false) (too : bytes_eq own (codes "limit") ≡ false) where
+  unread : (rows : List Row) → HasLimit s → settle_fault s.rules false (holding rows (Some (codes "limit", []))) ≡ [] → ⊥
+  unread rows has none = some_kind _ _ (rw has at none)
+
+  -- words without fault between options are options and their end
+  abbrev Between : List Text → Type 0
+  Between words = (rows : List Row) (pending : Option (Text × List Text)) → IsFine s bare (past rows pending) words
+      → (settle_fault s.rules false (holding rows pending) ≡ []) × Path s own (settled_rows s.rules pending rows) words
+
+  -- and so they are after a `--limit`, whose text comes first
+  abbrev TextFirst : List Text → Type 0
+  TextFirst words = (rows : List Row) → HasLimit s → IsFine s bare (waits rows) words → Path s own rows (codes "--limit" ∷ words)
+
+  next_word : (word : Text) (rest : List Text) → Between rest × TextFirst rest → Between (word ∷ rest) × TextFirst (word ∷ rest)
+  unfolding walked
+  next_word word rest ahead = (between, text_first)
+    where
+      by_flag : (rows : List Row) (pending : Option (Text × List Text)) (name : Text) (value : Option Text) → long_of word ≡ Some (name, value) → bytes_eq word (codes "--") ≡ false
+          → long_fault s.rules false (arg_by_long s.rules name) value (holding rows pending) ≡ [] → Found s own name → (settle_fault s.rules false (holding rows pending) ≡ [])
+          × (IsFine s bare (walked s.rules [] (past rows pending) word) rest → Path s own (settled_rows s.rules pending rows) (word ∷ rest))
+      by_flag rows pending name None e d none (limited is rule has) =
+          let alone = long_word_is word name None e ∙ ap (λ n. 45 ∷ 45 ∷ (n ++ [])) is in
+          (rw rule at none, λ left. subst (λ w. Path s own (settled_rows s.rules pending rows) (w ∷ rest)) (sym alone) (ahead.1 _ has (rw (d, e, rule) at left)))
+      by_flag rows pending name (Some text) e d none (limited is rule has) =
+          let both = none_of_both _ _ (rw rule at none) in
+          let with_text = ap (λ w. w ∷ []) (long_word_is word name (Some text) e ∙ ap (λ n. 45 ∷ 45 ∷ (n ++ 61 ∷ text)) is) in
+          (both.0, λ left. limits (word ∷ []) rest text has refl (inr with_text) both.1 (ahead.0 _ None (rw (d, e, rule) at left)).1)
+      by_flag rows pending name None e d none (flagged is rule) =
+          let both = none_of_both _ _ (rw rule at none) in
+          (both.0, λ left. flags rest (ap (λ w. w ∷ rest) (long_word_is word name None e ∙ ap (λ n. 45 ∷ 45 ∷ n) is)) both.1 (ahead.0 _ None (rw (d, e, rule) at left)).1)
+      by_flag rows pending name (Some text) e d none (flagged is rule) = absurd (some_kind _ _ (rw rule at none))
+      by_flag rows pending name value e d none (neither alone) = absurd (long_help _ _ _ _ alone none)
+
+      between : Between (word ∷ rest)
+      between rows pending fine =
+          let turn = first_turn s bare (past rows pending) word rest fine in
+          elim (turn_of s bare [] idle rows pending word refl turn.0) [
+            | dashes is ↦
+                let last = trailing_end s bare idle (holding rows pending) rest (rw is at turn.1) in
+                (last.1, ends (inr (ap₂ (λ w ws. w ∷ ws) is last.0)))
+            | a_value d is stray ↦ absurd (stray refl)
+            | a_flag name value e d none ↦ let by = by_flag rows pending name value e d none (found name) in (by.0, by.1 turn.1)
+          ]
+
+      text_first : TextFirst (word ∷ rest)
+      text_first rows has fine =
+          let turn = first_turn s bare (waits rows) word rest fine in
+          elim (turn_of s bare [] (option (codes "limit")) rows (Some (codes "limit", [])) word refl turn.0) [
+            | dashes is ↦ absurd (unread rows has (trailing_end s bare (option (codes "limit")) (holding rows (Some (codes "limit", []))) rest (rw is at turn.1)).1)
+            | a_flag name value e d none ↦ absurd (unread rows has (by_flag rows (Some (codes "limit", [])) name value e d none (found name)).0)
+            | a_value d is stray ↦
+                let next = ahead.0 rows (Some (codes "limit", word ∷ [])) (rw (d, is, has) at turn.1) in
+                limits (codes "--limit" ∷ word ∷ []) rest word has refl (inl refl) (rw has at next.0) (rw has at next.1)
+          ]
+
+  ahead : (words : List Text) → Between words × TextFirst words
+  ahead [] = (λ rows pending fine. (rw bare.once at fine.1, ends (inl refl)), λ rows has fine. absurd (unread rows has (rw bare.once at fine.1)))
+  ahead (word ∷ rest) = next_word word rest (ahead rest)
+
+  limit_used : (words : List Text) (text : Text) → IsLimitOption words text → or_else (value_kinds false limit_parser text) [] ≡ []
+      → (limit : ℕ) × AreOfUse (45 ∷ 45 ∷ own) (Limit limit) words
+  limit_used words text is none =
+      let number = accepts-Accepts false limit_parser text (true_from_ne_false (accepts false limit_parser text) (λ t. some_kind _ _ (rw t at none))) in
+      (_, (text, is, (number.0, refl), number.2, number.3))
+
+  uses_in : {words : List Text} → Path s own [] words → Uses s own words
+  uses_in (ends end) = ([], end, (_, refl), λ no. (_, refl))
+  uses_in (limits first rest text has is how fine (ends end)) = (Limit _ ∷ [], (first, rest, is, (limit_used first text how fine).1, end), (_, refl), λ no. absurd (no has))
+  uses_in (flags rest is fine (ends end)) = (Flag ∷ [], (_ ∷ [], rest, is, refl, end), (_, refl), λ no. (_, refl))
+  uses_in (limits first rest text has is how fine (flags more also once (ends end))) =
+      (Limit _ ∷ Flag ∷ [], (first, rest, is, (limit_used first text how fine).1, (_ ∷ [], more, also, refl, end)), (_, refl), λ no. absurd (no has))
+  uses_in (flags rest is fine (limits first more text has also how once (ends end))) =
+      (Flag ∷ Limit _ ∷ [], (_ ∷ [], rest, is, refl, (first, more, also, (limit_used first text how (none_of_both _ _ once).1).1, end)), (_, refl), λ no. absurd (no has))
+  uses_in (limits _ _ _ _ _ _ _ (limits _ _ _ _ _ _ again _)) = absurd (some_kind _ _ again)
+  uses_in (flags _ _ _ (flags _ _ again _)) = absurd (some_kind _ _ (rw same at again))
+  uses_in (limits _ _ _ _ _ _ _ (flags _ _ _ (limits _ _ _ _ _ _ again _))) = absurd (some_kind _ _ (simp apart at again))
+  uses_in (limits _ _ _ _ _ _ _ (flags _ _ _ (flags _ _ again _))) = absurd (some_kind _ _ (simp (apart, same) at again))
+  uses_in (flags _ _ _ (limits _ _ _ _ _ _ _ (limits _ _ _ _ _ _ again _))) = absurd (some_kind _ _ (simp too at again))
+  uses_in (flags _ _ _ (limits _ _ _ _ _ _ _ (flags _ _ again _))) = absurd (some_kind _ _ (simp (too, same) at again))
+
+  -- the level finds no fault only in such words
+  pub uses_of : (words : List Text) → level_fault s [] nothing_held words false [] ≡ [] → Uses s own words
+  uses_of words none = let parts = none_of_both _ _ none in uses_in ((ahead words).0 [] None (parts.0, (none_of_both _ _ parts.1).0)).1
