@@ -1,26 +1,23 @@
 //! A lane to a mailbox, which one thread fills and drains in turn. Beside it a bare ring, and the same sends on a board.
 use crate::board::OnBoard;
-use crate::roles::Role;
-use crate::turns::{Done, FIRST};
+use crate::roles::Done;
 use crate::{LIMIT, Run, Runtime, Timed};
-use cml_board::{Board, BoardLog, Call};
+use cml_board::{Board, BoardLog, Call, Name};
 use cml_lanes::{Floor, Lane};
 use rtrb::{Consumer, Producer, RingBuffer};
 use std::io;
+use std::io::ErrorKind::OutOfMemory;
 use std::rt::Clock;
 use std::time::{Duration, Instant};
 
 /// The number of messages for which a ring has room. It is filled, and then emptied.
 const CAPACITY: usize = 1_024;
 
-const SENDER: &[(u64, Role)] = &[(1, Role::Sender)];
-
 /// A lane to a mailbox on a floor, a bare ring, and a board.
 #[derive(Drop)]
 struct OnLane {
     floor: Floor<u64, BoardLog<u64>>,
     lane: Lane<u64>,
-    number: u64,
     producer: Producer<u64>,
     consumer: Consumer<u64>,
     board: OnBoard<u64>,
@@ -29,38 +26,19 @@ struct OnLane {
 
 /// N messages and the rest of a ring. How many passed the lane counts as the sum.
 pub fn time<R: Runtime>(run: &Run<R>) -> io::Result<()> {
-    let rounds = run.count / CAPACITY as u64 + 1;
-    let untimed = |subject| Timed(
-        subject,
-        Duration::ZERO,
-        rounds.saturating_mul(CAPACITY as u64),
-    );
-    let mut timed = [
-        untimed("seryugo_lane_send"),
-        untimed("seryugo_lane_drain"),
-        untimed("rtrb_push_pop"),
-        untimed("seryugo_board"),
-    ];
-    let mut on = OnLane::new(run)?;
-    for round in 0..rounds {
-        on.add_round(run.rt, round, &mut timed)?;
-    }
-    run.tell(on.moved, on.moved, &timed)
+    OnLane::new(run)?.time(run)
 }
 
 impl OnLane {
     fn new<R>(run: &Run<R>) -> io::Result<OnLane> {
         let mut floor = Floor::new(run.alloc, Board::new(run.alloc, LIMIT)?);
         floor.apply(0, Call::NewMailbox);
-        let Ok((lane, number)) = floor.open_lane(FIRST, CAPACITY) else {
-            return Err(io::ErrorKind::OutOfMemory.into());
-        };
+        let (lane, _) = floor.open_lane(Name(0), CAPACITY).ok().ok_or(OutOfMemory)?;
         let (producer, consumer) = RingBuffer::new(run.alloc, CAPACITY)?;
         let board = OnBoard::new(run)?;
         Ok(OnLane {
             floor,
             lane,
-            number,
             producer,
             consumer,
             board,
@@ -68,10 +46,25 @@ impl OnLane {
         })
     }
 
+    fn time<R: Runtime>(&mut self, run: &Run<R>) -> io::Result<()> {
+        let rounds = run.count / CAPACITY as u64 + 1;
+        let calls = rounds.saturating_mul(CAPACITY as u64);
+        let mut timed = [
+            Timed("seryugo_lane_send", Duration::ZERO, calls),
+            Timed("seryugo_lane_drain", Duration::ZERO, calls),
+            Timed("rtrb_push_pop", Duration::ZERO, calls),
+            Timed("seryugo_board", Duration::ZERO, calls),
+        ];
+        for round in 0..rounds {
+            self.add_round(run.rt, round, &mut timed)?;
+        }
+        run.tell(self.moved, &timed)
+    }
+
     fn add_round<R: Clock>(&mut self, rt: &R, round: u64, timed: &mut [Timed]) -> io::Result<()> {
         for (place, timed) in timed.iter_mut().enumerate() {
             let start = Instant::now(rt)?;
-            self.pass(place, round)?;
+            self.pass(place, round).ok_or(OutOfMemory)?;
             timed.1 = timed.1.saturating_add(start.elapsed(rt)?);
         }
         Ok(())
@@ -81,25 +74,20 @@ impl OnLane {
     fn pass(&mut self, place: usize, first: u64) -> Done {
         match place {
             0 => self.send(first),
-            1 => self.drain()?,
+            1 => {
+                let moved = self.floor.drain(self.lane.number()).ok()?;
+                self.moved = self.moved.saturating_add(moved as u64);
+            }
             2 => self.push_and_pop(first),
-            _ => self.board.perform(SENDER, 0, CAPACITY as u64)?,
+            _ => self.board.perform(0, CAPACITY as u64)?,
         }
-        Ok(())
+        Some(())
     }
 
     fn send(&mut self, first: u64) {
         for place in 0..CAPACITY as u64 {
             self.lane.send(first.wrapping_add(place)).is_ok();
         }
-    }
-
-    fn drain(&mut self) -> Done {
-        let Ok(moved) = self.floor.drain(self.number) else {
-            return Err(io::ErrorKind::OutOfMemory);
-        };
-        self.moved = self.moved.saturating_add(moved as u64);
-        Ok(())
     }
 
     fn push_and_pop(&mut self, first: u64) {

@@ -8,7 +8,6 @@ mod lane;
 mod logs;
 mod messages;
 mod roles;
-mod turns;
 mod workloads;
 
 use cml_board::{Bytes, Text};
@@ -28,28 +27,19 @@ const MOST: u64 = 400_000_000;
 
 const LIMIT: u64 = 4_294_967_296;
 
-/// What the program's words ask for: times or else sums, of all workloads or of one alone.
-#[derive(Clone, Copy)]
-struct Asked {
-    times: Option<u64>,
-    alone: Option<&'static str>,
-}
-
 /// The runtime of a program with threads.
 pub trait Runtime: Print + Clock + Threads + Wait + Sync {}
 
 impl<R: Print + Clock + Threads + Wait + Sync> Runtime for R {}
 
-/// A workload that is done N times.
+/// A workload that is done N times, and whether times are printed.
 #[derive(Drop)]
 pub struct Run<'a, R> {
     rt: &'a R,
     alloc: Global,
-    asked: Asked,
     workload: Workload,
     count: u64,
-    /// After so many messages `soak1` cuts the journal.
-    piece: u64,
+    is_timed: bool,
 }
 
 /// What took a time, the time, and how many calls, hops or requests took it.
@@ -57,71 +47,44 @@ pub struct Run<'a, R> {
 pub struct Timed(pub &'static str, pub Duration, pub u64);
 
 fn main(rt: HostRuntime) -> io::Result<ExitCode> {
-    let Some(asked) = read_words(&rt)? else {
+    let words = env::args(&rt)?.collect::<Vec<String>>(rt.alloc())?;
+    let Some((times, alone)) = asked_by(&words) else {
         eprintln!(rt;
             "usage: cml_bench [N [log8|soak1|a workload of texts, of bytes, or on a switchboard]], N from 1 to {MOST}"
         )?;
         return Ok(ExitCode::from(2));
     };
     for workload in WORKLOADS.iter() {
-        if asked.wants(*workload) {
-            let (rt, alloc, workload) = (&rt, rt.alloc(), *workload);
-            let (count, piece) = asked
-                .times
-                .map_or((100, 10), |count| (count, count.min(50_000)));
-            Run {
-                rt,
-                alloc,
-                asked,
-                workload,
-                count,
-                piece,
-            }
-            .perform()?;
+        if workload.is_wanted(times, alone) {
+            let run = Run {
+                rt: &rt,
+                alloc: rt.alloc(),
+                workload: *workload,
+                count: times.unwrap_or(100),
+                is_timed: times.is_some(),
+            };
+            run.perform()?;
         }
     }
     Ok(ExitCode::SUCCESS)
 }
 
-fn read_words(rt: &HostRuntime) -> io::Result<Option<Asked>> {
-    let words = env::args(rt)?.collect::<Vec<String>>(rt.alloc())?;
-    Ok(match words.as_slice() {
-        [] | [_] => Some(Asked {
-            times: None,
-            alone: None,
-        }),
-        [_, word] => times(word, None),
-        [_, word, name] => one_alone(word, name),
+/// How often each workload is timed, if not its sum is asked for, and the name of one that is done alone.
+fn asked_by(words: &[String]) -> Option<(Option<u64>, Option<&str>)> {
+    let (times, alone) = match words {
+        [] | [_] => (None, None),
+        [_, times] => (Some(parsed(times)?), None),
+        [_, times, name] => (Some(parsed(times)?), Some(name.as_str())),
+        _ => return None,
+    };
+    let is_wanted = |workload: &Workload| workload.is_wanted(times, alone);
+    WORKLOADS.iter().any(is_wanted).then_some((times, alone))
+}
+
+fn parsed(word: &str) -> Option<u64> {
+    match word.parse::<u64>() {
+        Ok(times) if 1 <= times && times <= MOST => Some(times),
         _ => None,
-    })
-}
-
-fn times(word: &str, alone: Option<&'static str>) -> Option<Asked> {
-    let count = word.parse::<u64>().ok()?;
-    let times = Some(count);
-    if 1 <= count && count <= MOST {
-        Some(Asked { times, alone })
-    } else {
-        None
-    }
-}
-
-fn one_alone(word: &str, asked: &str) -> Option<Asked> {
-    for workload in WORKLOADS.iter() {
-        if workload.can_be_alone() && workload.0 == asked {
-            return times(word, Some(workload.0));
-        }
-    }
-    None
-}
-
-impl Asked {
-    /// The workload is asked for. Of those that differ only in size, sums show the smallest.
-    fn wants(self, workload: Workload) -> bool {
-        match self.alone {
-            Some(alone) => workload.can_be_alone() && workload.0 == alone,
-            None => self.times.is_some() || !workload.is_large(),
-        }
     }
 }
 
@@ -137,9 +100,7 @@ impl<R: Runtime> Run<'_, R> {
 
     fn perform_with<M: Numbered + Send + Sync>(&self) -> io::Result<()> {
         match self.workload.1 {
-            Ground::Board => board::time::<M, R>(self),
-            Ground::CutBoard => board::time_with_cuts::<M, R>(self),
-            Ground::Journal => board::time_check::<M, R>(self),
+            Ground::Board | Ground::CutBoard | Ground::Journal => board::time::<M, R>(self),
             Ground::Deque => logs::time::<PlainLog<u64, 4>, R>(self, "seryugo_log_deque"),
             Ground::Chunks => logs::time::<ChunkLog<u64, 4>, R>(self, "seryugo_log_chunks"),
             Ground::Lane => lane::time(self),
@@ -147,12 +108,12 @@ impl<R: Runtime> Run<'_, R> {
         }
     }
 
-    /// Prints a sum and how many calls were made, or how many nanoseconds a call took, with one digit behind the point.
-    fn tell(&self, sum: u64, calls: u64, timed: &[Timed]) -> io::Result<()> {
-        if self.asked.times.is_none() {
-            return self.tell_sum(sum, calls);
-        }
+    /// Prints the sum, or how many nanoseconds a call took, with one digit behind the point.
+    fn tell(&self, sum: u64, timed: &[Timed]) -> io::Result<()> {
         for Timed(subject, time, calls) in timed.iter() {
+            if !self.is_timed {
+                return self.tell_sum(sum, *calls);
+            }
             let tenths = time.as_nanos().saturating_mul(10);
             let tenths = tenths.checked_div(*calls as u128).unwrap_or(0);
             let (name, whole, tenth) = (self.workload.0, tenths / 10, tenths % 10);
@@ -161,14 +122,15 @@ impl<R: Runtime> Run<'_, R> {
         Ok(())
     }
 
+    /// Prints the sum, and how many calls were made if this shows more.
     fn tell_sum(&self, sum: u64, calls: u64) -> io::Result<()> {
-        let Workload(name, ground, _, _) = self.workload;
-        match ground {
-            Ground::Deque => println!(self.rt; "{name}_deque {sum}"),
-            Ground::Chunks => println!(self.rt; "{name}_chunks {sum}"),
-            Ground::CutBoard => println!(self.rt; "{name} {sum} {calls}"),
-            Ground::Hall => println!(self.rt; "{name}_switchboard {sum} {calls}"),
-            _ => println!(self.rt; "{name} {sum}"),
+        let (rt, name) = (self.rt, self.workload.0);
+        match self.workload.1 {
+            Ground::Deque => println!(rt; "{name}_deque {sum}"),
+            Ground::Chunks => println!(rt; "{name}_chunks {sum}"),
+            Ground::CutBoard => println!(rt; "{name} {sum} {calls}"),
+            Ground::Hall => println!(rt; "{name}_switchboard {sum} {calls}"),
+            _ => println!(rt; "{name} {sum}"),
         }
     }
 }

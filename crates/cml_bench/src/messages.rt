@@ -1,6 +1,7 @@
 //! What the messages of a workload can be: numbers, texts, bytes that all shares own together, or bytes that each share copies.
 ghost use Rattle.std.specs.Prelude.{false};
 
+use crate::workloads::Messages;
 use cml_board::{Bytes, Entry, Message, Text};
 use std::alloc::{AllocError, Global};
 use std::marker::Model;
@@ -9,24 +10,23 @@ use std::mem;
 /// An entry of a text's board is at most 88 bytes, those that its texts own apart.
 const _: () = prove!(mem::size_of::<Entry<Text>>() <= 88);
 
-/// As many values as a byte has.
-const BYTES: u64 = 256;
-
-/// What messages are made with. All bytes are copied from one list, so making a message takes little time.
+/// What messages are made with. All bytes are copied from one list of 0 to 255 and 0 again, so that this takes little time.
 #[derive(Drop)]
 pub struct Supply {
     alloc: Global,
-    /// 0, 1, 2 and so on, and 0 again behind 255.
     bytes: Vec<u8>,
     length: usize,
 }
 
 impl Supply {
-    /// Makes a supply. Messages of bytes have `length` bytes each.
-    pub fn new(alloc: Global, length: usize) -> Result<Supply, AllocError> {
+    pub fn new(alloc: Global, messages: Messages) -> Result<Supply, AllocError> {
+        let length = match messages {
+            Messages::Bytes(length) | Messages::Vectors(length) => length,
+            _ => 0,
+        };
         let mut bytes = Vec::new(alloc);
-        for place in 0..(length as u64).saturating_add(BYTES) {
-            bytes.push((place % BYTES) as u8)?;
+        for place in 0..(length as u64).saturating_add(256) {
+            bytes.push((place % 256) as u8)?;
         }
         Ok(Supply {
             alloc,
@@ -37,7 +37,7 @@ impl Supply {
 
     /// The bytes of this number's message: they begin with its lowest one.
     fn bytes(&self, number: u64) -> &[u8] {
-        let start = (number % BYTES) as usize;
+        let start = (number % 256) as usize;
         let end = start.saturating_add(self.length);
         self.bytes.get(start..end).unwrap_or(&[])
     }
@@ -45,42 +45,40 @@ impl Supply {
 
 /// Bytes of which each share allocates memory and copies all. Contracts see them as their list.
 #[derive(Drop)]
-pub struct Copied {
-    pub bytes: Vec<u8>,
-}
+pub struct Copied(Vec<u8>);
 
 impl Model for Copied {
     ghost use Rattle.std.specs.Prelude.{ℕ, List};
 
     ghost Value = { List ℕ };
 
-    ghost view = { λ copied. copied.bytes.items };
+    ghost view = { λ copied. copied.0.items };
 }
 
 impl Message for Copied {
     ghost SURE = { false };
 
     fn share(&self, alloc: Global) -> Result<Copied, AllocError> {
-        let bytes = Vec::from_slice(alloc, &self.bytes)?;
-        Ok(Copied { bytes })
+        Ok(Copied(Vec::from_slice(alloc, &self.0)?))
     }
 
     fn same(&self, other: &Copied) -> bool {
-        self.bytes.as_slice() == other.bytes.as_slice()
+        self.0.as_slice() == other.0.as_slice()
     }
 }
 
 /// A message for each number.
 pub trait Numbered: Message {
-    fn of_number(supply: &Supply, number: u64) -> Result<Self, AllocError>;
+    /// `None` if there is no memory for it.
+    fn of_number(supply: &Supply, number: u64) -> Option<Self>;
 
     /// The sum with this message behind it. The order of messages changes it.
     fn added_to(&self, sum: u64) -> u64;
 }
 
 impl Numbered for u64 {
-    fn of_number(_supply: &Supply, number: u64) -> Result<u64, AllocError> {
-        Ok(number)
+    fn of_number(_supply: &Supply, number: u64) -> Option<u64> {
+        Some(number)
     }
 
     fn added_to(&self, sum: u64) -> u64 {
@@ -90,8 +88,8 @@ impl Numbered for u64 {
 
 /// The number's digits. Each byte is added.
 impl Numbered for Text {
-    fn of_number(supply: &Supply, number: u64) -> Result<Text, AllocError> {
-        Text::of_number(supply.alloc, number)
+    fn of_number(supply: &Supply, number: u64) -> Option<Text> {
+        Text::of_number(supply.alloc, number).ok()
     }
 
     fn added_to(&self, sum: u64) -> u64 {
@@ -104,11 +102,10 @@ impl Numbered for Text {
 }
 
 impl Numbered for Bytes {
-    fn of_number(supply: &Supply, number: u64) -> Result<Bytes, AllocError> {
-        match Bytes::from_slice(supply.alloc, supply.bytes(number))? {
-            Ok(bytes) => Ok(bytes),
-            Err(_) => Err(AllocError),
-        }
+    fn of_number(supply: &Supply, number: u64) -> Option<Bytes> {
+        Bytes::from_slice(supply.alloc, supply.bytes(number))
+            .ok()?
+            .ok()
     }
 
     fn added_to(&self, sum: u64) -> u64 {
@@ -117,13 +114,13 @@ impl Numbered for Bytes {
 }
 
 impl Numbered for Copied {
-    fn of_number(supply: &Supply, number: u64) -> Result<Copied, AllocError> {
-        let bytes = Vec::from_slice(supply.alloc, supply.bytes(number))?;
-        Ok(Copied { bytes })
+    fn of_number(supply: &Supply, number: u64) -> Option<Copied> {
+        let bytes = Vec::from_slice(supply.alloc, supply.bytes(number)).ok()?;
+        Some(Copied(bytes))
     }
 
     fn added_to(&self, sum: u64) -> u64 {
-        with_ends(sum, &self.bytes)
+        with_ends(sum, &self.0)
     }
 }
 

@@ -1,9 +1,16 @@
-//! What the threads of a workload do.
-use crate::turns::Adding::{InAnyOrder, InOrder, NotAtAll};
-use crate::turns::Then::{ByEachPort, Nothing, Once};
-use crate::turns::Verb::{Answer, Ask, Cast, Put, Recv, Send, Take};
-use crate::turns::{Caller, Done, FIRST, SECOND, Turn, Verb};
-use cml_board::Name;
+//! What the threads of a workload do: calls, turn after turn, on a board or on a switchboard.
+use crate::messages::{Numbered, Supply};
+use Verb::{Answer, Ask, Give, Make, Request};
+use cml_board::Ask::{NewPort, Recv, Take};
+use cml_board::Give::{Cast, Put, Send};
+use cml_board::Make::{Channel, MVar, Mailbox};
+use cml_board::{Call, Name};
+
+/// `None` if a call failed.
+pub type Done = Option<()>;
+
+/// How many threads of each role there are. Receivers come before the threads for which they wait.
+pub type Crews = &'static [(u64, Role)];
 
 #[derive(Clone, Copy)]
 pub enum Role {
@@ -30,7 +37,7 @@ pub enum Role {
     Pacer,
     /// Receives, and takes the journal again and again.
     Cutter,
-    LaneSender,
+    Filler,
     /// Drains the lanes, and receives what came.
     Drainer,
     FeedReader,
@@ -38,95 +45,140 @@ pub enum Role {
     Pumper,
 }
 
-/// How many threads of each role there are. Receivers come before the threads for which they wait.
-pub type Crews = &'static [(u64, Role)];
+/// A call that makes an object, or one on an object.
+#[derive(Clone, Copy)]
+pub enum Verb {
+    Make(cml_board::Make),
+    Ask(cml_board::Ask),
+    Give(cml_board::Give),
+    /// Sends the number of this mailbox, at which the sender waits for the answer.
+    Request,
+    /// Sends to the mailbox whose number was received.
+    Answer,
+}
+
+/// A call on the object with this number. Then a call on each of so many objects, from that number on.
+#[derive(Clone, Copy)]
+pub struct Turn(Verb, u64, Verb, u64, u64);
 
 /// What one thread does: turns for the numbers from `start` until before `end`.
 #[derive(Clone, Copy)]
 pub struct Part {
     pub role: Role,
-    pub turn: Turn,
+    turn: Turn,
     pub start: u64,
     pub end: u64,
 }
 
+/// A caller makes calls, and adds up what it receives.
+pub trait Caller {
+    /// Makes a call on the object with this name, with this number's message if it gives one. Returns the number that it
+    /// received, or else this number.
+    fn make(&mut self, verb: Verb, name: Name, number: u64) -> Option<u64>;
+}
+
 impl Role {
-    /// A turn of the thread at this place of so many.
-    pub fn turn(self, place: u64, threads: u64) -> Turn {
-        let after = place.saturating_add(1);
-        let (own, next) = (Name(after), Name(after.checked_rem(threads).unwrap_or(0)));
-        match self {
-            Role::Pair => Turn(Send(FIRST), Once(Recv(FIRST)), InOrder),
-            Role::Getter | Role::Cutter => Turn(Recv(FIRST), Nothing, InOrder),
-            Role::Collector | Role::Drainer => Turn(Recv(FIRST), Nothing, InAnyOrder),
-            Role::Caster | Role::Pumper => Turn(Cast, Nothing, NotAtAll),
-            Role::CastTo(ports) => Turn(Cast, ByEachPort(ports), InOrder),
-            Role::Reader | Role::FeedReader => Turn(Recv(own), Nothing, InAnyOrder),
-            Role::Holder => Turn(Put(FIRST), Once(Take(FIRST)), InOrder),
-            Role::Putter => Turn(Put(FIRST), Once(Take(SECOND)), InOrder),
-            Role::Taker => Turn(Take(FIRST), Once(Put(SECOND)), NotAtAll),
-            Role::Passer => Turn(Recv(Name(place)), Once(Send(next)), InAnyOrder),
-            Role::Client => Turn(Ask(own), Once(Recv(own)), InAnyOrder),
-            Role::Worker => Turn(Recv(FIRST), Once(Answer), NotAtAll),
-            _ => Turn(Send(FIRST), Nothing, NotAtAll),
-        }
-    }
-
-    /// The number of its threads among which the turns are divided. Each reader makes all of them.
-    pub fn sharers(self, threads: u64) -> u64 {
-        match self {
-            Role::Reader | Role::FeedReader => 1,
-            _ => threads,
-        }
-    }
-
-    /// What the thread at this place of so many does, where all together make so many turns.
+    /// What the thread at this place of so many does, where all together make so many turns. Each reader makes all of them.
     pub fn part(self, place: u64, threads: u64, turns: u64) -> Part {
-        let each = turns.checked_div(self.sharers(threads)).unwrap_or(0);
+        let each = match self {
+            Role::Reader | Role::FeedReader => turns,
+            _ => turns.checked_div(threads).unwrap_or(0),
+        };
         let start = place.saturating_mul(each);
-        let (turn, end) = (self.turn(place, threads), start.saturating_add(each));
         Part {
             role: self,
-            turn,
+            turn: self.turn(place, threads),
             start,
-            end,
+            end: start.saturating_add(each),
+        }
+    }
+
+    fn turn(self, place: u64, threads: u64) -> Turn {
+        let own = place.saturating_add(1);
+        let next = own.checked_rem(threads).unwrap_or(0);
+        match self {
+            Role::Pair => Turn(Give(Send), 0, Ask(Recv), 0, 1),
+            Role::Getter | Role::Cutter => Turn(Ask(Recv), 0, Answer, 0, 0),
+            Role::Collector | Role::Drainer => Turn(Ask(Recv), 0, Answer, 0, 0),
+            Role::Caster | Role::Pumper => Turn(Give(Cast), 0, Answer, 0, 0),
+            Role::CastTo(ports) => Turn(Give(Cast), 0, Ask(Recv), 1, ports),
+            Role::Reader | Role::FeedReader => Turn(Ask(Recv), own, Answer, 0, 0),
+            Role::Holder => Turn(Give(Put), 0, Ask(Take), 0, 1),
+            Role::Putter => Turn(Give(Put), 0, Ask(Take), 1, 1),
+            Role::Taker => Turn(Ask(Take), 0, Give(Put), 1, 1),
+            Role::Passer => Turn(Ask(Recv), place, Give(Send), next, 1),
+            Role::Client => Turn(Request, own, Ask(Recv), own, 1),
+            Role::Worker => Turn(Ask(Recv), 0, Answer, 0, 1),
+            _ => Turn(Give(Send), 0, Answer, 0, 0),
+        }
+    }
+
+    /// The sum with what was received, where the order changes it, in any order, or without it.
+    pub fn add(self, sum: u64, received: u64) -> u64 {
+        match self {
+            Role::Taker | Role::Worker | Role::Pacer => sum,
+            Role::Collector | Role::Drainer | Role::Reader | Role::Passer | Role::Client => {
+                sum.wrapping_add(received)
+            }
+            _ => received.added_to(sum),
         }
     }
 }
 
-/// Whether the last thread and the others wait for each other, so that no one thread can do the work of all.
-pub fn is_to_and_fro(crews: &[(u64, Role)]) -> bool {
-    matches!(crews.first(), Some((_, Role::Putter | Role::Cutter)))
+impl Part {
+    /// A turn for each number from `start` until before `end`.
+    pub fn perform<C: Caller>(self, caller: &mut C, start: u64, end: u64) -> Done {
+        let Turn(verb, name, then, first, count) = self.turn;
+        for number in start..end {
+            let received = caller.make(verb, Name(name), number)?;
+            then.on_each(caller, first, count, received)?;
+        }
+        Some(())
+    }
+}
+
+impl Verb {
+    /// The call on this object, with this number's message if it gives one.
+    pub fn call<M: Numbered>(self, supply: &Supply, name: Name, number: u64) -> Option<Call<M>> {
+        let (give, name, number) = match self {
+            Make(make) => return Some(Call::make(make)),
+            Ask(ask) => return Some(Call::ask(ask, name)),
+            Give(give) => (give, name, number),
+            Request => (Send, Name(0), name.0),
+            Answer => (Send, Name(number), number),
+        };
+        Some(Call::give(give, name, M::of_number(supply, number)?))
+    }
+
+    /// Makes the call on so many objects, from this one on.
+    fn on_each<C: Caller>(self, caller: &mut C, first: u64, count: u64, number: u64) -> Done {
+        for name in first..first.saturating_add(count) {
+            caller.make(self, Name(name), number)?;
+        }
+        Some(())
+    }
 }
 
 /// Makes what these threads call on, and sends a token on its way if they pass one.
 pub fn make_objects<C: Caller>(crews: &[(u64, Role)], caller: &mut C) -> Done {
-    let (first, other, others) = objects(crews);
-    caller.make(first, 0)?;
-    for _ in 0..others {
-        caller.make(other, 0)?;
-    }
-    if matches!(crews.first(), Some((_, Role::Passer))) {
-        caller.make(Send(FIRST), 1)?;
-    }
-    Ok(())
-}
-
-/// The first object, and how many others there are.
-fn objects(crews: &[(u64, Role)]) -> (Verb, Verb, u64) {
-    let Some((threads, role)) = crews.first() else {
-        return (Verb::Mailbox, Verb::Mailbox, 0);
+    let ((threads, role), (clients, _)) = (crews.first()?, crews.last()?);
+    let (first, other, others) = match *role {
+        Role::CastTo(ports) => (Make(Channel), Ask(NewPort), ports),
+        Role::Reader => (Make(Channel), Ask(NewPort), *threads),
+        Role::FeedReader => (Make(Channel), Ask(NewPort), 0),
+        Role::Holder => (Make(MVar), Make(MVar), 0),
+        Role::Taker => (Make(MVar), Make(MVar), 1),
+        Role::Pacer => (Make(Mailbox), Make(Mailbox), 1),
+        Role::Passer => (Make(Mailbox), Make(Mailbox), threads.saturating_sub(1)),
+        Role::Worker => (Make(Mailbox), Make(Mailbox), *clients),
+        _ => (Make(Mailbox), Make(Mailbox), 0),
     };
-    let clients = crews.last().map_or(0, |crew| crew.0);
-    match *role {
-        Role::CastTo(ports) => (Verb::Channel, Verb::Port, ports),
-        Role::Reader => (Verb::Channel, Verb::Port, *threads),
-        Role::FeedReader => (Verb::Channel, Verb::Port, 0),
-        Role::Holder => (Verb::Variable, Verb::Variable, 0),
-        Role::Putter => (Verb::Variable, Verb::Variable, 1),
-        Role::Cutter => (Verb::Mailbox, Verb::Mailbox, 1),
-        Role::Passer => (Verb::Mailbox, Verb::Mailbox, threads.saturating_sub(1)),
-        Role::Worker => (Verb::Mailbox, Verb::Mailbox, clients),
-        _ => (Verb::Mailbox, Verb::Mailbox, 0),
+    caller.make(first, Name(0), 0)?;
+    for _ in 0..others {
+        caller.make(other, Name(0), 0)?;
     }
+    if matches!(role, Role::Passer) {
+        caller.make(Give(Send), Name(0), 1)?;
+    }
+    Some(())
 }

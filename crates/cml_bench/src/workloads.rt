@@ -1,8 +1,8 @@
 //! The table of workloads.
 use crate::roles::Crews;
 use crate::roles::Role::{
-    CastTo, Caster, Client, Collector, Cutter, Drainer, FeedReader, Getter, Holder, LaneSender,
-    Pacer, Pair, Passer, Pumper, Putter, Reader, Sender, Taker, Worker,
+    CastTo, Caster, Client, Collector, Cutter, Drainer, FeedReader, Filler, Getter, Holder, Pacer,
+    Pair, Passer, Pumper, Putter, Reader, Sender, Taker, Worker,
 };
 use Ground::{Board, Chunks, CutBoard, Deque, Hall, Journal, Lane};
 use Messages::{Bytes, LongTexts, Numbers, One, Texts, Vectors};
@@ -44,6 +44,8 @@ pub enum Messages {
 #[derive(Clone, Copy)]
 pub struct Workload(pub &'static str, pub Ground, pub Messages, pub Crews);
 
+const PIPE: Crews = &[(1, Getter), (1, Sender)];
+
 pub const WORKLOADS: &[Workload] = &[
     Workload("pairs1", Board, Numbers, &[(1, Pair)]),
     Workload("burst1", Board, Numbers, &[(1, Sender), (1, Getter)]),
@@ -67,79 +69,38 @@ pub const WORKLOADS: &[Workload] = &[
     Workload("check1", Journal, Numbers, &[(1, Pair)]),
     Workload("soak1", CutBoard, Numbers, &[(1, Pair)]),
     Workload("pairs1", Hall, Numbers, &[(1, Pair)]),
-    Workload("pipe2", Hall, Numbers, &[(1, Getter), (1, Sender)]),
-    Workload(
-        "pipe2_bytes64",
-        Hall,
-        Bytes(64),
-        &[(1, Getter), (1, Sender)],
-    ),
+    Workload("pipe2", Hall, Numbers, PIPE),
+    Workload("pipe2_bytes64", Hall, Bytes(64), PIPE),
     Workload("fanin4", Hall, Numbers, &[(1, Collector), (4, Sender)]),
-    Workload(
-        "fanin4_lanes",
-        Hall,
-        Numbers,
-        &[(1, Drainer), (4, LaneSender)],
-    ),
+    Workload("fanin4_lanes", Hall, Numbers, &[(1, Drainer), (4, Filler)]),
     Workload("cast8", Hall, Numbers, &[(8, Reader), (1, Caster)]),
     Workload("feed8", Hall, Numbers, &[(8, FeedReader), (1, Pumper)]),
-    Workload("var2", Hall, Numbers, &[(1, Putter), (1, Taker)]),
-    Workload("soak2", Hall, Numbers, &[(1, Cutter), (1, Pacer)]),
+    Workload("var2", Hall, Numbers, &[(1, Taker), (1, Putter)]),
+    Workload("soak2", Hall, Numbers, &[(1, Pacer), (1, Cutter)]),
     Workload("token8", Hall, Numbers, &[(8, Passer)]),
     Workload("token63", Hall, Numbers, &[(63, Passer)]),
     Workload("server32", Hall, Numbers, &[(8, Worker), (32, Client)]),
     Workload("server128", Hall, Numbers, &[(8, Worker), (128, Client)]),
 ];
 
-impl Messages {
-    /// The number of the first message, and how many there are of N.
-    pub fn range(self, count: u64) -> (u64, u64) {
-        match self {
-            One => (1, 1),
-            LongTexts => (10_000_000_000_000_000_000, count),
-            _ => (0, count),
-        }
-    }
-
-    /// How many bytes each has, if it is made of bytes.
-    pub fn length(self) -> usize {
-        match self {
-            Bytes(length) | Vectors(length) => length,
-            _ => 0,
-        }
-    }
-}
-
 impl Workload {
-    /// Only one workload of a name can be done alone.
-    pub fn can_be_alone(self) -> bool {
-        match self.1 {
+    /// Only one workload of a name can be done alone. Of those that differ only in size, sums show the smallest.
+    pub fn is_wanted(self, times: Option<u64>, alone: Option<&str>) -> bool {
+        let can_be_alone = match self.1 {
             Board => !matches!(self.2, Numbers | One),
             Journal | Lane => false,
             CutBoard | Deque | Chunks | Hall => true,
+        };
+        match alone {
+            Some(alone) => can_be_alone && self.0 == alone,
+            None => times.is_some() || !matches!(self.3.first(), Some((_, CastTo(1_001..)))),
         }
-    }
-
-    /// It takes longer, and a sum shows no more than that of a smaller one.
-    pub fn is_large(self) -> bool {
-        matches!(self.3.first(), Some((_, CastTo(ports))) if *ports > 1_000)
     }
 
     /// N turns, or the next fewer that its threads can share equally, one each at least.
     pub fn turns(self, count: u64) -> u64 {
-        let mut most = 1u64;
-        for (threads, role) in self.3.iter() {
-            most = most.max(role.sharers(*threads));
-        }
+        let most = self.3.last().map_or(1, |crew| crew.0);
         let each = count.checked_div(most).unwrap_or(0).max(1);
         each.saturating_mul(most)
-    }
-
-    /// How many calls were made. A turn with a token or a request counts for one, with all calls that it takes.
-    pub fn calls(self, turns: u64, entries: u64) -> u64 {
-        match self.3.first() {
-            Some((_, Passer | Worker)) => turns,
-            _ => entries,
-        }
     }
 }
