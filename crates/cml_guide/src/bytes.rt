@@ -37,14 +37,21 @@ pub fn answered(alloc: Global, source: &[u8]) -> Result<(Bytes, usize), Trouble>
 
 /// How many entries sent or received these bytes.
 fn entries_with(journal: &[Entry<Bytes>], message: &Bytes) -> usize {
-    journal
-        .iter()
-        .filter(|entry| match (&entry.call, &entry.reply) {
-            (Call::Send(_, sent), _) => sent == message,
-            (_, Reply::Got(got)) => got == message,
-            _ => false,
-        })
-        .count()
+    let mut count = 0usize;
+    for entry in journal.iter() {
+        if has(entry, message) {
+            count = count.saturating_add(1);
+        }
+    }
+    count
+}
+
+fn has(entry: &Entry<Bytes>, message: &Bytes) -> bool {
+    match (&entry.call, &entry.reply) {
+        (Call::Send(_, sent), _) => sent == message,
+        (_, Reply::Got(got)) => got == message,
+        _ => false,
+    }
 }
 
 /// A short request, a long one, and the empty one.

@@ -16,7 +16,7 @@ pub type Numbers = BoardOf<u64>;
 pub const SEAT: Who = Who::Seat(1);
 
 /// The reason why a call was not answered as its caller needs.
-#[derive(Clone, Copy, Debug, PartialEq, Eq)]
+#[derive(Clone, Copy, Debug)]
 pub enum Trouble {
     WouldWait,
     Refused(Refusal),
@@ -33,6 +33,36 @@ pub enum Trouble {
 impl From<AllocError> for Trouble {
     fn from(_error: AllocError) -> Trouble {
         Trouble::NoMemory
+    }
+}
+
+/// The name of the object that was made.
+pub fn name_of<M: Message>(reply: Reply<M>) -> Result<Name, Trouble>
+    ensures { IfOk result (λ name. reply ≡ Reply.Made name) }
+{
+    match reply {
+        Reply::Made(name) => Ok(name),
+        _ => Err(Trouble::OtherReply),
+    }
+}
+
+/// The message that was got.
+pub fn message_of<M: Message>(reply: Reply<M>) -> Result<M, Trouble>
+    ensures { IfOk result (λ message. reply ≡ Reply.Got message) }
+{
+    match reply {
+        Reply::Got(message) => Ok(message),
+        _ => Err(Trouble::OtherReply),
+    }
+}
+
+/// Nothing, of a reply that must be `Done`.
+pub fn nothing_of<M: Message>(reply: Reply<M>) -> Result<(), Trouble>
+    ensures { IfOk result (λ _. reply ≡ Reply.Done) }
+{
+    match reply {
+        Reply::Done => Ok(()),
+        _ => Err(Trouble::OtherReply),
     }
 }
 
@@ -57,10 +87,7 @@ pub fn make<M: Message>(board: &mut BoardOf<M>, call: Call<M>) -> Result<Name, T
     ensures made { IfOk result (λ name. answer board.old.history call ≡ Some (Reply.Made name)) }
     ensures added { IfOk result (λ name. AddsEntry board.old board.new SEAT call (Reply.Made name)) }
 {
-    match ask(board, call)?.into_reply() {
-        Reply::Made(name) => Ok(name),
-        _ => Err(Trouble::OtherReply),
-    }
+    name_of(ask(board, call)?.into_reply())
 }
 
 /// Makes a call that receives a message, and returns the message.
@@ -68,10 +95,7 @@ pub fn fetch<M: Message>(board: &mut BoardOf<M>, call: Call<M>) -> Result<M, Tro
     ensures got { IfOk result (λ message. answer board.old.history call ≡ Some (Reply.Got message)) }
     ensures added { IfOk result (λ message. AddsEntry board.old board.new SEAT call (Reply.Got message)) }
 {
-    match ask(board, call)?.into_reply() {
-        Reply::Got(message) => Ok(message),
-        _ => Err(Trouble::OtherReply),
-    }
+    message_of(ask(board, call)?.into_reply())
 }
 
 /// Makes a poll, and returns the message, or `None` if there is none.
@@ -95,8 +119,5 @@ pub fn perform<M: Message>(board: &mut BoardOf<M>, call: Call<M>) -> Result<(), 
     ensures done { IfOk result (λ _. answer board.old.history call ≡ Some Reply.Done) }
     ensures added { IfOk result (λ _. AddsEntry board.old board.new SEAT call Reply.Done) }
 {
-    match ask(board, call)?.into_reply() {
-        Reply::Done => Ok(()),
-        _ => Err(Trouble::OtherReply),
-    }
+    nothing_of(ask(board, call)?.into_reply())
 }

@@ -3,6 +3,7 @@ use crate::calls::Trouble;
 use crate::lanes::{close, receive};
 use crate::threads::{Shared, done};
 use cml_board::Name;
+use cml_log::MessageLog;
 use cml_threads::{Left, Seat};
 use std::sync::Wait;
 use std::sync::atomic::{AtomicBool, Ordering};
@@ -40,9 +41,9 @@ pub struct Visit<Led: Ledger> {
 }
 
 /// The code of a client's thread. It leaves even if its requests fail, and at once if the server is shut.
-pub fn ask_and_leave<Led: Ledger, R: Wait>(
+pub fn ask_and_leave<L: MessageLog<u64>, Led: Ledger, R: Wait>(
     rt: &R,
-    board: &Shared<Led>,
+    board: &Shared<L, Led>,
     mut client: Client<Led>,
     is_shut: &AtomicBool,
 ) -> Visit<Led> {
@@ -58,7 +59,11 @@ pub fn ask_and_leave<Led: Ledger, R: Wait>(
 }
 
 impl<Led: Ledger> Client<Led> {
-    fn ask_all<R: Wait>(&mut self, rt: &R, board: &Shared<Led>) -> Result<u64, Trouble> {
+    fn ask_all<L: MessageLog<u64>, R: Wait>(
+        &mut self,
+        rt: &R,
+        board: &Shared<L, Led>,
+    ) -> Result<u64, Trouble> {
         match self.way {
             Way::BySeat => self.ask_by_seat(rt, board),
             Way::ByLanes => self.ask_by_lanes(rt, board),
@@ -66,7 +71,11 @@ impl<Led: Ledger> Client<Led> {
     }
 
     /// Sends a request, and the next once the first was answered.
-    fn ask_by_seat<R: Wait>(&mut self, rt: &R, board: &Shared<Led>) -> Result<u64, Trouble> {
+    fn ask_by_seat<L: MessageLog<u64>, R: Wait>(
+        &mut self,
+        rt: &R,
+        board: &Shared<L, Led>,
+    ) -> Result<u64, Trouble> {
         let mut sum = 0u64;
         for _ in 0..ASKED {
             done(board.send(rt, &mut self.seat, self.requests, self.answers.0))?;
@@ -76,7 +85,11 @@ impl<Led: Ledger> Client<Led> {
     }
 
     /// Sends a batch by a lane, and the next once all of it was answered.
-    fn ask_by_lanes<R: Wait>(&mut self, rt: &R, board: &Shared<Led>) -> Result<u64, Trouble> {
+    fn ask_by_lanes<L: MessageLog<u64>, R: Wait>(
+        &mut self,
+        rt: &R,
+        board: &Shared<L, Led>,
+    ) -> Result<u64, Trouble> {
         let mut sum = 0u64;
         for _ in 0..BATCHES {
             self.send_batch(rt, board)?;
@@ -86,7 +99,11 @@ impl<Led: Ledger> Client<Led> {
     }
 
     /// Opens a lane with room for the whole batch, and closes it before any thread waits.
-    fn send_batch<R: Wait>(&self, rt: &R, board: &Shared<Led>) -> Result<(), Trouble> {
+    fn send_batch<L: MessageLog<u64>, R: Wait>(
+        &self,
+        rt: &R,
+        board: &Shared<L, Led>,
+    ) -> Result<(), Trouble> {
         let (mut lane, number) = board.open_lane(rt, self.requests, BATCH)?;
         for _ in 0..BATCH {
             lane.send(self.answers.0).is_ok();
@@ -95,10 +112,10 @@ impl<Led: Ledger> Client<Led> {
     }
 
     /// Receives `count` answers, and returns the sum of their tickets.
-    fn receive<R: Wait>(
+    fn receive<L: MessageLog<u64>, R: Wait>(
         &mut self,
         rt: &R,
-        board: &Shared<Led>,
+        board: &Shared<L, Led>,
         count: usize,
     ) -> Result<u64, Trouble> {
         receive(rt, board, &mut self.seat, self.answers, count)

@@ -5,7 +5,8 @@ ghost use Rattle.cml_guide.specs.Blanks.{IsBlankOf};
 use crate::calls::Trouble;
 use crate::examples::wait_in_vain;
 use crate::threads::{Came, Shared, with_both};
-use cml_board::{Answer, Call, Name, Refusal, Reply};
+use cml_board::{Answer, BoardLog, Call, Name, Refusal, Reply};
+use cml_log::MessageLog;
 use cml_threads::{Count, Left, PARTS, Seat};
 use std::alloc::Global;
 use std::marker::Brand;
@@ -26,15 +27,15 @@ pub struct Stall {
 pub fn stalled<R: Threads + Wait + Sync>(rt: &R, alloc: Global) -> Result<Stall, Trouble>
     ensures { IfOk result (λ stall. stall.count.total ≡ stall.count.seats + stall.count.rings) }
 {
-    wait_in_vain::<Brand, R>(rt, alloc, Blank::new(PARTS))
+    wait_in_vain::<BoardLog<u64>, Brand, R>(rt, alloc, Blank::new(PARTS))
 }
 
 /// One thread waits, and the other leaves. Returns an answer that was kept, why the first thread's call failed, and both seats.
-pub fn wait_for_nobody<Led: Ledger + Send + Sync, R: Threads + Wait + Sync>(
-    rt: &R,
-    alloc: Global,
-    board: &Shared<Led>,
-) -> Came<(Answer<u64>, Option<Refusal>), Led> {
+pub fn wait_for_nobody<
+    L: MessageLog<u64> + Send,
+    Led: Ledger + Send + Sync,
+    R: Threads + Wait + Sync,
+>(rt: &R, alloc: Global, board: &Shared<L, Led>) -> Came<(Answer<u64>, Option<Refusal>), Led> {
     let waiter = board.seat(rt)?;
     let mut other = board.seat(rt)?;
     let (kept, letters) = open(rt, board, &mut other)?;
@@ -47,9 +48,9 @@ pub fn wait_for_nobody<Led: Ledger + Send + Sync, R: Threads + Wait + Sync>(
 }
 
 /// A mailbox, and the answer by which it was made.
-fn open<Led: Ledger, R: Wait>(
+fn open<L: MessageLog<u64>, Led: Ledger, R: Wait>(
     rt: &R,
-    board: &Shared<Led>,
+    board: &Shared<L, Led>,
     seat: &mut Seat<Led>,
 ) -> Result<(Answer<u64>, Name), Trouble> {
     let kept = board.call(rt, seat, Call::NewMailbox)?;
@@ -60,9 +61,9 @@ fn open<Led: Ledger, R: Wait>(
 }
 
 /// Waits for a message, and then leaves. Returns why there was none.
-pub fn wait_for<Led: Ledger, R: Wait>(
+pub fn wait_for<L: MessageLog<u64>, Led: Ledger, R: Wait>(
     rt: &R,
-    board: &Shared<Led>,
+    board: &Shared<L, Led>,
     mut waiter: Seat<Led>,
     letters: Name,
 ) -> (Option<Refusal>, Left<Led>) {
@@ -77,14 +78,18 @@ pub fn wait_for<Led: Ledger, R: Wait>(
 pub fn missed<R: Wait>(rt: &R, alloc: Global) -> Result<usize, Trouble>
     ensures { IfOk result (λ back. back ≡ 1) }
 {
-    miss::<Brand, R>(rt, alloc, Blank::new(PARTS))
+    miss::<BoardLog<u64>, Brand, R>(rt, alloc, Blank::new(PARTS))
 }
 
-fn miss<Led: Ledger, R: Wait>(rt: &R, alloc: Global, blank: Blank) -> Result<usize, Trouble>
+fn miss<L: MessageLog<u64>, Led: Ledger, R: Wait>(
+    rt: &R,
+    alloc: Global,
+    blank: Blank,
+) -> Result<usize, Trouble>
     requires { IsBlankOf blank Led.name Led.parts }
     ensures { IfOk result (λ back. back ≡ 1) }
 {
-    let shared = Shared::<Led>::new(alloc, 100, blank)?;
+    let shared = Shared::<L, Led>::new(alloc, 100, blank)?;
     let lefts = drop_one(rt, alloc, &shared)?;
     match shared.settle(lefts) {
         Ok(_) => Err(Trouble::OtherReply),
@@ -93,15 +98,14 @@ fn miss<Led: Ledger, R: Wait>(rt: &R, alloc: Global, blank: Blank) -> Result<usi
 }
 
 /// Makes two seats, of which one leaves and the other is dropped.
-fn drop_one<Led: Ledger, R: Wait>(
+fn drop_one<L: MessageLog<u64>, Led: Ledger, R: Wait>(
     rt: &R,
     alloc: Global,
-    board: &Shared<Led>,
+    board: &Shared<L, Led>,
 ) -> Result<Vec<Left<Led>>, Trouble>
     ensures { IfOk result (λ lefts. length lefts.items ≡ 1) }
 {
+    drop(board.seat(rt)?);
     let stays = board.seat(rt)?;
-    let dropped = board.seat(rt)?;
-    drop(dropped);
     Ok(vec![in alloc; board.leave(rt, stays)]?)
 }

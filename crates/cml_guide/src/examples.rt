@@ -11,32 +11,18 @@ use crate::keeper::Keeper;
 use crate::lanes::send_and_collect;
 use crate::locking::{ROUNDS, raise_by_two};
 use crate::pool::square_all;
-use crate::requests;
-use crate::requests::Request;
 use crate::server::{LIMIT, Served, open_and_close, sum_up};
 use crate::stream::tell_to_three;
-use crate::threads::{Shared, SharedOf, counted, settle, settled};
-use cml_board::Refusal;
+use crate::threads::{Shared, counted, settle, settled};
+use cml_board::{BoardLog, Refusal};
+use cml_log::MessageLog;
 use cml_threads::Count;
 use std::alloc::Global;
 use std::sync::Wait;
 use std::sync::ledger::{Blank, Ledger};
 use std::thread::Threads;
 
-pub fn ask_on<Led: Ledger + Send + Sync, R: Threads + Wait + Sync>(
-    rt: &R,
-    alloc: Global,
-    blank: Blank,
-) -> Result<(Request, Count), Trouble>
-    requires { IsBlankOf blank Led.name Led.parts }
-    ensures counted { IfOk result (λ found. found.1.seats ≡ 3) }
-{
-    let office = SharedOf::<Request, Led>::new(alloc, 100, blank)?;
-    let (request, lefts) = requests::send_and_receive(rt, alloc, &office)?;
-    Ok((request, settle(office, lefts)?.count()))
-}
-
-pub fn run_pool<Led: Ledger + Send + Sync, R: Threads + Wait + Sync>(
+pub fn run_pool<L: MessageLog<u64> + Send, Led: Ledger + Send + Sync, R: Threads + Wait + Sync>(
     rt: &R,
     alloc: Global,
     blank: Blank,
@@ -44,25 +30,25 @@ pub fn run_pool<Led: Ledger + Send + Sync, R: Threads + Wait + Sync>(
     requires { IsBlankOf blank Led.name Led.parts }
     ensures { IfOk result (λ found. found.1.total ≡ found.1.seats + found.1.rings) }
 {
-    let shared = Shared::<Led>::new(alloc, 100, blank)?;
+    let shared = Shared::<L, Led>::new(alloc, 100, blank)?;
     let squared = square_all(rt, alloc, &shared);
     counted(shared, squared)
 }
 
-pub fn stream<Led: Ledger + Send + Sync, R: Threads + Wait + Sync>(
+pub fn stream<L: MessageLog<u64> + Send, Led: Ledger + Send + Sync, R: Threads + Wait + Sync>(
     rt: &R,
     alloc: Global,
     blank: Blank,
-) -> Result<([u64; 3], Count), Trouble>
+) -> Result<(Vec<u64>, Count), Trouble>
     requires { IsBlankOf blank Led.name Led.parts }
     ensures { IfOk result (λ found. found.1.total ≡ found.1.seats + found.1.rings) }
 {
-    let shared = Shared::<Led>::new(alloc, 100, blank)?;
+    let shared = Shared::<L, Led>::new(alloc, 100, blank)?;
     let told = tell_to_three(rt, alloc, &shared);
     counted(shared, told)
 }
 
-pub fn count_up<Led: Ledger + Send + Sync, R: Threads + Wait + Sync>(
+pub fn count_up<L: MessageLog<u64> + Send, Led: Ledger + Send + Sync, R: Threads + Wait + Sync>(
     rt: &R,
     alloc: Global,
     blank: Blank,
@@ -71,7 +57,7 @@ pub fn count_up<Led: Ledger + Send + Sync, R: Threads + Wait + Sync>(
     ensures counted { IfOk result (λ found. found.1.seats ≡ 4 * ROUNDS + 1) }
     ensures total { IfOk result (λ found. found.1.total ≡ found.1.seats + found.1.rings) }
 {
-    let shared = Shared::<Led>::new(alloc, 100, blank)?;
+    let shared = Shared::<L, Led>::new(alloc, 100, blank)?;
     let (counter, lefts) = raise_by_two(rt, alloc, &shared)?;
     let ended = settle(shared, lefts)?;
     match ended.board().held(counter) {
@@ -80,7 +66,7 @@ pub fn count_up<Led: Ledger + Send + Sync, R: Threads + Wait + Sync>(
     }
 }
 
-pub fn collect<Led: Ledger + Send + Sync, R: Threads + Wait + Sync>(
+pub fn collect<L: MessageLog<u64> + Send, Led: Ledger + Send + Sync, R: Threads + Wait + Sync>(
     rt: &R,
     alloc: Global,
     blank: Blank,
@@ -88,12 +74,12 @@ pub fn collect<Led: Ledger + Send + Sync, R: Threads + Wait + Sync>(
     requires { IsBlankOf blank Led.name Led.parts }
     ensures { IfOk result (λ found. found.1.total ≡ found.1.seats + found.1.rings) }
 {
-    let shared = Shared::<Led>::new(alloc, 100, blank)?;
+    let shared = Shared::<L, Led>::new(alloc, 100, blank)?;
     let collected = send_and_collect(rt, alloc, &shared);
     counted(shared, collected)
 }
 
-pub fn stop<Led: Ledger, R: Wait>(
+pub fn stop<L: MessageLog<u64>, Led: Ledger, R: Wait>(
     rt: &R,
     alloc: Global,
     blank: Blank,
@@ -101,12 +87,12 @@ pub fn stop<Led: Ledger, R: Wait>(
     requires { IsBlankOf blank Led.name Led.parts }
     ensures { IfOk result (λ found. found.1.total ≡ found.1.seats + found.1.rings) }
 {
-    let shared = Shared::<Led>::new(alloc, 1, blank)?;
+    let shared = Shared::<L, Led>::new(alloc, 1, blank)?;
     let given_up = send_in_vain(rt, alloc, &shared);
     counted(shared, given_up)
 }
 
-pub fn send_and_wait<Led: Ledger, R: Wait>(
+pub fn send_and_wait<L: MessageLog<u64>, Led: Ledger, R: Wait>(
     rt: &R,
     alloc: Global,
     blank: Blank,
@@ -114,25 +100,25 @@ pub fn send_and_wait<Led: Ledger, R: Wait>(
     requires { IsBlankOf blank Led.name Led.parts }
     ensures { IfOk result (λ found. found.1.total ≡ found.1.seats + found.1.rings) }
 {
-    let shared = Shared::<Led>::new(alloc, 100, blank)?;
+    let shared = Shared::<L, Led>::new(alloc, 100, blank)?;
     let waited = close_and_wait(rt, alloc, &shared);
     counted(shared, waited)
 }
 
-pub fn tell_to_display<Led: Ledger + Send + Sync, R: Threads + Wait + Sync>(
-    rt: &R,
-    alloc: Global,
-    blank: Blank,
-) -> Result<(u64, Count), Trouble>
+pub fn tell_to_display<
+    L: MessageLog<u64> + Send,
+    Led: Ledger + Send + Sync,
+    R: Threads + Wait + Sync,
+>(rt: &R, alloc: Global, blank: Blank) -> Result<(u64, Count), Trouble>
     requires { IsBlankOf blank Led.name Led.parts }
     ensures { IfOk result (λ found. found.1.total ≡ found.1.seats + found.1.rings) }
 {
-    let shared = Shared::<Led>::new(alloc, 100, blank)?;
+    let shared = Shared::<L, Led>::new(alloc, 100, blank)?;
     let shown = tell_and_show(rt, alloc, &shared);
     counted(shared, shown)
 }
 
-pub fn wait_in_vain<Led: Ledger + Send + Sync, R: Threads + Wait + Sync>(
+pub fn wait_in_vain<L: MessageLog<u64> + Send, Led: Ledger + Send + Sync, R: Threads + Wait + Sync>(
     rt: &R,
     alloc: Global,
     blank: Blank,
@@ -140,7 +126,7 @@ pub fn wait_in_vain<Led: Ledger + Send + Sync, R: Threads + Wait + Sync>(
     requires { IsBlankOf blank Led.name Led.parts }
     ensures { IfOk result (λ stall. stall.count.total ≡ stall.count.seats + stall.count.rings) }
 {
-    let shared = Shared::<Led>::new(alloc, 100, blank)?;
+    let shared = Shared::<L, Led>::new(alloc, 100, blank)?;
     let waited = wait_for_nobody(rt, alloc, &shared);
     let ((kept, refusal), ended) = settled(shared, waited)?;
     Ok(Stall {
@@ -171,7 +157,7 @@ fn run_with<Led: Ledger + Send + Sync, R: Threads + Wait + Sync>(
     requires { IsBlankOf blank Led.name Led.parts }
     ensures { IfOk result (λ served. served.count.total ≡ served.count.seats + served.count.rings) }
 {
-    let shared = Shared::<Led>::new(alloc, LIMIT, blank)?;
+    let shared = Shared::<BoardLog<u64>, Led>::new(alloc, LIMIT, blank)?;
     let day = open_and_close(rt, alloc, &shared, keeper);
     let (tickets, ended) = settled(shared, day)?;
     sum_up(&ended, tickets, keeper)

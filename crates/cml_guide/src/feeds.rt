@@ -4,8 +4,9 @@ ghost use Rattle.std.specs.Prelude.{◌≡◌, ◌+◌, IfOk};
 use crate::calls::Trouble;
 use crate::examples::tell_to_display;
 use crate::threads::{Came, Shared, done, made, with_one};
-use cml_board::Name;
+use cml_board::{BoardLog, Name};
 use cml_lanes::Feed;
+use cml_log::MessageLog;
 use cml_threads::{Count, Left, PARTS, Seat};
 use std::alloc::Global;
 use std::marker::Brand;
@@ -25,15 +26,15 @@ const ROOM: usize = 16;
 pub fn shown<R: Threads + Wait + Sync>(rt: &R, alloc: Global) -> Result<(u64, Count), Trouble>
     ensures { IfOk result (λ found. found.1.total ≡ found.1.seats + found.1.rings) }
 {
-    tell_to_display::<Brand, R>(rt, alloc, Blank::new(PARTS))
+    tell_to_display::<BoardLog<u64>, Brand, R>(rt, alloc, Blank::new(PARTS))
 }
 
 /// What was shown, and the ticker's seat. The display has no seat: it only needs the feed.
-pub fn tell_and_show<Led: Ledger + Send + Sync, R: Threads + Wait + Sync>(
-    rt: &R,
-    alloc: Global,
-    board: &Shared<Led>,
-) -> Came<u64, Led> {
+pub fn tell_and_show<
+    L: MessageLog<u64> + Send,
+    Led: Ledger + Send + Sync,
+    R: Threads + Wait + Sync,
+>(rt: &R, alloc: Global, board: &Shared<L, Led>) -> Came<u64, Led> {
     let mut ticker = board.seat(rt)?;
     let prices = made(board.m_channel(rt, &mut ticker))?;
     let (feed, number) = board.open_feed(rt, prices, ROOM)?;
@@ -48,9 +49,9 @@ pub fn tell_and_show<Led: Ledger + Send + Sync, R: Threads + Wait + Sync>(
 }
 
 /// Multicasts all prices, and leaves even if that fails. Then no more will come.
-fn tell_and_leave<Led: Ledger, R: Wait>(
+fn tell_and_leave<L: MessageLog<u64>, Led: Ledger, R: Wait>(
     rt: &R,
-    board: &Shared<Led>,
+    board: &Shared<L, Led>,
     mut ticker: Seat<Led>,
     prices: Name,
     feed: u64,
@@ -62,9 +63,9 @@ fn tell_and_leave<Led: Ledger, R: Wait>(
 }
 
 /// Multicasts each price, and pumps it into the feed's ring.
-fn tell_all<Led: Ledger, R: Wait>(
+fn tell_all<L: MessageLog<u64>, Led: Ledger, R: Wait>(
     rt: &R,
-    board: &Shared<Led>,
+    board: &Shared<L, Led>,
     ticker: &mut Seat<Led>,
     prices: Name,
     feed: u64,

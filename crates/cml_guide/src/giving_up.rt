@@ -6,8 +6,9 @@ use crate::ending::wait_for;
 use crate::examples::{send_and_wait, stop};
 use crate::lanes::{close, receive_and_leave, send_all};
 use crate::threads::{Came, Shared, made, with_one};
-use cml_board::Refusal;
+use cml_board::{BoardLog, Refusal};
 use cml_lanes::LaneEnd;
+use cml_log::MessageLog;
 use cml_threads::{Count, PARTS};
 use std::alloc::Global;
 use std::marker::Brand;
@@ -30,14 +31,14 @@ pub struct GivenUp {
 pub fn stopped<R: Wait>(rt: &R, alloc: Global) -> Result<(GivenUp, Count), Trouble>
     ensures { IfOk result (λ found. found.1.total ≡ found.1.seats + found.1.rings) }
 {
-    stop::<Brand, R>(rt, alloc, Blank::new(PARTS))
+    stop::<BoardLog<u64>, Brand, R>(rt, alloc, Blank::new(PARTS))
 }
 
 /// The collector stops at the first reading. Then the sensor gives up once its lane is full.
-pub fn send_in_vain<Led: Ledger, R: Wait>(
+pub fn send_in_vain<L: MessageLog<u64>, Led: Ledger, R: Wait>(
     rt: &R,
     alloc: Global,
-    board: &Shared<Led>,
+    board: &Shared<L, Led>,
 ) -> Came<GivenUp, Led> {
     let mut collector = board.seat(rt)?;
     let readings = made(board.mailbox(rt, &mut collector))?;
@@ -68,14 +69,14 @@ pub fn closed_before_waiting<R: Wait>(
 ) -> Result<(Option<Refusal>, Count), Trouble>
     ensures { IfOk result (λ found. found.1.total ≡ found.1.seats + found.1.rings) }
 {
-    send_and_wait::<Brand, R>(rt, alloc, Blank::new(PARTS))
+    send_and_wait::<BoardLog<u64>, Brand, R>(rt, alloc, Blank::new(PARTS))
 }
 
 /// Sends a question by a lane, closes the lane, and only then waits for the answer.
-pub fn close_and_wait<Led: Ledger, R: Wait>(
+pub fn close_and_wait<L: MessageLog<u64>, Led: Ledger, R: Wait>(
     rt: &R,
     alloc: Global,
-    board: &Shared<Led>,
+    board: &Shared<L, Led>,
 ) -> Came<Option<Refusal>, Led> {
     let mut asker = board.seat(rt)?;
     let questions = made(board.mailbox(rt, &mut asker))?;

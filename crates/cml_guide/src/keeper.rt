@@ -3,6 +3,7 @@ use crate::calls::Trouble;
 use crate::cutting::feed;
 use crate::threads::Shared;
 use cml_board::{Checker, Entry};
+use cml_log::MessageLog;
 use std::alloc::Global;
 use std::sync::Wait;
 use std::sync::ledger::Ledger;
@@ -31,10 +32,10 @@ impl Keeper {
     }
 
     /// Takes the journal's entries, if they are a piece. The caller knows an entry's position, which says how many there are.
-    pub fn take_once_due<Led: Ledger, R: Wait>(
+    pub fn take_once_due<L: MessageLog<u64>, Led: Ledger, R: Wait>(
         &mut self,
         rt: &R,
-        board: &Shared<Led>,
+        board: &Shared<L, Led>,
         at: u64,
     ) -> Result<(), Trouble> {
         if at.saturating_sub(self.entries()) < PIECE {

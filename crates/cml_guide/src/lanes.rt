@@ -4,8 +4,9 @@ ghost use Rattle.std.specs.Prelude.{◌≡◌, ◌+◌, IfOk};
 use crate::calls::Trouble;
 use crate::examples::collect;
 use crate::threads::{Came, Shared, got, made, with_one};
-use cml_board::Name;
+use cml_board::{BoardLog, Name};
 use cml_lanes::{Lane, LaneEnd};
+use cml_log::MessageLog;
 use cml_threads::{Count, Left, PARTS, Seat};
 use std::alloc::Global;
 use std::marker::Brand;
@@ -25,15 +26,15 @@ const ROOM: usize = 16;
 pub fn collected<R: Threads + Wait + Sync>(rt: &R, alloc: Global) -> Result<(u64, Count), Trouble>
     ensures { IfOk result (λ found. found.1.total ≡ found.1.seats + found.1.rings) }
 {
-    collect::<Brand, R>(rt, alloc, Blank::new(PARTS))
+    collect::<BoardLog<u64>, Brand, R>(rt, alloc, Blank::new(PARTS))
 }
 
 /// What was collected, and the collector's seat. The sensor has no seat: it only needs the lane.
-pub fn send_and_collect<Led: Ledger + Send + Sync, R: Threads + Wait + Sync>(
-    rt: &R,
-    alloc: Global,
-    board: &Shared<Led>,
-) -> Came<u64, Led> {
+pub fn send_and_collect<
+    L: MessageLog<u64> + Send,
+    Led: Ledger + Send + Sync,
+    R: Threads + Wait + Sync,
+>(rt: &R, alloc: Global, board: &Shared<L, Led>) -> Came<u64, Led> {
     let mut collector = board.seat(rt)?;
     let readings = made(board.mailbox(rt, &mut collector))?;
     let (lane, number) = board.open_lane(rt, readings, ROOM)?;
@@ -79,9 +80,9 @@ fn send<R: Wait>(rt: &R, lane: &mut Lane<u64>, message: u64, has_stopped: &Atomi
 }
 
 /// Collects all readings, notes that it has stopped, and leaves even if that fails.
-pub fn receive_and_leave<Led: Ledger, R: Wait>(
+pub fn receive_and_leave<L: MessageLog<u64>, Led: Ledger, R: Wait>(
     rt: &R,
-    board: &Shared<Led>,
+    board: &Shared<L, Led>,
     mut collector: Seat<Led>,
     readings: Name,
     lane: u64,
@@ -93,9 +94,9 @@ pub fn receive_and_leave<Led: Ledger, R: Wait>(
 }
 
 /// Moves what was sent into the journal, and receives it, until all readings have come. Returns their sum.
-fn receive_all<Led: Ledger, R: Wait>(
+fn receive_all<L: MessageLog<u64>, Led: Ledger, R: Wait>(
     rt: &R,
-    board: &Shared<Led>,
+    board: &Shared<L, Led>,
     collector: &mut Seat<Led>,
     readings: Name,
     lane: u64,
@@ -115,9 +116,9 @@ fn receive_all<Led: Ledger, R: Wait>(
 }
 
 /// Receives `count` readings, and returns their sum.
-pub fn receive<Led: Ledger, R: Wait>(
+pub fn receive<L: MessageLog<u64>, Led: Ledger, R: Wait>(
     rt: &R,
-    board: &Shared<Led>,
+    board: &Shared<L, Led>,
     collector: &mut Seat<Led>,
     readings: Name,
     count: usize,
@@ -130,9 +131,9 @@ pub fn receive<Led: Ledger, R: Wait>(
 }
 
 /// Closes the lane. If that fails, abandons it: no call fails with `Stalled` while it is open.
-pub fn close<Led: Ledger, R: Wait>(
+pub fn close<L: MessageLog<u64>, Led: Ledger, R: Wait>(
     rt: &R,
-    board: &Shared<Led>,
+    board: &Shared<L, Led>,
     lane: u64,
     end: Option<LaneEnd<u64>>,
 ) -> Result<(), Trouble> {
@@ -144,9 +145,9 @@ pub fn close<Led: Ledger, R: Wait>(
 }
 
 /// Closes the lane by its end, or without one by `drop_lane`.
-fn close_by<Led: Ledger, R: Wait>(
+fn close_by<L: MessageLog<u64>, Led: Ledger, R: Wait>(
     rt: &R,
-    board: &Shared<Led>,
+    board: &Shared<L, Led>,
     lane: u64,
     end: Option<LaneEnd<u64>>,
 ) -> Result<(), Trouble> {

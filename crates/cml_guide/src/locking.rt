@@ -5,7 +5,8 @@ ghost use Rattle.cml_threads.specs.Seating.{answers_in};
 use crate::calls::Trouble;
 use crate::examples::count_up;
 use crate::threads::{Came, Shared, done, got, made, with_both};
-use cml_board::Name;
+use cml_board::{BoardLog, Name};
+use cml_log::MessageLog;
 use cml_threads::{Count, Left, PARTS, Seat};
 use std::alloc::Global;
 use std::marker::Brand;
@@ -25,14 +26,14 @@ pub fn counted_by_two<R: Threads + Wait + Sync>(
     ensures counted { IfOk result (λ found. found.1.seats ≡ 4 * ROUNDS + 1) }
     ensures total { IfOk result (λ found. found.1.total ≡ found.1.seats + found.1.rings) }
 {
-    count_up::<Brand, R>(rt, alloc, Blank::new(PARTS))
+    count_up::<BoardLog<u64>, Brand, R>(rt, alloc, Blank::new(PARTS))
 }
 
 /// Two threads raise a counter. Returns its name, and the seats of both.
-pub fn raise_by_two<Led: Ledger + Send + Sync, R: Threads + Wait + Sync>(
+pub fn raise_by_two<L: MessageLog<u64> + Send, Led: Ledger + Send + Sync, R: Threads + Wait + Sync>(
     rt: &R,
     alloc: Global,
-    board: &Shared<Led>,
+    board: &Shared<L, Led>,
 ) -> Came<Name, Led>
     ensures { IfOk result (λ found. answers_in found.1.items ≡ 4 * ROUNDS + 1) }
 {
@@ -48,9 +49,9 @@ pub fn raise_by_two<Led: Ledger + Send + Sync, R: Threads + Wait + Sync>(
 }
 
 /// Raises the counter, and leaves.
-fn raise<Led: Ledger, R: Wait>(
+fn raise<L: MessageLog<u64>, Led: Ledger, R: Wait>(
     rt: &R,
-    board: &Shared<Led>,
+    board: &Shared<L, Led>,
     mut seat: Seat<Led>,
     counter: Name,
 ) -> (Result<(), Trouble>, Left<Led>)
@@ -61,9 +62,9 @@ fn raise<Led: Ledger, R: Wait>(
 }
 
 /// Raises the counter by one in each round.
-fn raise_each<Led: Ledger, R: Wait>(
+fn raise_each<L: MessageLog<u64>, Led: Ledger, R: Wait>(
     rt: &R,
-    board: &Shared<Led>,
+    board: &Shared<L, Led>,
     seat: &mut Seat<Led>,
     counter: Name,
 ) -> Result<(), Trouble>

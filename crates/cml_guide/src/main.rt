@@ -38,7 +38,7 @@ use std::thread::Threads;
 /// Prints each example's name and its result.
 macro_rules! show_each {
     ($rt:ident, $arguments:tt; $($module:ident::$example:ident),+) => {{
-        $(show($rt, concat!(stringify!($module), "::", stringify!($example)), &$module::$example $arguments)?;)+
+        $(show($rt, concat!(stringify!($module), "::", stringify!($example)), $module::$example $arguments)?;)+
         Ok(())
     }};
 }
@@ -57,7 +57,7 @@ fn main(rt: HostRuntime) -> io::Result<()> {
 }
 
 /// Prints the result of an example.
-fn show<R: Print, T: Debug>(rt: &R, name: &str, outcome: &T) -> io::Result<()> {
+fn show<R: Print, T: Debug + Drop>(rt: &R, name: &str, outcome: T) -> io::Result<()> {
     println!(rt; "{name}: {outcome:?}")
 }
 

@@ -3,9 +3,10 @@ ghost use Rattle.std.specs.Prelude.{◌≡◌, ◌+◌, ◌^◌, IfOk, OnOk};
 ghost use Rattle.cml_threads.specs.Seating.{answers_in};
 
 use crate::calls::Trouble;
-use crate::threads::{Came, Shared, SharedOf, done, got, made, settle, with_both};
-use cml_board::{Message, Name};
-use cml_threads::{Count, Left, PARTS, Seat};
+use crate::threads::{Came, done, got, made, settle, with_both};
+use cml_board::{BoardLog, Message, Name};
+use cml_log::MessageLog;
+use cml_threads::{Count, Left, PARTS, Seat, Switchboard};
 use std::alloc::Global;
 use std::marker::Brand;
 use std::sync::Wait;
@@ -18,31 +19,34 @@ pub fn passed_on<R: Threads + Wait + Sync>(rt: &R, alloc: Global) -> Result<(u64
     ensures counted { IfOk result (λ found. found.1.seats ≡ 3) }
     ensures total { IfOk result (λ found. found.1.total ≡ found.1.seats + found.1.rings) }
 {
-    pass_on::<Brand, R>(rt, alloc, Blank::new(PARTS))
+    pass_on::<u64, BoardLog<u64>, Brand, R>(rt, alloc, 5, Blank::new(PARTS))
 }
 
-fn pass_on<Led: Ledger + Send + Sync, R: Threads + Wait + Sync>(
-    rt: &R,
-    alloc: Global,
-    blank: Blank,
-) -> Result<(u64, Count), Trouble>
+/// Makes a switchboard, lets one thread send the message and another receive it, and settles the switchboard.
+pub fn pass_on<
+    M: Message + Send,
+    L: MessageLog<M> + Send,
+    Led: Ledger + Send + Sync,
+    R: Threads + Wait + Sync,
+>(rt: &R, alloc: Global, message: M, blank: Blank) -> Result<(M, Count), Trouble>
     requires name { blank.name ≡ Led.name }
     requires parts { blank.parts ≡ Led.parts }
     requires enough { blank.parts ≡ 2 ^ 63 }
     ensures counted { IfOk result (λ found. found.1.seats ≡ 3) }
     ensures total { IfOk result (λ found. found.1.total ≡ found.1.seats + found.1.rings) }
 {
-    let shared = Shared::<Led>::new(alloc, 100, blank)?;
-    let (message, lefts) = send_and_receive(rt, alloc, &shared)?;
-    Ok((message, settle(shared, lefts)?.count()))
+    let shared = Switchboard::<M, L, Led>::new(alloc, 100, blank)?;
+    let (received, lefts) = send_and_receive(rt, alloc, &shared, message)?;
+    Ok((received, settle(shared, lefts)?.count()))
 }
 
 /// What was received, and the seats of both threads.
-fn send_and_receive<Led: Ledger + Send + Sync, R: Threads + Wait + Sync>(
-    rt: &R,
-    alloc: Global,
-    board: &Shared<Led>,
-) -> Came<u64, Led>
+fn send_and_receive<
+    M: Message + Send,
+    L: MessageLog<M> + Send,
+    Led: Ledger + Send + Sync,
+    R: Threads + Wait + Sync,
+>(rt: &R, alloc: Global, board: &Switchboard<M, L, Led>, message: M) -> Came<M, Led>
     ensures { IfOk result (λ found. answers_in found.1.items ≡ 3) }
 {
     let mut sender = board.seat(rt)?;
@@ -51,15 +55,15 @@ fn send_and_receive<Led: Ledger + Send + Sync, R: Threads + Wait + Sync>(
     let ((received, receiver), (sent, sender)) = thread::join(
         rt,
         move || receive_and_leave(rt, board, receiver, letters),
-        move || send_and_leave(rt, board, sender, letters, 5),
+        move || send_and_leave(rt, board, sender, letters, message),
     );
     with_both(alloc, sent.and(received), receiver, sender)
 }
 
 /// Receives a message, and leaves even if that fails.
-pub fn receive_and_leave<M: Message, Led: Ledger, R: Wait>(
+fn receive_and_leave<M: Message, L: MessageLog<M>, Led: Ledger, R: Wait>(
     rt: &R,
-    board: &SharedOf<M, Led>,
+    board: &Switchboard<M, L, Led>,
     mut receiver: Seat<Led>,
     letters: Name,
 ) -> (Result<M, Trouble>, Left<Led>)
@@ -70,9 +74,9 @@ pub fn receive_and_leave<M: Message, Led: Ledger, R: Wait>(
 }
 
 /// Sends a message, and leaves even if that fails.
-pub fn send_and_leave<M: Message, Led: Ledger, R: Wait>(
+fn send_and_leave<M: Message, L: MessageLog<M>, Led: Ledger, R: Wait>(
     rt: &R,
-    board: &SharedOf<M, Led>,
+    board: &Switchboard<M, L, Led>,
     mut sender: Seat<Led>,
     letters: Name,
     message: M,

@@ -4,8 +4,9 @@ ghost use Rattle.std.specs.Prelude.{◌≡◌, ◌+◌, IfOk};
 use crate::calls::Trouble;
 use crate::examples::run_pool;
 use crate::lanes::receive;
-use crate::threads::{Came, Shared, done, got, join_all, made};
-use cml_board::Name;
+use crate::threads::{Came, Shared, done, got, made};
+use cml_board::{BoardLog, Name};
+use cml_log::MessageLog;
 use cml_threads::{Count, Left, PARTS, Seat};
 use std::alloc::Global;
 use std::marker::Brand;
@@ -27,7 +28,7 @@ const STOP: u64 = 0;
 pub fn squares<R: Threads + Wait + Sync>(rt: &R, alloc: Global) -> Result<(u64, Count), Trouble>
     ensures { IfOk result (λ found. found.1.total ≡ found.1.seats + found.1.rings) }
 {
-    run_pool::<Brand, R>(rt, alloc, Blank::new(PARTS))
+    run_pool::<BoardLog<u64>, Brand, R>(rt, alloc, Blank::new(PARTS))
 }
 
 /// The mailboxes for jobs and for results.
@@ -38,10 +39,10 @@ pub struct Desk {
 }
 
 /// The boss has the jobs done, and leaves even if that fails.
-pub fn square_all<Led: Ledger + Send + Sync, R: Threads + Wait + Sync>(
+pub fn square_all<L: MessageLog<u64> + Send, Led: Ledger + Send + Sync, R: Threads + Wait + Sync>(
     rt: &R,
     alloc: Global,
-    board: &Shared<Led>,
+    board: &Shared<L, Led>,
 ) -> Came<u64, Led> {
     let mut boss = board.seat(rt)?;
     let squared = have_squared(rt, alloc, board, &mut boss);
@@ -52,23 +53,24 @@ pub fn square_all<Led: Ledger + Send + Sync, R: Threads + Wait + Sync>(
 }
 
 /// What the boss does: hands out the jobs, lets the workers do them, and collects the results.
-fn have_squared<Led: Ledger + Send + Sync, R: Threads + Wait + Sync>(
+fn have_squared<L: MessageLog<u64> + Send, Led: Ledger + Send + Sync, R: Threads + Wait + Sync>(
     rt: &R,
     alloc: Global,
-    board: &Shared<Led>,
+    board: &Shared<L, Led>,
     boss: &mut Seat<Led>,
 ) -> Came<u64, Led> {
     let desk = open_desk(rt, board, boss)?;
     hand_out(rt, board, boss, desk)?;
     let seats = make_seats(rt, alloc, board)?;
-    let lefts = work_all(rt, alloc, board, seats, desk)?;
-    Ok((collect(rt, board, boss, desk)?, lefts))
+    let lefts = thread::map_vec(rt, seats, &|seat| work_and_leave(rt, board, seat, desk))?;
+    let sum = receive(rt, board, boss, desk.results, JOBS as usize)?;
+    Ok((sum, lefts))
 }
 
-fn make_seats<Led: Ledger, R: Wait>(
+fn make_seats<L: MessageLog<u64>, Led: Ledger, R: Wait>(
     rt: &R,
     alloc: Global,
-    board: &Shared<Led>,
+    board: &Shared<L, Led>,
 ) -> Result<Vec<Seat<Led>>, Trouble> {
     let mut seats = Vec::new(alloc);
     for _ in 0..WORKERS {
@@ -77,9 +79,9 @@ fn make_seats<Led: Ledger, R: Wait>(
     Ok(seats)
 }
 
-fn open_desk<Led: Ledger, R: Wait>(
+fn open_desk<L: MessageLog<u64>, Led: Ledger, R: Wait>(
     rt: &R,
-    board: &Shared<Led>,
+    board: &Shared<L, Led>,
     boss: &mut Seat<Led>,
 ) -> Result<Desk, Trouble> {
     let jobs = made(board.mailbox(rt, boss))?;
@@ -88,9 +90,9 @@ fn open_desk<Led: Ledger, R: Wait>(
 }
 
 /// Sends all jobs, and then a stop for each worker.
-fn hand_out<Led: Ledger, R: Wait>(
+fn hand_out<L: MessageLog<u64>, Led: Ledger, R: Wait>(
     rt: &R,
-    board: &Shared<Led>,
+    board: &Shared<L, Led>,
     boss: &mut Seat<Led>,
     desk: Desk,
 ) -> Result<(), Trouble> {
@@ -104,9 +106,9 @@ fn hand_out<Led: Ledger, R: Wait>(
 }
 
 /// What one worker does: job after job, until a stop comes.
-fn work<Led: Ledger, R: Wait>(
+fn work<L: MessageLog<u64>, Led: Ledger, R: Wait>(
     rt: &R,
-    board: &Shared<Led>,
+    board: &Shared<L, Led>,
     worker: &mut Seat<Led>,
     desk: Desk,
 ) -> Result<(), Trouble> {
@@ -121,43 +123,12 @@ fn work<Led: Ledger, R: Wait>(
 }
 
 /// The code of a worker's thread. It leaves even if its work fails.
-fn work_and_leave<Led: Ledger, R: Wait>(
+fn work_and_leave<L: MessageLog<u64>, Led: Ledger, R: Wait>(
     rt: &R,
-    board: &Shared<Led>,
+    board: &Shared<L, Led>,
     mut worker: Seat<Led>,
     desk: Desk,
 ) -> Left<Led> {
     let _ = work(rt, board, &mut worker, desk);
     board.leave(rt, worker)
-}
-
-/// Starts a thread for each seat, and joins them all. If a thread cannot be made, its work is done here.
-fn work_all<Led: Ledger + Send + Sync, R: Threads + Wait + Sync>(
-    rt: &R,
-    alloc: Global,
-    board: &Shared<Led>,
-    seats: Vec<Seat<Led>>,
-    desk: Desk,
-) -> Result<Vec<Left<Led>>, Trouble> {
-    thread::scope(thread::scope_env(), rt, move |scope| {
-        let mut running = Vec::new(alloc);
-        let mut lefts = Vec::new(alloc);
-        for seat in seats {
-            match scope.spawn(move || work_and_leave(rt, board, seat, desk)) {
-                Ok(handle) => running.push(handle)?,
-                Err(refused) => lefts.push((refused.value)())?,
-            }
-        }
-        join_all(rt, running, lefts)
-    })
-}
-
-/// The sum of the results of all jobs.
-fn collect<Led: Ledger, R: Wait>(
-    rt: &R,
-    board: &Shared<Led>,
-    boss: &mut Seat<Led>,
-    desk: Desk,
-) -> Result<u64, Trouble> {
-    receive(rt, board, boss, desk.results, JOBS as usize)
 }

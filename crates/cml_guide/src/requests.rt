@@ -1,19 +1,15 @@
 //! Your own type of messages that own memory: sharing one allocates memory too, and may fail.
 ghost use Rattle.std.specs.Prelude.{◌≡◌, false, IfOk, IfErr, OnErr};
 ghost use Rattle.cml_board.specs.Outcome.{IsAsBefore};
-ghost use Rattle.cml_threads.specs.Seating.{answers_in};
 
 use crate::calls::{BoardOf, SEAT, Trouble, make};
-use crate::examples::ask_on;
-use crate::passing::{receive_and_leave, send_and_leave};
-use crate::threads::{Came, SharedOf, made, with_both};
-use cml_board::{Call, Message, Name, Outcome, Refusal};
+use crate::passing::pass_on;
+use cml_board::{BoardLog, Call, Message, Name, Outcome, Refusal};
 use cml_threads::{Count, PARTS};
 use std::alloc::{AllocError, Global};
 use std::marker::{Brand, Model};
 use std::sync::Wait;
-use std::sync::ledger::{Blank, Ledger};
-use std::thread;
+use std::sync::ledger::Blank;
 use std::thread::Threads;
 
 /// What a client asks for: a name, which it owns, and a number. Contracts see both, and not where the name lies.
@@ -99,25 +95,6 @@ pub fn passed_on<R: Threads + Wait + Sync>(
 ) -> Result<(Request, Count), Trouble>
     ensures counted { IfOk result (λ found. found.1.seats ≡ 3) }
 {
-    ask_on::<Brand, R>(rt, alloc, Blank::new(PARTS))
-}
-
-/// What was received, and the seats of both threads.
-pub fn send_and_receive<Led: Ledger + Send + Sync, R: Threads + Wait + Sync>(
-    rt: &R,
-    alloc: Global,
-    office: &SharedOf<Request, Led>,
-) -> Came<Request, Led>
-    ensures { IfOk result (λ found. answers_in found.1.items ≡ 3) }
-{
     let coffee = Request::new(alloc, "coffee", 7)?;
-    let mut client = office.seat(rt)?;
-    let requests = made(office.mailbox(rt, &mut client))?;
-    let clerk = office.seat(rt)?;
-    let ((received, clerk), (sent, client)) = thread::join(
-        rt,
-        move || receive_and_leave(rt, office, clerk, requests),
-        move || send_and_leave(rt, office, client, requests, coffee),
-    );
-    with_both(alloc, sent.and(received), clerk, client)
+    pass_on::<Request, BoardLog<Request>, Brand, R>(rt, alloc, coffee, Blank::new(PARTS))
 }

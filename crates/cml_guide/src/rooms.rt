@@ -1,6 +1,6 @@
 //! Seats that one thread plays in turn, or threads that share their own lock: no call of a room blocks.
 
-use crate::calls::Trouble;
+use crate::calls::{Trouble, message_of, name_of};
 use cml_board::{BoardLog, Call, Outcome, Reply};
 use cml_room::{Room, State};
 use std::alloc::Global;
@@ -22,15 +22,13 @@ fn pass_on(
     one: u64,
     two: u64,
 ) -> Result<(u64, Option<State>, Option<u64>), Trouble> {
-    let Reply::Made(letters) = reply(room.ask(one, Call::NewMailbox))? else {
-        return Err(Trouble::OtherReply);
-    };
+    let letters = name_of(reply(room.ask(one, Call::NewMailbox))?)?;
     match room.ask(one, Call::Recv(letters)) {
         Outcome::WouldWait(receive) => {
             let meanwhile = room.state(one);
             reply(room.ask(two, Call::Send(letters, 5)))?;
             let due = room.next_due();
-            let message = got(reply(room.ask_again(one, receive))?)?;
+            let message = message_of(reply(room.ask_again(one, receive))?)?;
             Ok((message, meanwhile, due))
         }
         Outcome::Answered(_) => Err(Trouble::OtherReply),
@@ -44,12 +42,5 @@ fn reply(outcome: Outcome<u64>) -> Result<Reply<u64>, Trouble> {
         Outcome::Answered(answer) => Ok(answer.into_reply()),
         Outcome::WouldWait(_) => Err(Trouble::WouldWait),
         Outcome::Refused(refusal, _) => Err(Trouble::Refused(refusal)),
-    }
-}
-
-fn got(reply: Reply<u64>) -> Result<u64, Trouble> {
-    match reply {
-        Reply::Got(message) => Ok(message),
-        _ => Err(Trouble::OtherReply),
     }
 }

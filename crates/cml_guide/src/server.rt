@@ -6,7 +6,8 @@ use crate::clients::{Client, Visit, Way, ask_and_leave};
 use crate::examples::run_on;
 use crate::keeper::Keeper;
 use crate::threads::{Came, Ended, Shared, join_all, made};
-use cml_board::{Call, Name, Refusal, Reply};
+use cml_board::{BoardLog, Call, Name, Refusal, Reply};
+use cml_log::MessageLog;
 use cml_threads::{Count, Left, PARTS, Seat};
 use std::alloc::Global;
 use std::marker::Brand;
@@ -56,7 +57,11 @@ pub fn ran_on<R: Threads + Wait + Sync>(rt: &R, alloc: Global) -> Result<Served,
 }
 
 /// Checks what has come since the last piece was taken, and reports on all pieces.
-pub fn sum_up(ended: &Ended, tickets: u64, keeper: &mut Keeper) -> Result<Served, Trouble>
+pub fn sum_up<L: MessageLog<u64>>(
+    ended: &Ended<L>,
+    tickets: u64,
+    keeper: &mut Keeper,
+) -> Result<Served, Trouble>
     ensures { IfOk result (λ served. served.count.total ≡ served.count.seats + served.count.rings) }
 {
     let is_lawful = keeper.check(ended.board().journal())?;
@@ -73,7 +78,7 @@ pub fn sum_up(ended: &Ended, tickets: u64, keeper: &mut Keeper) -> Result<Served
 pub fn open_and_close<Led: Ledger + Send + Sync, R: Threads + Wait + Sync>(
     rt: &R,
     alloc: Global,
-    board: &Shared<Led>,
+    board: &Shared<BoardLog<u64>, Led>,
     keeper: &mut Keeper,
 ) -> Came<u64, Led> {
     let mut shop = open(rt, board)?;
@@ -84,17 +89,20 @@ pub fn open_and_close<Led: Ledger + Send + Sync, R: Threads + Wait + Sync>(
     sum_up_day(alloc, visits?, shift)
 }
 
-fn open<Led: Ledger, R: Wait>(rt: &R, board: &Shared<Led>) -> Result<Shop<Led>, Trouble> {
+fn open<L: MessageLog<u64>, Led: Ledger, R: Wait>(
+    rt: &R,
+    board: &Shared<L, Led>,
+) -> Result<Shop<Led>, Trouble> {
     let mut seat = board.seat(rt)?;
     let requests = made(board.mailbox(rt, &mut seat))?;
     Ok(Shop { seat, requests })
 }
 
 /// A client for each way, with a seat and a mailbox for its answers.
-fn make_clients<Led: Ledger, R: Wait>(
+fn make_clients<L: MessageLog<u64>, Led: Ledger, R: Wait>(
     rt: &R,
     alloc: Global,
-    board: &Shared<Led>,
+    board: &Shared<L, Led>,
     shop: &mut Shop<Led>,
 ) -> Result<Vec<Client<Led>>, Trouble> {
     let mut clients = Vec::new(alloc);
@@ -114,7 +122,7 @@ fn make_clients<Led: Ledger, R: Wait>(
 fn let_in<Led: Ledger + Send + Sync, R: Threads + Wait + Sync>(
     rt: &R,
     alloc: Global,
-    board: &Shared<Led>,
+    board: &Shared<BoardLog<u64>, Led>,
     clients: Vec<Client<Led>>,
     running: Vec<JoinHandle<Visit<Led>>>,
     shop: Shop<Led>,
@@ -140,9 +148,9 @@ fn let_in<Led: Ledger + Send + Sync, R: Threads + Wait + Sync>(
 }
 
 /// Serves, and leaves even if that fails, so that a call that still waits fails with `Stalled`.
-fn serve_and_leave<Led: Ledger, R: Wait>(
+fn serve_and_leave<L: MessageLog<u64>, Led: Ledger, R: Wait>(
     rt: &R,
-    board: &Shared<Led>,
+    board: &Shared<L, Led>,
     shop: Shop<Led>,
     keeper: &mut Keeper,
 ) -> Shift<Led> {
@@ -155,9 +163,9 @@ fn serve_and_leave<Led: Ledger, R: Wait>(
 }
 
 /// Answers one request after another, and takes the journal as often as it is due, until all clients have left.
-fn serve<Led: Ledger, R: Wait>(
+fn serve<L: MessageLog<u64>, Led: Ledger, R: Wait>(
     rt: &R,
-    board: &Shared<Led>,
+    board: &Shared<L, Led>,
     shop: &mut Shop<Led>,
     keeper: &mut Keeper,
 ) -> Result<(), Trouble> {
@@ -172,9 +180,9 @@ fn serve<Led: Ledger, R: Wait>(
 }
 
 /// The mailbox for the next answer, or `None` once no client is left that could ask.
-fn next_request<Led: Ledger, R: Wait>(
+fn next_request<L: MessageLog<u64>, Led: Ledger, R: Wait>(
     rt: &R,
-    board: &Shared<Led>,
+    board: &Shared<L, Led>,
     shop: &mut Shop<Led>,
 ) -> Result<Option<Name>, Trouble> {
     match board.recv(rt, &mut shop.seat, shop.requests) {

@@ -4,7 +4,8 @@ ghost use Rattle.std.specs.Prelude.{◌≡◌, ◌+◌, IfOk};
 use crate::calls::Trouble;
 use crate::examples::stream;
 use crate::threads::{Came, Shared, done, got, made};
-use cml_board::Name;
+use cml_board::{BoardLog, Name};
+use cml_log::MessageLog;
 use cml_threads::{Count, Left, PARTS, Seat};
 use std::alloc::Global;
 use std::marker::Brand;
@@ -16,70 +17,24 @@ use std::thread::Threads;
 /// How many digits are multicast: 1, 2 and so on.
 const DIGITS: u64 = 4;
 
-/// What three readers have read, and how many entries there are at the end.
+/// How many readers there are.
+const READERS: usize = 3;
+
+/// What each reader has read, and how many entries there are at the end.
 pub fn read_by_three<R: Threads + Wait + Sync>(
     rt: &R,
     alloc: Global,
-) -> Result<([u64; 3], Count), Trouble>
+) -> Result<(Vec<u64>, Count), Trouble>
     ensures { IfOk result (λ found. found.1.total ≡ found.1.seats + found.1.rings) }
 {
-    stream::<Brand, R>(rt, alloc, Blank::new(PARTS))
+    stream::<BoardLog<u64>, Brand, R>(rt, alloc, Blank::new(PARTS))
 }
 
-/// What each of the three has read, and the seats of all.
-pub fn tell_to_three<Led: Ledger + Send + Sync, R: Threads + Wait + Sync>(
-    rt: &R,
-    alloc: Global,
-    board: &Shared<Led>,
-) -> Came<[u64; 3], Led> {
-    let mut teller = board.seat(rt)?;
-    let [news, first, second, third] = open_channel(rt, board, &mut teller)?;
-    let (ann, ben, cid) = make_seats(rt, board)?;
-    let ((ann, ben), (cid, (told, teller))) = thread::join(
-        rt,
-        move || {
-            let ann_reads = move || read(rt, board, ann, first);
-            thread::join(rt, ann_reads, move || read(rt, board, ben, second))
-        },
-        move || {
-            let cid_reads = move || read(rt, board, cid, third);
-            thread::join(rt, cid_reads, move || tell(rt, board, teller, news))
-        },
-    );
-    let digits = all_read(told, [ann.digits, ben.digits, cid.digits]);
-    let lefts = vec![in alloc; ann.left, ben.left, cid.left, teller]?;
-    Ok((digits?, lefts))
-}
-
-/// A seat for each of the three.
-fn make_seats<Led: Ledger, R: Wait>(
-    rt: &R,
-    board: &Shared<Led>,
-) -> Result<(Seat<Led>, Seat<Led>, Seat<Led>), Trouble> {
-    Ok((board.seat(rt)?, board.seat(rt)?, board.seat(rt)?))
-}
-
-/// What was read, if all was multicast and each has read it.
-fn all_read(
-    told: Result<(), Trouble>,
-    read: [Result<u64, Trouble>; 3],
-) -> Result<[u64; 3], Trouble> {
-    told?;
-    let [first, second, third] = read;
-    Ok([first?, second?, third?])
-}
-
-/// A channel with three ports.
-fn open_channel<Led: Ledger, R: Wait>(
-    rt: &R,
-    board: &Shared<Led>,
-    teller: &mut Seat<Led>,
-) -> Result<[Name; 4], Trouble> {
-    let news = made(board.m_channel(rt, teller))?;
-    let first = made(board.port(rt, teller, news))?;
-    let second = made(board.port(rt, teller, news))?;
-    let third = made(board.port(rt, teller, news))?;
-    Ok([news, first, second, third])
+/// A reader's seat, and the port from which it receives.
+#[derive(Drop)]
+struct Reader<Led: Ledger> {
+    seat: Seat<Led>,
+    port: Name,
 }
 
 /// The result of a reader's thread.
@@ -89,24 +44,74 @@ struct Reading<Led: Ledger> {
     left: Left<Led>,
 }
 
-/// Receives all digits, and leaves even if that fails.
-fn read<Led: Ledger, R: Wait>(
+/// What each reader has read, and the seats of all.
+pub fn tell_to_three<
+    L: MessageLog<u64> + Send,
+    Led: Ledger + Send + Sync,
+    R: Threads + Wait + Sync,
+>(rt: &R, alloc: Global, board: &Shared<L, Led>) -> Came<Vec<u64>, Led> {
+    let mut teller = board.seat(rt)?;
+    let news = made(board.m_channel(rt, &mut teller))?;
+    let mut readers = Vec::new(alloc);
+    add_readers(rt, board, &mut teller, news, &mut readers)?;
+    let (readings, (told, teller)) = thread::join(
+        rt,
+        move || thread::map_vec(rt, readers, &|reader| read(rt, board, reader)),
+        move || tell(rt, board, teller, news),
+    );
+    told?;
+    let mut lefts = vec![in alloc; teller]?;
+    let digits = digits_of(alloc, readings?, &mut lefts)?;
+    Ok((digits, lefts))
+}
+
+/// Adds all readers to the list, each with a port and a seat.
+fn add_readers<L: MessageLog<u64>, Led: Ledger, R: Wait>(
     rt: &R,
-    board: &Shared<Led>,
-    mut reader: Seat<Led>,
-    port: Name,
+    board: &Shared<L, Led>,
+    teller: &mut Seat<Led>,
+    news: Name,
+    readers: &mut Vec<Reader<Led>>,
+) -> Result<(), Trouble> {
+    for _ in 0..READERS {
+        let port = made(board.port(rt, teller, news))?;
+        let seat = board.seat(rt)?;
+        readers.push(Reader { seat, port })?;
+    }
+    Ok(())
+}
+
+/// What each reader has read, if all have read all of it. Their seats go into the list.
+fn digits_of<Led: Ledger>(
+    alloc: Global,
+    readings: Vec<Reading<Led>>,
+    lefts: &mut Vec<Left<Led>>,
+) -> Result<Vec<u64>, Trouble> {
+    let mut digits = Vec::new(alloc);
+    for reading in readings {
+        digits.push(reading.digits?)?;
+        lefts.push(reading.left)?;
+    }
+    Ok(digits)
+}
+
+/// Receives all digits, and leaves even if that fails.
+fn read<L: MessageLog<u64>, Led: Ledger, R: Wait>(
+    rt: &R,
+    board: &Shared<L, Led>,
+    mut reader: Reader<Led>,
 ) -> Reading<Led> {
-    let digits = receive_all(rt, board, &mut reader, port);
+    let digits = receive_all(rt, board, &mut reader.seat, reader.port);
     Reading {
         digits,
-        left: board.leave(rt, reader),
+        left: board.leave(rt, reader.seat),
     }
 }
 
 /// The digits, one behind the other as one number.
-fn receive_all<Led: Ledger, R: Wait>(
+fn receive_all<L: MessageLog<u64>, Led: Ledger, R: Wait>(
     rt: &R,
-    board: &Shared<Led>,
+    board: &Shared<L, Led>,
     reader: &mut Seat<Led>,
     port: Name,
 ) -> Result<u64, Trouble> {
@@ -119,9 +124,9 @@ fn receive_all<Led: Ledger, R: Wait>(
 }
 
 /// Multicasts all digits, and leaves.
-fn tell<Led: Ledger, R: Wait>(
+fn tell<L: MessageLog<u64>, Led: Ledger, R: Wait>(
     rt: &R,
-    board: &Shared<Led>,
+    board: &Shared<L, Led>,
     mut teller: Seat<Led>,
     news: Name,
 ) -> (Result<(), Trouble>, Left<Led>) {
@@ -129,9 +134,9 @@ fn tell<Led: Ledger, R: Wait>(
     (told, board.leave(rt, teller))
 }
 
-fn multicast_all<Led: Ledger, R: Wait>(
+fn multicast_all<L: MessageLog<u64>, Led: Ledger, R: Wait>(
     rt: &R,
-    board: &Shared<Led>,
+    board: &Shared<L, Led>,
     teller: &mut Seat<Led>,
     news: Name,
 ) -> Result<(), Trouble> {

@@ -2,22 +2,21 @@
 ghost use Rattle.std.specs.Prelude.{◌≡◌, ◌+◌, IfOk, Ok};
 ghost use Rattle.cml_threads.specs.Seating.{answers_in};
 
-use crate::calls::Trouble;
-use cml_board::{BoardLog, Call, Message, Name, Refusal, Reply};
+use crate::calls::{Trouble, message_of, name_of, nothing_of};
+use cml_board::{Call, Message, Name, Refusal, Reply};
 use cml_lanes::LaneEnd;
+use cml_log::MessageLog;
 use cml_threads::{Count, Left, Settled, Switchboard};
 use std::alloc::{AllocFailed, Global};
 use std::sync::ledger::Ledger;
 use std::thread::{JoinHandle, Threads};
 
-/// A switchboard whose messages are of this type.
-pub type SharedOf<M, Led> = Switchboard<M, BoardLog<M>, Led>;
-
-/// A switchboard whose messages are numbers.
-pub type Shared<Led> = SharedOf<u64, Led>;
+/// A switchboard whose messages are numbers. `L` is the type of its logs: `BoardLog<u64>`. The prover needs less time for a
+/// function over each such type.
+pub type Shared<L, Led> = Switchboard<u64, L, Led>;
 
 /// What is left of one at the end.
-pub type Ended = Settled<u64, BoardLog<u64>>;
+pub type Ended<L> = Settled<u64, L>;
 
 /// The result of a call on a switchboard: the reply, or the refusal and the call that came back.
 pub type Replied<M> = Result<Reply<M>, (Refusal, Call<M>)>;
@@ -50,37 +49,28 @@ impl<T: Drop> From<AllocFailed<T>> for Trouble {
 pub fn made<M: Message>(replied: Replied<M>) -> Result<Name, Trouble>
     ensures { IfOk result (λ name. replied ≡ Ok (Reply.Made name)) }
 {
-    match replied? {
-        Reply::Made(name) => Ok(name),
-        _ => Err(Trouble::OtherReply),
-    }
+    name_of(replied?)
 }
 
 /// The message that was got.
 pub fn got<M: Message>(replied: Replied<M>) -> Result<M, Trouble>
     ensures { IfOk result (λ message. replied ≡ Ok (Reply.Got message)) }
 {
-    match replied? {
-        Reply::Got(message) => Ok(message),
-        _ => Err(Trouble::OtherReply),
-    }
+    message_of(replied?)
 }
 
 /// Nothing, of a call whose reply must be `Done`.
 pub fn done<M: Message>(replied: Replied<M>) -> Result<(), Trouble>
     ensures { IfOk result (λ _. replied ≡ Ok Reply.Done) }
 {
-    match replied? {
-        Reply::Done => Ok(()),
-        _ => Err(Trouble::OtherReply),
-    }
+    nothing_of(replied?)
 }
 
 /// What is left of a switchboard that all seats have left.
-pub fn settle<M: Message, Led: Ledger>(
-    shared: SharedOf<M, Led>,
+pub fn settle<M: Message, L: MessageLog<M>, Led: Ledger>(
+    shared: Switchboard<M, L, Led>,
     lefts: Vec<Left<Led>>,
-) -> Result<Settled<M, BoardLog<M>>, Trouble>
+) -> Result<Settled<M, L>, Trouble>
     ensures { IfOk result (λ settled. settled.seats ≡ answers_in lefts.items) }
 {
     match shared.settle(lefts) {
@@ -93,10 +83,10 @@ pub fn settle<M: Message, Led: Ledger>(
 pub type Came<T, Led> = Result<(T, Vec<Left<Led>>), Trouble>;
 
 /// What an example found, and what is left of its switchboard once all seats have left.
-pub fn settled<T: Drop, M: Message, Led: Ledger>(
-    shared: SharedOf<M, Led>,
+pub fn settled<T: Drop, M: Message, L: MessageLog<M>, Led: Ledger>(
+    shared: Switchboard<M, L, Led>,
     came: Came<T, Led>,
-) -> Result<(T, Settled<M, BoardLog<M>>), Trouble>
+) -> Result<(T, Settled<M, L>), Trouble>
     ensures { IfOk result (λ found. IfOk came (λ gave. found.1.seats ≡ answers_in gave.1.items)) }
 {
     let (found, lefts) = came?;
@@ -104,8 +94,8 @@ pub fn settled<T: Drop, M: Message, Led: Ledger>(
 }
 
 /// What an example found, and how many entries there are at the end.
-pub fn counted<T: Drop, M: Message, Led: Ledger>(
-    shared: SharedOf<M, Led>,
+pub fn counted<T: Drop, M: Message, L: MessageLog<M>, Led: Ledger>(
+    shared: Switchboard<M, L, Led>,
     came: Came<T, Led>,
 ) -> Result<(T, Count), Trouble>
     ensures seats { IfOk result (λ found. IfOk came (λ gave. found.1.seats ≡ answers_in gave.1.items)) }
