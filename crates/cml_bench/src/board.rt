@@ -60,6 +60,12 @@ impl<M: Numbered> OnBoard<M> {
         Some(())
     }
 
+    fn timed<R: Runtime>(&mut self, rt: &R, first: u64, count: u64) -> io::Result<Duration> {
+        let start = Instant::now(rt)?;
+        self.perform(first, count).ok_or(OutOfMemory)?;
+        Ok(start.elapsed(rt)?)
+    }
+
     fn time<R: Runtime>(&mut self, run: &Run<R>) -> io::Result<()> {
         let (first, count) = match run.workload.2 {
             Messages::One => (1, 1),
@@ -67,23 +73,17 @@ impl<M: Numbered> OnBoard<M> {
             _ => (0, run.count),
         };
         let made = self.board.entries();
-        let start = Instant::now(run.rt)?;
-        self.perform(first, count).ok_or(OutOfMemory)?;
-        let time = start.elapsed(run.rt)?;
+        let time = self.timed(run.rt, first, count)?;
         let calls = self.board.entries().saturating_sub(made);
         run.tell(self.sum, &[Timed("seryugo_board", time, calls)])
     }
 
     /// A cut follows each piece. The times of the first and the last piece are without their cuts.
     fn time_with_cuts<R: Runtime>(&mut self, run: &Run<R>) -> io::Result<()> {
-        let most = if run.is_timed { 50_000 } else { 10 };
-        let piece = run.count.min(most);
+        let piece = run.count.min(if run.is_timed { 50_000 } else { 10 });
         let (start, mut first, mut last) = (Instant::now(run.rt)?, None, Duration::ZERO);
         for place in 0..run.count.checked_div(piece).unwrap_or(1) {
-            let piece_start = Instant::now(run.rt)?;
-            self.perform(place.saturating_mul(piece), piece)
-                .ok_or(OutOfMemory)?;
-            last = piece_start.elapsed(run.rt)?;
+            last = self.timed(run.rt, place.saturating_mul(piece), piece)?;
             first = first.or(Some(last));
             self.board.cut();
         }

@@ -7,45 +7,35 @@ use cml_lanes::{Floor, Lane};
 use rtrb::{Consumer, Producer, RingBuffer};
 use std::io;
 use std::io::ErrorKind::OutOfMemory;
-use std::rt::Clock;
 use std::time::{Duration, Instant};
 
 /// The number of messages for which a ring has room. It is filled, and then emptied.
 const CAPACITY: usize = 1_024;
 
-/// A lane to a mailbox on a floor, a bare ring, and a board.
+/// A lane to a mailbox on a floor, the two ends of a bare ring, and a board.
 #[derive(Drop)]
-struct OnLane {
+struct Ways {
     floor: Floor<u64, BoardLog<u64>>,
     lane: Lane<u64>,
-    producer: Producer<u64>,
-    consumer: Consumer<u64>,
+    ring: (Producer<u64>, Consumer<u64>),
     board: OnBoard<u64>,
-    moved: u64,
 }
 
 /// N messages and the rest of a ring. How many passed the lane counts as the sum.
 pub fn time<R: Runtime>(run: &Run<R>) -> io::Result<()> {
-    OnLane::new(run)?.time(run)
+    let mut floor = Floor::new(run.alloc, Board::new(run.alloc, LIMIT)?);
+    floor.apply(0, Call::NewMailbox);
+    let (lane, _) = floor.open_lane(Name(0), CAPACITY).ok().ok_or(OutOfMemory)?;
+    let mut ways = Ways {
+        floor,
+        lane,
+        ring: RingBuffer::new(run.alloc, CAPACITY)?,
+        board: OnBoard::new(run)?,
+    };
+    ways.time(run)
 }
 
-impl OnLane {
-    fn new<R>(run: &Run<R>) -> io::Result<OnLane> {
-        let mut floor = Floor::new(run.alloc, Board::new(run.alloc, LIMIT)?);
-        floor.apply(0, Call::NewMailbox);
-        let (lane, _) = floor.open_lane(Name(0), CAPACITY).ok().ok_or(OutOfMemory)?;
-        let (producer, consumer) = RingBuffer::new(run.alloc, CAPACITY)?;
-        let board = OnBoard::new(run)?;
-        Ok(OnLane {
-            floor,
-            lane,
-            producer,
-            consumer,
-            board,
-            moved: 0,
-        })
-    }
-
+impl Ways {
     fn time<R: Runtime>(&mut self, run: &Run<R>) -> io::Result<()> {
         let rounds = run.count / CAPACITY as u64 + 1;
         let calls = rounds.saturating_mul(CAPACITY as u64);
@@ -58,10 +48,11 @@ impl OnLane {
         for round in 0..rounds {
             self.add_round(run.rt, round, &mut timed)?;
         }
-        run.tell(self.moved, &timed)
+        // The making of the mailbox is an entry too.
+        run.tell(self.floor.board().entries().saturating_sub(1), &timed)
     }
 
-    fn add_round<R: Clock>(&mut self, rt: &R, round: u64, timed: &mut [Timed]) -> io::Result<()> {
+    fn add_round<R: Runtime>(&mut self, rt: &R, round: u64, timed: &mut [Timed]) -> io::Result<()> {
         for (place, timed) in timed.iter_mut().enumerate() {
             let start = Instant::now(rt)?;
             self.pass(place, round).ok_or(OutOfMemory)?;
@@ -74,10 +65,7 @@ impl OnLane {
     fn pass(&mut self, place: usize, first: u64) -> Done {
         match place {
             0 => self.send(first),
-            1 => {
-                let moved = self.floor.drain(self.lane.number()).ok()?;
-                self.moved = self.moved.saturating_add(moved as u64);
-            }
+            1 => drop(self.floor.drain(self.lane.number()).ok()?),
             2 => self.push_and_pop(first),
             _ => self.board.perform(0, CAPACITY as u64)?,
         }
@@ -92,10 +80,10 @@ impl OnLane {
 
     fn push_and_pop(&mut self, first: u64) {
         for place in 0..CAPACITY as u64 {
-            let _ = self.producer.push(first.wrapping_add(place));
+            let _ = self.ring.0.push(first.wrapping_add(place));
         }
         for _ in 0..CAPACITY {
-            let _ = self.consumer.pop();
+            let _ = self.ring.1.pop();
         }
     }
 }

@@ -19,9 +19,11 @@ struct OnLog<L: MessageLog<u64>> {
 
 /// N times a push, and then a read by each cursor.
 pub fn time<L: MessageLog<u64>, R: Runtime>(run: &Run<R>, subject: &'static str) -> io::Result<()> {
-    let (log, keys) = (L::new(run.alloc)?, Vec::new(run.alloc));
+    let (mut log, mut keys) = (L::new(run.alloc)?, Vec::new(run.alloc));
+    for _ in 0..CURSORS {
+        keys.push(log.open_cursor()?)?;
+    }
     let mut on = OnLog { log, keys, sum: 0 };
-    on.open_cursors()?;
     let start = Instant::now(run.rt)?;
     on.perform(run.count).ok_or(OutOfMemory)?;
     let time = start.elapsed(run.rt)?;
@@ -30,13 +32,6 @@ pub fn time<L: MessageLog<u64>, R: Runtime>(run: &Run<R>, subject: &'static str)
 }
 
 impl<L: MessageLog<u64>> OnLog<L> {
-    fn open_cursors(&mut self) -> io::Result<()> {
-        for _ in 0..CURSORS {
-            self.keys.push(self.log.open_cursor()?)?;
-        }
-        Ok(())
-    }
-
     fn perform(&mut self, count: u64) -> Done {
         for message in 0..count {
             if self.log.next() >= u64::MAX - 1 || self.log.push(message).is_err() {
@@ -49,13 +44,12 @@ impl<L: MessageLog<u64>> OnLog<L> {
 
     /// Reads the next message of each cursor that is open and has one to read.
     fn read_by_each(&mut self) {
-        let mut sum = self.sum;
         for key in &self.keys {
             if self.log.is_open(*key) && self.log.owed(*key) > 0 {
-                sum = self.log.peek(*key).copied().unwrap_or(0).added_to(sum);
+                let message = self.log.peek(*key).copied().unwrap_or(0);
+                self.sum = message.added_to(self.sum);
                 self.log.advance(*key);
             }
         }
-        self.sum = sum;
     }
 }

@@ -1,4 +1,4 @@
-//! `cml_bench [N [NAME]]`: with a number it prints how long calls take, each workload done N times, or the named one alone.
+//! `cml_bench [N [NAME]]`: with a number it prints how long calls take, each workload done N times, or those of this name.
 //! Without a number it prints the sum of each workload, done a few times.
 #![tactic(auto)]
 
@@ -12,7 +12,7 @@ mod workloads;
 
 use cml_board::{Bytes, Text};
 use cml_log::{ChunkLog, PlainLog};
-use messages::{Copied, Numbered};
+use messages::Numbered;
 use std::alloc::Global;
 use std::process::ExitCode;
 use std::rt::Clock;
@@ -48,44 +48,35 @@ pub struct Timed(pub &'static str, pub Duration, pub u64);
 
 fn main(rt: HostRuntime) -> io::Result<ExitCode> {
     let words = env::args(&rt)?.collect::<Vec<String>>(rt.alloc())?;
-    let Some((times, alone)) = asked_by(&words) else {
-        eprintln!(rt;
-            "usage: cml_bench [N [log8|soak1|a workload of texts, of bytes, or on a switchboard]], N from 1 to {MOST}"
-        )?;
+    let Some((times, name)) = asked_by(&words) else {
+        eprintln!(rt; "usage: cml_bench [N [NAME]], N from 1 to {MOST}, NAME of a workload")?;
         return Ok(ExitCode::from(2));
     };
     for workload in WORKLOADS.iter() {
-        if workload.is_wanted(times, alone) {
-            let run = Run {
+        if workload.is_wanted(times, name) {
+            Run {
                 rt: &rt,
                 alloc: rt.alloc(),
                 workload: *workload,
-                count: times.unwrap_or(100),
+                count: workload.turns(times.unwrap_or(100)),
                 is_timed: times.is_some(),
-            };
-            run.perform()?;
+            }
+            .perform()?;
         }
     }
     Ok(ExitCode::SUCCESS)
 }
 
-/// How often each workload is timed, if not its sum is asked for, and the name of one that is done alone.
+/// How often each workload is timed, if not its sum is asked for, and the name of those that are done.
 fn asked_by(words: &[String]) -> Option<(Option<u64>, Option<&str>)> {
-    let (times, alone) = match words {
-        [] | [_] => (None, None),
-        [_, times] => (Some(parsed(times)?), None),
-        [_, times, name] => (Some(parsed(times)?), Some(name.as_str())),
-        _ => return None,
+    let times = match words.get(1) {
+        Some(times) => Some(times.parse().ok().filter(|it| (1..=MOST).contains(it))?),
+        None => None,
     };
-    let is_wanted = |workload: &Workload| workload.is_wanted(times, alone);
-    WORKLOADS.iter().any(is_wanted).then_some((times, alone))
-}
-
-fn parsed(word: &str) -> Option<u64> {
-    match word.parse::<u64>() {
-        Ok(times) if 1 <= times && times <= MOST => Some(times),
-        _ => None,
-    }
+    let name = words.get(2).map(String::as_str);
+    let is_wanted = |workload: &Workload| workload.is_wanted(times, name);
+    let is_understood = words.len() <= 3 && WORKLOADS.iter().any(is_wanted);
+    is_understood.then_some((times, name))
 }
 
 impl<R: Runtime> Run<'_, R> {
@@ -94,7 +85,6 @@ impl<R: Runtime> Run<'_, R> {
             Messages::Numbers | Messages::One => self.perform_with::<u64>(),
             Messages::Texts | Messages::LongTexts => self.perform_with::<Text>(),
             Messages::Bytes(_) => self.perform_with::<Bytes>(),
-            Messages::Vectors(_) => self.perform_with::<Copied>(),
         }
     }
 
@@ -108,29 +98,17 @@ impl<R: Runtime> Run<'_, R> {
         }
     }
 
-    /// Prints the sum, or how many nanoseconds a call took, with one digit behind the point.
+    /// Prints the sum and how many calls were made, or how many nanoseconds each took, with one digit after the point.
     fn tell(&self, sum: u64, timed: &[Timed]) -> io::Result<()> {
+        let (rt, name) = (self.rt, self.workload.0);
         for Timed(subject, time, calls) in timed.iter() {
             if !self.is_timed {
-                return self.tell_sum(sum, *calls);
+                return println!(rt; "{name} {subject} {sum} {calls}");
             }
             let tenths = time.as_nanos().saturating_mul(10);
             let tenths = tenths.checked_div(*calls as u128).unwrap_or(0);
-            let (name, whole, tenth) = (self.workload.0, tenths / 10, tenths % 10);
-            println!(self.rt; "{name} {subject} {whole}.{tenth}")?;
+            println!(rt; "{name} {subject} {}.{}", tenths / 10, tenths % 10)?;
         }
         Ok(())
-    }
-
-    /// Prints the sum, and how many calls were made if this shows more.
-    fn tell_sum(&self, sum: u64, calls: u64) -> io::Result<()> {
-        let (rt, name) = (self.rt, self.workload.0);
-        match self.workload.1 {
-            Ground::Deque => println!(rt; "{name}_deque {sum}"),
-            Ground::Chunks => println!(rt; "{name}_chunks {sum}"),
-            Ground::CutBoard => println!(rt; "{name} {sum} {calls}"),
-            Ground::Hall => println!(rt; "{name}_switchboard {sum} {calls}"),
-            _ => println!(rt; "{name} {sum}"),
-        }
     }
 }

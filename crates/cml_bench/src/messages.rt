@@ -1,10 +1,7 @@
-//! What the messages of a workload can be: numbers, texts, bytes that all shares own together, or bytes that each share copies.
-ghost use Rattle.std.specs.Prelude.{false};
-
+//! What the messages of a workload can be: numbers, texts or bytes.
 use crate::workloads::Messages;
 use cml_board::{Bytes, Entry, Message, Text};
 use std::alloc::{AllocError, Global};
-use std::marker::Model;
 use std::mem;
 
 /// An entry of a text's board is at most 88 bytes, those that its texts own apart.
@@ -14,56 +11,28 @@ const _: () = prove!(mem::size_of::<Entry<Text>>() <= 88);
 #[derive(Drop)]
 pub struct Supply {
     alloc: Global,
+    /// 256 more than a message has.
     bytes: Vec<u8>,
-    length: usize,
 }
 
 impl Supply {
     pub fn new(alloc: Global, messages: Messages) -> Result<Supply, AllocError> {
         let length = match messages {
-            Messages::Bytes(length) | Messages::Vectors(length) => length,
+            Messages::Bytes(length) => length,
             _ => 0,
         };
         let mut bytes = Vec::new(alloc);
         for place in 0..(length as u64).saturating_add(256) {
             bytes.push((place % 256) as u8)?;
         }
-        Ok(Supply {
-            alloc,
-            bytes,
-            length,
-        })
+        Ok(Supply { alloc, bytes })
     }
 
     /// The bytes of this number's message: they begin with its lowest one.
     fn bytes(&self, number: u64) -> &[u8] {
         let start = (number % 256) as usize;
-        let end = start.saturating_add(self.length);
+        let end = self.bytes.len().saturating_sub(256).saturating_add(start);
         self.bytes.get(start..end).unwrap_or(&[])
-    }
-}
-
-/// Bytes of which each share allocates memory and copies all. Contracts see them as their list.
-#[derive(Drop)]
-pub struct Copied(Vec<u8>);
-
-impl Model for Copied {
-    ghost use Rattle.std.specs.Prelude.{ℕ, List};
-
-    ghost Value = { List ℕ };
-
-    ghost view = { λ copied. copied.0.items };
-}
-
-impl Message for Copied {
-    ghost SURE = { false };
-
-    fn share(&self, alloc: Global) -> Result<Copied, AllocError> {
-        Ok(Copied(Vec::from_slice(alloc, &self.0)?))
-    }
-
-    fn same(&self, other: &Copied) -> bool {
-        self.0.as_slice() == other.0.as_slice()
     }
 }
 
@@ -103,30 +72,15 @@ impl Numbered for Text {
 
 impl Numbered for Bytes {
     fn of_number(supply: &Supply, number: u64) -> Option<Bytes> {
-        Bytes::from_slice(supply.alloc, supply.bytes(number))
-            .ok()?
-            .ok()
+        let bytes = supply.bytes(number);
+        Bytes::from_slice(supply.alloc, bytes).ok()?.ok()
     }
 
+    /// The sum with the first and the last byte after it. To add all bytes would take longer than to send them.
     fn added_to(&self, sum: u64) -> u64 {
-        with_ends(sum, self.as_slice())
+        let bytes = self.as_slice();
+        let first = bytes.first().copied().unwrap_or(0) as u64;
+        let last = bytes.last().copied().unwrap_or(0) as u64;
+        last.added_to(first.added_to(sum))
     }
-}
-
-impl Numbered for Copied {
-    fn of_number(supply: &Supply, number: u64) -> Option<Copied> {
-        let bytes = Vec::from_slice(supply.alloc, supply.bytes(number)).ok()?;
-        Some(Copied(bytes))
-    }
-
-    fn added_to(&self, sum: u64) -> u64 {
-        with_ends(sum, &self.0)
-    }
-}
-
-/// The sum with the first and the last byte behind it. To add all bytes would take longer than to send them.
-fn with_ends(sum: u64, bytes: &[u8]) -> u64 {
-    let first = bytes.first().copied().unwrap_or(0) as u64;
-    let last = bytes.last().copied().unwrap_or(0) as u64;
-    last.added_to(first.added_to(sum))
 }

@@ -1,5 +1,6 @@
 //! What the threads of a workload do: calls, turn after turn, on a board or on a switchboard.
 use crate::messages::{Numbered, Supply};
+use Role::*;
 use Verb::{Answer, Ask, Give, Make, Request};
 use cml_board::Ask::{NewPort, Recv, Take};
 use cml_board::Give::{Cast, Put, Send};
@@ -38,11 +39,11 @@ pub enum Role {
     /// Receives, and takes the journal again and again.
     Cutter,
     Filler,
-    /// Drains the lanes, and receives what came.
-    Drainer,
+    /// Drains this many lanes, and receives what came.
+    Drainer(u64),
     FeedReader,
-    /// Multicasts, and pumps the feeds.
-    Pumper,
+    /// Multicasts, and pumps this many feeds.
+    Pumper(u64),
 }
 
 /// A call that makes an object, or one on an object.
@@ -72,8 +73,7 @@ pub struct Part {
 
 /// A caller makes calls, and adds up what it receives.
 pub trait Caller {
-    /// Makes a call on the object with this name, with this number's message if it gives one. Returns the number that it
-    /// received, or else this number.
+    /// Makes this call, with this number's message if it gives one. Returns the number that it received, or else this number.
     fn make(&mut self, verb: Verb, name: Name, number: u64) -> Option<u64>;
 }
 
@@ -81,7 +81,7 @@ impl Role {
     /// What the thread at this place of so many does, where all together make so many turns. Each reader makes all of them.
     pub fn part(self, place: u64, threads: u64, turns: u64) -> Part {
         let each = match self {
-            Role::Reader | Role::FeedReader => turns,
+            Reader => turns,
             _ => turns.checked_div(threads).unwrap_or(0),
         };
         let start = place.saturating_mul(each);
@@ -97,18 +97,17 @@ impl Role {
         let own = place.saturating_add(1);
         let next = own.checked_rem(threads).unwrap_or(0);
         match self {
-            Role::Pair => Turn(Give(Send), 0, Ask(Recv), 0, 1),
-            Role::Getter | Role::Cutter => Turn(Ask(Recv), 0, Answer, 0, 0),
-            Role::Collector | Role::Drainer => Turn(Ask(Recv), 0, Answer, 0, 0),
-            Role::Caster | Role::Pumper => Turn(Give(Cast), 0, Answer, 0, 0),
-            Role::CastTo(ports) => Turn(Give(Cast), 0, Ask(Recv), 1, ports),
-            Role::Reader | Role::FeedReader => Turn(Ask(Recv), own, Answer, 0, 0),
-            Role::Holder => Turn(Give(Put), 0, Ask(Take), 0, 1),
-            Role::Putter => Turn(Give(Put), 0, Ask(Take), 1, 1),
-            Role::Taker => Turn(Ask(Take), 0, Give(Put), 1, 1),
-            Role::Passer => Turn(Ask(Recv), place, Give(Send), next, 1),
-            Role::Client => Turn(Request, own, Ask(Recv), own, 1),
-            Role::Worker => Turn(Ask(Recv), 0, Answer, 0, 1),
+            Pair => Turn(Give(Send), 0, Ask(Recv), 0, 1),
+            Getter | Cutter | Collector | Drainer(_) => Turn(Ask(Recv), 0, Answer, 0, 0),
+            Caster | Pumper(_) => Turn(Give(Cast), 0, Answer, 0, 0),
+            CastTo(ports) => Turn(Give(Cast), 0, Ask(Recv), 1, ports),
+            Reader => Turn(Ask(Recv), own, Answer, 0, 0),
+            Holder => Turn(Give(Put), 0, Ask(Take), 0, 1),
+            Putter => Turn(Give(Put), 0, Ask(Take), 1, 1),
+            Taker => Turn(Ask(Take), 0, Give(Put), 1, 1),
+            Passer => Turn(Ask(Recv), place, Give(Send), next, 1),
+            Client => Turn(Request, own, Ask(Recv), own, 1),
+            Worker => Turn(Ask(Recv), 0, Answer, 0, 1),
             _ => Turn(Give(Send), 0, Answer, 0, 0),
         }
     }
@@ -116,10 +115,8 @@ impl Role {
     /// The sum with what was received, where the order changes it, in any order, or without it.
     pub fn add(self, sum: u64, received: u64) -> u64 {
         match self {
-            Role::Taker | Role::Worker | Role::Pacer => sum,
-            Role::Collector | Role::Drainer | Role::Reader | Role::Passer | Role::Client => {
-                sum.wrapping_add(received)
-            }
+            Taker | Worker | Pacer => sum,
+            Collector | Drainer(_) | Reader | Passer | Client => sum.wrapping_add(received),
             _ => received.added_to(sum),
         }
     }
@@ -131,7 +128,9 @@ impl Part {
         let Turn(verb, name, then, first, count) = self.turn;
         for number in start..end {
             let received = caller.make(verb, Name(name), number)?;
-            then.on_each(caller, first, count, received)?;
+            for name in first..first.saturating_add(count) {
+                caller.make(then, Name(name), received)?;
+            }
         }
         Some(())
     }
@@ -149,35 +148,27 @@ impl Verb {
         };
         Some(Call::give(give, name, M::of_number(supply, number)?))
     }
-
-    /// Makes the call on so many objects, from this one on.
-    fn on_each<C: Caller>(self, caller: &mut C, first: u64, count: u64, number: u64) -> Done {
-        for name in first..first.saturating_add(count) {
-            caller.make(self, Name(name), number)?;
-        }
-        Some(())
-    }
 }
 
 /// Makes what these threads call on, and sends a token on its way if they pass one.
 pub fn make_objects<C: Caller>(crews: &[(u64, Role)], caller: &mut C) -> Done {
     let ((threads, role), (clients, _)) = (crews.first()?, crews.last()?);
     let (first, other, others) = match *role {
-        Role::CastTo(ports) => (Make(Channel), Ask(NewPort), ports),
-        Role::Reader => (Make(Channel), Ask(NewPort), *threads),
-        Role::FeedReader => (Make(Channel), Ask(NewPort), 0),
-        Role::Holder => (Make(MVar), Make(MVar), 0),
-        Role::Taker => (Make(MVar), Make(MVar), 1),
-        Role::Pacer => (Make(Mailbox), Make(Mailbox), 1),
-        Role::Passer => (Make(Mailbox), Make(Mailbox), threads.saturating_sub(1)),
-        Role::Worker => (Make(Mailbox), Make(Mailbox), *clients),
-        _ => (Make(Mailbox), Make(Mailbox), 0),
+        CastTo(ports) => (Channel, Ask(NewPort), ports),
+        Reader => (Channel, Ask(NewPort), *threads),
+        FeedReader => (Channel, Ask(NewPort), 0),
+        Holder => (MVar, Make(MVar), 0),
+        Taker => (MVar, Make(MVar), 1),
+        Pacer => (Mailbox, Make(Mailbox), 1),
+        Passer => (Mailbox, Make(Mailbox), threads.saturating_sub(1)),
+        Worker => (Mailbox, Make(Mailbox), *clients),
+        _ => (Mailbox, Make(Mailbox), 0),
     };
-    caller.make(first, Name(0), 0)?;
+    caller.make(Make(first), Name(0), 0)?;
     for _ in 0..others {
         caller.make(other, Name(0), 0)?;
     }
-    if matches!(role, Role::Passer) {
+    if matches!(role, Passer) {
         caller.make(Give(Send), Name(0), 1)?;
     }
     Some(())

@@ -5,7 +5,7 @@ use crate::roles::Role::{
     Pair, Passer, Pumper, Putter, Reader, Sender, Taker, Worker,
 };
 use Ground::{Board, Chunks, CutBoard, Deque, Hall, Journal, Lane};
-use Messages::{Bytes, LongTexts, Numbers, One, Texts, Vectors};
+use Messages::{Bytes, LongTexts, Numbers, One, Texts};
 
 /// What a workload runs on.
 #[derive(Clone, Copy)]
@@ -34,10 +34,8 @@ pub enum Messages {
     Texts,
     /// The same with 20 digits each.
     LongTexts,
-    /// This many bytes, whose memory all shares share.
+    /// This many bytes.
     Bytes(usize),
-    /// This many bytes, which each share copies.
-    Vectors(usize),
 }
 
 /// A workload's name, what it runs on, its messages, and its threads.
@@ -45,6 +43,8 @@ pub enum Messages {
 pub struct Workload(pub &'static str, pub Ground, pub Messages, pub Crews);
 
 const PIPE: Crews = &[(1, Getter), (1, Sender)];
+
+const LANES: Crews = &[(1, Drainer(4)), (4, Filler)];
 
 pub const WORKLOADS: &[Workload] = &[
     Workload("pairs1", Board, Numbers, &[(1, Pair)]),
@@ -58,8 +58,6 @@ pub const WORKLOADS: &[Workload] = &[
     Workload("pairs1_bytes64", Board, Bytes(64), &[(1, Pair)]),
     Workload("pairs1_bytes1000", Board, Bytes(1_000), &[(1, Pair)]),
     Workload("cast8_bytes64", Board, Bytes(64), &[(1, CastTo(8))]),
-    Workload("pairs1_vec64", Board, Vectors(64), &[(1, Pair)]),
-    Workload("pairs1_vec1000", Board, Vectors(1_000), &[(1, Pair)]),
     Workload("ports1000", Board, One, &[(1, CastTo(1_000))]),
     Workload("ports10000", Board, One, &[(1, CastTo(10_000))]),
     Workload("ports100000", Board, One, &[(1, CastTo(100_000))]),
@@ -72,9 +70,9 @@ pub const WORKLOADS: &[Workload] = &[
     Workload("pipe2", Hall, Numbers, PIPE),
     Workload("pipe2_bytes64", Hall, Bytes(64), PIPE),
     Workload("fanin4", Hall, Numbers, &[(1, Collector), (4, Sender)]),
-    Workload("fanin4_lanes", Hall, Numbers, &[(1, Drainer), (4, Filler)]),
+    Workload("fanin4_lanes", Hall, Numbers, LANES),
     Workload("cast8", Hall, Numbers, &[(8, Reader), (1, Caster)]),
-    Workload("feed8", Hall, Numbers, &[(8, FeedReader), (1, Pumper)]),
+    Workload("feed8", Hall, Numbers, &[(8, FeedReader), (1, Pumper(8))]),
     Workload("var2", Hall, Numbers, &[(1, Taker), (1, Putter)]),
     Workload("soak2", Hall, Numbers, &[(1, Pacer), (1, Cutter)]),
     Workload("token8", Hall, Numbers, &[(8, Passer)]),
@@ -84,15 +82,10 @@ pub const WORKLOADS: &[Workload] = &[
 ];
 
 impl Workload {
-    /// Only one workload of a name can be done alone. Of those that differ only in size, sums show the smallest.
-    pub fn is_wanted(self, times: Option<u64>, alone: Option<&str>) -> bool {
-        let can_be_alone = match self.1 {
-            Board => !matches!(self.2, Numbers | One),
-            Journal | Lane => false,
-            CutBoard | Deque | Chunks | Hall => true,
-        };
-        match alone {
-            Some(alone) => can_be_alone && self.0 == alone,
+    /// Of workloads that differ only in size, sums show the smallest.
+    pub fn is_wanted(self, times: Option<u64>, name: Option<&str>) -> bool {
+        match name {
+            Some(name) => self.0 == name,
             None => times.is_some() || !matches!(self.3.first(), Some((_, CastTo(1_001..)))),
         }
     }
