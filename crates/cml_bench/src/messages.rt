@@ -1,11 +1,7 @@
 //! What the messages of a workload can be: numbers, texts or bytes.
 use crate::workloads::Messages;
-use cml_board::{Bytes, Entry, Message, Text};
+use cml_board::{Bytes, Message, Text};
 use std::alloc::{AllocError, Global};
-use std::mem;
-
-/// An entry of a text's board is at most 88 bytes, those that its texts own apart.
-const _: () = prove!(mem::size_of::<Entry<Text>>() <= 88);
 
 /// What messages are made with. All bytes are copied from one list of 0 to 255 and 0 again, so that this takes little time.
 #[derive(Drop)]

@@ -8,35 +8,39 @@ use Rattle.cml_board.specs.declared.call.Call.{Call}
 use Rattle.cml_board.specs.declared.call.Call.TheVariants.{CopyPort, ClosePort, Recv, Poll}
 use Rattle.cml_board.specs.declared.entry.Reply.TheVariants.{Done, Got, Nothing, Closed}
 use Rattle.cml_board.specs.declared.entry.Entry.{Entry}
-use Rattle.cml_board.specs.declared.board.note.Taking.{Taking}
-use Rattle.cml_board.specs.declared.board.note.Taking.TheVariants as taking
-use Rattle.cml_board.specs.declared.board.note.Putting.{Putting}
-use Rattle.cml_board.specs.declared.board.note.Putting.TheVariants as putting
-use Rattle.cml_board.specs.declared.board.note.Asking.{Asking}
-use Rattle.cml_board.specs.declared.board.note.Asking.TheVariants as asking
-use Rattle.cml_board.specs.Calls.{taking_call, putting_call, asking_call}
+use Rattle.cml_calls.specs.declared.table.Ask.{Ask}
+use Rattle.cml_calls.specs.declared.table.Ask.TheVariants as ask
+use Rattle.cml_calls.specs.declared.table.Give.{Give}
+use Rattle.cml_calls.specs.declared.table.Give.TheVariants as give
+use Rattle.cml_board.specs.Parts.{given_call, asked_call}
+use Rattle.cml_board.specs.Calls.{adds, takes_next, asks_port}
 use Rattle.cml_calls.specs.Kinds.{is_receiver}
 use Rattle.cml_board.specs.Objects.{object_in, takes}
 use Rattle.cml_board.specs.History.{Fits, kind_of, is_open, owed, answer, new_name}
 use Rattle.cml_board.specs.Counts.{is_a}
 
 module _ {M : Type 0} where
-  pub answer_put : (h : List (Entry M)) (putting : Putting) (name : Name) (message : M) → answer h (putting_call putting name message) ≡ Some Done
-  answer_put h putting.Sending name message = refl
-  answer_put h putting.Casting name message = refl
+  pub answer_put : (h : List (Entry M)) (gives : Give) (name : Name) (message : M) → adds gives ≡ true → answer h (given_call gives name message) ≡ Some Done
+  answer_put h give.Send name message is = refl
+  answer_put h give.Cast name message is = refl
+  answer_put h other name message is = absurd (false≢true is)
 
-  pub answer_closed : (h : List (Entry M)) (asking : Asking) (name : Name) → is_open h name.0 ≡ false → answer h (asking_call asking name) ≡ Some Closed
-  answer_closed h asking.Receive name closed = rw closed refl
-  answer_closed h asking.Poll name closed = rw closed refl
-  answer_closed h asking.Copy name closed = rw closed refl
-  answer_closed h asking.Close name closed = rw closed refl
+  pub answer_closed : (h : List (Entry M)) (asks : Ask) (name : Name) → asks_port asks ≡ true → is_open h name.0 ≡ false
+      → answer h (asked_call asks name) ≡ Some Closed
+  answer_closed h ask.Recv name is closed = rw closed refl
+  answer_closed h ask.Poll name is closed = rw closed refl
+  answer_closed h ask.CopyPort name is closed = rw closed refl
+  answer_closed h ask.ClosePort name is closed = rw closed refl
+  answer_closed h other name is closed = absurd (false≢true is)
 
   pub answer_nothing : (h : List (Entry M)) (name : Name) → is_open h name.0 ≡ true → owed h name.0 ≡ [] → answer h (Poll name) ≡ Some Nothing
   answer_nothing h name opened none = rw (opened, none) refl
 
-  pub answer_taken : (h : List (Entry M)) (taking : Taking) (name : Name) (message : M) → is_open h name.0 ≡ true → slice_get (owed h name.0) 0 ≡ Some message → answer h (taking_call taking name) ≡ Some (Got message)
-  answer_taken h taking.Waiting name message opened first = rw (opened, first) refl
-  answer_taken h taking.Polling name message opened first = rw (opened, first) refl
+  pub answer_taken : (h : List (Entry M)) (asks : Ask) (name : Name) (message : M) → takes_next asks ≡ true → is_open h name.0 ≡ true
+      → slice_get (owed h name.0) 0 ≡ Some message → answer h (asked_call asks name) ≡ Some (Got message)
+  answer_taken h ask.Recv name message is opened first = rw (opened, first) refl
+  answer_taken h ask.Poll name message is opened first = rw (opened, first) refl
+  answer_taken h other name message is opened first = absurd (false≢true is)
 
   -- a message that is owed is there to be taken
   pub some_owed : (messages : List M) → messages ≢ [] → (message : M) × (slice_get messages 0 ≡ Some message)
@@ -58,6 +62,7 @@ module _ {M : Type 0} where
   pub fits_by : (test : Kind → Bool) (h : List (Entry M)) (name : Name) (call : Call M) → object_in call ≡ Some name → ((k : Kind) → takes k call ≡ test k) → is_a test h name.0 ≡ true → Fits h call
   fits_by test h name call on same is = rw on (fits_kind test (kind_of h name.0) call same is)
 
-  pub fits_taking : (h : List (Entry M)) (taking : Taking) (name : Name) → is_a is_receiver h name.0 ≡ true → Fits h (taking_call taking name)
-  fits_taking h taking.Waiting name is = fits_by is_receiver h name (Recv name) refl (λ k. refl) is
-  fits_taking h taking.Polling name is = fits_by is_receiver h name (Poll name) refl (λ k. refl) is
+  pub fits_taking : (h : List (Entry M)) (asks : Ask) (name : Name) → takes_next asks ≡ true → is_a is_receiver h name.0 ≡ true → Fits h (asked_call asks name)
+  fits_taking h ask.Recv name takes is = fits_by is_receiver h name (Recv name) refl (λ k. refl) is
+  fits_taking h ask.Poll name takes is = fits_by is_receiver h name (Poll name) refl (λ k. refl) is
+  fits_taking h other name takes is = absurd (false≢true takes)

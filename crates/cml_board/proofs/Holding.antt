@@ -7,8 +7,8 @@ use Rattle.cml_board.specs.declared.call.Name.{Name}
 use Rattle.cml_calls.specs.declared.kind.Kind.{Kind}
 use Rattle.cml_calls.specs.declared.kind.Kind.TheVariants as kind
 use Rattle.cml_board.specs.declared.call.Call.TheVariants as call
-use Rattle.cml_board.specs.declared.board.note.Looking.{Looking}
-use Rattle.cml_board.specs.declared.board.note.Looking.TheVariants as looking
+use Rattle.cml_calls.specs.declared.table.Ask.{Ask}
+use Rattle.cml_calls.specs.declared.table.Ask.TheVariants as ask
 use Rattle.cml_board.specs.declared.entry.Reply.TheVariants.{Done, Got, Nothing, Put}
 use Rattle.cml_board.specs.declared.entry.Entry.{Entry}
 use Rattle.cml_board.specs.declared.object.Form.{Form}
@@ -17,7 +17,9 @@ use Rattle.cml_board.specs.declared.object.Object.{Object}
 use Rattle.cml_board.specs.declared.object.Object.TheVariants.{Mailbox, Channel, Port, Variable}
 use Rattle.cml_board.specs.Origins.{kind_by}
 use Rattle.cml_calls.specs.Kinds.{is_variable, is_mvar}
-use Rattle.cml_board.specs.Calls.{variable_call, looking_call, waits}
+use Rattle.cml_calls.specs.Table.{asked}
+use Rattle.cml_board.specs.Parts.{asked_call}
+use Rattle.cml_board.specs.Calls.{variable_call, reads}
 use Rattle.cml_board.specs.Held.{held}
 use Rattle.cml_board.specs.History.{Fits, kind_of, answer, new_name}
 use Rattle.cml_board.specs.Counts.{is_a}
@@ -47,11 +49,12 @@ module _ {M : Type 0} where
   pub swap_variable : (h : List (Entry M)) (name : Name) (message : M) → Fits h (call.Swap name message) → is_a is_variable h name.0 ≡ true
   swap_variable h name message fits = mvar_kind (kind_of h name.0) fits.0 fits.1
 
-  pub look_variable : (h : List (Entry M)) (looks : Looking) (name : Name) → Fits h (looking_call looks name) → is_a is_variable h name.0 ≡ true
-  look_variable h looking.Get name fits = variable_kind (kind_of h name.0) fits.0 fits.1
-  look_variable h looking.GetPoll name fits = variable_kind (kind_of h name.0) fits.0 fits.1
-  look_variable h looking.Take name fits = mvar_kind (kind_of h name.0) fits.0 fits.1
-  look_variable h looking.TakePoll name fits = mvar_kind (kind_of h name.0) fits.0 fits.1
+  pub look_variable : (h : List (Entry M)) (asks : Ask) (name : Name) → reads asks ≡ true → Fits h (asked_call asks name) → is_a is_variable h name.0 ≡ true
+  look_variable h ask.Get name is fits = variable_kind (kind_of h name.0) fits.0 fits.1
+  look_variable h ask.GetPoll name is fits = variable_kind (kind_of h name.0) fits.0 fits.1
+  look_variable h ask.Take name is fits = mvar_kind (kind_of h name.0) fits.0 fits.1
+  look_variable h ask.TakePoll name is fits = mvar_kind (kind_of h name.0) fits.0 fits.1
+  look_variable h other name is fits = absurd (false≢true is)
 
   -- one that makes a variable is answered everywhere
   pub fits_making : (h : List (Entry M)) (form : Form) → Fits h (variable_call form)
@@ -76,19 +79,21 @@ module _ {M : Type 0} where
   pub answer_swapped : (h : List (Entry M)) (name : Name) (message old : M) → held h name.0 ≡ Some old → answer h (call.Swap name message) ≡ Some (Got old)
   answer_swapped h name message old full = rw full refl
 
-  pub answer_read : (h : List (Entry M)) (looks : Looking) (name : Name) (message : M) → held h name.0 ≡ Some message
-      → answer h (looking_call looks name) ≡ Some (Got message)
-  answer_read h looking.Get name message full = rw full refl
-  answer_read h looking.GetPoll name message full = rw full refl
-  answer_read h looking.Take name message full = rw full refl
-  answer_read h looking.TakePoll name message full = rw full refl
+  pub answer_read : (h : List (Entry M)) (asks : Ask) (name : Name) (message : M) → reads asks ≡ true → held h name.0 ≡ Some message
+      → answer h (asked_call asks name) ≡ Some (Got message)
+  answer_read h ask.Get name message is full = rw full refl
+  answer_read h ask.GetPoll name message is full = rw full refl
+  answer_read h ask.Take name message is full = rw full refl
+  answer_read h ask.TakePoll name message is full = rw full refl
+  answer_read h other name message is full = absurd (false≢true is)
 
-  pub answer_empty : (h : List (Entry M)) (looks : Looking) (name : Name) → waits looks ≡ false → held h name.0 ≡ None
-      → answer h (looking_call looks name) ≡ Some Nothing
-  answer_empty h looking.Get name polls empty = absurd (false≢true (sym polls))
-  answer_empty h looking.GetPoll name polls empty = rw empty refl
-  answer_empty h looking.Take name polls empty = absurd (false≢true (sym polls))
-  answer_empty h looking.TakePoll name polls empty = rw empty refl
+  pub answer_empty : (h : List (Entry M)) (asks : Ask) (name : Name) → reads asks ≡ true → (asked asks).blocks ≡ false → held h name.0 ≡ None
+      → answer h (asked_call asks name) ≡ Some Nothing
+  answer_empty h ask.Get name is polls empty = absurd (false≢true (sym polls))
+  answer_empty h ask.GetPoll name is polls empty = rw empty refl
+  answer_empty h ask.Take name is polls empty = absurd (false≢true (sym polls))
+  answer_empty h ask.TakePoll name is polls empty = rw empty refl
+  answer_empty h other name is polls empty = absurd (false≢true is)
 
   -- what isn't empty holds something
   pub some_message : (value : Option M) → value ≢ None → (message : M) × (value ≡ Some message)

@@ -5,14 +5,15 @@ use Rattle.std.proofs.lemmas.List.{append-nil}
 use Rattle.cml_board.specs.declared.call.Name.{Name}
 use Rattle.cml_board.specs.declared.call.Call.{Call}
 use Rattle.cml_board.specs.declared.call.Call.TheVariants as call
-use Rattle.cml_board.specs.declared.board.note.Looking.{Looking}
-use Rattle.cml_board.specs.declared.board.note.Looking.TheVariants as looking
+use Rattle.cml_calls.specs.declared.table.Ask.{Ask}
+use Rattle.cml_calls.specs.declared.table.Ask.TheVariants as ask
 use Rattle.cml_board.specs.declared.entry.Who.{Who}
 use Rattle.cml_board.specs.declared.entry.Reply.{Reply}
 use Rattle.cml_board.specs.declared.entry.Reply.TheVariants.{Done, Got, Nothing, Put}
 use Rattle.cml_board.specs.declared.entry.Entry.{Entry}
 use Rattle.cml_board.specs.Origins.{Origin}
-use Rattle.cml_board.specs.Calls.{looking_call, empties}
+use Rattle.cml_board.specs.Parts.{asked_call}
+use Rattle.cml_board.specs.Calls.{reads, empties}
 use Rattle.cml_board.specs.Held.{only_at, left_by, held}
 use Rattle.cml_board.specs.History.{made, if_made, begun_by, origin_of, sent_by, got_by, closes}
 use Rattle.cml_board.specs.Facts.{facts_of}
@@ -82,33 +83,36 @@ module _ {M : Type 0} where
   }
 
   -- a call that reads
-  pub read_spares : (looks : Looking) (name : Name) (message : M) → Spares (looking_call looks name) (Got message)
-  read_spares looking.Get name message = record { makes = λ origins h. refl; sends = λ k. refl; gets = λ k. refl; shuts = λ k. refl }
-  read_spares looking.GetPoll name message = record { makes = λ origins h. refl; sends = λ k. refl; gets = λ k. refl; shuts = λ k. refl }
-  read_spares looking.Take name message = record { makes = λ origins h. refl; sends = λ k. refl; gets = λ k. refl; shuts = λ k. refl }
-  read_spares looking.TakePoll name message = record { makes = λ origins h. refl; sends = λ k. refl; gets = λ k. refl; shuts = λ k. refl }
+  pub read_spares : (asks : Ask) (name : Name) (message : M) → reads asks ≡ true → Spares (asked_call asks name) (Got message)
+  read_spares ask.Get name message is = record { makes = λ origins h. refl; sends = λ k. refl; gets = λ k. refl; shuts = λ k. refl }
+  read_spares ask.GetPoll name message is = record { makes = λ origins h. refl; sends = λ k. refl; gets = λ k. refl; shuts = λ k. refl }
+  read_spares ask.Take name message is = record { makes = λ origins h. refl; sends = λ k. refl; gets = λ k. refl; shuts = λ k. refl }
+  read_spares ask.TakePoll name message is = record { makes = λ origins h. refl; sends = λ k. refl; gets = λ k. refl; shuts = λ k. refl }
+  read_spares other name message is = absurd (false≢true is)
 
-  pub read_leaves : (looks : Looking) (name : Name) (message : M) (k : ℕ) → empties looks ≡ false → left_by (looking_call looks name) (Got message) k ≡ None
-  read_leaves looking.Get name message k stays = refl
-  read_leaves looking.GetPoll name message k stays = refl
-  read_leaves looking.Take name message k stays = absurd (false≢true (sym stays))
-  read_leaves looking.TakePoll name message k stays = absurd (false≢true (sym stays))
+  pub read_leaves : (asks : Ask) (name : Name) (message : M) (k : ℕ) → reads asks ≡ true → empties asks ≡ false → left_by (asked_call asks name) (Got message) k ≡ None
+  read_leaves ask.Get name message k is stays = refl
+  read_leaves ask.GetPoll name message k is stays = refl
+  read_leaves ask.Take name message k is stays = absurd (false≢true (sym stays))
+  read_leaves ask.TakePoll name message k is stays = absurd (false≢true (sym stays))
+  read_leaves other name message k is stays = absurd (false≢true is)
 
-  pub taken_sets : (looks : Looking) (name : Name) (message : M) → empties looks ≡ true → Sets (looking_call looks name) (Got message) name None
-  taken_sets looking.Get name message takes = absurd (false≢true takes)
-  taken_sets looking.GetPoll name message takes = absurd (false≢true takes)
-  taken_sets looking.Take name message takes = record { spares = read_spares looking.Take name message; leaves = λ k. refl }
-  taken_sets looking.TakePoll name message takes = record { spares = read_spares looking.TakePoll name message; leaves = λ k. refl }
+  pub taken_sets : (asks : Ask) (name : Name) (message : M) → empties asks ≡ true → Sets (asked_call asks name) (Got message) name None
+  taken_sets ask.Take name message takes = record { spares = read_spares ask.Take name message refl; leaves = λ k. refl }
+  taken_sets ask.TakePoll name message takes = record { spares = read_spares ask.TakePoll name message refl; leaves = λ k. refl }
+  taken_sets other name message takes = absurd (false≢true takes)
 
   -- and one that finds nothing
-  pub empty_spares : (looks : Looking) (name : Name) → Spares (looking_call {M = M} looks name) Nothing
-  empty_spares looking.Get name = record { makes = λ origins h. refl; sends = λ k. refl; gets = λ k. refl; shuts = λ k. refl }
-  empty_spares looking.GetPoll name = record { makes = λ origins h. refl; sends = λ k. refl; gets = λ k. refl; shuts = λ k. refl }
-  empty_spares looking.Take name = record { makes = λ origins h. refl; sends = λ k. refl; gets = λ k. refl; shuts = λ k. refl }
-  empty_spares looking.TakePoll name = record { makes = λ origins h. refl; sends = λ k. refl; gets = λ k. refl; shuts = λ k. refl }
+  pub empty_spares : (asks : Ask) (name : Name) → reads asks ≡ true → Spares (asked_call {M = M} asks name) Nothing
+  empty_spares ask.Get name is = record { makes = λ origins h. refl; sends = λ k. refl; gets = λ k. refl; shuts = λ k. refl }
+  empty_spares ask.GetPoll name is = record { makes = λ origins h. refl; sends = λ k. refl; gets = λ k. refl; shuts = λ k. refl }
+  empty_spares ask.Take name is = record { makes = λ origins h. refl; sends = λ k. refl; gets = λ k. refl; shuts = λ k. refl }
+  empty_spares ask.TakePoll name is = record { makes = λ origins h. refl; sends = λ k. refl; gets = λ k. refl; shuts = λ k. refl }
+  empty_spares other name is = absurd (false≢true is)
 
-  pub empty_leaves : (looks : Looking) (name : Name) (k : ℕ) → left_by (looking_call {M = M} looks name) Nothing k ≡ None
-  empty_leaves looking.Get name k = refl
-  empty_leaves looking.GetPoll name k = refl
-  empty_leaves looking.Take name k = refl
-  empty_leaves looking.TakePoll name k = refl
+  pub empty_leaves : (asks : Ask) (name : Name) (k : ℕ) → reads asks ≡ true → left_by (asked_call {M = M} asks name) Nothing k ≡ None
+  empty_leaves ask.Get name k is = refl
+  empty_leaves ask.GetPoll name k is = refl
+  empty_leaves ask.Take name k is = refl
+  empty_leaves ask.TakePoll name k is = refl
+  empty_leaves other name k is = absurd (false≢true is)

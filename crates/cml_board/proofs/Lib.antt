@@ -37,5 +37,6 @@ pub mod Reaching
 pub mod Receiving
 pub mod Renewing
 pub mod Since
+pub mod Sound
 pub mod Numbering
 pub mod Suiting

@@ -6,14 +6,15 @@ use Rattle.std.proofs.lemmas.Bool.{false≢true}
 use Rattle.cml_board.specs.declared.call.Name.{Name}
 use Rattle.cml_calls.specs.declared.kind.Kind.{Kind}
 use Rattle.cml_calls.specs.declared.kind.Kind.TheVariants as kind
-use Rattle.cml_board.specs.declared.board.note.Putting.{Putting}
-use Rattle.cml_board.specs.declared.board.note.Putting.TheVariants as putting
+use Rattle.cml_calls.specs.declared.table.Give.{Give}
+use Rattle.cml_calls.specs.declared.table.Give.TheVariants as give
 use Rattle.cml_board.specs.Origins.{Origin, mailbox, channel, port, kind_by}
 use Rattle.cml_calls.specs.Kinds.{is_channel, is_port, is_source}
 use Rattle.cml_board.specs.Objects.{takes}
+use Rattle.cml_board.specs.Parts.{given_call}
 use Rattle.cml_board.specs.History.{Fits, made, origin_of, is_open}
 use Rattle.cml_board.specs.Counts.{is_a}
-use Rattle.cml_board.specs.Calls.{putting_call}
+use Rattle.cml_board.specs.Calls.{adds}
 use Rattle.cml_board.specs.Facts.{facts_of}
 use Rattle.cml_board.specs.Holdings.{HasLog, cursor_at, open_port}
 use Rattle.cml_board.specs.Shown.{Shown}
@@ -41,21 +42,23 @@ module _ {M : Type 0} where
   pub channel_stands : (chunk : ℕ) (board : Shown M) (name : ℕ) → Keeps chunk board → is_a is_channel board.history name ≡ true → HasLog board.objects name
   channel_stands chunk board name keeps is = source_stands chunk board name keeps (channel_source (option_map kind_by (origin_of board.history name)) is)
 
-  put_source : (k : Option Kind) (putting : Putting) (name : Name) (message : M) → IsSome k → IfSome k (λ kind. IsTrue (takes kind (putting_call putting name message)))
-      → option_map_or is_source k false ≡ true
-  put_source None putting name message some takes = absurd (false≢true some)
-  put_source (Some kind.Mailbox) putting name message some takes = refl
-  put_source (Some kind.Channel) putting name message some takes = refl
-  put_source (Some other) putting.Sending name message some takes = absurd (false≢true takes)
-  put_source (Some other) putting.Casting name message some takes = absurd (false≢true takes)
+  put_source : (k : Option Kind) (gives : Give) (name : Name) (message : M) → adds gives ≡ true → IsSome k
+      → IfSome k (λ kind. IsTrue (takes kind (given_call gives name message))) → option_map_or is_source k false ≡ true
+  put_source None gives name message is some takes = absurd (false≢true some)
+  put_source (Some kind.Mailbox) gives name message is some takes = refl
+  put_source (Some kind.Channel) gives name message is some takes = refl
+  put_source (Some other) give.Send name message is some takes = absurd (false≢true takes)
+  put_source (Some other) give.Cast name message is some takes = absurd (false≢true takes)
+  put_source (Some other) gives name message is some takes = absurd (false≢true is)
 
   -- a message is put into a log
-  pub put_stands : (chunk : ℕ) (board : Shown M) (putting : Putting) (name : Name) (message : M) → Keeps chunk board
-      → Fits board.history (putting_call putting name message) → HasLog board.objects name.0
-  put_stands chunk board putting.Sending name message keeps fits =
-      source_stands chunk board name.0 keeps (put_source (option_map kind_by (origin_of board.history name.0)) putting.Sending name message fits.0 fits.1)
-  put_stands chunk board putting.Casting name message keeps fits =
-      source_stands chunk board name.0 keeps (put_source (option_map kind_by (origin_of board.history name.0)) putting.Casting name message fits.0 fits.1)
+  pub put_stands : (chunk : ℕ) (board : Shown M) (gives : Give) (name : Name) (message : M) → adds gives ≡ true → Keeps chunk board
+      → Fits board.history (given_call gives name message) → HasLog board.objects name.0
+  put_stands chunk board give.Send name message is keeps fits =
+      source_stands chunk board name.0 keeps (put_source (option_map kind_by (origin_of board.history name.0)) give.Send name message is fits.0 fits.1)
+  put_stands chunk board give.Cast name message is keeps fits =
+      source_stands chunk board name.0 keeps (put_source (option_map kind_by (origin_of board.history name.0)) give.Cast name message is fits.0 fits.1)
+  put_stands chunk board other name message is keeps fits = absurd (false≢true is)
 
   -- a port that reads a channel was made on it
   pub port_origin : (chunk : ℕ) (board : Shown M) (name source key : ℕ) → Keeps chunk board → is_a is_port board.history name ≡ true

@@ -6,9 +6,10 @@ use Rattle.cml_board.specs.declared.call.Call.{Call}
 use Rattle.cml_board.specs.declared.call.Name.{Name}
 use Rattle.cml_board.specs.declared.entry.Reply.TheVariants.{Made, Got}
 use Rattle.cml_board.specs.declared.entry.Entry.{Entry}
-use Rattle.cml_board.specs.declared.board.note.Putting.{Putting}
-use Rattle.cml_board.specs.declared.board.note.Putting.TheVariants as putting
-use Rattle.cml_board.specs.Calls.{putting_call}
+use Rattle.cml_calls.specs.declared.table.Give.{Give}
+use Rattle.cml_calls.specs.declared.table.Give.TheVariants as give
+use Rattle.cml_board.specs.Parts.{given_call}
+use Rattle.cml_board.specs.Calls.{adds}
 use Rattle.cml_board.specs.History.{answer, made, sent}
 use Rattle.cml_board.specs.Facts.{facts_of}
 use Rattle.cml_board.specs.Holdings.{log_at, HasLog}
@@ -49,18 +50,19 @@ module _ {M : Type 0} where
   answer_takes {chunk} {sure} board call message answers never = λ spared.
       unsure sure (shares board.history call) never (or_right (has_message call) (tells_message (answer board.history call)) (ap tells_message answers)) spared.shares_none
 
-  fills : (chunk : ℕ) (h : List (Entry M)) (putting : Putting) (name : Name) (message : M) → ends_chunk chunk (length (sent h name.0)) ≡ true
-      → fills_chunk chunk h (putting_call putting name message) ≡ true
-  fills chunk h putting.Sending name message ends = ends
-  fills chunk h putting.Casting name message ends = ends
+  fills : (chunk : ℕ) (h : List (Entry M)) (gives : Give) (name : Name) (message : M) → adds gives ≡ true → ends_chunk chunk (length (sent h name.0)) ≡ true
+      → fills_chunk chunk h (given_call gives name message) ≡ true
+  fills chunk h give.Send name message is ends = ends
+  fills chunk h give.Cast name message is ends = ends
+  fills chunk h other name message is ends = absurd (true≢false (sym is))
 
   -- it fills a chunk
-  pub filling_takes : (chunk : ℕ) {sure : Bool} {a b : Shown M} (putting : Putting) (name : Name) (message : M) → a ≡ b → Keeps chunk a → HasLog b.objects name.0
+  pub filling_takes : (chunk : ℕ) {sure : Bool} {a b : Shown M} (gives : Give) (name : Name) (message : M) → adds gives ≡ true → a ≡ b → Keeps chunk a → HasLog b.objects name.0
       → ((log : Log M) → log_at a.objects name.0 ≡ Some log → next_of log % chunk ≡ chunk - 1)
-      → ¬ (IsSpared chunk sure b (putting_call putting name message))
-  filling_takes chunk {sure} {a} {b} putting name message view keeps stands full = λ spared.
+      → ¬ (IsSpared chunk sure b (given_call gives name message))
+  filling_takes chunk {sure} {a} {b} gives name message is view keeps stands full = λ spared.
       let found : log_at a.objects name.0 ≡ Some stands.log = ap (λ (s : Shown M). log_at s.objects name.0) view ∙ stands.found in
       let next = next_is chunk (length (made a.history)) (facts_of a.history) a.objects name.0 stands.log keeps.shows found in
       let sent_is : next_of stands.log ≡ length (sent b.history name.0) = next ∙ ap (λ (s : Shown M). length (sent s.history name.0)) view in
       let ends : length (sent b.history name.0) % chunk ≡ chunk - 1 = ap (λ n. n % chunk) (sym sent_is) ∙ full stands.log found in
-      true≢false (sym (fills chunk b.history putting name message (eq-eqb (length (sent b.history name.0) % chunk) (chunk - 1) ends)) ∙ spared.fills_none)
+      true≢false (sym (fills chunk b.history gives name message is (eq-eqb (length (sent b.history name.0) % chunk) (chunk - 1) ends)) ∙ spared.fills_none)

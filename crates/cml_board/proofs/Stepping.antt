@@ -1,21 +1,21 @@
 -- The objects that a call leaves show the history with its entry.
-use Rattle.std.proofs.Common.{◌≡◌, ℕ, ◌+◌, ◌-◌, List, [], ◌∷◌, ◌++◌, length, slice_get, Some, None, refl, sym, ap, subst, ◌∙◌, arith}
+use Rattle.std.proofs.Common.{true, ◌≡◌, ℕ, ◌+◌, ◌-◌, List, [], ◌∷◌, ◌++◌, length, slice_get, Some, None, refl, sym, ap, subst, ◌∙◌, arith}
 use Rattle.std.specs.Option.{option_and_then}
 use Rattle.cml_log.specs.Log.{Log, empty_log, next_of, place_of}
 use Rattle.cml_log.specs.Holds.{Holds}
 use Rattle.cml_log.proofs.HoldsLemmas.{Holds-open_cursor, Holds-copy_cursor}
 use Rattle.cml_board.specs.declared.call.Name.{Name}
 use Rattle.cml_board.specs.declared.call.Call.TheVariants.{NewMailbox, NewChannel, NewPort, CopyPort, ClosePort, Poll}
-use Rattle.cml_board.specs.declared.board.note.Taking.{Taking}
-use Rattle.cml_board.specs.declared.board.note.Putting.{Putting}
-use Rattle.cml_board.specs.declared.board.note.Asking.{Asking}
+use Rattle.cml_calls.specs.declared.table.Ask.{Ask}
+use Rattle.cml_calls.specs.declared.table.Give.{Give}
 use Rattle.cml_board.specs.declared.entry.Who.{Who}
 use Rattle.cml_board.specs.declared.entry.Reply.TheVariants.{Done, Made, Got, Nothing, Closed}
 use Rattle.cml_board.specs.declared.entry.Entry.{Entry}
 use Rattle.cml_board.specs.declared.object.Object.{Object}
 use Rattle.cml_board.specs.declared.object.Object.TheVariants.{Channel}
 use Rattle.cml_board.specs.Origins.{mailbox, channel, port, start_by}
-use Rattle.cml_board.specs.Calls.{taking_call, putting_call, asking_call}
+use Rattle.cml_board.specs.Parts.{given_call, asked_call}
+use Rattle.cml_board.specs.Calls.{adds, takes_next, asks_port}
 use Rattle.cml_board.specs.History.{Lawful, made, origin_of, sent, got}
 use Rattle.cml_board.specs.Facts.{Facts, facts_of, new_facts}
 use Rattle.cml_board.specs.Holdings.{log_at, cursor_in, cursor_at, on_log, pushed, advanced, open_port, HasLog, HasOwed, HasPort, AddsMailbox, AddsPort, ClosesPort}
@@ -35,34 +35,34 @@ module _ {M : Type 0} where
   shows_count chunk n m facts objects same shows = subst (λ k. Shows chunk k facts objects) (sym same) shows
 
   -- a message was put
-  pub step_put : (chunk : ℕ) (who : Who) (putting : Putting) (name : Name) (message : M) (h : List (Entry M)) (objects : List (Object M (Log M)))
-      → ShowsAll chunk h objects → HasLog objects name.0
-      → ShowsAll chunk (noted who (putting_call putting name message) Done ∷ h) (on_log (pushed chunk message) objects name.0)
-  step_put chunk who putting name message h objects shows stands =
-      let after : List (Entry M) = noted who (putting_call putting name message) Done ∷ h in
+  pub step_put : (chunk : ℕ) (who : Who) (gives : Give) (name : Name) (message : M) (h : List (Entry M)) (objects : List (Object M (Log M)))
+      → adds gives ≡ true → ShowsAll chunk h objects → HasLog objects name.0
+      → ShowsAll chunk (noted who (given_call gives name message) Done ∷ h) (on_log (pushed chunk message) objects name.0)
+  step_put chunk who gives name message h objects is shows stands =
+      let after : List (Entry M) = noted who (given_call gives name message) Done ∷ h in
       shows_count chunk (length (made h)) (length (made after)) (facts_of after) (on_log (pushed chunk message) objects name.0)
-      (put_made h who putting name message)
+      (put_made h who gives name message)
       (shows_pushed chunk (length (made h)) (facts_of h) (facts_of after) objects name.0 message shows stands
-      (put_here h who putting name message) (put_other h who putting name message))
+      (put_here h who gives name message is) (λ k. put_other h who gives name message k is))
 
   -- a message was taken
-  pub step_taken : (chunk : ℕ) (who : Who) (taking : Taking) (name : Name) (message : M) (h : List (Entry M)) (objects : List (Object M (Log M))) (source key : ℕ)
-      → ShowsAll chunk h objects → cursor_at objects name.0 ≡ Some (source, key) → HasOwed objects source key
-      → ShowsAll chunk (noted who (taking_call taking name) (Got message) ∷ h) (on_log (advanced chunk key) objects source)
-  step_taken chunk who taking name message h objects source key shows reads owes =
-      let after : List (Entry M) = noted who (taking_call taking name) (Got message) ∷ h in
+  pub step_taken : (chunk : ℕ) (who : Who) (asks : Ask) (name : Name) (message : M) (h : List (Entry M)) (objects : List (Object M (Log M))) (source key : ℕ)
+      → takes_next asks ≡ true → ShowsAll chunk h objects → cursor_at objects name.0 ≡ Some (source, key) → HasOwed objects source key
+      → ShowsAll chunk (noted who (asked_call asks name) (Got message) ∷ h) (on_log (advanced chunk key) objects source)
+  step_taken chunk who asks name message h objects source key is shows reads owes =
+      let after : List (Entry M) = noted who (asked_call asks name) (Got message) ∷ h in
       shows_count chunk (length (made h)) (length (made after)) (facts_of after) (on_log (advanced chunk key) objects source)
-      (taken_made h who taking name message)
+      (taken_made h who asks name message)
       (shows_advanced chunk (length (made h)) (facts_of h) (facts_of after) objects name.0 source key message shows reads owes
-      (taken_here h who taking name message) (taken_other h who taking name message))
+      (taken_here h who asks name message is) (λ k. taken_other h who asks name message k is))
 
   -- a closed port answered
-  pub step_asking : (chunk : ℕ) (who : Who) (asks : Asking) (name : Name) (h : List (Entry M)) (objects : List (Object M (Log M)))
-      → ShowsAll chunk h objects → ShowsAll chunk (noted who (asking_call asks name) Closed ∷ h) objects
-  step_asking chunk who asks name h objects shows =
-      let after : List (Entry M) = noted who (asking_call asks name) Closed ∷ h in
+  pub step_asking : (chunk : ℕ) (who : Who) (asks : Ask) (name : Name) (h : List (Entry M)) (objects : List (Object M (Log M)))
+      → asks_port asks ≡ true → ShowsAll chunk h objects → ShowsAll chunk (noted who (asked_call asks name) Closed ∷ h) objects
+  step_asking chunk who asks name h objects is shows =
+      let after : List (Entry M) = noted who (asked_call asks name) Closed ∷ h in
       shows_count chunk (length (made h)) (length (made after)) (facts_of after) objects (asking_made h who asks name)
-      (shows_same chunk (length (made h)) (facts_of h) (facts_of after) objects shows (asking_same h who asks name))
+      (shows_same chunk (length (made h)) (facts_of h) (facts_of after) objects shows (λ k. asking_same h who asks name k is))
 
   -- a poll found nothing
   pub step_nothing : (chunk : ℕ) (who : Who) (name : Name) (h : List (Entry M)) (objects : List (Object M (Log M)))

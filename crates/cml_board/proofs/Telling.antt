@@ -1,22 +1,21 @@
 -- What one more entry tells of each object.
 use Rattle.std.proofs.Common.{◌≡◌, ◌≢◌, ℕ, ◌+◌, Bool, true, false, not, ◌&&◌, cond, eqb, List, [], ◌∷◌, ◌++◌, length, slice_get, Option, None, unwrap_or, refl, sym, ap, ◌∙◌, arith}
-use Rattle.std.proofs.lemmas.Bool.{eq-eqb, ne_eqb}
+use Rattle.std.proofs.lemmas.Bool.{false≢true, eq-eqb, ne_eqb}
 use Rattle.std.proofs.lemmas.List.{append-nil, length_push}
 use Rattle.cml_board.specs.declared.call.Name.{Name}
 use Rattle.cml_board.specs.declared.call.Call.{Call}
 use Rattle.cml_board.specs.declared.call.Call.TheVariants.{ClosePort, Poll}
-use Rattle.cml_board.specs.declared.board.note.Taking.{Taking}
-use Rattle.cml_board.specs.declared.board.note.Taking.TheVariants.{Waiting, Polling}
-use Rattle.cml_board.specs.declared.board.note.Putting.{Putting}
-use Rattle.cml_board.specs.declared.board.note.Putting.TheVariants.{Sending, Casting}
-use Rattle.cml_board.specs.declared.board.note.Asking.{Asking}
-use Rattle.cml_board.specs.declared.board.note.Asking.TheVariants as asking
+use Rattle.cml_calls.specs.declared.table.Ask.{Ask}
+use Rattle.cml_calls.specs.declared.table.Ask.TheVariants as ask
+use Rattle.cml_calls.specs.declared.table.Give.{Give}
+use Rattle.cml_calls.specs.declared.table.Give.TheVariants as give
 use Rattle.cml_board.specs.declared.entry.Who.{Who}
 use Rattle.cml_board.specs.declared.entry.Reply.{Reply}
 use Rattle.cml_board.specs.declared.entry.Reply.TheVariants.{Done, Made, Got, Nothing, Closed}
 use Rattle.cml_board.specs.declared.entry.Entry.{Entry}
 use Rattle.cml_board.specs.Origins.{Origin}
-use Rattle.cml_board.specs.Calls.{taking_call, putting_call, asking_call}
+use Rattle.cml_board.specs.Parts.{given_call, asked_call}
+use Rattle.cml_board.specs.Calls.{adds, takes_next, asks_port}
 use Rattle.cml_board.specs.Held.{left_by, held}
 use Rattle.cml_board.specs.History.{Lawful, made, begun_by, origin_of, sent, sent_by, got, got_by, is_open, closes}
 use Rattle.cml_board.specs.Facts.{facts_of, new_facts}
@@ -81,98 +80,107 @@ module _ {M : Type 0} where
   same_made h = ap length (append-nil (made h))
 
   -- the calls that put a message
-  put_sends : (putting : Putting) (name : Name) (message : M) (k : ℕ)
-      → sent_by (putting_call putting name message) k ≡ cond (eqb name.0 k) (message ∷ []) []
-  put_sends Sending name message k = refl
-  put_sends Casting name message k = refl
+  put_sends : (gives : Give) (name : Name) (message : M) (k : ℕ) → adds gives ≡ true
+      → sent_by (given_call gives name message) k ≡ cond (eqb name.0 k) (message ∷ []) []
+  put_sends give.Send name message k is = refl
+  put_sends give.Cast name message k is = refl
+  put_sends other name message k is = absurd (false≢true is)
 
-  put_gets : (putting : Putting) (name : Name) (message : M) (k : ℕ) → got_by (putting_call putting name message) Done k ≡ []
-  put_gets Sending name message k = refl
-  put_gets Casting name message k = refl
+  put_gets : (gives : Give) (name : Name) (message : M) (k : ℕ) → adds gives ≡ true → got_by (given_call gives name message) Done k ≡ []
+  put_gets give.Send name message k is = refl
+  put_gets give.Cast name message k is = refl
+  put_gets other name message k is = absurd (false≢true is)
 
-  put_shuts : (putting : Putting) (name : Name) (message : M) (k : ℕ) → closes (putting_call putting name message) Done k ≡ false
-  put_shuts Sending name message k = refl
-  put_shuts Casting name message k = refl
+  put_shuts : (gives : Give) (name : Name) (message : M) (k : ℕ) → adds gives ≡ true → closes (given_call gives name message) Done k ≡ false
+  put_shuts give.Send name message k is = refl
+  put_shuts give.Cast name message k is = refl
+  put_shuts other name message k is = absurd (false≢true is)
 
-  put_leaves : (putting : Putting) (name : Name) (message : M) (k : ℕ) → left_by (putting_call putting name message) Done k ≡ None
-  put_leaves Sending name message k = refl
-  put_leaves Casting name message k = refl
+  put_leaves : (gives : Give) (name : Name) (message : M) (k : ℕ) → adds gives ≡ true → left_by (given_call gives name message) Done k ≡ None
+  put_leaves give.Send name message k is = refl
+  put_leaves give.Cast name message k is = refl
+  put_leaves other name message k is = absurd (false≢true is)
 
   -- the name has a message more, and nothing else changes
-  pub put_here : (h : List (Entry M)) (who : Who) (putting : Putting) (name : Name) (message : M)
-      → facts_of (noted who (putting_call putting name message) Done ∷ h) name.0
+  pub put_here : (h : List (Entry M)) (who : Who) (gives : Give) (name : Name) (message : M) → adds gives ≡ true
+      → facts_of (noted who (given_call gives name message) Done ∷ h) name.0
       ≡ record (facts_of h name.0) { sent = sent h name.0 ++ message ∷ [] }
-  put_here h who putting name message =
-      let entry : Entry M = noted who (putting_call putting name message) Done in
+  put_here h who gives name message is =
+      let entry : Entry M = noted who (given_call gives name message) Done in
       facts_equal (facts_of (entry ∷ h) name.0) (record (facts_of h name.0) { sent = sent h name.0 ++ message ∷ [] })
-      (same_origin h name.0) (stays_open h entry name.0 (put_shuts putting name message name.0))
-      (ap (λ xs. sent h name.0 ++ xs) (put_sends putting name message name.0 ∙ at_name name (message ∷ []) []))
-      (none_got h entry name.0 (put_gets putting name message name.0)) (still_holds h entry name.0 (put_leaves putting name message name.0))
+      (same_origin h name.0) (stays_open h entry name.0 (put_shuts gives name message name.0 is))
+      (ap (λ xs. sent h name.0 ++ xs) (put_sends gives name message name.0 is ∙ at_name name (message ∷ []) []))
+      (none_got h entry name.0 (put_gets gives name message name.0 is)) (still_holds h entry name.0 (put_leaves gives name message name.0 is))
 
-  pub put_other : (h : List (Entry M)) (who : Who) (putting : Putting) (name : Name) (message : M) (k : ℕ) → k ≢ name.0
-      → facts_of (noted who (putting_call putting name message) Done ∷ h) k ≡ facts_of h k
-  put_other h who putting name message k other =
-      same_facts h (noted who (putting_call putting name message) Done) k (same_origin h k)
-      (put_sends putting name message k ∙ at_other name k (message ∷ []) [] other) (put_gets putting name message k) (put_shuts putting name message k)
-      (put_leaves putting name message k)
+  pub put_other : (h : List (Entry M)) (who : Who) (gives : Give) (name : Name) (message : M) (k : ℕ) → adds gives ≡ true → k ≢ name.0
+      → facts_of (noted who (given_call gives name message) Done ∷ h) k ≡ facts_of h k
+  put_other h who gives name message k is other =
+      same_facts h (noted who (given_call gives name message) Done) k (same_origin h k)
+      (put_sends gives name message k is ∙ at_other name k (message ∷ []) [] other) (put_gets gives name message k is) (put_shuts gives name message k is)
+      (put_leaves gives name message k is)
 
-  pub put_made : (h : List (Entry M)) (who : Who) (putting : Putting) (name : Name) (message : M)
-      → length (made (noted who (putting_call putting name message) Done ∷ h)) ≡ length (made h)
-  put_made h who putting name message = same_made h
+  pub put_made : (h : List (Entry M)) (who : Who) (gives : Give) (name : Name) (message : M)
+      → length (made (noted who (given_call gives name message) Done ∷ h)) ≡ length (made h)
+  put_made h who gives name message = same_made h
 
   -- the calls that take a message
-  taken_sends : (taking : Taking) (name : Name) (k : ℕ) → sent_by {M = M} (taking_call taking name) k ≡ []
-  taken_sends Waiting name k = refl
-  taken_sends Polling name k = refl
+  taken_sends : (asks : Ask) (name : Name) (k : ℕ) → takes_next asks ≡ true → sent_by {M = M} (asked_call asks name) k ≡ []
+  taken_sends ask.Recv name k is = refl
+  taken_sends ask.Poll name k is = refl
+  taken_sends other name k is = absurd (false≢true is)
 
-  taken_gets : (taking : Taking) (name : Name) (message : M) (k : ℕ)
-      → got_by (taking_call taking name) (Got message) k ≡ cond (eqb name.0 k) (message ∷ []) []
-  taken_gets Waiting name message k = refl
-  taken_gets Polling name message k = refl
+  taken_gets : (asks : Ask) (name : Name) (message : M) (k : ℕ) → takes_next asks ≡ true
+      → got_by (asked_call asks name) (Got message) k ≡ cond (eqb name.0 k) (message ∷ []) []
+  taken_gets ask.Recv name message k is = refl
+  taken_gets ask.Poll name message k is = refl
+  taken_gets other name message k is = absurd (false≢true is)
 
-  taken_shuts : (taking : Taking) (name : Name) (message : M) (k : ℕ) → closes (taking_call taking name) (Got message) k ≡ false
-  taken_shuts Waiting name message k = refl
-  taken_shuts Polling name message k = refl
+  taken_shuts : (asks : Ask) (name : Name) (message : M) (k : ℕ) → takes_next asks ≡ true → closes (asked_call asks name) (Got message) k ≡ false
+  taken_shuts ask.Recv name message k is = refl
+  taken_shuts ask.Poll name message k is = refl
+  taken_shuts other name message k is = absurd (false≢true is)
 
-  taken_leaves : (taking : Taking) (name : Name) (message : M) (k : ℕ) → left_by (taking_call taking name) (Got message) k ≡ None
-  taken_leaves Waiting name message k = refl
-  taken_leaves Polling name message k = refl
+  taken_leaves : (asks : Ask) (name : Name) (message : M) (k : ℕ) → takes_next asks ≡ true → left_by (asked_call asks name) (Got message) k ≡ None
+  taken_leaves ask.Recv name message k is = refl
+  taken_leaves ask.Poll name message k is = refl
+  taken_leaves other name message k is = absurd (false≢true is)
 
   -- the name received a message more, and nothing else changes
-  pub taken_here : (h : List (Entry M)) (who : Who) (taking : Taking) (name : Name) (message : M)
-      → facts_of (noted who (taking_call taking name) (Got message) ∷ h) name.0 ≡ record (facts_of h name.0) { got = got h name.0 ++ message ∷ [] }
-  taken_here h who taking name message =
-      let entry : Entry M = noted who (taking_call taking name) (Got message) in
+  pub taken_here : (h : List (Entry M)) (who : Who) (asks : Ask) (name : Name) (message : M) → takes_next asks ≡ true
+      → facts_of (noted who (asked_call asks name) (Got message) ∷ h) name.0 ≡ record (facts_of h name.0) { got = got h name.0 ++ message ∷ [] }
+  taken_here h who asks name message is =
+      let entry : Entry M = noted who (asked_call asks name) (Got message) in
       facts_equal (facts_of (entry ∷ h) name.0) (record (facts_of h name.0) { got = got h name.0 ++ message ∷ [] })
-      (same_origin h name.0) (stays_open h entry name.0 (taken_shuts taking name message name.0))
-      (none_sent h entry name.0 (taken_sends taking name name.0))
-      (ap (λ xs. got h name.0 ++ xs) (taken_gets taking name message name.0 ∙ at_name name (message ∷ []) []))
-      (still_holds h entry name.0 (taken_leaves taking name message name.0))
+      (same_origin h name.0) (stays_open h entry name.0 (taken_shuts asks name message name.0 is))
+      (none_sent h entry name.0 (taken_sends asks name name.0 is))
+      (ap (λ xs. got h name.0 ++ xs) (taken_gets asks name message name.0 is ∙ at_name name (message ∷ []) []))
+      (still_holds h entry name.0 (taken_leaves asks name message name.0 is))
 
-  pub taken_other : (h : List (Entry M)) (who : Who) (taking : Taking) (name : Name) (message : M) (k : ℕ) → k ≢ name.0
-      → facts_of (noted who (taking_call taking name) (Got message) ∷ h) k ≡ facts_of h k
-  taken_other h who taking name message k other =
-      same_facts h (noted who (taking_call taking name) (Got message)) k (same_origin h k)
-      (taken_sends taking name k) (taken_gets taking name message k ∙ at_other name k (message ∷ []) [] other) (taken_shuts taking name message k)
-      (taken_leaves taking name message k)
+  pub taken_other : (h : List (Entry M)) (who : Who) (asks : Ask) (name : Name) (message : M) (k : ℕ) → takes_next asks ≡ true → k ≢ name.0
+      → facts_of (noted who (asked_call asks name) (Got message) ∷ h) k ≡ facts_of h k
+  taken_other h who asks name message k is other =
+      same_facts h (noted who (asked_call asks name) (Got message)) k (same_origin h k)
+      (taken_sends asks name k is) (taken_gets asks name message k is ∙ at_other name k (message ∷ []) [] other) (taken_shuts asks name message k is)
+      (taken_leaves asks name message k is)
 
-  pub taken_made : (h : List (Entry M)) (who : Who) (taking : Taking) (name : Name) (message : M)
-      → length (made (noted who (taking_call taking name) (Got message) ∷ h)) ≡ length (made h)
-  taken_made h who taking name message = same_made h
+  pub taken_made : (h : List (Entry M)) (who : Who) (asks : Ask) (name : Name) (message : M)
+      → length (made (noted who (asked_call asks name) (Got message) ∷ h)) ≡ length (made h)
+  taken_made h who asks name message = same_made h
 
   -- a closed port's answer changes nothing
-  pub asking_same : (h : List (Entry M)) (who : Who) (asks : Asking) (name : Name) (k : ℕ)
-      → facts_of (noted who (asking_call asks name) Closed ∷ h) k ≡ facts_of h k
-  asking_same h who asking.Receive name k =
-      same_facts h (noted who (asking_call asking.Receive name) Closed) k (same_origin h k) refl (no_messages (eqb name.0 k)) refl refl
-  asking_same h who asking.Poll name k =
-      same_facts h (noted who (asking_call asking.Poll name) Closed) k (same_origin h k) refl (no_messages (eqb name.0 k)) refl refl
-  asking_same h who asking.Copy name k = same_facts h (noted who (asking_call asking.Copy name) Closed) k (same_origin h k) refl refl refl refl
-  asking_same h who asking.Close name k =
-      same_facts h (noted who (asking_call asking.Close name) Closed) k (same_origin h k) refl refl (not_closing (eqb name.0 k)) refl
+  pub asking_same : (h : List (Entry M)) (who : Who) (asks : Ask) (name : Name) (k : ℕ) → asks_port asks ≡ true
+      → facts_of (noted who (asked_call asks name) Closed ∷ h) k ≡ facts_of h k
+  asking_same h who ask.Recv name k is =
+      same_facts h (noted who (asked_call ask.Recv name) Closed) k (same_origin h k) refl (no_messages (eqb name.0 k)) refl refl
+  asking_same h who ask.Poll name k is =
+      same_facts h (noted who (asked_call ask.Poll name) Closed) k (same_origin h k) refl (no_messages (eqb name.0 k)) refl refl
+  asking_same h who ask.CopyPort name k is = same_facts h (noted who (asked_call ask.CopyPort name) Closed) k (same_origin h k) refl refl refl refl
+  asking_same h who ask.ClosePort name k is =
+      same_facts h (noted who (asked_call ask.ClosePort name) Closed) k (same_origin h k) refl refl (not_closing (eqb name.0 k)) refl
+  asking_same h who other name k is = absurd (false≢true is)
 
-  pub asking_made : (h : List (Entry M)) (who : Who) (asks : Asking) (name : Name)
-      → length (made (noted who (asking_call asks name) Closed ∷ h)) ≡ length (made h)
+  pub asking_made : (h : List (Entry M)) (who : Who) (asks : Ask) (name : Name)
+      → length (made (noted who (asked_call asks name) Closed ∷ h)) ≡ length (made h)
   asking_made h who asks name = same_made h
 
   -- nor does a poll that finds nothing

@@ -1,34 +1,49 @@
--- The calls that are answered alike.
+-- The calls that are alike.
 use Rattle.std.specs.Prelude.{Bool, true, false}
-use Rattle.cml_board.specs.declared.call.Name.{Name}
 use Rattle.cml_board.specs.declared.call.Call.{Call}
-use Rattle.cml_board.specs.declared.call.Call.TheVariants.{NewMailbox, NewChannel, NewPort, CopyPort, ClosePort, NewIVar, NewMVar, Send, Cast, Recv, Poll, Get, GetPoll, Take, TakePoll}
+use Rattle.cml_board.specs.declared.call.Call.TheVariants.{NewMailbox, NewChannel, NewPort, CopyPort, NewIVar, NewMVar}
 use Rattle.cml_board.specs.declared.object.Form.{Form}
 use Rattle.cml_board.specs.declared.object.Form.TheVariants.{Once, Mutable}
 use Rattle.cml_board.specs.declared.board.note.Making.{Making}
 use Rattle.cml_board.specs.declared.board.note.Making.TheVariants as making
-use Rattle.cml_board.specs.declared.board.note.Taking.{Taking}
-use Rattle.cml_board.specs.declared.board.note.Taking.TheVariants as taking
-use Rattle.cml_board.specs.declared.board.note.Putting.{Putting}
-use Rattle.cml_board.specs.declared.board.note.Putting.TheVariants as putting
-use Rattle.cml_board.specs.declared.board.note.Asking.{Asking}
-use Rattle.cml_board.specs.declared.board.note.Asking.TheVariants as asking
-use Rattle.cml_board.specs.declared.board.note.Looking.{Looking}
-use Rattle.cml_board.specs.declared.board.note.Looking.TheVariants as looking
+use Rattle.cml_calls.specs.declared.table.Give.{Give}
+use Rattle.cml_calls.specs.declared.table.Give.TheVariants as give
+use Rattle.cml_calls.specs.declared.table.Ask.{Ask}
+use Rattle.cml_calls.specs.declared.table.Ask.TheVariants as ask
 
-abbrev pub taking_call : {M : Type 0} → Taking → Name → Call M
-taking_call taking.Waiting name = Recv name
-taking_call taking.Polling name = Poll name
+-- it adds a message to those that were sent or multicast before
+abbrev pub adds : Give → Bool
+adds give.Send = true
+adds give.Cast = true
+adds other = false
 
-abbrev pub putting_call : {M : Type 0} → Putting → Name → M → Call M
-putting_call putting.Sending name message = Send name message
-putting_call putting.Casting name message = Cast name message
+-- it takes the next message
+abbrev pub takes_next : Ask → Bool
+takes_next ask.Recv = true
+takes_next ask.Poll = true
+takes_next other = false
 
-abbrev pub asking_call : {M : Type 0} → Asking → Name → Call M
-asking_call asking.Receive name = Recv name
-asking_call asking.Poll name = Poll name
-asking_call asking.Copy name = CopyPort name
-asking_call asking.Close name = ClosePort name
+-- a closed port answers it
+abbrev pub asks_port : Ask → Bool
+asks_port ask.Recv = true
+asks_port ask.Poll = true
+asks_port ask.CopyPort = true
+asks_port ask.ClosePort = true
+asks_port other = false
+
+-- it reads a variable
+abbrev pub reads : Ask → Bool
+reads ask.Get = true
+reads ask.GetPoll = true
+reads ask.Take = true
+reads ask.TakePoll = true
+reads other = false
+
+-- it leaves the variable empty
+abbrev pub empties : Ask → Bool
+empties ask.Take = true
+empties ask.TakePoll = true
+empties other = false
 
 abbrev pub variable_call : {M : Type 0} → Form → Call M
 variable_call Once = NewIVar
@@ -49,23 +64,3 @@ makes_empty (NewPort channel) = true
 makes_empty NewIVar = true
 makes_empty NewMVar = true
 makes_empty call = false
-
-abbrev pub looking_call : {M : Type 0} → Looking → Name → Call M
-looking_call looking.Get name = Get name
-looking_call looking.GetPoll name = GetPoll name
-looking_call looking.Take name = Take name
-looking_call looking.TakePoll name = TakePoll name
-
--- it waits where the variable is empty
-abbrev pub waits : Looking → Bool
-waits looking.Get = true
-waits looking.GetPoll = false
-waits looking.Take = true
-waits looking.TakePoll = false
-
--- it leaves the variable empty
-abbrev pub empties : Looking → Bool
-empties looking.Get = false
-empties looking.GetPoll = false
-empties looking.Take = true
-empties looking.TakePoll = true

@@ -7,9 +7,9 @@ ghost use Rattle.cml_board.specs.Holdings.{map_log, log_at, HasLog};
 ghost use Rattle.cml_board.specs.Standing.{ReadsAt, Stands};
 ghost use Rattle.cml_board.specs.Checking.{IsNoted};
 ghost use Rattle.cml_board.specs.Outcome.{IsAsBefore, HasRoom, Cuts};
-ghost use Rattle.cml_board.specs.Since.{KeepsSince};
+ghost use Rattle.cml_board.specs.Sound.{IsSound};
 ghost use Rattle.cml_board.specs.Base.{base_of, next_base};
-ghost use Rattle.cml_board.specs.Shown.{full_at, KeepsMailboxes, KeepsPorts, KeepsClosed, KeepsVariables, KeepsLogs};
+ghost use Rattle.cml_board.specs.Shown.{full_at};
 
 mod apply;
 mod making;
@@ -102,28 +102,16 @@ impl<M: Message, L: MessageLog<M>> Board<M, L> {
     pub fn journal(&self) -> &[Entry<M>]
         ensures entries { reverse result.now ++ self.now.past ≡ self.now.history }
         ensures room { entries_in self.now.history ≤ full_at self.now }
-
-        // All accepted calls are a lawful history of one thread: those that were cut away, followed by the journal.
-        ensures lawful { Lawful self.now.history }
-
-        // What was received from a mailbox, followed by what really waits in it, is what was sent to it.
-        ensures mailboxes { KeepsMailboxes self.now }
-
-        // What was received from a port, followed by what is really kept for it, is what was multicast since its start.
-        ensures ports { KeepsPorts self.now }
-        ensures closed { KeepsClosed self.now }
-
-        // What a variable really holds is what it was made with, or was last put or swapped into it, unless it was taken.
-        ensures variables { KeepsVariables self.now }
-
-        // What the log of a mailbox or a channel really holds, from which place on, and which cursors are open in it.
-        ensures logs { KeepsLogs L.CHUNK self.now }
-
-        // The same for the entries since the last cut: what was received since, followed by what waits, is what waited at the
-        // cut, followed by what was sent since.
-        ensures since { KeepsSince L.CHUNK self.now }
+        ensures sound { IsSound L.CHUNK self.now }
     {
         self.journal.as_slice()
+    }
+
+    /// Does nothing: a caller that needs what always holds of a board reads it here.
+    pub fn facts(&self)
+        ensures sound { IsSound L.CHUNK self.now }
+    {
+        let _journal = self.journal();
     }
 
     /// Returns how many calls were accepted since the board was made.

@@ -1,9 +1,11 @@
 ghost use Rattle.std.specs.Prelude.{◌≡◌, ◌↔◌, false, IsTrue, IfOk, OnErr};
 ghost use Rattle.std.specs.Option.{option_map};
 ghost use Rattle.cml_calls.specs.Shown.{shown};
-ghost use Rattle.cml_board.specs.Objects.{object_in, message_of, row_of, made_call, given_call, asked_call};
+ghost use Rattle.cml_board.specs.Parts.{parts_map, parts_of, made_call, given_call, asked_call};
+ghost use Rattle.cml_board.specs.Objects.{object_in, message_of, row_of};
 
 use crate::message::Message;
+use crate::parts::Parts;
 use cml_calls::{Ask, Give, Make, Shape, Takers, shape_of_filled};
 use std::alloc::{AllocError, Global};
 
@@ -94,75 +96,73 @@ impl<M> Call<M> {
         }
     }
 
+    /// Takes the call apart.
+    #[inline(always)]
+    pub(crate) fn parts(&self) -> Parts<&M>
+        ensures { parts_map (λ message. message.now) result ≡ parts_of self.now }
+    {
+        match self {
+            Call::NewMailbox => Parts::Make(Make::Mailbox),
+            Call::NewChannel => Parts::Make(Make::Channel),
+            Call::NewPort(name) => Parts::Ask(Ask::NewPort, *name),
+            Call::CopyPort(name) => Parts::Ask(Ask::CopyPort, *name),
+            Call::ClosePort(name) => Parts::Ask(Ask::ClosePort, *name),
+            Call::NewIVar => Parts::Make(Make::IVar),
+            Call::NewMVar => Parts::Make(Make::MVar),
+            Call::MVarInit(message) => Parts::Fill(message),
+            Call::Send(name, message) => Parts::Give(Give::Send, *name, message),
+            Call::Cast(name, message) => Parts::Give(Give::Cast, *name, message),
+            Call::Recv(name) => Parts::Ask(Ask::Recv, *name),
+            Call::Poll(name) => Parts::Ask(Ask::Poll, *name),
+            Call::Put(name, message) => Parts::Give(Give::Put, *name, message),
+            Call::Get(name) => Parts::Ask(Ask::Get, *name),
+            Call::GetPoll(name) => Parts::Ask(Ask::GetPoll, *name),
+            Call::Take(name) => Parts::Ask(Ask::Take, *name),
+            Call::TakePoll(name) => Parts::Ask(Ask::TakePoll, *name),
+            Call::Swap(name, message) => Parts::Give(Give::Swap, *name, message),
+        }
+    }
+
     /// Returns the call's row in the table of calls.
     #[inline(always)]
     pub fn shape(&self) -> Shape
         ensures { shown result ≡ row_of self.now }
     {
-        match self {
-            Call::NewMailbox => Make::Mailbox.shape(),
-            Call::NewChannel => Make::Channel.shape(),
-            Call::NewIVar => Make::IVar.shape(),
-            Call::NewMVar => Make::MVar.shape(),
-            Call::MVarInit(_) => shape_of_filled(),
-            Call::NewPort(_) => Ask::NewPort.shape(),
-            Call::CopyPort(_) => Ask::CopyPort.shape(),
-            Call::ClosePort(_) => Ask::ClosePort.shape(),
-            Call::Send(_, _) => Give::Send.shape(),
-            Call::Cast(_, _) => Give::Cast.shape(),
-            Call::Recv(_) => Ask::Recv.shape(),
-            Call::Poll(_) => Ask::Poll.shape(),
-            Call::Put(_, _) => Give::Put.shape(),
-            Call::Get(_) => Ask::Get.shape(),
-            Call::GetPoll(_) => Ask::GetPoll.shape(),
-            Call::Take(_) => Ask::Take.shape(),
-            Call::TakePoll(_) => Ask::TakePoll.shape(),
-            Call::Swap(_, _) => Give::Swap.shape(),
+        match self.parts() {
+            Parts::Make(make) => make.shape(),
+            Parts::Fill(_) => shape_of_filled(),
+            Parts::Give(give, _, _) => give.shape(),
+            Parts::Ask(ask, _) => ask.shape(),
         }
     }
 
-    /// Returns which objects take the call. This is one column of the row, which a board looks at in each call.
+    /// Returns which objects take the call.
     #[inline(always)]
     pub fn takers(&self) -> Takers
         ensures { result ≡ (row_of self.now).takers }
     {
-        match self {
-            Call::NewMailbox | Call::NewChannel => Takers::Nobody,
-            Call::NewIVar | Call::NewMVar | Call::MVarInit(_) => Takers::Nobody,
-            Call::NewPort(_) | Call::Cast(_, _) => Takers::Channels,
-            Call::CopyPort(_) | Call::ClosePort(_) => Takers::Ports,
-            Call::Send(_, _) => Takers::Mailboxes,
-            Call::Recv(_) | Call::Poll(_) => Takers::Receivers,
-            Call::Put(_, _) | Call::Get(_) | Call::GetPoll(_) => Takers::Variables,
-            Call::Take(_) | Call::TakePoll(_) | Call::Swap(_, _) => Takers::MVars,
-        }
+        self.shape().takers
     }
 
     /// Returns the message that the call gives, if it gives one.
+    #[inline(always)]
     pub fn message(&self) -> Option<&M>
         ensures { option_map (λ message. message.now) result ≡ message_of self.now }
     {
-        match self {
-            Call::MVarInit(message) => Some(message),
-            Call::Send(_, message) | Call::Cast(_, message) => Some(message),
-            Call::Put(_, message) | Call::Swap(_, message) => Some(message),
-            _ => None,
+        match self.parts() {
+            Parts::Fill(message) | Parts::Give(_, _, message) => Some(message),
+            Parts::Make(_) | Parts::Ask(_, _) => None,
         }
     }
 
     /// Returns the object that the call is made on. Returns `None` if it makes a mailbox, a channel or a variable.
+    #[inline(always)]
     pub fn object(&self) -> Option<Name>
         ensures { result ≡ object_in self.now }
     {
-        match self {
-            Call::NewMailbox | Call::NewChannel => None,
-            Call::NewIVar | Call::NewMVar | Call::MVarInit(_) => None,
-            Call::NewPort(name) | Call::CopyPort(name) | Call::ClosePort(name) => Some(*name),
-            Call::Send(name, _) | Call::Cast(name, _) => Some(*name),
-            Call::Recv(name) | Call::Poll(name) => Some(*name),
-            Call::Put(name, _) | Call::Swap(name, _) => Some(*name),
-            Call::Get(name) | Call::GetPoll(name) => Some(*name),
-            Call::Take(name) | Call::TakePoll(name) => Some(*name),
+        match self.parts() {
+            Parts::Give(_, name, _) | Parts::Ask(_, name) => Some(name),
+            Parts::Make(_) | Parts::Fill(_) => None,
         }
     }
 }
@@ -172,27 +172,7 @@ impl<M: Message> Call<M> {
     pub fn same(&self, other: &Call<M>) -> bool
         ensures { IsTrue result ↔ (self.now ≡ other.now) }
     {
-        match (self, other) {
-            (Call::NewMailbox, Call::NewMailbox) => true,
-            (Call::NewChannel, Call::NewChannel) => true,
-            (Call::NewPort(one), Call::NewPort(two)) => one == two,
-            (Call::CopyPort(one), Call::CopyPort(two)) => one == two,
-            (Call::ClosePort(one), Call::ClosePort(two)) => one == two,
-            (Call::NewIVar, Call::NewIVar) => true,
-            (Call::NewMVar, Call::NewMVar) => true,
-            (Call::MVarInit(one), Call::MVarInit(two)) => one.same(two),
-            (Call::Send(one, sent), Call::Send(two, told)) => one == two && sent.same(told),
-            (Call::Cast(one, sent), Call::Cast(two, told)) => one == two && sent.same(told),
-            (Call::Recv(one), Call::Recv(two)) => one == two,
-            (Call::Poll(one), Call::Poll(two)) => one == two,
-            (Call::Put(one, sent), Call::Put(two, told)) => one == two && sent.same(told),
-            (Call::Get(one), Call::Get(two)) => one == two,
-            (Call::GetPoll(one), Call::GetPoll(two)) => one == two,
-            (Call::Take(one), Call::Take(two)) => one == two,
-            (Call::TakePoll(one), Call::TakePoll(two)) => one == two,
-            (Call::Swap(one, sent), Call::Swap(two, told)) => one == two && sent.same(told),
-            _ => false,
-        }
+        self.parts().same(&other.parts())
     }
 
     /// Makes a second call equal to this one. Fails only for want of memory.
@@ -200,25 +180,12 @@ impl<M: Message> Call<M> {
         ensures copy { IfOk result (λ copy. copy ≡ self.now) }
         ensures sure { OnErr result (M.SURE ≡ false) }
     {
-        match self {
-            Call::NewMailbox => Ok(Call::NewMailbox),
-            Call::NewChannel => Ok(Call::NewChannel),
-            Call::NewPort(name) => Ok(Call::NewPort(*name)),
-            Call::CopyPort(name) => Ok(Call::CopyPort(*name)),
-            Call::ClosePort(name) => Ok(Call::ClosePort(*name)),
-            Call::NewIVar => Ok(Call::NewIVar),
-            Call::NewMVar => Ok(Call::NewMVar),
-            Call::MVarInit(message) => Ok(Call::MVarInit(message.share(alloc)?)),
-            Call::Send(name, message) => Ok(Call::Send(*name, message.share(alloc)?)),
-            Call::Cast(name, message) => Ok(Call::Cast(*name, message.share(alloc)?)),
-            Call::Recv(name) => Ok(Call::Recv(*name)),
-            Call::Poll(name) => Ok(Call::Poll(*name)),
-            Call::Put(name, message) => Ok(Call::Put(*name, message.share(alloc)?)),
-            Call::Get(name) => Ok(Call::Get(*name)),
-            Call::GetPoll(name) => Ok(Call::GetPoll(*name)),
-            Call::Take(name) => Ok(Call::Take(*name)),
-            Call::TakePoll(name) => Ok(Call::TakePoll(*name)),
-            Call::Swap(name, message) => Ok(Call::Swap(*name, message.share(alloc)?)),
-        }
+        let copy = match self.parts() {
+            Parts::Make(make) => Call::make(make),
+            Parts::Fill(message) => Call::MVarInit(message.share(alloc)?),
+            Parts::Give(give, name, message) => Call::give(give, name, message.share(alloc)?),
+            Parts::Ask(ask, name) => Call::ask(ask, name),
+        };
+        Ok(copy)
     }
 }

@@ -2,6 +2,7 @@ ghost use Rattle.std.specs.Prelude.{◌≡◌, ◌↔◌, IsTrue};
 
 use crate::call::{Call, Name};
 use crate::message::Message;
+use cml_messages::Text;
 use std::mem;
 
 /// The maker of a call, by its number: a seat, or a lane or a feed on its thread's behalf.
@@ -52,5 +53,8 @@ pub struct Entry<M> {
     pub reply: Reply<M>,
 }
 
-/// An entry of a number's board is at most 56 bytes.
+/// An entry of a board of numbers is at most 56 bytes.
 const _: () = prove!(mem::size_of::<Entry<u64>>() <= 56);
+
+/// An entry of a board of texts is at most 88 bytes. Those of a long text lie elsewhere.
+const _: () = prove!(mem::size_of::<Entry<Text>>() <= 88);

@@ -7,6 +7,8 @@ ghost use Rattle.cml_board.specs.History.{Lawful, Fits, answer};
 ghost use Rattle.cml_board.specs.Waiting.{want_in, Waits};
 ghost use Rattle.cml_board.specs.declared.outcome.Refusal.TheVariants.{NoMemory};
 ghost use Rattle.cml_board.specs.Positions.{IsLawfulEverywhere};
+ghost use Rattle.cml_board.specs.declared.parts.Parts.{Parts};
+ghost use Rattle.cml_board.specs.Parts.{parts_of, call_of};
 ghost use Rattle.cml_board.specs.Objects.{row_of};
 ghost use Rattle.cml_board.specs.Replies.{may_have};
 ghost use Rattle.cml_board.specs.Shown.{Shown};
@@ -53,4 +55,11 @@ pub fn replies_suit_calls<M>()
     ensures { (history : List (Entry M)) → Lawful history
         → (k : ℕ) (entry : Entry M) → slice_get history k ≡ Some entry
         → may_have (row_of entry.call) entry.reply ≡ true }
+{}
+
+/// Shows that a call is its parts: its row in the table, its object and its message. What is taken apart can be put together
+/// again, and the other way round. So what holds of each row holds of each call.
+pub fn calls_are_their_parts<M>()
+    ensures calls { (call : Call M) → call_of (parts_of call) ≡ call }
+    ensures parts { (parts : Parts M) → parts_of (call_of parts) ≡ parts }
 {}

@@ -12,6 +12,7 @@ mod laws;
 mod message;
 mod object;
 mod outcome;
+mod parts;
 mod past;
 mod restored;
 mod want;
@@ -25,7 +26,10 @@ pub use cml_calls::{Ask, Give, Kind, Make, ReplyKind, Shape, Takers};
 pub use cml_messages::{BadText, Bytes, Text, TooLong};
 pub use entry::{Entry, Reply, Who};
 pub use expected::{Expected, Unlawful};
-pub use laws::{calls_wait_by_want, lawful_at_every_position, replies_suit_calls, reserved_lasts};
+pub use laws::{
+    calls_are_their_parts, calls_wait_by_want, lawful_at_every_position, replies_suit_calls,
+    reserved_lasts,
+};
 pub use message::Message;
 pub use outcome::{Outcome, Refusal};
 pub use restored::{Makers, Restored};

@@ -2,7 +2,8 @@
 use Rattle.std.specs.Prelude.{ℕ, ◌==◌, if◌then◌else◌, ◌≡◌, ◌+◌, ◌<◌, ◌≤◌, ◌^◌, ◌⊎◌, List, [], ◌∷◌, length, drop, slice_get, Option, Some, None, Result, Ok, Err, ⊤}
 use Rattle.std.specs.Option.{option_map, option_or}
 use Rattle.cml_calls.specs.Table.{filled, make_at, give_at, ask_at}
-use Rattle.cml_board.specs.Objects.{made_call, given_call, asked_call, message_of}
+use Rattle.cml_board.specs.Objects.{message_of}
+use Rattle.cml_board.specs.Parts.{made_call, given_call, asked_call}
 use Rattle.cml_board.specs.declared.call.Call.{Call}
 use Rattle.cml_board.specs.declared.call.Call.TheVariants as call
 use Rattle.cml_board.specs.declared.call.Name.{Name}

@@ -14,65 +14,38 @@ use Rattle.cml_calls.specs.declared.table.Ask.TheVariants as ask
 use Rattle.cml_calls.specs.Table.{made, filled, given, asked, makes, gives, asks, make_of, give_of, ask_of}
 use Rattle.cml_board.specs.declared.call.Name.{Name}
 use Rattle.cml_board.specs.declared.call.Call.{Call}
-use Rattle.cml_board.specs.declared.call.Call.TheVariants.{NewMailbox, NewChannel, NewPort, CopyPort, ClosePort, NewIVar, NewMVar, MVarInit, Send, Cast, Recv, Poll, Put, Get, GetPoll, Take, TakePoll, Swap}
-use Rattle.cml_board.specs.Objects.{object_in, message_of, row_of, made_call, given_call, asked_call}
+use Rattle.cml_board.specs.declared.call.Call.TheVariants.{MVarInit}
+use Rattle.cml_board.specs.declared.parts.Parts.{Parts}
+use Rattle.cml_board.specs.Objects.{object_among, message_among, row_among, object_in, message_of, row_of}
+use Rattle.cml_board.specs.Parts.{made_call, given_call, asked_call}
+use Rattle.cml_board.proofs.PartsLemmas.{made_parts, given_parts, asked_parts, by_row}
 use Rattle.cml_grammar.specs.Words.{is_bad_byte}
 use Rattle.cml_journal.specs.declared.fault.What.{What}
 use Rattle.cml_journal.specs.declared.fault.What.TheVariants.{UnknownWord, BadMessage}
 use Rattle.cml_journal.specs.Written.{IsWritten}
-use Rattle.cml_journal.specs.Lines.{call_text}
+use Rattle.cml_journal.specs.Lines.{field, call_text}
 use Rattle.cml_journal.specs.Reading.{◌>>=◌, ok_or, without_colon, word_at, last_at, name_in, made_in, given_at, asked_at, filled_at, called_by, called_at, call_by, call_at}
 use Rattle.cml_journal.proofs.Cutting.{has_space, printed_no_space, colon_no_space, colon_again, colon_takes}
 use Rattle.cml_journal.proofs.WordLaws.{bind_ok, ok_is, some_from_ok, found_passes, same_bytes, word_takes, word_again, last_takes, last_again, name_takes, name_again, number_no_space}
 
--- each call is one of the table's
-pub by_row : {M : Type 0} (P : Call M → Type 0)
-    → ((m : Make) → P (made_call m)) → ((message : M) → P (MVarInit message)) → ((g : Give) (name : Name) (message : M) → P (given_call g name message)) → ((a : Ask) (name : Name) → P (asked_call a name))
-    → (call : Call M) → P call
-by_row P m f g a NewMailbox = m make.Mailbox
-by_row P m f g a NewChannel = m make.Channel
-by_row P m f g a (NewPort name) = a ask.NewPort name
-by_row P m f g a (CopyPort name) = a ask.CopyPort name
-by_row P m f g a (ClosePort name) = a ask.ClosePort name
-by_row P m f g a NewIVar = m make.IVar
-by_row P m f g a NewMVar = m make.MVar
-by_row P m f g a (MVarInit message) = f message
-by_row P m f g a (Send name message) = g give.Send name message
-by_row P m f g a (Cast name message) = g give.Cast name message
-by_row P m f g a (Recv name) = a ask.Recv name
-by_row P m f g a (Poll name) = a ask.Poll name
-by_row P m f g a (Put name message) = g give.Put name message
-by_row P m f g a (Get name) = a ask.Get name
-by_row P m f g a (GetPoll name) = a ask.GetPoll name
-by_row P m f g a (Take name) = a ask.Take name
-by_row P m f g a (TakePoll name) = a ask.TakePoll name
-by_row P m f g a (Swap name message) = g give.Swap name message
-
 -- what a call's text and parts are, by its row
-made_text : {M : Type 0} (text : M → List ℕ) (m : Make) → (call_text text (made_call m) ≡ (made m).word) × (object_in (made_call {M = M} m) ≡ None) × (message_of (made_call {M = M} m) ≡ None)
-made_text text make.Mailbox = (refl, refl, refl)
-made_text text make.Channel = (refl, refl, refl)
-made_text text make.IVar = (refl, refl, refl)
-made_text text make.MVar = (refl, refl, refl)
+text_among : {M : Type 0} → (M → List ℕ) → Parts M → List ℕ
+text_among text parts = (row_among parts).word ++ field (λ (name : Name). decimal name.0) (object_among parts) ++ field text (message_among parts)
+
+made_text : {M : Type 0} (text : M → List ℕ) (m : Make)
+    → (call_text text (made_call m) ≡ (made m).word) × (object_in (made_call {M = M} m) ≡ None) × (message_of (made_call {M = M} m) ≡ None)
+made_text text m = (ap (text_among text) (made_parts m) ∙ (append-nil _ ∙ append-nil _), ap object_among (made_parts m), ap message_among (made_parts m))
 
 given_text : {M : Type 0} (text : M → List ℕ) (g : Give) (name : Name) (message : M)
-    → (call_text text (given_call g name message) ≡ ((given g).word ++ 32 ∷ decimal name.0) ++ 32 ∷ text message) × (object_in (given_call g name message) ≡ Some name) × (message_of (given_call g name message) ≡ Some message)
-given_text text give.Send name message = (refl, refl, refl)
-given_text text give.Cast name message = (refl, refl, refl)
-given_text text give.Put name message = (refl, refl, refl)
-given_text text give.Swap name message = (refl, refl, refl)
+    → (call_text text (given_call g name message) ≡ ((given g).word ++ 32 ∷ decimal name.0) ++ 32 ∷ text message)
+    × (object_in (given_call g name message) ≡ Some name) × (message_of (given_call g name message) ≡ Some message)
+given_text text g name message =
+    let same = given_parts g name message in (ap (text_among text) same, ap object_among same, ap message_among same)
 
 asked_text : {M : Type 0} (text : M → List ℕ) (a : Ask) (name : Name)
-    → (call_text text (asked_call a name) ≡ ((asked a).word ++ 32 ∷ decimal name.0) ++ []) × (object_in (asked_call {M = M} a name) ≡ Some name) × (message_of (asked_call {M = M} a name) ≡ None)
-asked_text text ask.NewPort name = (refl, refl, refl)
-asked_text text ask.CopyPort name = (refl, refl, refl)
-asked_text text ask.ClosePort name = (refl, refl, refl)
-asked_text text ask.Recv name = (refl, refl, refl)
-asked_text text ask.Poll name = (refl, refl, refl)
-asked_text text ask.Get name = (refl, refl, refl)
-asked_text text ask.GetPoll name = (refl, refl, refl)
-asked_text text ask.Take name = (refl, refl, refl)
-asked_text text ask.TakePoll name = (refl, refl, refl)
+    → (call_text text (asked_call a name) ≡ ((asked a).word ++ 32 ∷ decimal name.0) ++ [])
+    × (object_in (asked_call {M = M} a name) ≡ Some name) × (message_of (asked_call {M = M} a name) ≡ None)
+asked_text text a name = let same = asked_parts a name in (ap (text_among text) same, ap object_among same, ap message_among same)
 
 -- what the words of the table are
 pub made_word : (m : Make) → (has_space (made m).word ≡ false) × (make_of (made m).word ≡ Some m) × (list_any is_bad_byte (made m).word ≡ false)
@@ -290,24 +263,10 @@ call_takes {M} text fits read written line x e =
 
 -- ---- rows
 pub made_row : (M : Type 0) (m : Make) → row_of (made_call {M = M} m) ≡ made m
-made_row M make.Mailbox = refl
-made_row M make.Channel = refl
-made_row M make.IVar = refl
-made_row M make.MVar = refl
+made_row M m = ap row_among (made_parts m)
 
 pub given_row : {M : Type 0} (g : Give) (name : Name) (message : M) → row_of (given_call g name message) ≡ given g
-given_row give.Send name message = refl
-given_row give.Cast name message = refl
-given_row give.Put name message = refl
-given_row give.Swap name message = refl
+given_row g name message = ap row_among (given_parts g name message)
 
 pub asked_row : (M : Type 0) (a : Ask) (name : Name) → row_of (asked_call {M = M} a name) ≡ asked a
-asked_row M ask.NewPort name = refl
-asked_row M ask.CopyPort name = refl
-asked_row M ask.ClosePort name = refl
-asked_row M ask.Recv name = refl
-asked_row M ask.Poll name = refl
-asked_row M ask.Get name = refl
-asked_row M ask.GetPoll name = refl
-asked_row M ask.Take name = refl
-asked_row M ask.TakePoll name = refl
+asked_row M a name = ap row_among (asked_parts a name)

@@ -20,7 +20,8 @@ use Rattle.cml_journal.specs.Written.{IsWritten}
 use Rattle.cml_journal.specs.Lines.{who_word, who_number, who_text, field, call_text, reply_text, line_of, ReplyFits, HasLine}
 use Rattle.cml_journal.specs.Streams.{numbered_line}
 use Rattle.cml_journal.specs.Feeding.{has_line_end}
-use Rattle.cml_journal.proofs.CallLaws.{by_row, made_word, given_word, asked_word, made_row, given_row, asked_row}
+use Rattle.cml_board.proofs.PartsLemmas.{by_row}
+use Rattle.cml_journal.proofs.CallLaws.{made_word, given_word, asked_word, made_row, given_row, asked_row}
 
 abbrev pub is_dirty : List ℕ → Bool
 is_dirty bytes = list_any is_bad_byte bytes

@@ -13,7 +13,8 @@ use Rattle.cml_board.specs.declared.entry.Who.{Who}
 use Rattle.cml_board.specs.declared.entry.Who.TheVariants.{Seat, Lane, Feed}
 use Rattle.cml_board.specs.declared.entry.Reply.{Reply}
 use Rattle.cml_board.specs.declared.entry.Reply.TheVariants.{Done, Made, Got, Nothing, Put, Closed}
-use Rattle.cml_board.specs.Objects.{row_of, made_call, given_call, asked_call}
+use Rattle.cml_board.specs.Objects.{row_of}
+use Rattle.cml_board.specs.Parts.{made_call, given_call, asked_call}
 use Rattle.cml_journal.specs.declared.fault.What.{What}
 use Rattle.cml_journal.specs.declared.fault.What.TheVariants.{Short, UnknownWord, NoColon, BadNumber, BadMessage, WrongReply}
 use Rattle.cml_journal.specs.declared.fault.Unread.{Unread}

@@ -31,8 +31,8 @@ pub fn tell<M: Message, L: MessageLog<M>>(
         → NoNews board.now.history news waiter.want ⊎ IsMate seats.new.places waiter.want }
     ensures due { seats.new.all_due ≡ seats.old.all_due }
 {
-    // That a port's source is a channel is a fact of lawful histories, which the journal's reader tells.
-    let _journal = board.journal();
+    // In a lawful history a port's source is a channel.
+    board.facts();
     let Some(news) = news else {
         return;
     };

@@ -12,7 +12,8 @@ use Rattle.cml_calls.specs.Kinds.{admits, is_receiver}
 use Rattle.cml_calls.specs.Table.{Row, given, asked}
 use Rattle.cml_board.specs.declared.call.Name.{Name}
 use Rattle.cml_board.specs.declared.call.Call.{Call}
-use Rattle.cml_board.specs.Objects.{object_in, row_of, takes, given_call}
+use Rattle.cml_board.specs.Objects.{object_in, row_of, takes}
+use Rattle.cml_board.specs.Parts.{given_call}
 use Rattle.cml_board.specs.Waiting.{want_in}
 use Rattle.cml_board.specs.History.{Fits, kind_of}
 use Rattle.cml_grammar.specs.declared.forms.Action.{Action}

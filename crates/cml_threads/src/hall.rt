@@ -1,8 +1,7 @@
 ghost use Rattle.std.specs.Prelude.{◌≡◌, ◌≢◌, ◌^◌, ◌≤◌, [], ◌∷◌, ◌++◌, length, reverse, IfOk, IfErr, OnOk, MatchResult};
 ghost use Rattle.cml_board.specs.declared.outcome.Refusal.TheVariants.{Gone, NoMemory};
-ghost use Rattle.cml_board.specs.History.{no_entries, entries_in, Lawful};
-ghost use Rattle.cml_board.specs.Since.{KeepsSince};
-ghost use Rattle.cml_board.specs.Shown.{KeepsMailboxes, KeepsPorts, KeepsClosed, KeepsVariables, KeepsLogs};
+ghost use Rattle.cml_board.specs.History.{no_entries, entries_in};
+ghost use Rattle.cml_board.specs.Sound.{IsSound};
 ghost use Rattle.cml_lanes.specs.Floor.{KeepsLanes, KeepsFeeds, KeepsRings};
 ghost use Rattle.cml_lanes.specs.Reserving.{Reserves};
 ghost use Rattle.cml_lanes.specs.Cutting.{CutsAFloor, CutsFloor, NotCut};
@@ -88,26 +87,8 @@ impl<M: Message, L: MessageLog<M>, Led: Ledger> Hall<M, L, Led> {
         // The journal has of each open feed exactly what was put into its ring, which is all that its own port received.
         ensures feeds { KeepsFeeds self.now.board.history self.now.feeds }
 
-        // All accepted calls are a lawful history of one thread: those that were cut away, followed by the journal.
-        ensures lawful { Lawful self.now.board.history }
-
-        // What was received from a mailbox, followed by what really waits in it, is what was sent to it.
-        ensures mailboxes { KeepsMailboxes self.now.board }
-
-        // What was received from a port, followed by what is really kept for it, is what was multicast since its start;
-        // no chunk is given back that an open port's place is in, nor any behind it.
-        ensures ports { KeepsPorts self.now.board }
-        ensures closed { KeepsClosed self.now.board }
-
-        // What a variable really holds is what it was made with, or was last put or swapped into it, unless it was taken.
-        ensures variables { KeepsVariables self.now.board }
-
-        // What each log really holds, from which place on, and which cursors are open in it.
-        ensures logs { KeepsLogs L.CHUNK self.now.board }
-
-        // The same for the entries since the last cut: what was received since, followed by what waits, is what waited at the
-        // cut, followed by what was sent since.
-        ensures since { KeepsSince L.CHUNK self.now.board }
+        // All that always holds of a board: of its history, and of what its objects really hold.
+        ensures sound { IsSound L.CHUNK self.now.board }
 
         // A seat that waits and isn't due sleeps rightly.
         ensures asleep { AllSleepRightly (room_of self.now) }

@@ -1,7 +1,6 @@
 ghost use Rattle.std.specs.Prelude.{◌≡◌, ◌+◌};
-ghost use Rattle.cml_board.specs.History.{entries_in, rings_in, Lawful};
-ghost use Rattle.cml_board.specs.Since.{KeepsSince};
-ghost use Rattle.cml_board.specs.Shown.{KeepsMailboxes, KeepsPorts, KeepsClosed, KeepsVariables, KeepsLogs};
+ghost use Rattle.cml_board.specs.History.{entries_in, rings_in};
+ghost use Rattle.cml_board.specs.Sound.{IsSound};
 ghost use Rattle.cml_threads.specs.Settling.{Final};
 
 use cml_board::{Board, Message};
@@ -55,16 +54,9 @@ impl<M: Message, L: MessageLog<M>> Settled<M, L> {
     /// cut, and no to one from before that.
     pub fn board(&self) -> &Board<M, L>
         ensures board { result.now ≡ self.now.board }
-        ensures lawful { Lawful self.now.board.history }
-        ensures mailboxes { KeepsMailboxes self.now.board }
-        ensures ports { KeepsPorts self.now.board }
-        ensures closed { KeepsClosed self.now.board }
-        ensures variables { KeepsVariables self.now.board }
-        ensures logs { KeepsLogs L.CHUNK self.now.board }
-        ensures since { KeepsSince L.CHUNK self.now.board }
+        ensures sound { IsSound L.CHUNK self.now.board }
     {
-        // These facts are in the contract of the board's `journal`.
-        let _journal = self.board.journal();
+        self.board.facts();
         &self.board
     }
 

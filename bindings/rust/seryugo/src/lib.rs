@@ -81,6 +81,7 @@
 #![warn(missing_docs)]
 
 mod apart;
+mod backoff;
 mod bytes;
 mod calls;
 mod checker;
@@ -91,11 +92,12 @@ mod inside;
 mod iter;
 mod journal;
 mod lane;
-mod looks;
 mod message;
 mod names;
 mod numbers;
 mod objects;
+mod parker;
+mod parkers;
 mod raw;
 mod received;
 mod restore;
@@ -103,8 +105,6 @@ mod room;
 #[cfg(feature = "scripts")]
 mod script;
 mod seat;
-mod sleeper;
-mod sleepers;
 mod switchboard;
 mod version;
 mod waiting;

@@ -3,9 +3,9 @@
 use crate::calls::{self, received};
 use crate::error::{handing_back, Error, SendError};
 use crate::names::{Channel, IVar, MVar, Mailbox, Named, Port, Source, Variable};
+use crate::parker::Parker;
 use crate::raw::{self, code, done, done_or, Handle};
 use crate::room::{Bytes, Carries, Room};
-use crate::sleeper::Sleeper;
 use crate::switchboard::Switchboard;
 use std::borrow::Borrow;
 use std::fmt;
@@ -47,17 +47,17 @@ use std::fmt;
 pub struct Seat<'a, R: Room = Bytes> {
     pub(crate) board: &'a Switchboard<R>,
     number: u64,
-    pub(crate) sleeper: &'a Sleeper,
+    pub(crate) parker: &'a Parker,
     /// Whether a future waits by it, or was forgotten while it waited.
     pub(crate) is_parked: bool,
 }
 
 impl<'a, R: Room> Seat<'a, R> {
-    pub(crate) fn new(board: &'a Switchboard<R>, number: u64, sleeper: &'a Sleeper) -> Seat<'a, R> {
+    pub(crate) fn new(board: &'a Switchboard<R>, number: u64, parker: &'a Parker) -> Seat<'a, R> {
         Seat {
             board,
             number,
-            sleeper,
+            parker,
             is_parked: false,
         }
     }
@@ -389,7 +389,7 @@ impl<'a, R: Room> Seat<'a, R> {
     #[inline]
     fn call(&mut self, call: impl FnOnce(&mut Handle, u64) -> u32) -> u32 {
         let seat = self.ready();
-        self.board.change_by(self.sleeper, |room| call(room, seat))
+        self.board.change_by(self.parker, |room| call(room, seat))
     }
 
     /// The seat's number, once it may call: a future that was forgotten left it waiting.
@@ -405,8 +405,8 @@ impl<'a, R: Room> Seat<'a, R> {
     #[cold]
     pub(crate) fn withdraw(&mut self) {
         self.is_parked = false;
-        self.board.withdraw_by(self.sleeper, self.number);
-        self.sleeper.forget_waker();
+        self.board.withdraw_by(self.parker, self.number);
+        self.parker.forget_waker();
     }
 }
 

@@ -8,11 +8,11 @@ use crate::inside::Inside;
 use crate::journal::Journal;
 use crate::lane::Lane;
 use crate::names::{Channel, Name, Named, Target};
+use crate::parker::{Parker, Woken};
+use crate::parkers::Parkers;
 use crate::raw::{self, code, done, written, Handle};
 use crate::room::{Bytes, Carries, Numbers, Room};
 use crate::seat::Seat;
-use crate::sleeper::{Sleeper, Woken};
-use crate::sleepers::Sleepers;
 use crate::version;
 use std::fmt;
 use std::marker::PhantomData;
@@ -42,7 +42,7 @@ use std::sync::{Mutex, MutexGuard, PoisonError};
 pub struct Switchboard<R: Room = Bytes> {
     /// Threads that wake others read what lies beside the lock.
     inside: Apart<Mutex<Inside>>,
-    sleepers: Sleepers,
+    parkers: Parkers,
     /// No other switchboard of the process has it. The names of the objects have it too.
     number: u64,
     kind: PhantomData<fn() -> R>,
@@ -95,7 +95,7 @@ impl<R: Room> Switchboard<R> {
     pub(crate) fn over(handle: Handle) -> Switchboard<R> {
         Switchboard {
             inside: Apart(Mutex::new(Inside::new(handle))),
-            sleepers: Sleepers::new(),
+            parkers: Parkers::new(),
             number: MADE.fetch_add(1, Ordering::Relaxed),
             kind: PhantomData,
         }
@@ -132,8 +132,8 @@ impl<R: Room> Switchboard<R> {
     /// ```
     pub fn seat(&self) -> Result<Seat<'_, R>, Error> {
         let mut inside = self.lock();
-        let sleeper = self.sleepers.make(inside.seats()).ok_or(Error::NoMemory)?;
-        Ok(Seat::new(self, inside.new_seat()?, sleeper))
+        let parker = self.parkers.make(inside.seats()).ok_or(Error::NoMemory)?;
+        Ok(Seat::new(self, inside.new_seat()?, parker))
     }
 
     /// Opens a lane to a mailbox or a channel, whose ring has room for `capacity` messages, from 1 to 1024.
@@ -352,33 +352,33 @@ impl<R: Room> Switchboard<R> {
 
     /// The same for a seat, which waits next, maybe for what the woken one does.
     #[inline]
-    pub(crate) fn change_by<T>(&self, sleeper: &Sleeper, call: impl FnOnce(&mut Handle) -> T) -> T {
-        self.change_inside_by(sleeper, |inside| call(&mut inside.handle))
+    pub(crate) fn change_by<T>(&self, parker: &Parker, call: impl FnOnce(&mut Handle) -> T) -> T {
+        self.change_inside_by(parker, |inside| call(&mut inside.handle))
     }
 
     /// The same for a call that may park the seat, or that of a parked seat again.
     #[inline]
-    pub(crate) fn ask_by(&self, sleeper: &Sleeper, is_again: bool, call: impl FnOnce(&mut Handle) -> u32) -> u32 {
+    pub(crate) fn ask_by(&self, parker: &Parker, is_again: bool, call: impl FnOnce(&mut Handle) -> u32) -> u32 {
         let mut inside = self.lock();
         let code = inside.ask(is_again, call);
-        sleeper.note_ask(is_again, code == code::PARKED, inside.calls());
+        parker.note_ask(is_again, code == code::PARKED, inside.calls());
         // A call that parks a free seat makes no seat due. If others were due before, a call that wakes them is on its way.
         let may_be_due = is_again || code != code::PARKED;
         let due = may_be_due.then(|| inside.next_due()).flatten();
         drop(inside);
-        self.wake_at(due, Some(sleeper));
+        self.wake_at(due, Some(parker));
         code
     }
 
     /// The same at the end of a wait: a call that parks its seat is withdrawn, before others have the lock.
     pub(crate) fn ask_at_last_by(
         &self,
-        sleeper: &Sleeper,
+        parker: &Parker,
         seat: u64,
         is_again: bool,
         call: impl FnOnce(&mut Handle) -> u32,
     ) -> u32 {
-        self.change_inside_by(sleeper, |inside| {
+        self.change_inside_by(parker, |inside| {
             let code = inside.ask(is_again, call);
             if code == code::PARKED {
                 inside.withdraw(seat);
@@ -388,18 +388,18 @@ impl<R: Room> Switchboard<R> {
     }
 
     /// Withdraws the call of a seat, if it is parked.
-    pub(crate) fn withdraw_by(&self, sleeper: &Sleeper, seat: u64) {
-        self.change_inside_by(sleeper, |inside| inside.withdraw(seat));
+    pub(crate) fn withdraw_by(&self, parker: &Parker, seat: u64) {
+        self.change_inside_by(parker, |inside| inside.withdraw(seat));
     }
 
     #[inline]
-    fn change_inside_by<T>(&self, sleeper: &Sleeper, call: impl FnOnce(&mut Inside) -> T) -> T {
-        self.make(Some(sleeper), call)
+    fn change_inside_by<T>(&self, parker: &Parker, call: impl FnOnce(&mut Inside) -> T) -> T {
+        self.make(Some(parker), call)
     }
 
     /// Makes a call of that seat or of none under the lock, unlocks the room, and then wakes the next seat that is due.
     #[inline]
-    fn make<T>(&self, by: Option<&Sleeper>, call: impl FnOnce(&mut Inside) -> T) -> T {
+    fn make<T>(&self, by: Option<&Parker>, call: impl FnOnce(&mut Inside) -> T) -> T {
         let mut inside = self.lock();
         let answer = inside.call(call);
         let due = inside.next_due();
@@ -410,18 +410,18 @@ impl<R: Room> Switchboard<R> {
 
     /// Wakes the seat at this place, if a seat is due.
     #[inline]
-    fn wake_at(&self, due: Option<u64>, by: Option<&Sleeper>) {
-        if let Some(due) = due.and_then(|place| self.sleepers.get(place)) {
+    fn wake_at(&self, due: Option<u64>, by: Option<&Parker>) {
+        if let Some(due) = due.and_then(|place| self.parkers.get(place)) {
             self.wake(due, by);
         }
     }
 
     /// Wakes a seat that is due, for a call of that seat or of none. A thread that is woken makes a call, which wakes the seat after.
     /// A task may be polled late. So behind a task this wakes the next seat too, up to the first thread.
-    fn wake(&self, due: &Sleeper, by: Option<&Sleeper>) {
+    fn wake(&self, due: &Parker, by: Option<&Parker>) {
         let mut next = Some(due);
         while let Some(due) = next {
-            let woken = due.wake(by);
+            let woken = due.unpark(by);
             if let Some(by) = by {
                 by.note_woken(due, woken);
             }
@@ -429,9 +429,9 @@ impl<R: Room> Switchboard<R> {
         }
     }
 
-    fn next_due(&self) -> Option<&Sleeper> {
+    fn next_due(&self) -> Option<&Parker> {
         let due = self.lock().next_due();
-        due.and_then(|place| self.sleepers.get(place))
+        due.and_then(|place| self.parkers.get(place))
     }
 }
 

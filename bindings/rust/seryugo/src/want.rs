@@ -87,10 +87,10 @@ impl<'a, R: Room> Seat<'a, R> {
     pub(crate) fn wait(&mut self, want: Want<'_, R>) -> Answer<R> {
         let seat = self.ready();
         let mut slot = R::slot();
-        let mut code = self.board.ask_by(self.sleeper, false, |room| want.ask(room, seat, false, &mut slot));
+        let mut code = self.board.ask_by(self.parker, false, |room| want.ask(room, seat, false, &mut slot));
         while code == code::PARKED {
-            self.sleeper.wait();
-            code = self.board.ask_by(self.sleeper, true, |room| want.ask(room, seat, true, &mut slot));
+            self.parker.park();
+            code = self.board.ask_by(self.parker, true, |room| want.ask(room, seat, true, &mut slot));
         }
         answer::<R>(code, &mut slot)
     }
@@ -113,9 +113,9 @@ impl<'a, R: Room> Seat<'a, R> {
         loop {
             let ask = |room: &mut Handle| want.ask(room, seat, is_again, &mut slot);
             let code = if is_last {
-                self.board.ask_at_last_by(self.sleeper, seat, is_again, ask)
+                self.board.ask_at_last_by(self.parker, seat, is_again, ask)
             } else {
-                self.board.ask_by(self.sleeper, is_again, ask)
+                self.board.ask_by(self.parker, is_again, ask)
             };
             if code != code::PARKED {
                 return answer::<R>(code, &mut slot);
@@ -123,7 +123,7 @@ impl<'a, R: Room> Seat<'a, R> {
             if is_last {
                 return Err(Refused::TimedOut);
             }
-            is_last = !self.sleeper.wait_until(deadline);
+            is_last = !self.parker.park_until(deadline);
             is_again = true;
         }
     }
@@ -146,7 +146,7 @@ impl<R: Room> Waiting<'_, '_, '_, R> {
     fn ask(&mut self, is_again: bool) -> Option<Answer<R>> {
         let (seat, want) = (self.seat.number(), self.want);
         let mut slot = R::slot();
-        let code = self.seat.board.ask_by(self.seat.sleeper, is_again, |room| want.ask(room, seat, is_again, &mut slot));
+        let code = self.seat.board.ask_by(self.seat.parker, is_again, |room| want.ask(room, seat, is_again, &mut slot));
         self.seat.is_parked = code == code::PARKED;
         (!self.seat.is_parked).then(|| answer::<R>(code, &mut slot))
     }
@@ -158,7 +158,7 @@ impl<R: Room> Future for Waiting<'_, '_, '_, R> {
     fn poll(mut self: Pin<&mut Self>, context: &mut Context<'_>) -> Poll<Answer<R>> {
         let mut is_again = self.seat.is_parked;
         loop {
-            if is_again && !self.seat.sleeper.poll(context.waker()) {
+            if is_again && !self.seat.parker.poll(context.waker()) {
                 return Poll::Pending;
             }
             if let Some(answer) = self.ask(is_again) {

@@ -4,12 +4,13 @@ ghost use Rattle.cml_board.specs.History.{Fits};
 ghost use Rattle.cml_board.specs.Outcome.{Applies, Performs, Refuses, HasRoom};
 
 use super::Board;
-use super::note::{Looking, Performed, Putting};
+use super::note::Performed;
 use crate::answer::Answer;
 use crate::call::Call;
 use crate::entry::{Reply, Who};
 use crate::message::Message;
 use crate::outcome::{Outcome, Refusal};
+use cml_calls::{Ask, Give};
 use cml_log::MessageLog;
 use std::alloc::AllocError;
 
@@ -46,16 +47,16 @@ impl<M: Message, L: MessageLog<M>> Board<M, L> {
             | Call::NewMVar => self.make_by(who, call),
             Call::CopyPort(port) => self.copy_port(who, *port),
             Call::ClosePort(port) => self.close_port(who, *port),
-            Call::Send(name, message) => self.put(who, *name, message, Putting::Sending),
-            Call::Cast(name, message) => self.put(who, *name, message, Putting::Casting),
+            Call::Send(name, message) => self.put(who, *name, message, Give::Send),
+            Call::Cast(name, message) => self.put(who, *name, message, Give::Cast),
             Call::Recv(name) => self.receive(who, *name),
             Call::Poll(name) => self.poll(who, *name),
             Call::MVarInit(message) => self.make_full(who, message),
             Call::Put(name, message) => self.fill(who, *name, message),
-            Call::Get(name) => self.look(who, *name, Looking::Get),
-            Call::GetPoll(name) => self.look(who, *name, Looking::GetPoll),
-            Call::Take(name) => self.look(who, *name, Looking::Take),
-            Call::TakePoll(name) => self.look(who, *name, Looking::TakePoll),
+            Call::Get(name) => self.look(who, *name, Ask::Get),
+            Call::GetPoll(name) => self.look(who, *name, Ask::GetPoll),
+            Call::Take(name) => self.look(who, *name, Ask::Take),
+            Call::TakePoll(name) => self.look(who, *name, Ask::TakePoll),
             Call::Swap(name, message) => self.swap(who, *name, message),
         }
     }

@@ -9,12 +9,13 @@ ghost use Rattle.cml_board.specs.Holdings.{open_port};
 ghost use Rattle.cml_board.specs.Outcome.{Performs, HasRoom};
 
 use super::Board;
-use super::note::{Asking, Making, Performed, note};
+use super::note::{Making, Performed, note};
 use super::objects::{add_made, close_port};
 use crate::call::{Call, Name};
 use crate::entry::{Entry, Reply, Who};
 use crate::message::Message;
 use crate::object::{Form, Object, Reading};
+use cml_calls::Ask;
 use cml_log::{Key, MessageLog};
 
 impl<M: Message, L: MessageLog<M>> Board<M, L> {
@@ -61,7 +62,7 @@ impl<M: Message, L: MessageLog<M>> Board<M, L> {
         ensures { Performs L.CHUNK M.SURE self.old self.new who (Call.CopyPort port) result }
     {
         match self.cursor(port) {
-            None => self.find_closed(who, port, Asking::Copy),
+            None => self.find_closed(who, port, Ask::CopyPort),
             Some((channel, key)) => self.make(who, Making::Copy(port, channel, key)),
         }
     }
@@ -73,7 +74,7 @@ impl<M: Message, L: MessageLog<M>> Board<M, L> {
         ensures { Performs L.CHUNK M.SURE self.old self.new who (Call.ClosePort port) result }
     {
         match self.open_port(port) {
-            None => self.find_closed(who, port, Asking::Close),
+            None => self.find_closed(who, port, Ask::ClosePort),
             Some((channel, start, key)) => self.close_open(who, port, channel, start, key),
         }
     }

@@ -4,32 +4,29 @@ ghost use Rattle.cml_log.specs.Log.{IsOpen, owed_items};
 ghost use Rattle.cml_calls.specs.Kinds.{is_receiver};
 ghost use Rattle.cml_board.specs.Counts.{is_a};
 ghost use Rattle.cml_board.specs.History.{owed, is_open, Fits};
-ghost use Rattle.cml_board.specs.Calls.{taking_call, putting_call, asking_call};
+ghost use Rattle.cml_board.specs.Parts.{given_call, asked_call};
+ghost use Rattle.cml_board.specs.Calls.{adds, takes_next, asks_port};
 ghost use Rattle.cml_board.specs.Standing.{ReadsAt};
 ghost use Rattle.cml_board.specs.Outcome.{Performs, HasRoom};
 
 use super::Board;
-use super::note::{Asking, Performed, Putting, Taking, note};
+use super::note::{Performed, note};
 use super::objects::{advance_at, push_at};
 use crate::call::{Call, Name};
 use crate::entry::{Entry, Reply, Who};
 use crate::message::Message;
+use cml_calls::{Ask, Give};
 use cml_log::{Key, MessageLog};
 use std::alloc::{AllocError, Global};
 
 impl<M: Message, L: MessageLog<M>> Board<M, L> {
     /// Sends a message to a mailbox, or multicasts it on a channel.
     #[inline(never)]
-    pub(super) fn put(
-        &mut self,
-        who: Who,
-        name: Name,
-        message: &M,
-        putting: Putting,
-    ) -> Performed<M>
-        requires fits { Fits self.old.history (putting_call putting name message.now) }
+    pub(super) fn put(&mut self, who: Who, name: Name, message: &M, give: Give) -> Performed<M>
+        requires adds { adds give ≡ true }
+        requires fits { Fits self.old.history (given_call give name message.now) }
         requires room { HasRoom self.old }
-        ensures { Performs L.CHUNK M.SURE self.old self.new who (putting_call putting name message.now) result }
+        ensures { Performs L.CHUNK M.SURE self.old self.new who (given_call give name message.now) result }
     {
         let stored = message.share(self.alloc)?;
         let noted = message.share(self.alloc)?;
@@ -39,7 +36,7 @@ impl<M: Message, L: MessageLog<M>> Board<M, L> {
         };
         let entry = Entry {
             who,
-            call: putting.call(name, noted),
+            call: Call::give(give, name, noted),
             reply: Reply::Done,
         };
         note(&mut self.journal, entry);
@@ -53,12 +50,12 @@ impl<M: Message, L: MessageLog<M>> Board<M, L> {
         ensures { Performs L.CHUNK M.SURE self.old self.new who (Call.Recv name) result }
     {
         let Some((source, key)) = self.cursor(name) else {
-            return self.find_closed(who, name, Asking::Receive);
+            return self.find_closed(who, name, Ask::Recv);
         };
         if self.log(source).owed(key) == 0 {
             return Ok(None);
         }
-        self.take(who, name, source, key, Taking::Waiting)
+        self.take(who, name, source, key, Ask::Recv)
     }
 
     #[inline(never)]
@@ -68,26 +65,27 @@ impl<M: Message, L: MessageLog<M>> Board<M, L> {
         ensures { Performs L.CHUNK M.SURE self.old self.new who (Call.Poll name) result }
     {
         let Some((source, key)) = self.cursor(name) else {
-            return self.find_closed(who, name, Asking::Poll);
+            return self.find_closed(who, name, Ask::Poll);
         };
         if self.log(source).owed(key) == 0 {
             return self.find_nothing(who, name);
         }
-        self.take(who, name, source, key, Taking::Polling)
+        self.take(who, name, source, key, Ask::Poll)
     }
 
     /// A call on a port that was closed before.
     #[inline(always)]
-    pub(super) fn find_closed(&mut self, who: Who, name: Name, asking: Asking) -> Performed<M>
-        requires fits { Fits self.old.history (asking_call asking name) }
+    pub(super) fn find_closed(&mut self, who: Who, name: Name, ask: Ask) -> Performed<M>
+        requires asks { asks_port ask ≡ true }
+        requires fits { Fits self.old.history (asked_call ask name) }
         requires closed { is_open self.old.history name.0 ≡ false }
         requires room { HasRoom self.old }
-        ensures { Performs L.CHUNK M.SURE self.old self.new who (asking_call asking name) result }
+        ensures { Performs L.CHUNK M.SURE self.old self.new who (asked_call ask name) result }
     {
         self.journal.reserve(1)?;
         let entry = Entry {
             who,
-            call: asking.call(name),
+            call: Call::ask(ask, name),
             reply: Reply::Closed,
         };
         note(&mut self.journal, entry);
@@ -115,11 +113,12 @@ impl<M: Message, L: MessageLog<M>> Board<M, L> {
 
     /// Takes the first message that is owed.
     #[inline(always)]
-    fn take(&mut self, who: Who, name: Name, source: Name, key: Key, taking: Taking) -> Performed<M>
+    fn take(&mut self, who: Who, name: Name, source: Name, key: Key, ask: Ask) -> Performed<M>
+        requires takes { takes_next ask ≡ true }
         requires reads { ReadsAt self.old name.0 source.0 key }
         requires owed { owed self.old.history name.0 ≢ [] }
         requires room { HasRoom self.old }
-        ensures { Performs L.CHUNK M.SURE self.old self.new who (taking_call taking name) result }
+        ensures { Performs L.CHUNK M.SURE self.old self.new who (asked_call ask name) result }
     {
         let message = share_first(self.log(source), self.alloc, key)?;
         let noted = message.share(self.alloc)?;
@@ -127,7 +126,7 @@ impl<M: Message, L: MessageLog<M>> Board<M, L> {
         advance_at(&mut self.objects, source, key);
         let entry = Entry {
             who,
-            call: taking.call(name),
+            call: Call::ask(ask, name),
             reply: Reply::Got(noted),
         };
         note(&mut self.journal, entry);

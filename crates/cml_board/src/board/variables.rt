@@ -4,16 +4,19 @@ ghost use Rattle.cml_calls.specs.Kinds.{is_variable};
 ghost use Rattle.cml_board.specs.Counts.{is_a};
 ghost use Rattle.cml_board.specs.Held.{held};
 ghost use Rattle.cml_board.specs.History.{Fits};
-ghost use Rattle.cml_board.specs.Calls.{looking_call, waits, empties};
+ghost use Rattle.cml_calls.specs.Table.{asked};
+ghost use Rattle.cml_board.specs.Parts.{asked_call};
+ghost use Rattle.cml_board.specs.Calls.{reads, empties};
 ghost use Rattle.cml_board.specs.Outcome.{Performs, HasRoom};
 
 use super::Board;
-use super::note::{Looking, Performed, note};
+use super::note::{Performed, note};
 use super::objects::{add_variable, hold_at};
 use crate::call::{Call, Name};
 use crate::entry::{Entry, Reply, Who};
 use crate::message::Message;
 use crate::object::Form;
+use cml_calls::Ask;
 use cml_log::MessageLog;
 use std::alloc::AllocError;
 
@@ -90,49 +93,52 @@ impl<M: Message, L: MessageLog<M>> Board<M, L> {
 
     /// Returns what a variable holds, and empties it or not.
     #[inline(never)]
-    pub(super) fn look(&mut self, who: Who, name: Name, looking: Looking) -> Performed<M>
-        requires fits { Fits self.old.history (looking_call looking name) }
+    pub(super) fn look(&mut self, who: Who, name: Name, ask: Ask) -> Performed<M>
+        requires reads { reads ask ≡ true }
+        requires fits { Fits self.old.history (asked_call ask name) }
         requires room { HasRoom self.old }
-        ensures { Performs L.CHUNK M.SURE self.old self.new who (looking_call looking name) result }
+        ensures { Performs L.CHUNK M.SURE self.old self.new who (asked_call ask name) result }
     {
         if self.content(name).is_some() {
-            return if looking.empties() {
-                self.empty(who, name, looking)
+            return if leaves_empty(ask) {
+                self.empty(who, name, ask)
             } else {
-                self.read(who, name, looking)
+                self.read(who, name, ask)
             };
         }
-        if looking.waits() {
+        if ask.shape().blocks {
             return Ok(None);
         }
-        self.find_empty(who, name, looking)
+        self.find_empty(who, name, ask)
     }
 
-    fn read(&mut self, who: Who, name: Name, looking: Looking) -> Performed<M>
-        requires fits { Fits self.old.history (looking_call looking name) }
-        requires leaves { empties looking ≡ false }
+    fn read(&mut self, who: Who, name: Name, ask: Ask) -> Performed<M>
+        requires reads { reads ask ≡ true }
+        requires fits { Fits self.old.history (asked_call ask name) }
+        requires leaves { empties ask ≡ false }
         requires full { held self.old.history name.0 ≢ None }
         requires room { HasRoom self.old }
-        ensures { Performs L.CHUNK M.SURE self.old self.new who (looking_call looking name) result }
+        ensures { Performs L.CHUNK M.SURE self.old self.new who (asked_call ask name) result }
     {
         let message = self.share_held(name)?;
         let noted = message.share(self.alloc)?;
         self.journal.reserve(1)?;
         let entry = Entry {
             who,
-            call: looking.call(name),
+            call: Call::ask(ask, name),
             reply: Reply::Got(noted),
         };
         note(&mut self.journal, entry);
         Ok(Some(Reply::Got(message)))
     }
 
-    fn empty(&mut self, who: Who, name: Name, looking: Looking) -> Performed<M>
-        requires fits { Fits self.old.history (looking_call looking name) }
-        requires empties { empties looking ≡ true }
+    fn empty(&mut self, who: Who, name: Name, ask: Ask) -> Performed<M>
+        requires reads { reads ask ≡ true }
+        requires fits { Fits self.old.history (asked_call ask name) }
+        requires empties { empties ask ≡ true }
         requires full { held self.old.history name.0 ≢ None }
         requires room { HasRoom self.old }
-        ensures { Performs L.CHUNK M.SURE self.old self.new who (looking_call looking name) result }
+        ensures { Performs L.CHUNK M.SURE self.old self.new who (asked_call ask name) result }
     {
         let noted = self.share_held(name)?;
         self.journal.reserve(1)?;
@@ -141,7 +147,7 @@ impl<M: Message, L: MessageLog<M>> Board<M, L> {
         };
         let entry = Entry {
             who,
-            call: looking.call(name),
+            call: Call::ask(ask, name),
             reply: Reply::Got(noted),
         };
         note(&mut self.journal, entry);
@@ -149,17 +155,18 @@ impl<M: Message, L: MessageLog<M>> Board<M, L> {
     }
 
     /// A poll of an empty variable.
-    fn find_empty(&mut self, who: Who, name: Name, looking: Looking) -> Performed<M>
-        requires fits { Fits self.old.history (looking_call looking name) }
-        requires polls { waits looking ≡ false }
+    fn find_empty(&mut self, who: Who, name: Name, ask: Ask) -> Performed<M>
+        requires reads { reads ask ≡ true }
+        requires fits { Fits self.old.history (asked_call ask name) }
+        requires polls { (asked ask).blocks ≡ false }
         requires empty { held self.old.history name.0 ≡ None }
         requires room { HasRoom self.old }
-        ensures { Performs L.CHUNK M.SURE self.old self.new who (looking_call looking name) result }
+        ensures { Performs L.CHUNK M.SURE self.old self.new who (asked_call ask name) result }
     {
         self.journal.reserve(1)?;
         let entry = Entry {
             who,
-            call: looking.call(name),
+            call: Call::ask(ask, name),
             reply: Reply::Nothing,
         };
         note(&mut self.journal, entry);
@@ -221,4 +228,11 @@ impl<M: Message, L: MessageLog<M>> Board<M, L> {
             None => unreachable!(),
         }
     }
+}
+
+/// Says whether the call leaves the variable empty that it reads.
+fn leaves_empty(ask: Ask) -> bool
+    ensures { result ≡ empties ask }
+{
+    matches!(ask, Ask::Take | Ask::TakePoll)
 }

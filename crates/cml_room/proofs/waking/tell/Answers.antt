@@ -9,7 +9,7 @@ use Rattle.cml_room.proofs.Rousing.{at_kept}
 use Rattle.cml_room.proofs.waking.tell.Goals as goal
 
 pub tell_value-requires-clause-lawful : goal.tell_value-requires-clause-lawful
-tell_value-requires-clause-lawful g c = c.journal-journal.ensures.lawful
+tell_value-requires-clause-lawful g c = c.facts.ensures.sound.lawful
 
 pub returns-in-Message-clause-roused : goal.returns-in-Message-clause-roused
 returns-in-Message-clause-roused g c =
@@ -29,7 +29,7 @@ returns-in-Message-clause-told g c =
     let new = c.rouse_first.new.seats.places in
     told_news c.args.board.now.history c.args.news c.in-Some.news new c.in-Some.is
     (subst (λ (n : News). AreTold c.args.board.now.history n new) (sym c.in-Message.is)
-    (message_told c.args.board.now.history c.in-Message.name new c.journal-journal.ensures.lawful
+    (message_told c.args.board.now.history c.in-Message.name new c.facts.ensures.sound.lawful
     (subst (IsOf c.args.board.now.history) c.in-Message.is of)
     (at_kept _ c.args.board.now.history c.args.seats.now.places new c.rouse_first.ensures.roused c.requires.placed) c.rouse_first.ensures.first))
 
@@ -74,7 +74,7 @@ returns-in-Closed-clause-roused g c =
       c.in-Some.news,
       c.in-Some.is,
       ap (λ (n : News). helps history n waiter.want) c.in-Closed.is
-          ∙ closed_helps history c.in-Closed.name c.source_of.result waiter (ports_are_of_channels history c.journal-journal.ensures.lawful) c.source_of.ensures of
+          ∙ closed_helps history c.in-Closed.name c.source_of.result waiter (ports_are_of_channels history c.facts.ensures.sound.lawful) c.source_of.ensures of
           (c.requires.placed k waiter found) reached,
     ))
     c.rouse_each-in-Closed.ensures.roused

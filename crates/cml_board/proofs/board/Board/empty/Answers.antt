@@ -1,7 +1,7 @@
 use Rattle.std.proofs.Common.{refl, sym, ap, ◌∙◌, ◌≡◌, reverse, Some, None, arith, ◌++◌}
 use Rattle.std.proofs.lemmas.Option.{same_Some}
 use Rattle.cml_board.specs.declared.entry.Reply.TheVariants.{Got}
-use Rattle.cml_board.specs.Calls.{looking_call}
+use Rattle.cml_board.specs.Parts.{asked_call}
 use Rattle.cml_board.specs.Held.{held}
 use Rattle.cml_board.specs.Holdings.{seen_all, HasVariable}
 use Rattle.cml_board.specs.Shown.{Shown}
@@ -12,14 +12,14 @@ use Rattle.cml_board.proofs.Setting.{step_set}
 use Rattle.cml_board.proofs.board.Board.empty.Goals as goal
 
 pub share_held-requires-clause-stands : goal.share_held-requires-clause-stands
-share_held-requires-clause-stands g c = look_variable c.args.self.now.history c.args.looking c.args.name c.requires.fits
+share_held-requires-clause-stands g c = look_variable c.args.self.now.history c.args.ask c.args.name c.requires.reads c.requires.fits
 
 pub hold_at-requires : goal.hold_at-requires
 hold_at-requires g c =
     let chunk = g.L.MessageLog.CHUNK in
     inside (λ (b : Shown g.row.M.Denot). HasVariable b.objects c.args.name.0) c.self.view_is
     (variable_stands chunk c.args.self.now c.args.name.0 (keeps_at chunk c.self.view_is c.self.invariant)
-    (look_variable c.args.self.now.history c.args.looking c.args.name c.requires.fits))
+    (look_variable c.args.self.now.history c.args.ask c.args.name c.requires.reads c.requires.fits))
 
 pub unreachable-requires : goal.unreachable-requires
 unreachable-requires g c =
@@ -31,23 +31,23 @@ pub invariant_of-self-2 : goal.invariant_of-self-2
 invariant_of-self-2 g c =
     let chunk = g.L.MessageLog.CHUNK in
     let log = g.L.MessageLog.log in
-    let asked = looking_call c.args.looking c.args.name in
-    keeps_call chunk c.args.who asked c.call.result (Got c.in_ok-noted.noted) (Got c.in_ok-noted.noted) c.self.view_is c.self.invariant c.note.ensures.entries c.reserve.ensures.items
-    c.call.ensures refl c.requires.room c.requires.fits
-    (answer_read c.args.self.now.history c.args.looking c.args.name c.in_ok-noted.noted c.in_ok-noted.ensures.copy)
+    let asked = asked_call c.args.ask c.args.name in
+    keeps_call chunk c.args.who asked c.ask.result (Got c.in_ok-noted.noted) (Got c.in_ok-noted.noted) c.self.view_is c.self.invariant c.note.ensures.entries c.reserve.ensures.items
+    c.ask.ensures refl c.requires.room c.requires.fits
+    (answer_read c.args.self.now.history c.args.ask c.args.name c.in_ok-noted.noted c.requires.reads c.in_ok-noted.ensures.copy)
     (λ lawful shows. step_set chunk c.args.who asked (Got c.in_ok-noted.noted) c.args.name c.hold_at.result None
     (reverse c.self.inside.journal.items ++ c.self.inside.past) (seen_all log c.self.inside.objects.items) (seen_all log c.hold_at.new.objects.items)
-    (taken_sets c.args.looking c.args.name c.in_ok-noted.noted c.requires.empties) shows c.hold_at.ensures)
+    (taken_sets c.args.ask c.args.name c.in_ok-noted.noted c.requires.empties) shows c.hold_at.ensures)
 
 pub returns : goal.returns
 returns g c =
     let chunk = g.L.MessageLog.CHUNK in
     let h = c.args.self.now.history in
-    let asked = looking_call c.args.looking c.args.name in
+    let asked = asked_call c.args.ask c.args.name in
     let full : held h c.args.name.0 ≡ Some c.in-Some.message =
     was_held chunk c.self.view_is c.self.invariant (seen_all g.L.MessageLog.log c.hold_at.new.objects.items) c.args.name.0 c.hold_at.result None c.hold_at.ensures ∙ c.in-Some.is in
     let same : c.in_ok-noted.noted ≡ c.in-Some.message = same_Some _ _ (sym c.in_ok-noted.ensures.copy ∙ full) in (
-      answer_read h c.args.looking c.args.name c.in-Some.message full,
-      adds_entry c.args.who asked c.call.result (Got c.in_ok-noted.noted) (Got c.in-Some.message) c.self.view_is c.note.ensures.entries c.reserve.ensures.items
-          c.call.ensures (ap Got same) (omega (arith, c.reserve.ensures.len, c.reserve.ensures.capacity, c.note.ensures.spare)),
+      answer_read h c.args.ask c.args.name c.in-Some.message c.requires.reads full,
+      adds_entry c.args.who asked c.ask.result (Got c.in_ok-noted.noted) (Got c.in-Some.message) c.self.view_is c.note.ensures.entries c.reserve.ensures.items
+          c.ask.ensures (ap Got same) (omega (arith, c.reserve.ensures.len, c.reserve.ensures.capacity, c.note.ensures.spare)),
     )

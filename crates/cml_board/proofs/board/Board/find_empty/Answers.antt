@@ -1,6 +1,6 @@
 use Rattle.std.proofs.Common.{refl, arith, reverse, ◌++◌}
 use Rattle.cml_board.specs.declared.entry.Reply.TheVariants.{Nothing}
-use Rattle.cml_board.specs.Calls.{looking_call}
+use Rattle.cml_board.specs.Parts.{asked_call}
 use Rattle.cml_board.specs.Holdings.{seen_all}
 use Rattle.cml_board.proofs.Noting.{keeps_call, adds_entry}
 use Rattle.cml_board.proofs.Holding.{answer_empty}
@@ -11,15 +11,15 @@ use Rattle.cml_board.proofs.board.Board.find_empty.Goals as goal
 pub invariant_of-self-2 : goal.invariant_of-self-2
 invariant_of-self-2 g c =
     let chunk = g.L.MessageLog.CHUNK in
-    let asked = looking_call c.args.looking c.args.name in
-    keeps_call chunk c.args.who asked c.call.result Nothing Nothing c.self.view_is c.self.invariant c.note.ensures.entries c.reserve.ensures.items
-    c.call.ensures refl c.requires.room c.requires.fits (answer_empty c.args.self.now.history c.args.looking c.args.name c.requires.polls c.requires.empty)
+    let asked = asked_call c.args.ask c.args.name in
+    keeps_call chunk c.args.who asked c.ask.result Nothing Nothing c.self.view_is c.self.invariant c.note.ensures.entries c.reserve.ensures.items
+    c.ask.ensures refl c.requires.room c.requires.fits (answer_empty c.args.self.now.history c.args.ask c.args.name c.requires.reads c.requires.polls c.requires.empty)
     (λ lawful shows. step_spared chunk c.args.who asked Nothing (reverse c.self.inside.journal.items ++ c.self.inside.past) (seen_all g.L.MessageLog.log c.self.inside.objects.items)
-    (empty_spares c.args.looking c.args.name) (empty_leaves c.args.looking c.args.name) shows)
+    (empty_spares c.args.ask c.args.name c.requires.reads) (λ k. empty_leaves c.args.ask c.args.name k c.requires.reads) shows)
 
 pub returns : goal.returns
 returns g c =
-    let asked = looking_call c.args.looking c.args.name in (
-      answer_empty c.args.self.now.history c.args.looking c.args.name c.requires.polls c.requires.empty,
-      adds_entry c.args.who asked c.call.result Nothing Nothing c.self.view_is c.note.ensures.entries c.reserve.ensures.items c.call.ensures refl (omega (arith, c.reserve.ensures.len, c.reserve.ensures.capacity, c.note.ensures.spare)),
+    let asked = asked_call c.args.ask c.args.name in (
+      answer_empty c.args.self.now.history c.args.ask c.args.name c.requires.reads c.requires.polls c.requires.empty,
+      adds_entry c.args.who asked c.ask.result Nothing Nothing c.self.view_is c.note.ensures.entries c.reserve.ensures.items c.ask.ensures refl (omega (arith, c.reserve.ensures.len, c.reserve.ensures.capacity, c.note.ensures.spare)),
     )

@@ -9,21 +9,21 @@ const DOUBLINGS: u32 = 6;
 /// A thread looks `TIMES` times at a state. It spins between two looks. Once it has looked in vain, it doesn't look in its next
 /// waits: in one, and then in twice as many each time, up to `MOST_WITHOUT`. It never yields: on a busy machine a yield gives up the
 /// whole time slice. For that thread alone.
-pub(crate) struct Looks<const TIMES: u32, const MOST_WITHOUT: u16> {
+pub(crate) struct Backoff<const TIMES: u32, const MOST_WITHOUT: u16> {
     without: AtomicU16,
     left: AtomicU16,
 }
 
-impl<const TIMES: u32, const MOST_WITHOUT: u16> Looks<TIMES, MOST_WITHOUT> {
+impl<const TIMES: u32, const MOST_WITHOUT: u16> Backoff<TIMES, MOST_WITHOUT> {
     pub fn new() -> Self {
-        Looks {
+        Backoff {
             without: AtomicU16::new(0),
             left: AtomicU16::new(0),
         }
     }
 
     /// Whether the thread looks in this wait. If not, it counts the wait.
-    pub fn are_due(&self) -> bool {
+    pub fn is_due(&self) -> bool {
         let left = self.left.load(Ordering::Relaxed);
         if left != 0 {
             self.left.store(left - 1, Ordering::Relaxed);
@@ -32,7 +32,7 @@ impl<const TIMES: u32, const MOST_WITHOUT: u16> Looks<TIMES, MOST_WITHOUT> {
     }
 
     /// Whether the state is this before the last look.
-    pub fn see(&self, state: &AtomicU8, this: u8) -> bool {
+    pub fn spin_until(&self, state: &AtomicU8, this: u8) -> bool {
         for look in 0..TIMES {
             if state.load(Ordering::Acquire) == this {
                 self.without.store(0, Ordering::Relaxed);

@@ -1,18 +1,18 @@
 //! How a parked seat waits: by a thread that sleeps, or by a future's waker.
 
-use crate::looks::Looks;
+use crate::backoff::Backoff;
 use std::mem;
 use std::sync::atomic::{AtomicBool, AtomicU64, AtomicU8, Ordering};
 use std::sync::{Condvar, Mutex, MutexGuard, PoisonError};
 use std::task::Waker;
 use std::time::{Duration, Instant};
 
-/// A thread looks so often before it sleeps. Once that was in vain, it doesn't look in so many waits at the most.
-type FewLooks = Looks<8, 16>;
+/// A thread looks 8 times before it sleeps. Once that was in vain, it doesn't look in its next waits, in 16 at the most.
+type ShortBackoff = Backoff<8, 16>;
 /// The same if an answer may be near: if its last call has woken a thread that slept, or the one that had woken it. That thread may
 /// answer as soon as it runs, and to wake it takes longer than the few looks. So two threads that answer each other don't sleep at
 /// each turn.
-type ManyLooks = Looks<50, 512>;
+type LongBackoff = Backoff<50, 512>;
 /// If more calls than this were made on the switchboard while a seat waited, its thread sleeps at once in its next wait. In a token
 /// round eight threads there are some 20 calls between two waits of each. To read the clock instead took 0.1 microseconds a sleep.
 const FEW_CALLS: u64 = 32;
@@ -44,7 +44,7 @@ const NOBODY: u64 = u64::MAX;
 /// The room returns a parked seat as due once, until the seat asks again, and each return has a wake. So a wake that is on its way
 /// as its seat withdraws the call comes late: it ends a later wait too early. Then the seat asks again in vain, and waits on. No
 /// wake for the last ask is lost, since the state becomes `AWAKE` only before an ask, and never between the ask and the sleep.
-pub(crate) struct Sleeper {
+pub(crate) struct Parker {
     /// The seat's number.
     number: u64,
     state: AtomicU8,
@@ -56,8 +56,8 @@ pub(crate) struct Sleeper {
     // These are for the seat's thread alone.
     is_answer_near: AtomicBool,
     has_waited_long: AtomicBool,
-    few: FewLooks,
-    many: ManyLooks,
+    short: ShortBackoff,
+    long: LongBackoff,
     /// How many calls had been made on the switchboard when the seat was parked.
     parked_at: AtomicU64,
 }
@@ -65,11 +65,11 @@ pub(crate) struct Sleeper {
 // All of it is in one line of memory. The thread that wakes and the one that is woken run on two processors, and each line that both
 // use has to go from one to the other.
 #[cfg(target_os = "linux")]
-const _: () = assert!(mem::size_of::<Sleeper>() <= 64);
+const _: () = assert!(mem::size_of::<Parker>() <= 64);
 
-impl Sleeper {
-    pub fn new(number: u64) -> Sleeper {
-        Sleeper {
+impl Parker {
+    pub fn new(number: u64) -> Parker {
+        Parker {
             number,
             woken_by: AtomicU64::new(NOBODY),
             state: AtomicU8::new(AWAKE),
@@ -77,14 +77,14 @@ impl Sleeper {
             woken: Condvar::new(),
             is_answer_near: AtomicBool::new(false),
             has_waited_long: AtomicBool::new(false),
-            few: Looks::new(),
-            many: Looks::new(),
+            short: Backoff::new(),
+            long: Backoff::new(),
             parked_at: AtomicU64::new(0),
         }
     }
 
     /// Waits until it is woken. A wake that came before ends it at once.
-    pub fn wait(&self) {
+    pub fn park(&self) {
         if !self.is_soon_woken() {
             self.sleep();
         }
@@ -92,7 +92,7 @@ impl Sleeper {
     }
 
     /// The same, but at most until then. Returns whether it was woken.
-    pub fn wait_until(&self, deadline: Instant) -> bool {
+    pub fn park_until(&self, deadline: Instant) -> bool {
         let has_time = deadline.saturating_duration_since(Instant::now()) > LONGEST_LOOK;
         let is_woken = has_time && self.is_soon_woken() || self.sleep_until(deadline);
         self.forget_wake();
@@ -132,7 +132,7 @@ impl Sleeper {
         drop(waker);
     }
 
-    /// Looks for a while, unless the last wait was long or it looked in vain lately.
+    /// Backoff for a while, unless the last wait was long or it looked in vain lately.
     fn is_soon_woken(&self) -> bool {
         let is_near = self.is_answer_near.load(Ordering::Relaxed);
         if is_near {
@@ -141,10 +141,10 @@ impl Sleeper {
         if self.has_waited_long.load(Ordering::Relaxed) {
             return false;
         }
-        if is_near && self.many.are_due() {
-            return self.many.see(&self.state, WOKEN);
+        if is_near && self.long.is_due() {
+            return self.long.spin_until(&self.state, WOKEN);
         }
-        self.few.are_due() && self.few.see(&self.state, WOKEN)
+        self.short.is_due() && self.short.spin_until(&self.state, WOKEN)
     }
 
     fn sleep(&self) {
@@ -174,7 +174,7 @@ impl Sleeper {
     }
 
     /// Wakes the thread or the future, or has its next wait end at once, for a call of that seat or of none.
-    pub fn wake(&self, by: Option<&Sleeper>) -> Woken {
+    pub fn unpark(&self, by: Option<&Parker>) -> Woken {
         self.woken_by.store(by.map_or(NOBODY, |by| by.number), Ordering::Relaxed);
         match self.state.swap(WOKEN, Ordering::AcqRel) {
             ASLEEP => {
@@ -207,7 +207,7 @@ impl Sleeper {
 
     /// The seat's call has just woken another seat. If a thread slept there, or that seat had woken this one, it may answer
     /// soon: so in its next wait this seat's thread may look for longer.
-    pub fn note_woken(&self, other: &Sleeper, woken: Woken) {
+    pub fn note_woken(&self, other: &Parker, woken: Woken) {
         if woken == Woken::Thread || self.woken_by.load(Ordering::Relaxed) == other.number {
             self.is_answer_near.store(true, Ordering::Relaxed);
         }
