@@ -19,7 +19,7 @@ use Rattle.cml_board.specs.Origins.{kind_by}
 use Rattle.cml_calls.specs.Kinds.{is_variable, is_mvar}
 use Rattle.cml_calls.specs.Table.{asked}
 use Rattle.cml_board.specs.Parts.{asked_call}
-use Rattle.cml_board.specs.Calls.{variable_call, reads}
+use Rattle.cml_board.specs.Calls.{variable_call, reads_variable}
 use Rattle.cml_board.specs.Held.{held}
 use Rattle.cml_board.specs.History.{Fits, kind_of, answer, new_name}
 use Rattle.cml_board.specs.Counts.{is_a}
@@ -49,7 +49,7 @@ module _ {M : Type 0} where
   pub swap_variable : (h : List (Entry M)) (name : Name) (message : M) → Fits h (call.Swap name message) → is_a is_variable h name.0 ≡ true
   swap_variable h name message fits = mvar_kind (kind_of h name.0) fits.0 fits.1
 
-  pub look_variable : (h : List (Entry M)) (asks : Ask) (name : Name) → reads asks ≡ true → Fits h (asked_call asks name) → is_a is_variable h name.0 ≡ true
+  pub look_variable : (h : List (Entry M)) (asks : Ask) (name : Name) → reads_variable asks ≡ true → Fits h (asked_call asks name) → is_a is_variable h name.0 ≡ true
   look_variable h ask.Get name is fits = variable_kind (kind_of h name.0) fits.0 fits.1
   look_variable h ask.GetPoll name is fits = variable_kind (kind_of h name.0) fits.0 fits.1
   look_variable h ask.Take name is fits = mvar_kind (kind_of h name.0) fits.0 fits.1
@@ -79,7 +79,7 @@ module _ {M : Type 0} where
   pub answer_swapped : (h : List (Entry M)) (name : Name) (message old : M) → held h name.0 ≡ Some old → answer h (call.Swap name message) ≡ Some (Got old)
   answer_swapped h name message old full = rw full refl
 
-  pub answer_read : (h : List (Entry M)) (asks : Ask) (name : Name) (message : M) → reads asks ≡ true → held h name.0 ≡ Some message
+  pub answer_read : (h : List (Entry M)) (asks : Ask) (name : Name) (message : M) → reads_variable asks ≡ true → held h name.0 ≡ Some message
       → answer h (asked_call asks name) ≡ Some (Got message)
   answer_read h ask.Get name message is full = rw full refl
   answer_read h ask.GetPoll name message is full = rw full refl
@@ -87,7 +87,7 @@ module _ {M : Type 0} where
   answer_read h ask.TakePoll name message is full = rw full refl
   answer_read h other name message is full = absurd (false≢true is)
 
-  pub answer_empty : (h : List (Entry M)) (asks : Ask) (name : Name) → reads asks ≡ true → (asked asks).blocks ≡ false → held h name.0 ≡ None
+  pub answer_empty : (h : List (Entry M)) (asks : Ask) (name : Name) → reads_variable asks ≡ true → (asked asks).blocks ≡ false → held h name.0 ≡ None
       → answer h (asked_call asks name) ≡ Some Nothing
   answer_empty h ask.Get name is polls empty = absurd (false≢true (sym polls))
   answer_empty h ask.GetPoll name is polls empty = rw empty refl

@@ -13,7 +13,7 @@ use Rattle.cml_board.specs.declared.entry.Reply.TheVariants.{Done, Got, Nothing,
 use Rattle.cml_board.specs.declared.entry.Entry.{Entry}
 use Rattle.cml_board.specs.Origins.{Origin}
 use Rattle.cml_board.specs.Parts.{asked_call}
-use Rattle.cml_board.specs.Calls.{reads, empties}
+use Rattle.cml_board.specs.Calls.{reads_variable, empties}
 use Rattle.cml_board.specs.Held.{only_at, left_by, held}
 use Rattle.cml_board.specs.History.{made, if_made, begun_by, origin_of, sent_by, got_by, closes}
 use Rattle.cml_board.specs.Facts.{facts_of}
@@ -83,14 +83,14 @@ module _ {M : Type 0} where
   }
 
   -- a call that reads
-  pub read_spares : (asks : Ask) (name : Name) (message : M) → reads asks ≡ true → Spares (asked_call asks name) (Got message)
+  pub read_spares : (asks : Ask) (name : Name) (message : M) → reads_variable asks ≡ true → Spares (asked_call asks name) (Got message)
   read_spares ask.Get name message is = record { makes = λ origins h. refl; sends = λ k. refl; gets = λ k. refl; shuts = λ k. refl }
   read_spares ask.GetPoll name message is = record { makes = λ origins h. refl; sends = λ k. refl; gets = λ k. refl; shuts = λ k. refl }
   read_spares ask.Take name message is = record { makes = λ origins h. refl; sends = λ k. refl; gets = λ k. refl; shuts = λ k. refl }
   read_spares ask.TakePoll name message is = record { makes = λ origins h. refl; sends = λ k. refl; gets = λ k. refl; shuts = λ k. refl }
   read_spares other name message is = absurd (false≢true is)
 
-  pub read_leaves : (asks : Ask) (name : Name) (message : M) (k : ℕ) → reads asks ≡ true → empties asks ≡ false → left_by (asked_call asks name) (Got message) k ≡ None
+  pub read_leaves : (asks : Ask) (name : Name) (message : M) (k : ℕ) → reads_variable asks ≡ true → empties asks ≡ false → left_by (asked_call asks name) (Got message) k ≡ None
   read_leaves ask.Get name message k is stays = refl
   read_leaves ask.GetPoll name message k is stays = refl
   read_leaves ask.Take name message k is stays = absurd (false≢true (sym stays))
@@ -103,14 +103,14 @@ module _ {M : Type 0} where
   taken_sets other name message takes = absurd (false≢true takes)
 
   -- and one that finds nothing
-  pub empty_spares : (asks : Ask) (name : Name) → reads asks ≡ true → Spares (asked_call {M = M} asks name) Nothing
+  pub empty_spares : (asks : Ask) (name : Name) → reads_variable asks ≡ true → Spares (asked_call {M = M} asks name) Nothing
   empty_spares ask.Get name is = record { makes = λ origins h. refl; sends = λ k. refl; gets = λ k. refl; shuts = λ k. refl }
   empty_spares ask.GetPoll name is = record { makes = λ origins h. refl; sends = λ k. refl; gets = λ k. refl; shuts = λ k. refl }
   empty_spares ask.Take name is = record { makes = λ origins h. refl; sends = λ k. refl; gets = λ k. refl; shuts = λ k. refl }
   empty_spares ask.TakePoll name is = record { makes = λ origins h. refl; sends = λ k. refl; gets = λ k. refl; shuts = λ k. refl }
   empty_spares other name is = absurd (false≢true is)
 
-  pub empty_leaves : (asks : Ask) (name : Name) (k : ℕ) → reads asks ≡ true → left_by (asked_call {M = M} asks name) Nothing k ≡ None
+  pub empty_leaves : (asks : Ask) (name : Name) (k : ℕ) → reads_variable asks ≡ true → left_by (asked_call {M = M} asks name) Nothing k ≡ None
   empty_leaves ask.Get name k is = refl
   empty_leaves ask.GetPoll name k is = refl
   empty_leaves ask.Take name k is = refl

@@ -38,5 +38,6 @@ pub mod Receiving
 pub mod Renewing
 pub mod Since
 pub mod Sound
+pub mod PartsLemmas
 pub mod Numbering
 pub mod Suiting

@@ -32,12 +32,12 @@ asks_port ask.ClosePort = true
 asks_port other = false
 
 -- it reads a variable
-abbrev pub reads : Ask → Bool
-reads ask.Get = true
-reads ask.GetPoll = true
-reads ask.Take = true
-reads ask.TakePoll = true
-reads other = false
+abbrev pub reads_variable : Ask → Bool
+reads_variable ask.Get = true
+reads_variable ask.GetPoll = true
+reads_variable ask.Take = true
+reads_variable ask.TakePoll = true
+reads_variable other = false
 
 -- it leaves the variable empty
 abbrev pub empties : Ask → Bool

@@ -6,7 +6,7 @@ ghost use Rattle.cml_board.specs.Held.{held};
 ghost use Rattle.cml_board.specs.History.{Fits};
 ghost use Rattle.cml_calls.specs.Table.{asked};
 ghost use Rattle.cml_board.specs.Parts.{asked_call};
-ghost use Rattle.cml_board.specs.Calls.{reads, empties};
+ghost use Rattle.cml_board.specs.Calls.{reads_variable, empties};
 ghost use Rattle.cml_board.specs.Outcome.{Performs, HasRoom};
 
 use super::Board;
@@ -94,7 +94,7 @@ impl<M: Message, L: MessageLog<M>> Board<M, L> {
     /// Returns what a variable holds, and empties it or not.
     #[inline(never)]
     pub(super) fn look(&mut self, who: Who, name: Name, ask: Ask) -> Performed<M>
-        requires reads { reads ask ≡ true }
+        requires reads { reads_variable ask ≡ true }
         requires fits { Fits self.old.history (asked_call ask name) }
         requires room { HasRoom self.old }
         ensures { Performs L.CHUNK M.SURE self.old self.new who (asked_call ask name) result }
@@ -113,7 +113,7 @@ impl<M: Message, L: MessageLog<M>> Board<M, L> {
     }
 
     fn read(&mut self, who: Who, name: Name, ask: Ask) -> Performed<M>
-        requires reads { reads ask ≡ true }
+        requires reads { reads_variable ask ≡ true }
         requires fits { Fits self.old.history (asked_call ask name) }
         requires leaves { empties ask ≡ false }
         requires full { held self.old.history name.0 ≢ None }
@@ -133,7 +133,7 @@ impl<M: Message, L: MessageLog<M>> Board<M, L> {
     }
 
     fn empty(&mut self, who: Who, name: Name, ask: Ask) -> Performed<M>
-        requires reads { reads ask ≡ true }
+        requires reads { reads_variable ask ≡ true }
         requires fits { Fits self.old.history (asked_call ask name) }
         requires empties { empties ask ≡ true }
         requires full { held self.old.history name.0 ≢ None }
@@ -156,7 +156,7 @@ impl<M: Message, L: MessageLog<M>> Board<M, L> {
 
     /// A poll of an empty variable.
     fn find_empty(&mut self, who: Who, name: Name, ask: Ask) -> Performed<M>
-        requires reads { reads ask ≡ true }
+        requires reads { reads_variable ask ≡ true }
         requires fits { Fits self.old.history (asked_call ask name) }
         requires polls { (asked ask).blocks ≡ false }
         requires empty { held self.old.history name.0 ≡ None }
