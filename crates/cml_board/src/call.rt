@@ -136,12 +136,16 @@ impl<M> Call<M> {
         }
     }
 
-    /// Returns which objects take the call.
+    /// Returns which objects take the call. This is one column of the row, which a board looks at in each call.
     #[inline(always)]
     pub fn takers(&self) -> Takers
         ensures { result ≡ (row_of self.now).takers }
     {
-        self.shape().takers
+        match self.parts() {
+            Parts::Make(_) | Parts::Fill(_) => Takers::Nobody,
+            Parts::Give(give, _, _) => give.takers(),
+            Parts::Ask(ask, _) => ask.takers(),
+        }
     }
 
     /// Returns the message that the call gives, if it gives one.

@@ -140,21 +140,30 @@ pub fn shape_of_filled() -> Shape
 }
 
 impl Give {
+    /// Returns which objects take the call.
+    #[inline(always)]
+    pub fn takers(self) -> Takers
+        ensures { result ≡ (given self).takers }
+    {
+        match self {
+            Give::Send => Takers::Mailboxes,
+            Give::Cast => Takers::Channels,
+            Give::Put => Takers::Variables,
+            Give::Swap => Takers::MVars,
+        }
+    }
+
     /// Returns the call's row in the table.
     #[inline(always)]
     pub fn shape(self) -> Shape
         ensures { shown result ≡ given self }
     {
+        let takers = self.takers();
         match self {
-            Give::Send => row(8, "send", Takers::Mailboxes, DONE),
-            Give::Cast => row(9, "multicast", Takers::Channels, DONE),
-            Give::Put => row(
-                12,
-                "put",
-                Takers::Variables,
-                &[ReplyKind::Done, ReplyKind::Put],
-            ),
-            Give::Swap => blocking(17, "swap", Takers::MVars, GOT),
+            Give::Send => row(8, "send", takers, DONE),
+            Give::Cast => row(9, "multicast", takers, DONE),
+            Give::Put => row(12, "put", takers, &[ReplyKind::Done, ReplyKind::Put]),
+            Give::Swap => blocking(17, "swap", takers, GOT),
         }
     }
 
@@ -186,41 +195,41 @@ impl Give {
 }
 
 impl Ask {
+    /// Returns which objects take the call.
+    #[inline(always)]
+    pub fn takers(self) -> Takers
+        ensures { result ≡ (asked self).takers }
+    {
+        match self {
+            Ask::NewPort => Takers::Channels,
+            Ask::CopyPort | Ask::ClosePort => Takers::Ports,
+            Ask::Recv | Ask::Poll => Takers::Receivers,
+            Ask::Get | Ask::GetPoll => Takers::Variables,
+            Ask::Take | Ask::TakePoll => Takers::MVars,
+        }
+    }
+
     /// Returns the call's row in the table.
     #[inline(always)]
     pub fn shape(self) -> Shape
         ensures { shown result ≡ asked self }
     {
+        let takers = self.takers();
         match self {
-            Ask::NewPort => row(2, "port", Takers::Channels, MADE),
-            Ask::CopyPort => row(
-                3,
-                "copy",
-                Takers::Ports,
-                &[ReplyKind::Made, ReplyKind::Closed],
-            ),
-            Ask::ClosePort => row(
-                4,
-                "close",
-                Takers::Ports,
-                &[ReplyKind::Done, ReplyKind::Closed],
-            ),
-            Ask::Recv => blocking(
-                10,
-                "recv",
-                Takers::Receivers,
-                &[ReplyKind::Got, ReplyKind::Closed],
-            ),
+            Ask::NewPort => row(2, "port", takers, MADE),
+            Ask::CopyPort => row(3, "copy", takers, &[ReplyKind::Made, ReplyKind::Closed]),
+            Ask::ClosePort => row(4, "close", takers, &[ReplyKind::Done, ReplyKind::Closed]),
+            Ask::Recv => blocking(10, "recv", takers, &[ReplyKind::Got, ReplyKind::Closed]),
             Ask::Poll => row(
                 11,
                 "poll",
-                Takers::Receivers,
+                takers,
                 &[ReplyKind::Got, ReplyKind::Nothing, ReplyKind::Closed],
             ),
-            Ask::Get => blocking(13, "get", Takers::Variables, GOT),
-            Ask::GetPoll => row(14, "getpoll", Takers::Variables, POLLED),
-            Ask::Take => blocking(15, "take", Takers::MVars, GOT),
-            Ask::TakePoll => row(16, "takepoll", Takers::MVars, POLLED),
+            Ask::Get => blocking(13, "get", takers, GOT),
+            Ask::GetPoll => row(14, "getpoll", takers, POLLED),
+            Ask::Take => blocking(15, "take", takers, GOT),
+            Ask::TakePoll => row(16, "takepoll", takers, POLLED),
         }
     }
 
