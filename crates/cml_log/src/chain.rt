@@ -120,8 +120,8 @@ impl<T: Drop, const N: usize> Chain<T, N> {
         requires room { count_at self.old.cells at.number + 1 < 2 ^ 64 }
         ensures { self.new ≡ with_count self.old at.number at.at (count_at self.old.cells at.number + 1) }
     {
-        let cursors = self.chunks.cursors(at);
-        self.chunks.set_cursors(at, cursors + 1);
+        let cursors = self.cursors(at);
+        self.set_cursors(at, cursors + 1);
     }
 
     /// Counts one cursor less in a chunk.
@@ -130,8 +130,25 @@ impl<T: Drop, const N: usize> Chain<T, N> {
         requires entered { 0 < count_at self.old.cells at.number }
         ensures { self.new ≡ with_count self.old at.number at.at (count_at self.old.cells at.number - 1) }
     {
-        let cursors = self.chunks.cursors(at);
-        self.chunks.set_cursors(at, cursors - 1);
+        let cursors = self.cursors(at);
+        self.set_cursors(at, cursors - 1);
+    }
+
+    /// How many cursors are in a chunk.
+    #[inline(always)]
+    fn cursors(&self, at: Address) -> u64
+        requires { LiesAt self.now.cells at.number at.at }
+        ensures { result ≡ count_at self.now.cells at.number }
+    {
+        self.chunks.cursors(at)
+    }
+
+    #[inline(always)]
+    fn set_cursors(&mut self, at: Address, cursors: u64)
+        requires { LiesAt self.old.cells at.number at.at }
+        ensures { self.new ≡ with_count self.old at.number at.at cursors }
+    {
+        self.chunks.set_cursors(at, cursors);
     }
 
     pub(crate) fn is_idle(&self) -> bool
