@@ -1,4 +1,4 @@
--- What a call on lanes or feeds has done to a floor, whatever it tells.
+-- Each call on lanes or feeds has done one of the deeds to a floor.
 use Rattle.std.proofs.Common.{◌≡◌, ◌⊎◌, ℕ, inl, inr, Bool, true, false, [], ◌∷◌, ◌++◌, slice_set, Option, Some, None, Result, Ok, Err, subst, sym, ap}
 use Rattle.std.specs.Prelude.{⊤}
 use Rattle.cml_board.specs.declared.call.Name.{Name}
@@ -12,22 +12,14 @@ use Rattle.cml_lanes.specs.Floor.{FloorShown, FindsNoLane, FindsNoFeed, GivesAll
 use Rattle.cml_lanes.specs.Lanes.{OpensALane, EmptiesLane, HoldsUp, HoldsUpSome, DropsLane, Drains, Drops, Abandons, Closes, CountRefused, ClosesCounted}
 use Rattle.cml_lanes.specs.Feeds.{MakesPort, OpensAFeed, FillsFeed, Starves, Pumps, Ends}
 use Rattle.cml_lanes.specs.Reserving.{Reserves}
+use Rattle.cml_lanes.specs.Pumping.{PumpsRing}
+use Rattle.cml_lanes.specs.Deeds.{Deed, as_it_was, lane_drained, lane_gone, lane_opened, feed_pumped, feed_gone, feed_opened}
 use Rattle.cml_lanes.proofs.Moves.{until_drains, unchanged}
-use Rattle.cml_lanes.proofs.Pumps.{PumpsRing, until_pumps}
+use Rattle.cml_lanes.proofs.Pumps.{until_pumps}
 use Rattle.cml_lanes.proofs.Places.{does_so}
 use Rattle.cml_lanes.proofs.Outcomes.{or_no_such}
 
 module _ {M : Type 0} where
-  pub data Deed (old new : FloorShown M) : Type 0 where
-    as_it_was : IsAsBefore old.board new.board → new.lanes ≡ old.lanes → new.feeds ≡ old.feeds → Deed old new
-    lane_drained : (left : LaneSide M → Option (LaneSide M)) (number count : ℕ) → OnLane left number old new (DrainsRing number count old.board new.board) → Deed old new
-    lane_gone : (number : ℕ) → new ≡ record old { lanes = slice_set old.lanes number None } → Deed old new
-    lane_opened : (side : LaneSide M) → new.board ≡ old.board → new.lanes ≡ old.lanes ++ Some side ∷ [] → new.feeds ≡ old.feeds → Deed old new
-    feed_pumped : (number count : ℕ) → OnFeed stays number old new (PumpsRing number count old.board new.board) → Deed old new
-    feed_gone : (number : ℕ) → new ≡ record old { feeds = slice_set old.feeds number None } → Deed old new
-    feed_opened : (number : ℕ) (channel port : Name) (side : FeedSide M) → MakesPort number old.board new.board channel port → new.lanes ≡ old.lanes
-        → new.feeds ≡ old.feeds ++ Some side ∷ [] → Deed old new
-
   pub still : (old new : FloorShown M) → new ≡ old → Deed old new
   still old new same =
       as_it_was (subst (λ (f : FloorShown M). IsAsBefore old.board f.board) (sym same) (unchanged old.board))

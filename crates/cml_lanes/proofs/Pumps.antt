@@ -7,7 +7,7 @@ use Rattle.cml_board.specs.History.{kind_of, is_open, got}
 use Rattle.cml_board.specs.Shown.{Shown}
 use Rattle.cml_lanes.specs.Sides.{FeedSide}
 use Rattle.cml_lanes.specs.Fed.{fed, with_feed}
-use Rattle.cml_lanes.specs.Pumping.{KeepsFeed, PumpsIn, Balks, LearnsFree}
+use Rattle.cml_lanes.specs.Pumping.{KeepsFeed, PumpsIn, Balks, PumpsRing}
 use Rattle.cml_lanes.specs.Slots.{PumpsUntil}
 use Rattle.cml_lanes.proofs.Feeding.{fed_more, got_more, kind_fed, open_fed, with_feed_more}
 
@@ -74,12 +74,7 @@ module _ {M : Type 0} where
     free = b.pumps.free;
   }
 
-  -- so many went into the ring, whether or not one was refused then
-  pub record PumpsRing (number count : ℕ) (old new : Shown M) (from to : FeedSide M) : Type 0 where
-    pub looked : FeedSide M
-    pub looks : LearnsFree from looked
-    pub pumps : PumpsIn number count old new looked to
-
+  -- either way nothing else was done
   pub until_pumps : (chunk : ℕ) (sure : Bool) (number count : ℕ) (stopped : Option Refusal) (old new : Shown M) (from to : FeedSide M)
       → PumpsUntil chunk sure number count stopped old new from to → PumpsRing number count old new from to
   until_pumps chunk sure number count None old new from to until = record { looked = until.looked; looks = until.looks; pumps = until.pumps }

@@ -10,6 +10,7 @@ pub mod Lanes
 pub mod Barring
 pub mod Slots
 pub mod Feeds
+pub mod Deeds
 pub mod Reserving
 pub mod Cutting
 pub mod Steps

@@ -54,6 +54,12 @@ module _ {M : Type 0} where
     pub more : from.free ≤ to.free
     pub most : to.free ≤ to.capacity
 
+  -- so many went into the ring, whether or not one was refused then
+  pub record PumpsRing (number count : ℕ) (old new : Shown M) (from to : FeedSide M) : Type 0 where
+    pub looked : FeedSide M
+    pub looks : LearnsFree from looked
+    pub pumps : PumpsIn number count old new looked to
+
   -- the floor looked how many slots are free, and so many messages were pumped until it had no slot or no message, which are
   -- no more than the ring has room for
   pub record Fills (number count : ℕ) (old new : Shown M) (from to : FeedSide M) : Type 0 where

@@ -27,6 +27,7 @@ use Rattle.cml_room.specs.declared.news.News.{News}
 use Rattle.cml_room.specs.declared.place.Place.{Place}
 use Rattle.cml_room.specs.declared.state.State.{State}
 use Rattle.cml_room.specs.declared.state.State.TheVariants.{Free, Parked}
+use Rattle.cml_room.specs.Ending.{MayTurn}
 use Rattle.cml_room.specs.News.{news_in, IsOf}
 use Rattle.cml_room.specs.Rising.{news_by}
 use Rattle.cml_room.specs.Stalling.{NoneOpen}
@@ -128,6 +129,11 @@ module _ {M : Type 0} where
   }
 
   -- a seat that may make the call is free, or waits for what it wants
+  pub may_turn : (room : RoomShown M) (states : List State) (number : ℕ) (call : Call M) → states ≡ room.seats
+      → MayAsk room number ⊎ MayAskAgain room number call → MayTurn states number
+  may_turn room states number call same (inl free) = inl (ap (λ l. slice_get l number) same ∙ free)
+  may_turn room states number call same (inr again) = inr (again.0, ap (λ l. slice_get l number) same ∙ again.2)
+
   pub may_wait : (room : RoomShown M) (states : List State) (number : ℕ) (call back : Call M) (on : Want) → states ≡ room.seats
       → MayAsk room number ⊎ MayAskAgain room number call → back ≡ call → want_in back ≡ Some on → MayWait states number on
   may_wait room states number call back on same (inl free) is wants = inl (ap (λ l. slice_get l number) same ∙ free)

@@ -18,6 +18,7 @@ use Rattle.cml_room.specs.declared.place.Place.TheVariants.{Free, Waiting, Left}
 use Rattle.cml_room.specs.declared.place.Waiter.{Waiter}
 use Rattle.cml_room.specs.declared.state.State.{State}
 use Rattle.cml_room.specs.declared.state.State.TheVariants as state
+use Rattle.cml_room.specs.Ending.{MayTurn}
 use Rattle.cml_room.specs.News.{object_of, source_of, NoNews}
 use Rattle.cml_room.specs.Places.{state_by, states_in, AreRoused, IsMate, IsQuiet}
 use Rattle.cml_room.specs.Seats.{freed}
@@ -26,10 +27,6 @@ use Rattle.cml_room.specs.Waking.{WouldWait, AreAt, NoneForgotten, Follows, IsWa
 use Rattle.cml_room.proofs.Idling.{idle_at}
 use Rattle.cml_room.proofs.Listing.{set_here}
 use Rattle.cml_room.proofs.Rousing.{quiet_before, mate_on, free_kept, at_kept}
-
--- the seat is free, or waits
-abbrev pub MayTurn : List State → ℕ → Type 0
-MayTurn states number = (slice_get states number ≡ Some state.Free) ⊎ ((on : Want) × (slice_get states number ≡ Some (state.Parked on)))
 
 -- the places, where this seat doesn't wait any more
 abbrev pub with_freed : List Place → ℕ → List Place

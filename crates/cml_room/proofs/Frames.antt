@@ -10,11 +10,12 @@ use Rattle.cml_room.specs.declared.news.News.{News}
 use Rattle.cml_room.specs.declared.place.Place.{Place}
 use Rattle.cml_room.specs.declared.state.State.TheVariants as state
 use Rattle.cml_room.specs.Asking.{Asks}
-use Rattle.cml_room.specs.Frames.{KeepsSeats, Stirs, Turns}
+use Rattle.cml_room.specs.Frames.{KeepsSeats, Settles, Stirs, Turns}
 use Rattle.cml_room.specs.Places.{states_in, notices_in}
 use Rattle.cml_room.specs.Rising.{RisesFew, MakesFewByOne, MakesNoneDue}
 use Rattle.cml_room.specs.Room.{RoomShown}
-use Rattle.cml_room.specs.Running.{AskOf, Other, IsMade, HasAsked, KeepsWoken, asked_by, was_woken}
+use Rattle.cml_room.specs.Running.{AskOf, Other, IsMade, HasAsked, asked_by, was_woken}
+use Rattle.cml_room.specs.Seats.{SeatsShown}
 use Rattle.cml_room.specs.Stalling.{IsStalled}
 use Rattle.cml_room.proofs.Rising.{few_due, few_of, none_by, none_same}
 use Rattle.cml_room.proofs.Turning.{room_of}
@@ -30,33 +31,33 @@ module _ {M : Type 0} where
     alarm = ap (λ (r : RoomShown M). r.all_due) view;
   }
 
+  -- the room with these seats
+  abbrev pub with_seats : FloorShown M → SeatsShown → RoomShown M
+  with_seats floor seats = room_of floor (states_in seats.places) (notices_in seats.places) seats.all_due
+
   -- a call of no seat
-  stirs : (Few : RoomShown M → RoomShown M → Type 0) (room : RoomShown M) (floor floor' : FloorShown M) (olds lates : List Place) (all all' : Bool)
-      → room_of floor (states_in olds) (notices_in olds) all ≡ room → states_in lates ≡ states_in olds → KeepsWoken (notices_in olds) (notices_in lates)
-      → Few room (room_of floor' (states_in lates) (notices_in lates) all') → (HasRoom floor'.board → ¬ (IsStalled floor' (states_in olds)) → all' ≡ all)
-      → Stirs Few room (room_of floor' (states_in lates) (notices_in lates) all')
-  stirs Few room floor floor' olds lates all all' view states woken few alarm = record {
-    seats = states ∙ ap (λ (r : RoomShown M). r.seats) view;
-    step = λ seat. woken seat ∙ ap (λ (r : RoomShown M). was_woken r.notices seat) view;
+  stirs : (Few : RoomShown M → RoomShown M → Type 0) (room : RoomShown M) (floor floor' : FloorShown M) (olds lates : SeatsShown) (news : Option News)
+      → with_seats floor olds ≡ room → Settles news floor' olds lates → Few room (with_seats floor' lates) → Stirs Few room (with_seats floor' lates)
+  stirs Few room floor floor' olds lates news view settles few = record {
+    seats = settles.states ∙ ap (λ (r : RoomShown M). r.seats) view;
+    step = λ seat. settles.woken seat ∙ ap (λ (r : RoomShown M). was_woken r.notices seat) view;
     few = few;
     alarm = λ has moves.
-        alarm has (λ stalled. moves (subst (IsStalled floor') (sym states) stalled)) ∙ ap (λ (r : RoomShown M). r.all_due) view;
+        settles.alarm has (λ stalled. moves (subst (IsStalled floor') (sym settles.states) stalled)) ∙ ap (λ (r : RoomShown M). r.all_due) view;
   }
 
-  pub stirs_few : (room : RoomShown M) (floor floor' : FloorShown M) (olds lates : List Place) (all all' : Bool) (news : Option News)
-      → room_of floor (states_in olds) (notices_in olds) all ≡ room → states_in lates ≡ states_in olds → KeepsWoken (notices_in olds) (notices_in lates)
-      → RisesFew floor'.board.history news (λ on. ⊥) olds lates → (HasRoom floor'.board → ¬ (IsStalled floor' (states_in olds)) → all' ≡ all)
-      → Stirs MakesFewByOne room (room_of floor' (states_in lates) (notices_in lates) all')
-  stirs_few room floor floor' olds lates all all' news view states woken few alarm =
-      stirs MakesFewByOne room floor floor' olds lates all all' view states woken (news, few_due room floor floor' olds lates all all' (λ on. ⊥) news view few) alarm
+  pub stirs_few : (room : RoomShown M) (floor floor' : FloorShown M) (olds lates : SeatsShown) → with_seats floor olds ≡ room
+      → (news : Option News) × Settles news floor' olds lates → Stirs MakesFewByOne room (with_seats floor' lates)
+  stirs_few room floor floor' olds lates view told = stirs MakesFewByOne room floor floor' olds lates told.0 view told.1 (
+    told.0,
+    few_due room floor floor' olds.places lates.places olds.all_due lates.all_due (λ on. ⊥) told.0 view told.1.few,
+  )
 
-  pub stirs_none : (room : RoomShown M) (floor floor' : FloorShown M) (olds lates : List Place) (all all' : Bool)
-      → room_of floor (states_in olds) (notices_in olds) all ≡ room → states_in lates ≡ states_in olds → KeepsWoken (notices_in olds) (notices_in lates)
-      → RisesFew floor'.board.history None (λ on. ⊥) olds lates → (HasRoom floor'.board → ¬ (IsStalled floor' (states_in olds)) → all' ≡ all)
-      → Stirs MakesNoneDue room (room_of floor' (states_in lates) (notices_in lates) all')
-  stirs_none room floor floor' olds lates all all' view states woken few alarm =
-      stirs MakesNoneDue room floor floor' olds lates all all' view states woken
-      (none_by room (room_of floor' (states_in lates) (notices_in lates) all') (few_due room floor floor' olds lates all all' (λ on. ⊥) None view few)) alarm
+  pub stirs_none : (room : RoomShown M) (floor floor' : FloorShown M) (olds lates : SeatsShown) → with_seats floor olds ≡ room
+      → Settles None floor' olds lates → Stirs MakesNoneDue room (with_seats floor' lates)
+  stirs_none room floor floor' olds lates view settles =
+      stirs MakesNoneDue room floor floor' olds lates None view settles
+      (none_by room (with_seats floor' lates) (few_due room floor floor' olds.places lates.places olds.all_due lates.all_due (λ on. ⊥) None view settles.few))
 
   -- a seat's turn
   pub turns : (room : RoomShown M) (floor floor' : FloorShown M) (olds lates : List Place) (all all' : Bool) (number : ℕ) (news : Option News)

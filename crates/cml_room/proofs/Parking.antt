@@ -23,7 +23,8 @@ use Rattle.cml_room.specs.Seats.{freed}
 use Rattle.cml_room.specs.Waking.{WouldWait, AreAt, NoneForgotten, IsWatched}
 use Rattle.cml_room.proofs.Listing.{set_here}
 use Rattle.cml_room.proofs.Rising.{set_none}
-use Rattle.cml_room.proofs.Ending.{MayTurn, with_freed, parked_place, freed_at, freed_here, freed_states, freed_quiet, mate_stays, would_same, free_moves}
+use Rattle.cml_room.specs.Ending.{MayTurn}
+use Rattle.cml_room.proofs.Ending.{with_freed, parked_place, freed_at, freed_here, freed_states, freed_quiet, mate_stays, would_same, free_moves}
 
 -- the seat is free, or waits for this already
 abbrev pub MayWait : List State → ℕ → Want → Type 0

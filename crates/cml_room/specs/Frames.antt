@@ -2,10 +2,13 @@
 -- because all that wait are due: that is the alarm, `all_due`.
 use Rattle.std.specs.Prelude.{ℕ, ◌≡◌, Option}
 use Rattle.cml_board.specs.Outcome.{HasRoom}
+use Rattle.cml_lanes.specs.Floor.{FloorShown}
 use Rattle.cml_room.specs.declared.news.News.{News}
-use Rattle.cml_room.specs.Rising.{MakesFewDue, WantOf}
+use Rattle.cml_room.specs.Places.{states_in, notices_in}
+use Rattle.cml_room.specs.Rising.{RisesFew, MakesFewDue, WantOf}
 use Rattle.cml_room.specs.Room.{RoomShown, floor_of}
-use Rattle.cml_room.specs.Running.{RoomCall, Other, IsMade}
+use Rattle.cml_room.specs.Running.{RoomCall, Other, IsMade, KeepsWoken}
+use Rattle.cml_room.specs.Seats.{SeatsShown}
 use Rattle.cml_room.specs.Stalling.{IsStalled}
 
 module _ {M : Type 0} where
@@ -30,3 +33,11 @@ module _ {M : Type 0} where
     pub step : IsMade call old new
     pub few : MakesFewDue old new (WantOf old seat) news
     pub alarm : HasRoom new.board → new.all_due ≡ old.all_due
+
+  -- what is left of the seats themselves after a call of no seat that brought these news: their states, who counts as woken, the
+  -- few that become due, and the alarm
+  pub record Settles (news : Option News) (floor : FloorShown M) (old new : SeatsShown) : Type 0 where
+    pub states : states_in new.places ≡ states_in old.places
+    pub woken : KeepsWoken (notices_in old.places) (notices_in new.places)
+    pub few : RisesFew floor.board.history news (λ on. ⊥) old.places new.places
+    pub alarm : HasRoom floor.board → ¬ (IsStalled floor (states_in old.places)) → new.all_due ≡ old.all_due

@@ -9,3 +9,4 @@ pub mod Asking
 pub mod Running
 pub mod Frames
 pub mod InTurn
+pub mod Ending

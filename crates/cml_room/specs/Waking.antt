@@ -1,12 +1,13 @@
 -- Who sleeps rightly.
-use Rattle.std.specs.Prelude.{ℕ, ◌≡◌, ◌==◌, ◌||◌, ◌&&◌, ◌⊎◌, Bool, false, List, slice_get, Option, Some, IsSome}
+use Rattle.std.specs.Prelude.{ℕ, ◌≡◌, ◌≤◌, ◌==◌, ◌||◌, ◌&&◌, ◌⊎◌, Bool, false, List, slice_get, Option, Some, IsSome}
 use Rattle.cml_board.specs.declared.entry.Entry.{Entry}
 use Rattle.cml_board.specs.declared.want.Want.{Want}
-use Rattle.cml_board.specs.History.{Fits, kind_of, origin_of}
+use Rattle.cml_board.specs.History.{Fits, entries_in, kind_of, origin_of}
 use Rattle.cml_board.specs.Waiting.{Waits, wanting}
 use Rattle.cml_board.specs.Outcome.{HasRoom}
 use Rattle.cml_board.specs.Shown.{Shown}
-use Rattle.cml_lanes.specs.Floor.{FloorShown}
+use Rattle.cml_lanes.specs.Floor.{FloorShown, KeepsLanes}
+use Rattle.cml_lanes.specs.Deeds.{Deed}
 use Rattle.cml_room.specs.declared.place.Place.{Place}
 use Rattle.cml_room.specs.declared.place.Place.TheVariants.{Waiting}
 use Rattle.cml_room.specs.declared.place.Waiter.{Waiter}
@@ -49,3 +50,23 @@ module _ {M : Type 0} where
   pub record Follows (news : Option News) (old new : Shown M) : Type 0 where
     pub made : (object : ℕ) → IsSome (kind_of old.history object) → origin_of new.history object ≡ origin_of old.history object
     pub waits : (on : Want) → Waits old.history on → NoNews new.history news on → Waits new.history on
+
+  -- this floor was made, by calls that brought these news, of one at which nobody slept wrongly
+  pub record WasWatched (news : Option News) (floor : FloorShown M) (places : List Place) (all_due : Bool) : Type 0 where
+    pub before : FloorShown M
+    pub watched : IsWatched before places all_due
+    pub follows : Follows news before.board floor.board
+
+  -- the floor's board has so many entries since it was made, no fewer than were cut away; and the journal has of each open lane
+  -- what was taken out of its ring
+  pub record HasEntries (entries : ℕ) (floor : FloorShown M) : Type 0 where
+    pub count : entries ≡ entries_in floor.board.history
+    pub past : entries_in floor.board.past ≤ entries
+    pub lanes : KeepsLanes floor.board.history floor.lanes
+
+  -- this floor was made, by a call on a lane or a feed, of one that had so many entries and at which nobody slept wrongly
+  pub record WasWatchedAt (entries : ℕ) (floor : FloorShown M) (places : List Place) (all_due : Bool) : Type 0 where
+    pub before : FloorShown M
+    pub had : HasEntries entries before
+    pub watched : IsWatched before places all_due
+    pub deed : Deed before floor

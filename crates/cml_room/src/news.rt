@@ -2,8 +2,10 @@ ghost use Rattle.std.specs.Prelude.{◌≡◌, ◌∷◌, ◌<◌, ◌≤◌, Li
 ghost use Rattle.cml_board.specs.declared.entry.Entry.{Entry};
 ghost use Rattle.cml_board.specs.History.{entries_in};
 ghost use Rattle.cml_room.specs.News.{news_in};
+ghost use Rattle.cml_room.specs.Waking.{HasEntries};
 
 use cml_board::{Board, Call, Message, Name};
+use cml_lanes::Floor;
 use cml_log::MessageLog;
 
 /// What an answered call brings to the seats that wait.
@@ -32,12 +34,12 @@ pub fn news_in<M>(call: &Call<M>) -> Option<News>
     }
 }
 
-/// Returns how many entries the board had since it was made. No more were cut away.
-pub fn count_entries<M: Message, L: MessageLog<M>>(board: &Board<M, L>) -> u64
-    ensures count { result ≡ entries_in board.now.history }
-    ensures past { entries_in board.now.past ≤ result }
+/// Returns how many entries the floor's board had since it was made.
+pub fn count_entries<M: Message, L: MessageLog<M>>(floor: &Floor<M, L>) -> u64
+    ensures { HasEntries result floor.now }
 {
     // The contract of `journal` says that the entries that were cut away are a part of all.
+    let board = floor.board();
     let _journal = board.journal();
     board.entries()
 }

@@ -1,10 +1,11 @@
-ghost use Rattle.std.specs.Prelude.{◌≡◌, ◌≢◌, ℕ, true, false, ◌^◌, ◌<◌, ◌≤◌, [], ◌∷◌, ◌++◌, length, replicate, Some, None, IfOk, IfErr, OnOk};
+ghost use Rattle.std.specs.Prelude.{◌≡◌, ◌≢◌, ◌⊎◌, ℕ, true, false, ◌^◌, ◌<◌, ◌≤◌, [], ◌∷◌, ◌++◌, length, replicate, Some, None, IfOk, IfErr, OnOk};
 ghost use Rattle.cml_board.specs.declared.outcome.Refusal.TheVariants.{Gone, NoMemory};
 ghost use Rattle.cml_board.specs.declared.want.Want.{Want};
 ghost use Rattle.cml_board.specs.History.{no_entries};
 ghost use Rattle.cml_board.specs.Makers.{seats_of, lanes_of, feeds_of};
 ghost use Rattle.cml_board.specs.Sound.{IsSound};
 ghost use Rattle.cml_lanes.specs.Floor.{KeepsLanes, KeepsFeeds};
+ghost use Rattle.cml_room.specs.Places.{states_in};
 ghost use Rattle.cml_room.specs.Rising.{MakesNoneDue};
 ghost use Rattle.cml_room.specs.Seats.{free_in, parked_in};
 ghost use Rattle.cml_room.specs.Room.{floor_of, is_due, state_of, MayAsk, AllSleepRightly, NoneDue, SleepsRightly, with_state};
@@ -199,13 +200,23 @@ impl<M: Message, L: MessageLog<M>> Room<M, L> {
             return Err(Refusal::Gone);
         }
         self.seats.leave(seat);
-        if self.seats.parked() == 0 {
-            return Ok(());
-        }
-        // Those that wait may be stalled now.
-        if self.seats.free() == 0 {
-            self.seats.rouse_all();
-        }
+        rouse_if_none_free(&mut self.seats);
         Ok(())
+    }
+}
+
+/// A seat has left. If no seat is free now, those that wait may be stalled: so all of them are due.
+fn rouse_if_none_free(seats: &mut Seats)
+    ensures places { seats.new.places ≡ seats.old.places }
+    ensures alarm { free_in (states_in seats.new.places) ≢ 0 → seats.new.all_due ≡ seats.old.all_due }
+    ensures alone { parked_in (states_in seats.new.places) ≡ 0 → seats.new.all_due ≡ seats.old.all_due }
+    ensures rests { (parked_in (states_in seats.new.places) ≡ 0) ⊎ (seats.new.all_due ≡ false
+        → (seats.old.all_due ≡ false) × (free_in (states_in seats.new.places) ≢ 0)) }
+{
+    if seats.parked() == 0 {
+        return;
+    }
+    if seats.free() == 0 {
+        seats.rouse_all();
     }
 }

@@ -1,18 +1,21 @@
 //! The end of a seat's turn, and of the other calls.
-ghost use Rattle.std.specs.Prelude.{◌≡◌, ◌≢◌, ◌⊎◌, ℕ, false, Some, None, IfSome, MatchBool, MatchOption, slice_get, slice_set};
+ghost use Rattle.std.specs.Prelude.{◌≡◌, ◌≢◌, ◌⊎◌, ℕ, Option, false, Some, None, IfSome, MatchBool, MatchOption, slice_get, slice_set};
 ghost use Rattle.cml_board.specs.declared.want.Want.{Want};
 ghost use Rattle.cml_board.specs.Outcome.{HasRoom};
 ghost use Rattle.cml_lanes.specs.Floor.{FloorShown};
+ghost use Rattle.cml_room.specs.declared.news.News.{News};
 ghost use Rattle.cml_room.specs.declared.place.Place.TheVariants as place;
 ghost use Rattle.cml_room.specs.declared.place.Waiter.{Waiter};
+ghost use Rattle.cml_room.specs.Frames.{Settles};
 ghost use Rattle.cml_room.specs.News.{IsOf};
 ghost use Rattle.cml_room.specs.Places.{states_in, notices_in};
-ghost use Rattle.cml_room.specs.Rising.{HasRisen, RisesFew};
+ghost use Rattle.cml_room.specs.Rising.{HasRisen};
 ghost use Rattle.cml_room.specs.Stalling.{IsStalled};
-ghost use Rattle.cml_room.specs.Waking.{AreAt, Follows, IsWatched, NoneForgotten, WouldWait};
-ghost use Rattle.cml_room.specs.Running.{HasAsked, KeepsWoken};
+ghost use Rattle.cml_room.specs.Ending.{EndsTurn, MayEndTurn};
+ghost use Rattle.cml_room.specs.Waking.{AreAt, Follows, IsWatched, NoneForgotten, WasWatched, WasWatchedAt, WouldWait};
+ghost use Rattle.cml_room.specs.Running.{HasAsked};
 
-use crate::news::News;
+use crate::news::{News, latest_news};
 use crate::place::{Place, Waiter};
 use crate::seats::Seats;
 use crate::state::State;
@@ -29,16 +32,11 @@ pub fn answer_turn<M: Message, L: MessageLog<M>>(
     number: u64,
     news: Option<News>,
 )
-    requires may { (slice_get (states_in seats.old.places) number ≡ Some State.Free) ⊎ ((on : Want) × (slice_get (states_in seats.old.places) number ≡ Some (State.Parked on))) }
-    requires placed { AreAt floor.now.board.history seats.old.places }
-    requires of { IfSome news (IsOf floor.now.board.history) }
-    requires brings { (on : Want) → slice_get (states_in seats.old.places) number ≡ Some (State.Parked on) → news ≡ None }
-    ensures states { states_in seats.new.places ≡ slice_set (states_in seats.old.places) number State.Free }
+    requires { MayEndTurn floor.now.board.history number news seats.old.places }
+    ensures ends { EndsTurn floor.now.board.history number news seats.old.places seats.new.places }
     ensures kept { (before : FloorShown M) → IsWatched before seats.old.places seats.old.all_due → Follows news before.board floor.now.board
         → IsWatched floor.now seats.new.places seats.new.all_due }
-    ensures few { RisesFew floor.now.board.history news (λ on. slice_get (states_in seats.old.places) number ≡ Some (State.Parked on)) seats.old.places seats.new.places }
     ensures due { HasRoom floor.now.board → seats.new.all_due ≡ seats.old.all_due }
-    ensures asked { HasAsked number (notices_in seats.old.places) (notices_in seats.new.places) }
 {
     if seats.parked() == 0 {
         return;
@@ -56,17 +54,12 @@ pub fn end_turn<M: Message, L: MessageLog<M>>(
     number: u64,
     news: Option<News>,
 )
-    requires may { (slice_get (states_in seats.old.places) number ≡ Some State.Free) ⊎ ((on : Want) × (slice_get (states_in seats.old.places) number ≡ Some (State.Parked on))) }
-    requires placed { AreAt floor.now.board.history seats.old.places }
-    requires of { IfSome news (IsOf floor.now.board.history) }
-    requires brings { (on : Want) → slice_get (states_in seats.old.places) number ≡ Some (State.Parked on) → news ≡ None }
-    ensures states { states_in seats.new.places ≡ slice_set (states_in seats.old.places) number State.Free }
+    requires { MayEndTurn floor.now.board.history number news seats.old.places }
+    ensures ends { EndsTurn floor.now.board.history number news seats.old.places seats.new.places }
     ensures placed { AreAt floor.now.board.history seats.new.places }
     ensures kept { (before : FloorShown M) → IsWatched before seats.old.places seats.old.all_due → Follows news before.board floor.now.board
         → (HasRoom before.board → HasRoom floor.now.board) → IsWatched floor.now seats.new.places seats.new.all_due }
-    ensures few { RisesFew floor.now.board.history news (λ on. slice_get (states_in seats.old.places) number ≡ Some (State.Parked on)) seats.old.places seats.new.places }
     ensures due { seats.new.all_due ≡ seats.old.all_due }
-    ensures asked { HasAsked number (notices_in seats.old.places) (notices_in seats.new.places) }
 {
     match waiter_at(seats, number) {
         Some(waiter) => {
@@ -146,15 +139,10 @@ pub fn settle<M: Message, L: MessageLog<M>>(
     seats: &mut Seats,
     news: Option<News>,
 )
-    requires placed { AreAt floor.now.board.history seats.old.places }
+    requires was { WasWatched news floor.now seats.old.places seats.old.all_due }
     requires of { IfSome news (IsOf floor.now.board.history) }
-    ensures states { states_in seats.new.places ≡ states_in seats.old.places }
-    ensures kept { (before : FloorShown M) → IsWatched before seats.old.places seats.old.all_due → Follows news before.board floor.now.board
-        → IsWatched floor.now seats.new.places seats.new.all_due }
-    ensures few { RisesFew floor.now.board.history news (λ on. ⊥) seats.old.places seats.new.places }
-    ensures alarm { (before : FloorShown M) → IsWatched before seats.old.places seats.old.all_due → Follows news before.board floor.now.board
-        → HasRoom floor.now.board → ¬ (IsStalled floor.now (states_in seats.old.places)) → seats.new.all_due ≡ seats.old.all_due }
-    ensures woken { KeepsWoken (notices_in seats.old.places) (notices_in seats.new.places) }
+    ensures watched { IsWatched floor.now seats.new.places seats.new.all_due }
+    ensures settles { Settles news floor.now seats.old seats.new }
 {
     if seats.parked() == 0 {
         return;
@@ -163,4 +151,19 @@ pub fn settle<M: Message, L: MessageLog<M>>(
     if floor.board().is_full() || is_stalled(floor, seats) {
         seats.rouse_all();
     }
+}
+
+/// A lane's call has changed the board, which had `before` entries then. The last entry, if it is a new one, says what the call
+/// brought.
+pub fn settle_since<M: Message, L: MessageLog<M>>(
+    floor: &Floor<M, L>,
+    seats: &mut Seats,
+    before: u64,
+)
+    requires { WasWatchedAt before floor.now seats.old.places seats.old.all_due }
+    ensures watched { IsWatched floor.now seats.new.places seats.new.all_due }
+    ensures settles { (news : Option News) × Settles news floor.now seats.old seats.new }
+{
+    let news = latest_news(floor.board(), before);
+    settle(floor, seats, news);
 }

@@ -7,7 +7,7 @@ use Rattle.cml_lanes.specs.declared.way.Way.{Way}
 use Rattle.cml_lanes.specs.Laned.{with_lane, lane_entry}
 use Rattle.cml_lanes.specs.Fed.{with_feed, feed_entry}
 use Rattle.cml_lanes.specs.Floor.{FloorShown}
-use Rattle.cml_lanes.proofs.Deeds.{Deed, as_it_was, lane_drained, lane_gone, lane_opened, feed_pumped, feed_gone, feed_opened}
+use Rattle.cml_lanes.specs.Deeds.{Deed, as_it_was, lane_drained, lane_gone, lane_opened, feed_pumped, feed_gone, feed_opened}
 use Rattle.cml_script.specs.Schedule.{History}
 use Rattle.cml_tests.specs.Rings.{asked, IsUnasked}
 

@@ -8,8 +8,8 @@ ghost use Rattle.cml_room.specs.Rising.{MakesFewByOne, MakesNoneDue};
 ghost use Rattle.cml_room.specs.Room.{floor_of};
 
 use super::Room;
-use crate::news::{count_entries, latest_news};
-use crate::turns::settle;
+use crate::news::count_entries;
+use crate::turns::{settle, settle_since};
 use cml_board::{Message, Name, Refusal};
 use cml_lanes::{Lane, LaneEnd, MAX_CAPACITY};
 use cml_log::MessageLog;
@@ -39,10 +39,9 @@ impl<M: Message, L: MessageLog<M>> Room<M, L> {
         ensures rings { KeepsRings (floor_of self.old) (floor_of self.new) }
         ensures stirs { Stirs MakesFewByOne self.old self.new }
     {
-        let before = count_entries(self.floor.board());
+        let before = count_entries(&self.floor);
         let told = self.floor.drain(lane);
-        let news = latest_news(self.floor.board(), before);
-        settle(&self.floor, &mut self.seats, news);
+        settle_since(&self.floor, &mut self.seats, before);
         told
     }
 
@@ -53,10 +52,9 @@ impl<M: Message, L: MessageLog<M>> Room<M, L> {
         ensures rings { KeepsRings (floor_of self.old) (floor_of self.new) }
         ensures stirs { Stirs MakesFewByOne self.old self.new }
     {
-        let before = count_entries(self.floor.board());
+        let before = count_entries(&self.floor);
         let told = self.floor.close_lane(end);
-        let news = latest_news(self.floor.board(), before);
-        settle(&self.floor, &mut self.seats, news);
+        settle_since(&self.floor, &mut self.seats, before);
         told
     }
 
@@ -66,10 +64,9 @@ impl<M: Message, L: MessageLog<M>> Room<M, L> {
         ensures rings { KeepsRings (floor_of self.old) (floor_of self.new) }
         ensures stirs { Stirs MakesFewByOne self.old self.new }
     {
-        let before = count_entries(self.floor.board());
+        let before = count_entries(&self.floor);
         let told = self.floor.close_counted(end);
-        let news = latest_news(self.floor.board(), before);
-        settle(&self.floor, &mut self.seats, news);
+        settle_since(&self.floor, &mut self.seats, before);
         told
     }
 
@@ -80,10 +77,9 @@ impl<M: Message, L: MessageLog<M>> Room<M, L> {
         ensures rings { KeepsRings (floor_of self.old) (floor_of self.new) }
         ensures stirs { Stirs MakesFewByOne self.old self.new }
     {
-        let before = count_entries(self.floor.board());
+        let before = count_entries(&self.floor);
         let told = self.floor.drop_lane(lane);
-        let news = latest_news(self.floor.board(), before);
-        settle(&self.floor, &mut self.seats, news);
+        settle_since(&self.floor, &mut self.seats, before);
         told
     }
 

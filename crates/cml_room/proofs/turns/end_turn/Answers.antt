@@ -17,10 +17,22 @@ use Rattle.cml_room.proofs.turns.end_turn.Goals as goal
 pub set_free-requires : goal.set_free-requires
 set_free-requires g c = may_within c.args.seats.now.places c.args.number c.requires.may
 
-pub returns-in-Some-clause-states : goal.returns-in-Some-clause-states
-returns-in-Some-clause-states g c =
-    roused_states _ c.set_free.new.self.places c.hand_on.new.seats.places c.hand_on.ensures.roused
-    ∙ (ap states_in c.set_free.ensures.places ∙ freed_states c.args.seats.now.places c.args.number c.requires.may)
+pub returns-in-Some-clause-ends : goal.returns-in-Some-clause-ends
+returns-in-Some-clause-ends g c =
+    let olds = c.args.seats.now.places in
+    let mids = c.set_free.new.self.places in
+    let lates = c.hand_on.new.seats.places in
+    record {
+      states = roused_states _ mids lates c.hand_on.ensures.roused
+          ∙ (ap states_in c.set_free.ensures.places ∙ freed_states olds c.args.number c.requires.may);
+      few = handed_few c.args.floor.now.board.history c.args.news c.args.number c.in-Some.waiter olds mids lates c.in-Some.ensures
+          c.set_free.ensures.places c.hand_on.ensures.roused c.hand_on.ensures.one;
+      asked = asked_roused _ olds mids lates c.args.number
+          (set_asked_within olds mids c.args.number (freed (get_or olds c.args.number Free))
+          (may_within olds c.args.number c.requires.may) (freed_nothing (get_or olds c.args.number Free)) c.set_free.ensures.places)
+          c.hand_on.ensures.roused
+          (ap (λ l. slice_get l c.args.number) c.set_free.ensures.places ∙ freed_here olds c.args.number c.requires.may);
+    }
 
 pub returns-in-Some-clause-placed : goal.returns-in-Some-clause-placed
 returns-in-Some-clause-placed g c =
@@ -38,20 +50,23 @@ returns-in-Some-clause-kept g c = λ before watched next room.
     c.board.ensures.board c.in-Some.ensures c.hand_on.ensures.on)
     (c.hand_on.ensures.due ∙ c.set_free.ensures.due) watched next room
 
-pub returns-in-Some-clause-few : goal.returns-in-Some-clause-few
-returns-in-Some-clause-few g c =
-    handed_few c.args.floor.now.board.history c.args.news c.args.number c.in-Some.waiter c.args.seats.now.places c.set_free.new.self.places
-    c.hand_on.new.seats.places c.in-Some.ensures c.set_free.ensures.places c.hand_on.ensures.roused c.hand_on.ensures.one
-
 pub tell-requires-clause-placed : goal.tell-requires-clause-placed
 tell-requires-clause-placed g c =
     subst (λ (b : Shown g.row.M.Denot). AreAt b.history c.args.seats.now.places) (sym c.board-in-None.ensures.board) c.requires.placed
 
-pub returns-in-None-clause-states : goal.returns-in-None-clause-states
-returns-in-None-clause-states g c =
-    let free = free_unless_waits c.args.seats.now.places c.args.number c.requires.may c.in-None.ensures in
-    roused_states _ c.args.seats.now.places c.tell.new.seats.places c.tell.ensures.roused
-    ∙ (ap states_in (free_same c.args.seats.now.places c.args.number free) ∙ freed_states c.args.seats.now.places c.args.number c.requires.may)
+pub returns-in-None-clause-ends : goal.returns-in-None-clause-ends
+returns-in-None-clause-ends g c =
+    let olds = c.args.seats.now.places in
+    let lates = c.tell.new.seats.places in
+    let free = free_unless_waits olds c.args.number c.requires.may c.in-None.ensures in
+    record {
+      states = roused_states _ olds lates c.tell.ensures.roused
+          ∙ (ap states_in (free_same olds c.args.number free) ∙ freed_states olds c.args.number c.requires.may);
+      few = subst (λ (b : Shown g.row.M.Denot). RisesFew b.history c.args.news (λ on. slice_get (states_in olds) c.args.number ≡ Some (Parked on)) olds lates)
+          c.board-in-None.ensures.board
+          (told_few c.board-in-None.result.now.history c.args.news _ olds lates c.tell.ensures.roused c.tell.ensures.one);
+      asked = asked_roused _ olds olds lates c.args.number (free_asked olds c.args.number free) c.tell.ensures.roused free;
+    }
 
 pub returns-in-None-clause-placed : goal.returns-in-None-clause-placed
 returns-in-None-clause-placed g c =
@@ -66,22 +81,3 @@ returns-in-None-clause-kept g c = λ before watched next room.
     c.tell.new.seats.places c.args.seats.now.all_due c.tell.new.seats.all_due c.args.number c.requires.may c.requires.placed
     (free_same c.args.seats.now.places c.args.number free) c.board-in-None.ensures.board c.tell.ensures.roused c.tell.ensures.told
     (none_roused (λ waiter. ⊥) c.tell.new.seats.places) (λ own found. absurd (c.in-None.ensures own found)) c.tell.ensures.due watched next room
-
-pub returns-in-None-clause-few : goal.returns-in-None-clause-few
-returns-in-None-clause-few g c =
-    subst (λ (b : Shown g.row.M.Denot). RisesFew b.history c.args.news (λ on. slice_get (states_in c.args.seats.now.places) c.args.number ≡ Some (Parked on)) c.args.seats.now.places c.tell.new.seats.places) c.board-in-None.ensures.board
-    (told_few c.board-in-None.result.now.history c.args.news _ c.args.seats.now.places c.tell.new.seats.places c.tell.ensures.roused c.tell.ensures.one)
-
-pub returns-in-Some-clause-asked : goal.returns-in-Some-clause-asked
-returns-in-Some-clause-asked g c =
-    asked_roused _ c.args.seats.now.places c.set_free.new.self.places c.hand_on.new.seats.places c.args.number
-    (set_asked_within c.args.seats.now.places c.set_free.new.self.places c.args.number (freed (get_or c.args.seats.now.places c.args.number Free))
-    (may_within c.args.seats.now.places c.args.number c.requires.may) (freed_nothing (get_or c.args.seats.now.places c.args.number Free)) c.set_free.ensures.places)
-    c.hand_on.ensures.roused
-    (ap (λ l. slice_get l c.args.number) c.set_free.ensures.places ∙ freed_here c.args.seats.now.places c.args.number c.requires.may)
-
-pub returns-in-None-clause-asked : goal.returns-in-None-clause-asked
-returns-in-None-clause-asked g c =
-    let free = free_unless_waits c.args.seats.now.places c.args.number c.requires.may c.in-None.ensures in
-    asked_roused _ c.args.seats.now.places c.args.seats.now.places c.tell.new.seats.places c.args.number (free_asked c.args.seats.now.places c.args.number free)
-    c.tell.ensures.roused free

@@ -1,12 +1,24 @@
-use Rattle.std.proofs.Common.{subst, sym, ap, ◌∙◌}
+use Rattle.std.proofs.Common.{◌≡◌, ℕ, true, List, slice_get, Option, Some, subst, sym, ap, ◌∙◌}
+use Rattle.cml_board.specs.declared.entry.Entry.{Entry}
 use Rattle.cml_room.specs.declared.news.News.{News}
 use Rattle.cml_room.specs.declared.news.News.TheVariants.{Multicast, Value, Closed}
-use Rattle.cml_room.specs.News.{helps, IsOf}
+use Rattle.cml_room.specs.declared.place.Place.{Place}
+use Rattle.cml_room.specs.declared.place.Place.TheVariants.{Waiting}
+use Rattle.cml_room.specs.declared.place.Waiter.{Waiter}
+use Rattle.cml_room.specs.News.{helps, Helps, IsOf}
+use Rattle.cml_room.specs.Places.{AreRoused}
 use Rattle.cml_room.proofs.Hearing.{AreTold, message_told, multicast_told, closed_told, told_news, news_of, ports_are_of_channels}
 use Rattle.cml_room.proofs.Reaching.{message_helps, multicast_helps, closed_helps}
 use Rattle.cml_room.proofs.Rising.{roused_where, for_one}
 use Rattle.cml_room.proofs.Rousing.{at_kept}
 use Rattle.cml_room.proofs.waking.tell.Goals as goal
+
+-- who was roused for such news has them
+roused_by : {M : Type 0} (history : List (Entry M)) (told : Option News) (news is : News) (So : Waiter → Type 0) (olds lates : List Place) → told ≡ Some news
+    → news ≡ is → ((k : ℕ) (waiter : Waiter) → slice_get olds k ≡ Some (Waiting waiter) → So waiter → helps history is waiter.want ≡ true)
+    → AreRoused So olds lates → AreRoused (λ waiter. Helps history told waiter.want) olds lates
+roused_by history told news is So olds lates some same so =
+    roused_where So _ olds lates (λ k waiter found reached. (news, some, ap (λ (n : News). helps history n waiter.want) same ∙ so k waiter found reached))
 
 pub tell_value-requires-clause-lawful : goal.tell_value-requires-clause-lawful
 tell_value-requires-clause-lawful g c = c.facts.ensures.sound.lawful
@@ -15,13 +27,8 @@ pub returns-in-Message-clause-roused : goal.returns-in-Message-clause-roused
 returns-in-Message-clause-roused g c =
     let history = c.args.board.now.history in
     let of = subst (IsOf history) c.in-Message.is (news_of history c.args.news c.in-Some.news c.in-Some.is c.requires.of) in
-    roused_where _ _ c.args.seats.now.places c.rouse_first.new.seats.places
-    (λ k waiter found wants. (
-      c.in-Some.news,
-      c.in-Some.is,
-      ap (λ (n : News). helps history n waiter.want) c.in-Message.is ∙ message_helps history c.in-Message.name waiter.want of wants,
-    ))
-    c.rouse_first.ensures.roused
+    roused_by history c.args.news c.in-Some.news _ _ c.args.seats.now.places c.rouse_first.new.seats.places c.in-Some.is c.in-Message.is
+    (λ k waiter found wants. message_helps history c.in-Message.name waiter.want of wants) c.rouse_first.ensures.roused
 
 pub returns-in-Message-clause-told : goal.returns-in-Message-clause-told
 returns-in-Message-clause-told g c =
@@ -53,13 +60,8 @@ pub returns-in-Multicast-clause-roused : goal.returns-in-Multicast-clause-roused
 returns-in-Multicast-clause-roused g c =
     let history = c.args.board.now.history in
     let of = subst (IsOf history) c.in-Multicast.is (news_of history c.args.news c.in-Some.news c.in-Some.is c.requires.of) in
-    roused_where _ _ c.args.seats.now.places c.rouse_each.new.seats.places
-    (λ k waiter found reached. (
-      c.in-Some.news,
-      c.in-Some.is,
-      ap (λ (n : News). helps history n waiter.want) c.in-Multicast.is ∙ multicast_helps history c.in-Multicast.name waiter of (c.requires.placed k waiter found) reached,
-    ))
-    c.rouse_each.ensures.roused
+    roused_by history c.args.news c.in-Some.news _ _ c.args.seats.now.places c.rouse_each.new.seats.places c.in-Some.is c.in-Multicast.is
+    (λ k waiter found. multicast_helps history c.in-Multicast.name waiter of (c.requires.placed k waiter found)) c.rouse_each.ensures.roused
 
 pub returns-in-Multicast-clause-one : goal.returns-in-Multicast-clause-one
 returns-in-Multicast-clause-one g c = λ single.
@@ -69,14 +71,10 @@ pub returns-in-Closed-clause-roused : goal.returns-in-Closed-clause-roused
 returns-in-Closed-clause-roused g c =
     let history = c.args.board.now.history in
     let of = subst (IsOf history) c.in-Closed.is (news_of history c.args.news c.in-Some.news c.in-Some.is c.requires.of) in
-    roused_where _ _ c.args.seats.now.places c.rouse_each-in-Closed.new.seats.places
-    (λ k waiter found reached. (
-      c.in-Some.news,
-      c.in-Some.is,
-      ap (λ (n : News). helps history n waiter.want) c.in-Closed.is
-          ∙ closed_helps history c.in-Closed.name c.source_of.result waiter (ports_are_of_channels history c.facts.ensures.sound.lawful) c.source_of.ensures of
-          (c.requires.placed k waiter found) reached,
-    ))
+    roused_by history c.args.news c.in-Some.news _ _ c.args.seats.now.places c.rouse_each-in-Closed.new.seats.places c.in-Some.is c.in-Closed.is
+    (λ k waiter found.
+    closed_helps history c.in-Closed.name c.source_of.result waiter (ports_are_of_channels history c.facts.ensures.sound.lawful) c.source_of.ensures of
+    (c.requires.placed k waiter found))
     c.rouse_each-in-Closed.ensures.roused
 
 pub returns-in-Closed-clause-one : goal.returns-in-Closed-clause-one

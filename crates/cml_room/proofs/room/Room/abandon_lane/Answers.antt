@@ -1,20 +1,16 @@
 use Rattle.std.proofs.Common.{None}
-use Rattle.cml_room.proofs.Bringing.{placed_on, abandoned_follows}
+use Rattle.cml_room.proofs.Bringing.{abandoned_follows}
 use Rattle.cml_room.proofs.Frames.{stirs_none}
 use Rattle.cml_room.proofs.room.Room.abandon_lane.Goals as goal
 
-pub settle-requires-clause-placed : goal.settle-requires-clause-placed
-settle-requires-clause-placed g c =
-    let next = abandoned_follows c.args.lane c.self.inside.floor c.abandon_lane-told.new.self c.abandon_lane-told.result None c.abandon_lane-told.ensures.abandons in
-    placed_on c.self.inside.floor c.abandon_lane-told.new.self c.self.inside.seats.places c.self.inside.seats.all_due None c.self.invariant next
-
-pub invariant_of-self : goal.invariant_of-self
-invariant_of-self g c =
-    let next = abandoned_follows c.args.lane c.self.inside.floor c.abandon_lane-told.new.self c.abandon_lane-told.result None c.abandon_lane-told.ensures.abandons in
-    c.settle.ensures.kept c.self.inside.floor c.self.invariant next
+pub settle-requires-clause-was : goal.settle-requires-clause-was
+settle-requires-clause-was g c = record {
+  before = c.self.inside.floor;
+  watched = c.self.invariant;
+  follows = abandoned_follows c.args.lane c.self.inside.floor c.abandon_lane-told.new.self c.abandon_lane-told.result None
+      c.abandon_lane-told.ensures.abandons;
+}
 
 pub returns-clause-stirs : goal.returns-clause-stirs
 returns-clause-stirs g c =
-    let next = abandoned_follows c.args.lane c.self.inside.floor c.abandon_lane-told.new.self c.abandon_lane-told.result None c.abandon_lane-told.ensures.abandons in
-    stirs_none c.args.self.now c.self.inside.floor c.abandon_lane-told.new.self c.self.inside.seats.places c.settle.new.seats.places c.self.inside.seats.all_due c.settle.new.seats.all_due
-    c.self.view_is c.settle.ensures.states c.settle.ensures.woken c.settle.ensures.few (c.settle.ensures.alarm c.self.inside.floor c.self.invariant next)
+    stirs_none c.args.self.now c.self.inside.floor c.abandon_lane-told.new.self c.self.inside.seats c.settle.new.seats c.self.view_is c.settle.ensures.settles

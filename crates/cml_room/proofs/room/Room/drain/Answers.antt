@@ -1,37 +1,16 @@
-use Rattle.cml_room.proofs.Bringing.{tells, drained_brings, placed_on}
+use Rattle.cml_lanes.proofs.Deeds.{drains}
 use Rattle.cml_room.proofs.Frames.{stirs_few}
 use Rattle.cml_room.proofs.room.Room.drain.Goals as goal
 
-pub settle-requires-clause-placed : goal.settle-requires-clause-placed
-settle-requires-clause-placed g c =
-    let told = tells _ _ _ _ _ _ c.board.ensures.board c.board-2.ensures.board c.count_entries-before.ensures.count c.count_entries-before.ensures.past
-    c.latest_news-news.ensures.none c.latest_news-news.ensures.latest in
-    let brings = drained_brings g.L.MessageLog.CHUNK g.M.Message.SURE c.args.lane c.self.inside.floor c.drain-told.new.self c.drain-told.result c.latest_news-news.result
-    c.board.ensures.lanes told c.drain-told.ensures.drains in
-    placed_on c.self.inside.floor c.drain-told.new.self c.self.inside.seats.places c.self.inside.seats.all_due c.latest_news-news.result c.self.invariant brings.follows
-
-pub settle-requires-clause-of : goal.settle-requires-clause-of
-settle-requires-clause-of g c =
-    let told = tells _ _ _ _ _ _ c.board.ensures.board c.board-2.ensures.board c.count_entries-before.ensures.count c.count_entries-before.ensures.past
-    c.latest_news-news.ensures.none c.latest_news-news.ensures.latest in
-    let brings = drained_brings g.L.MessageLog.CHUNK g.M.Message.SURE c.args.lane c.self.inside.floor c.drain-told.new.self c.drain-told.result c.latest_news-news.result
-    c.board.ensures.lanes told c.drain-told.ensures.drains in
-    brings.of
-
-pub invariant_of-self : goal.invariant_of-self
-invariant_of-self g c =
-    let told = tells _ _ _ _ _ _ c.board.ensures.board c.board-2.ensures.board c.count_entries-before.ensures.count c.count_entries-before.ensures.past
-    c.latest_news-news.ensures.none c.latest_news-news.ensures.latest in
-    let brings = drained_brings g.L.MessageLog.CHUNK g.M.Message.SURE c.args.lane c.self.inside.floor c.drain-told.new.self c.drain-told.result c.latest_news-news.result
-    c.board.ensures.lanes told c.drain-told.ensures.drains in
-    c.settle.ensures.kept c.self.inside.floor c.self.invariant brings.follows
+pub settle_since-requires : goal.settle_since-requires
+settle_since-requires g c = record {
+  before = c.self.inside.floor;
+  had = c.count_entries-before.ensures;
+  watched = c.self.invariant;
+  deed = drains g.L.MessageLog.CHUNK g.M.Message.SURE c.args.lane c.self.inside.floor c.drain-told.new.self c.drain-told.result c.drain-told.ensures.drains;
+}
 
 pub returns-clause-stirs : goal.returns-clause-stirs
 returns-clause-stirs g c =
-    let told = tells _ _ _ _ _ _ c.board.ensures.board c.board-2.ensures.board c.count_entries-before.ensures.count c.count_entries-before.ensures.past
-    c.latest_news-news.ensures.none c.latest_news-news.ensures.latest in
-    let brings = drained_brings g.L.MessageLog.CHUNK g.M.Message.SURE c.args.lane c.self.inside.floor c.drain-told.new.self c.drain-told.result c.latest_news-news.result
-    c.board.ensures.lanes told c.drain-told.ensures.drains in
-    stirs_few c.args.self.now c.self.inside.floor c.drain-told.new.self c.self.inside.seats.places c.settle.new.seats.places c.self.inside.seats.all_due c.settle.new.seats.all_due
-    c.latest_news-news.result c.self.view_is c.settle.ensures.states c.settle.ensures.woken c.settle.ensures.few
-    (c.settle.ensures.alarm c.self.inside.floor c.self.invariant brings.follows)
+    stirs_few c.args.self.now c.self.inside.floor c.drain-told.new.self c.self.inside.seats c.settle_since.new.seats c.self.view_is
+    c.settle_since.ensures.settles

@@ -1,4 +1,4 @@
-use Rattle.std.proofs.Common.{slice_get, None, sym, ap, subst, ◌∙◌}
+use Rattle.std.proofs.Common.{slice_get, None, refl, sym, ap, subst, ◌∙◌}
 use Rattle.cml_board.specs.declared.entry.Who.TheVariants.{Seat}
 use Rattle.cml_board.specs.Waiting.{want_in}
 use Rattle.cml_room.specs.Places.{states_in, notices_in}
@@ -10,23 +10,24 @@ use Rattle.cml_room.proofs.Unmoved.{room_kept}
 use Rattle.cml_room.proofs.Bringing.{placed_on}
 use Rattle.cml_room.proofs.Frames.{turns}
 use Rattle.cml_room.proofs.Rising.{nobody_few}
-use Rattle.cml_room.proofs.Calling.{answered_brings, refused_before, before_follows, before_watched, call_would, may_wait, waits_wants, may_brings, answered_news}
+use Rattle.cml_room.proofs.Calling.{answered_brings, refused_before, before_follows, before_watched, call_would, may_turn, may_wait, waits_wants, may_brings, answered_news}
 use Rattle.cml_room.proofs.room.Room.take_turn.Goals as goal
 
-pub answer_turn-requires-clause-placed : goal.answer_turn-requires-clause-placed
-answer_turn-requires-clause-placed g c =
+pub answer_turn-requires : goal.answer_turn-requires
+answer_turn-requires g c =
     let reaches = answered_reaches g.L.MessageLog.CHUNK g.M.Message.SURE c.self.inside.floor c.apply.new.self c.args.seat c.args.call c.in-Answered.answer
     c.in-Answered.ensures.barred c.in-Answered.ensures.applied in
-    placed_on c.self.inside.floor c.apply.new.self c.self.inside.seats.places c.self.inside.seats.all_due c.news_in-news.result c.self.invariant
-    (answered_brings g.L.MessageLog.CHUNK g.M.Message.SURE c.self.inside.floor.board c.apply.new.self.board (Seat c.args.seat) c.args.call c.in-Answered.answer
-    c.news_in-news.result c.news_in-news.ensures reaches.applies).follows
-
-pub answer_turn-requires-clause-of : goal.answer_turn-requires-clause-of
-answer_turn-requires-clause-of g c =
-    let reaches = answered_reaches g.L.MessageLog.CHUNK g.M.Message.SURE c.self.inside.floor c.apply.new.self c.args.seat c.args.call c.in-Answered.answer
-    c.in-Answered.ensures.barred c.in-Answered.ensures.applied in
-    (answered_brings g.L.MessageLog.CHUNK g.M.Message.SURE c.self.inside.floor.board c.apply.new.self.board (Seat c.args.seat) c.args.call c.in-Answered.answer
-    c.news_in-news.result c.news_in-news.ensures reaches.applies).of
+    let brings = answered_brings g.L.MessageLog.CHUNK g.M.Message.SURE c.self.inside.floor.board c.apply.new.self.board (Seat c.args.seat) c.args.call
+    c.in-Answered.answer c.news_in-news.result c.news_in-news.ensures reaches.applies in
+    let seats = ap (λ (r : RoomShown g.row.M.Denot). r.seats) c.self.view_is in
+    record {
+      may = may_turn c.args.self.now (states_in c.self.inside.seats.places) c.args.seat c.args.call seats c.requires;
+      placed = placed_on c.self.inside.floor c.apply.new.self c.self.inside.seats.places c.self.inside.seats.all_due c.news_in-news.result c.self.invariant
+          brings.follows;
+      of = brings.of;
+      brings = λ on parked. may_brings c.args.self.now c.args.seat c.args.call on c.news_in-news.result c.requires c.news_in-news.ensures
+          (ap (λ states. slice_get states c.args.seat) (sym seats) ∙ parked);
+    }
 
 pub invariant_of-self : goal.invariant_of-self
 invariant_of-self g c =
@@ -36,12 +37,17 @@ invariant_of-self g c =
     (answered_brings g.L.MessageLog.CHUNK g.M.Message.SURE c.self.inside.floor.board c.apply.new.self.board (Seat c.args.seat) c.args.call c.in-Answered.answer
     c.news_in-news.result c.news_in-news.ensures reaches.applies).follows
 
-pub end_turn-requires-clause-placed : goal.end_turn-requires-clause-placed
-end_turn-requires-clause-placed g c =
-    placed_on c.self.inside.floor c.apply.new.self c.self.inside.seats.places c.self.inside.seats.all_due None c.self.invariant
-    (before_follows None c.self.inside.floor.board c.apply.new.self.board
-    (refused_before g.L.MessageLog.CHUNK g.M.Message.SURE c.self.inside.floor c.apply.new.self c.args.seat c.args.call c.in-Refused.call c.in-Refused.refusal
-    c.in-Refused.ensures.barred c.in-Refused.ensures.applied))
+pub end_turn-requires : goal.end_turn-requires
+end_turn-requires g c = record {
+  may = may_turn c.args.self.now (states_in c.self.inside.seats.places) c.args.seat c.args.call
+      (ap (λ (r : RoomShown g.row.M.Denot). r.seats) c.self.view_is) c.requires;
+  placed = placed_on c.self.inside.floor c.apply.new.self c.self.inside.seats.places c.self.inside.seats.all_due None c.self.invariant
+      (before_follows None c.self.inside.floor.board c.apply.new.self.board
+      (refused_before g.L.MessageLog.CHUNK g.M.Message.SURE c.self.inside.floor c.apply.new.self c.args.seat c.args.call c.in-Refused.call
+      c.in-Refused.refusal c.in-Refused.ensures.barred c.in-Refused.ensures.applied));
+  of = tt;
+  brings = λ on parked. refl;
+}
 
 pub invariant_of-self-in-Refused : goal.invariant_of-self-in-Refused
 invariant_of-self-in-Refused g c =
@@ -88,14 +94,14 @@ returns-in-Answered-clause-asks g c =
     answered_asks g.L.MessageLog.CHUNK g.M.Message.SURE c.args.self.now c.self.inside.floor c.apply.new.self (states_in c.self.inside.seats.places)
     (states_in c.answer_turn.new.seats.places) (notices_in c.self.inside.seats.places) (notices_in c.answer_turn.new.seats.places) c.self.inside.seats.all_due
     c.answer_turn.new.seats.all_due c.args.seat c.args.call c.in-Answered.answer c.self.view_is c.in-Answered.ensures.barred c.in-Answered.ensures.applied
-    c.apply.ensures.lanes c.apply.ensures.feeds c.answer_turn.ensures.states
+    c.apply.ensures.lanes c.apply.ensures.feeds c.answer_turn.ensures.ends.states
 
 pub returns-in-Refused-clause-asks : goal.returns-in-Refused-clause-asks
 returns-in-Refused-clause-asks g c =
     refused_asks g.L.MessageLog.CHUNK g.M.Message.SURE c.args.self.now c.self.inside.floor c.apply.new.self (states_in c.self.inside.seats.places)
     (states_in c.end_turn.new.seats.places) (notices_in c.self.inside.seats.places) (notices_in c.end_turn.new.seats.places) c.self.inside.seats.all_due
     c.end_turn.new.seats.all_due c.args.seat c.args.call c.in-Refused.call c.in-Refused.refusal c.self.view_is c.in-Refused.ensures.barred c.in-Refused.ensures.applied
-    c.apply.ensures.lanes c.apply.ensures.feeds c.end_turn.ensures.states
+    c.apply.ensures.lanes c.apply.ensures.feeds c.end_turn.ensures.ends.states
 
 pub returns-else-park-clause-asks : goal.returns-else-park-clause-asks
 returns-else-park-clause-asks g c =
@@ -103,11 +109,6 @@ returns-else-park-clause-asks g c =
     (states_in c.park.new.seats.places) (notices_in c.self.inside.seats.places) (notices_in c.park.new.seats.places) c.self.inside.seats.all_due c.park.new.seats.all_due
     c.args.seat c.args.call c.in-WouldWait.call c.in-Some.want c.self.view_is c.in-WouldWait.ensures.barred c.in-WouldWait.ensures.applied
     c.apply.ensures.lanes c.apply.ensures.feeds (sym c.want.ensures ∙ c.in-Some.is) c.if-park.ensures.parked
-
-pub answer_turn-requires-clause-brings : goal.answer_turn-requires-clause-brings
-answer_turn-requires-clause-brings g c = λ on parked.
-    may_brings c.args.self.now c.args.seat c.args.call on c.news_in-news.result c.requires c.news_in-news.ensures
-    (ap (λ (r : RoomShown g.row.M.Denot). slice_get r.seats c.args.seat) (sym c.self.view_is) ∙ parked)
 
 pub returns-in-Answered-clause-turns : goal.returns-in-Answered-clause-turns
 returns-in-Answered-clause-turns g c =
@@ -118,12 +119,12 @@ returns-in-Answered-clause-turns g c =
     (answered_news g.L.MessageLog.CHUNK g.M.Message.SURE c.self.inside.floor.board c.apply.new.self.board (Seat c.args.seat) c.args.call c.in-Answered.answer
     c.news_in-news.result c.news_in-news.ensures reaches.applies)
     (turns c.args.self.now c.self.inside.floor c.apply.new.self c.self.inside.seats.places c.answer_turn.new.seats.places c.self.inside.seats.all_due
-    c.answer_turn.new.seats.all_due c.args.seat c.news_in-news.result c.self.view_is c.answer_turn.ensures.asked c.answer_turn.ensures.few c.answer_turn.ensures.due)
+    c.answer_turn.new.seats.all_due c.args.seat c.news_in-news.result c.self.view_is c.answer_turn.ensures.ends.asked c.answer_turn.ensures.ends.few c.answer_turn.ensures.due)
 
 pub returns-in-Refused-clause-turns : goal.returns-in-Refused-clause-turns
 returns-in-Refused-clause-turns g c =
     turns c.args.self.now c.self.inside.floor c.apply.new.self c.self.inside.seats.places c.end_turn.new.seats.places c.self.inside.seats.all_due
-    c.end_turn.new.seats.all_due c.args.seat None c.self.view_is c.end_turn.ensures.asked c.end_turn.ensures.few (λ has. c.end_turn.ensures.due)
+    c.end_turn.new.seats.all_due c.args.seat None c.self.view_is c.end_turn.ensures.ends.asked c.end_turn.ensures.ends.few (λ has. c.end_turn.ensures.due)
 
 pub returns-then-park-clause-turns : goal.returns-then-park-clause-turns
 returns-then-park-clause-turns g c =

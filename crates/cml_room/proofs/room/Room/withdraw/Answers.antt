@@ -1,7 +1,15 @@
-use Rattle.std.proofs.Common.{None, refl}
+use Rattle.std.proofs.Common.{None, refl, rules}
 use Rattle.cml_room.proofs.Following.{same_follows}
 use Rattle.cml_room.proofs.Frames.{turns}
 use Rattle.cml_room.proofs.room.Room.withdraw.Goals as goal
+
+pub end_turn-requires : goal.end_turn-requires
+end_turn-requires g c = record {
+  may = search rules;
+  placed = c.self.invariant.placed;
+  of = tt;
+  brings = λ on parked. refl;
+}
 
 pub invariant_of-self : goal.invariant_of-self
 invariant_of-self g c =
@@ -10,4 +18,4 @@ invariant_of-self g c =
 pub returns-clause-turns : goal.returns-clause-turns
 returns-clause-turns g c =
     turns c.args.self.now c.self.inside.floor c.self.inside.floor c.self.inside.seats.places c.end_turn.new.seats.places c.self.inside.seats.all_due
-    c.end_turn.new.seats.all_due c.args.seat None c.self.view_is c.end_turn.ensures.asked c.end_turn.ensures.few (λ has. c.end_turn.ensures.due)
+    c.end_turn.new.seats.all_due c.args.seat None c.self.view_is c.end_turn.ensures.ends.asked c.end_turn.ensures.ends.few (λ has. c.end_turn.ensures.due)
