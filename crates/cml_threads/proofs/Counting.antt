@@ -1,5 +1,5 @@
 -- How many entries a call on lanes or feeds adds, and that all of them are of lanes and feeds.
-use Rattle.std.proofs.Common.{◌≡◌, ℕ, ◌+◌, ◌≤◌, List, [], ◌∷◌, length, ap, sym, subst, ◌∙◌, arith}
+use Rattle.std.proofs.Common.{◌≡◌, ℕ, ◌+◌, ◌≤◌, List, [], ◌∷◌, length, ap, ◌∙◌, arith}
 use Rattle.cml_board.specs.declared.call.Name.{Name}
 use Rattle.cml_board.specs.declared.entry.Entry.{Entry}
 use Rattle.cml_board.specs.History.{entries_in, rings_in}
@@ -8,11 +8,11 @@ use Rattle.cml_lanes.specs.declared.way.Way.{Way}
 use Rattle.cml_lanes.specs.Laned.{lane_entry, with_lane}
 use Rattle.cml_lanes.specs.Fed.{feed_entry, with_feed}
 use Rattle.cml_lanes.specs.Floor.{FloorShown}
-use Rattle.cml_lanes.proofs.Deeds.{Deed, as_it_was, lane_drained, lane_gone, lane_opened, feed_pumped, feed_gone, feed_opened}
+use Rattle.cml_lanes.specs.Deeds.{Deed, as_it_was, lane_drained, lane_gone, lane_opened, feed_pumped, feed_gone, feed_opened}
 use Rattle.cml_lanes.proofs.Reserving.{lane_entries, feed_entries}
 use Rattle.cml_room.specs.declared.state.State.{State}
 use Rattle.cml_room.specs.Room.{RoomShown, floor_of}
-use Rattle.cml_threads.specs.Hosting.{IsCounted}
+use Rattle.cml_threads.specs.Hosting.{IsCounted, WasCounted}
 
 -- some entries were added, each of a lane or a feed
 record AddsRings {M : Type 0} (old new : Shown M) : Type 0 where
@@ -67,41 +67,22 @@ module _ {M : Type 0} where
     rings = omega (arith, ap entries_in makes.entry.history, ap rings_in makes.entry.history);
   }
 
-  -- the entries that are counted: how many there were, and how many there are
-  counted_before : (old seen : Shown M) (before : ℕ) → before ≡ entries_in seen.history → seen ≡ old → before ≡ entries_in old.history
-  counted_before old seen before is same = is ∙ ap (λ (b : Shown M). entries_in b.history) same
+  -- there are as many entries as were counted, or more
+  pub grown_since : (entries : ℕ) (new : RoomShown M) (book own parts whole : ℕ) → WasCounted entries new book own parts whole
+      → entries ≤ entries_in new.board.history
+  grown_since entries new book own parts whole was = omega (arith, was.had, (adds (floor_of was.before) (floor_of new) was.deed).grown)
 
-  grown_at : (old new : FloorShown M) (seen now : Shown M) (before : ℕ) → before ≡ entries_in seen.history → seen ≡ old.board → now ≡ new.board → Deed old new
-      → before ≤ entries_in now.history
-  grown_at old new seen now before is same same_now deed =
-      omega (arith, counted_before old.board seen before is same, ap (λ (b : Shown M). entries_in b.history) same_now, (adds old new deed).grown)
-
-  counted_at : (old new : FloorShown M) (seen now : Shown M) (before seats book own parts whole book' own' parts' : ℕ)
-      → IsCounted old.board seats book own parts whole → before ≡ entries_in seen.history → seen ≡ old.board → now ≡ new.board → Deed old new
-      → book' + before ≡ book + entries_in now.history → own' + before ≡ own + entries_in now.history → parts' ≡ parts
-      → IsCounted new.board seats book' own' parts' whole
-  counted_at old new seen now before seats book own parts whole book' own' parts' counted is same same_now deed total amount same_parts =
-      let added = adds old new deed in
-      let had = counted_before old.board seen before is same in
-      let has = ap (λ (b : Shown M). entries_in b.history) same_now in
-      record {
-        entries = omega (arith, had, has, total, counted.entries, added.grown);
-        rings = omega (arith, had, has, amount, counted.rings, added.rings, added.grown);
-        shared = omega (arith, same_parts, counted.shared);
-        enough = counted.enough;
-        own_parts = omega (arith, same_parts, counted.own_parts);
-      }
-
-  -- the same of a room
-  pub grown_in : (old new : RoomShown M) (seen now : Shown M) (before : ℕ) → before ≡ entries_in seen.history → seen ≡ old.board → now ≡ new.board
-      → Deed (floor_of old) (floor_of new) → before ≤ entries_in now.history
-  grown_in old new seen now before is same same_now deed = grown_at (floor_of old) (floor_of new) seen now before is same same_now deed
-
-  pub counted_in : (old new : RoomShown M) (seen now : Shown M) (before book own parts whole book' own' parts' : ℕ)
-      → IsCounted old.board (length old.seats) book own parts whole → before ≡ entries_in seen.history → seen ≡ old.board → now ≡ new.board
-      → Deed (floor_of old) (floor_of new) → new.seats ≡ old.seats
-      → book' + before ≡ book + entries_in now.history → own' + before ≡ own + entries_in now.history → parts' ≡ parts
+  -- those beyond them are counted too
+  pub counted_since : (entries : ℕ) (new : RoomShown M) (book own parts whole book' own' parts' : ℕ) → WasCounted entries new book own parts whole
+      → book' + entries ≡ book + entries_in new.board.history → own' + entries ≡ own + entries_in new.board.history → parts' ≡ parts
       → IsCounted new.board (length new.seats) book' own' parts' whole
-  counted_in old new seen now before book own parts whole book' own' parts' counted is same same_now deed seats total amount same_parts =
-      subst (λ (s : List State). IsCounted new.board (length s) book' own' parts' whole) (sym seats)
-      (counted_at (floor_of old) (floor_of new) seen now before (length old.seats) book own parts whole book' own' parts' counted is same same_now deed total amount same_parts)
+  counted_since entries new book own parts whole book' own' parts' was total amount same =
+      let counted = was.counted in
+      let added = adds (floor_of was.before) (floor_of new) was.deed in
+      record {
+        entries = omega (arith, was.had, total, counted.entries, added.grown);
+        rings = omega (arith, was.had, amount, counted.rings, added.rings, added.grown);
+        shared = omega (arith, same, counted.shared, ap (length {A = State}) was.seats);
+        enough = counted.enough;
+        own_parts = omega (arith, same, counted.own_parts);
+      }

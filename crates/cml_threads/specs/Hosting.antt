@@ -1,10 +1,11 @@
 -- What a hall shows of itself, and what always holds of it.
-use Rattle.std.specs.Prelude.{ℕ, ◌≡◌, ◌+◌, ◌^◌, ◌<◌, Bool, List, Option}
+use Rattle.std.specs.Prelude.{ℕ, ◌≡◌, ◌+◌, ◌^◌, ◌<◌, Bool, List, length, Option}
 use Rattle.cml_board.specs.declared.call.Call.{Call}
 use Rattle.cml_board.specs.History.{entries_in, rings_in}
 use Rattle.cml_board.specs.Shown.{Shown}
 use Rattle.cml_lanes.specs.Sides.{LaneSide, FeedSide}
 use Rattle.cml_lanes.specs.Floor.{FloorShown}
+use Rattle.cml_lanes.specs.Deeds.{Deed}
 use Rattle.cml_room.specs.declared.notice.Notice.{Notice}
 use Rattle.cml_room.specs.declared.state.State.{State}
 use Rattle.cml_room.specs.Room as room
@@ -49,3 +50,11 @@ module _ {M : Type 0} where
     pub shared : parts + seats ≡ whole
     pub enough : whole ≡ 2 ^ 63
     pub own_parts : 0 < parts
+
+  -- the room was made, by a call on a lane or a feed, of one that had so many entries, each of which was counted
+  pub record WasCounted (entries : ℕ) (new : room.RoomShown M) (book own parts whole : ℕ) : Type 0 where
+    pub before : room.RoomShown M
+    pub had : entries ≡ entries_in before.board.history
+    pub counted : IsCounted before.board (length before.seats) book own parts whole
+    pub seats : new.seats ≡ before.seats
+    pub deed : Deed (room.floor_of before) (room.floor_of new)

@@ -4,4 +4,4 @@ pub mod Asking
 pub mod Running
 pub mod Settling
 pub mod Telling
-pub mod Ringing
+pub mod Unparking

@@ -1,11 +1,11 @@
 //! Threads that share one room: its lock, their seats, how they block and wake each other, and a ledger of their answers.
 #![tactic(auto)]
 
-mod bells;
+mod backoff;
 mod hall;
 mod laws;
 mod locked;
-mod looks;
+mod parker;
 mod seat;
 mod settled;
 mod switchboard;

@@ -1,9 +1,9 @@
 //! A hall under its lock. A thread that has locked it lets go of it in one way alone: it takes the seat that is due next, unlocks
-//! the hall, and rings that seat's bell.
-ghost use Rattle.cml_threads.specs.Ringing.{RingsNext};
+//! the hall, and unparks that seat's thread.
+ghost use Rattle.cml_threads.specs.Unparking.{UnparksNext};
 
-use crate::bells::{Bells, Rung};
 use crate::hall::Hall;
+use crate::parker::{Parkers, Unparked};
 use cml_board::Message;
 use cml_log::MessageLog;
 use crossbeam_utils::CachePadded;
@@ -12,16 +12,16 @@ use std::marker::Model;
 use std::sync::ledger::Ledger;
 use std::sync::{Mutex, MutexGuard, Wait};
 
-/// A hall under its lock, and the bells of its seats.
+/// A hall under its lock, and the parkers of its seats.
 #[derive(Drop)]
 pub struct Locked<M, L: MessageLog<M>, Led: Ledger> {
     // Apart from the lock's word, at which threads that wait for the lock look while its holder writes.
     hall: Mutex<CachePadded<Hall<M, L, Led>>>,
-    bells: Bells,
+    parkers: Parkers,
 }
 
 /// The hall, while this thread has the lock. It can't be dropped: only `Locked::let_go` and `let_go_by` take it. So the compiler
-/// refuses a call that unlocks the hall and rings nobody.
+/// refuses a call that unlocks the hall and unparks nobody.
 pub struct Turn<'a, M, L: MessageLog<M>, Led: Ledger> {
     hall: MutexGuard<'a, CachePadded<Hall<M, L, Led>>>,
 }
@@ -44,12 +44,12 @@ impl<'a, M: Message, L: MessageLog<M>, Led: Ledger> Turn<'a, M, L, Led> {
 }
 
 impl<M: Message, L: MessageLog<M>, Led: Ledger> Locked<M, L, Led> {
-    /// A hall whose seats have all left, so that none of them needs a bell.
+    /// A hall whose seats have all left, so that none of them needs a parker.
     pub fn new(alloc: Global, hall: Hall<M, L, Led>) -> Result<Locked<M, L, Led>, AllocError> {
-        let bells = Bells::new(alloc, hall.seats())?;
+        let parkers = Parkers::new(alloc, hall.seats())?;
         Ok(Locked {
             hall: Mutex::new(CachePadded::new(hall)),
-            bells,
+            parkers,
         })
     }
 
@@ -60,34 +60,34 @@ impl<M: Message, L: MessageLog<M>, Led: Ledger> Locked<M, L, Led> {
         }
     }
 
-    /// Hangs the bell of the next seat, where so many were made. The thread has the lock.
-    pub fn hang<R: Wait>(&self, rt: &R, seats: usize) -> Result<(), AllocError> {
-        self.bells.hang(rt, seats)
+    /// Adds the parker of the next seat, where so many were made. The thread has the lock.
+    pub fn add_parker<R: Wait>(&self, rt: &R, seats: usize) -> Result<(), AllocError> {
+        self.parkers.add(rt, seats)
     }
 
-    /// Waits until the seat's bell was rung, once for each wait.
-    pub fn wait<R: Wait>(&self, rt: &R, seat: u64) {
-        self.bells.wait(rt, seat);
+    /// Waits until the seat was unparked, once for each wait.
+    pub fn park<R: Wait>(&self, rt: &R, seat: u64) {
+        self.parkers.park(rt, seat);
     }
 
-    /// Takes the seat that is due next, if there is one that was not woken, and unlocks the hall. Then it rings that seat's bell.
-    /// The seat's thread locks the hall next, makes its call, and then does the same.
-    pub fn let_go(&self, turn: Turn<'_, M, L, Led>) -> Option<Rung>
-        ensures { RingsNext turn.entry result }
+    /// Takes the seat that is due next, if there is one that was not woken, and unlocks the hall. Then it unparks that seat's thread.
+    /// That thread locks the hall next, makes its call, and then does the same.
+    pub fn let_go(&self, turn: Turn<'_, M, L, Led>) -> Option<Unparked>
+        ensures { UnparksNext turn.entry result }
     {
         let due = unlock(turn)?;
-        // No seat's call rang, so the bell notes no seat that this one may answer: no seat rings for itself.
-        Some(self.bells.ring(due, due))
+        // No seat's call unparks it, so its parker notes no seat that it may answer: no seat unparks itself.
+        Some(self.parkers.unpark(due, due))
     }
 
     /// The same after a seat's call, whose thread waits next, maybe for what the woken one does.
-    pub fn let_go_by(&self, turn: Turn<'_, M, L, Led>, seat: u64) -> Option<Rung>
-        ensures { RingsNext turn.entry result }
+    pub fn let_go_by(&self, turn: Turn<'_, M, L, Led>, seat: u64) -> Option<Unparked>
+        ensures { UnparksNext turn.entry result }
     {
         let due = unlock(turn)?;
-        let rung = self.bells.ring(due, seat);
-        self.bells.note_rung(seat, &rung);
-        Some(rung)
+        let unparked = self.parkers.unpark(due, seat);
+        self.parkers.note_unparked(seat, &unparked);
+        Some(unparked)
     }
 
     /// The hall, once no thread uses it any more.
@@ -95,24 +95,24 @@ impl<M: Message, L: MessageLog<M>, Led: Ledger> Locked<M, L, Led> {
         self.into_parts().0
     }
 
-    /// The hall and its bells, once no thread uses them any more.
-    pub fn into_parts(self) -> (Hall<M, L, Led>, Bells) {
-        let Locked { hall, bells } = self;
-        (hall.into_inner().into_inner(), bells)
+    /// The hall and its parkers, once no thread uses them any more.
+    pub fn into_parts(self) -> (Hall<M, L, Led>, Parkers) {
+        let Locked { hall, parkers } = self;
+        (hall.into_inner().into_inner(), parkers)
     }
 
-    /// A hall and its bells.
-    pub fn of_parts(hall: Hall<M, L, Led>, bells: Bells) -> Locked<M, L, Led> {
+    /// A hall and its parkers.
+    pub fn of_parts(hall: Hall<M, L, Led>, parkers: Parkers) -> Locked<M, L, Led> {
         Locked {
             hall: Mutex::new(CachePadded::new(hall)),
-            bells,
+            parkers,
         }
     }
 }
 
 /// Takes the seat that is due next, and unlocks the hall.
 fn unlock<M: Message, L: MessageLog<M>, Led: Ledger>(turn: Turn<'_, M, L, Led>) -> Option<u64>
-    ensures { RingsNext turn.entry result }
+    ensures { UnparksNext turn.entry result }
 {
     let Turn { hall } = turn;
     let mut hall = hall;

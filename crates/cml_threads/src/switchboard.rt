@@ -2,7 +2,7 @@ ghost use Rattle.std.specs.Prelude.{ℕ, ◌≡◌, ◌+◌, ◌-◌, ◌^◌, �
 ghost use Rattle.cml_board.specs.declared.outcome.Refusal.TheVariants.{Busy, NoMemory};
 ghost use Rattle.cml_board.specs.Waiting.{want_in};
 ghost use Rattle.cml_board.specs.History.{entries_in, rings_in};
-ghost use Rattle.cml_threads.specs.Ringing.{HaveLeft};
+ghost use Rattle.cml_threads.specs.Unparking.{HaveLeft};
 ghost use Rattle.cml_threads.specs.Seating.{Sitting, raised, answers_in, share_at};
 ghost use Rattle.cml_threads.specs.Telling.{suits, MayRefuse, Tells, Replies};
 
@@ -94,12 +94,12 @@ impl<M: Message, L: MessageLog<M>, Led: Ledger> Switchboard<M, L, Led> {
         made
     }
 
-    /// Makes a seat and its bell.
+    /// Makes a seat and its parker.
     fn make_seat<R: Wait>(&self, rt: &R, hall: &mut Hall<M, L, Led>) -> Result<Seat<Led>, Refusal>
         ensures share { IfOk result (λ seat. seat.share ≡ 0) }
         ensures refused { IfErr result (λ refusal. refusal ≡ NoMemory) }
     {
-        if self.locked.hang(rt, hall.seats()).is_err() {
+        if self.locked.add_parker(rt, hall.seats()).is_err() {
             return Err(Refusal::NoMemory);
         }
         hall.new_seat()
@@ -164,7 +164,7 @@ impl<M: Message, L: MessageLog<M>, Led: Ledger> Switchboard<M, L, Led> {
                 Outcome::Answered(answer) => return Ok(answer),
                 Outcome::Refused(refusal, call) => return Err((refusal, call)),
                 Outcome::WouldWait(call) => {
-                    self.locked.wait(rt, seat.number());
+                    self.locked.park(rt, seat.number());
                     outcome = self.ask_again(rt, seat, call);
                 }
             }
@@ -195,11 +195,11 @@ impl<M: Message, L: MessageLog<M>, Led: Ledger> Switchboard<M, L, Led> {
         ensures total { IfOk result (λ settled. settled.seats + settled.rings ≡ entries_in settled.board.history) }
         ensures back { IfErr result (λ back. back.1 ≡ lefts) }
     {
-        let (hall, bells) = self.locked.into_parts();
+        let (hall, parkers) = self.locked.into_parts();
         match hall.settle(lefts) {
             Ok(settled) => Ok(settled),
             Err((hall, lefts)) => {
-                let locked = Locked::of_parts(hall, bells);
+                let locked = Locked::of_parts(hall, parkers);
                 Err((Switchboard { locked }, lefts))
             }
         }
@@ -211,8 +211,8 @@ impl<M: Message, L: MessageLog<M>, Led: Ledger> Switchboard<M, L, Led> {
         self.locked.into_hall()
     }
 
-    /// Makes the seat's call, and wakes a seat that is due. If the seat is parked, it waits at its bell next. What comes for it
-    /// from now on rings the bell, and the ring is kept.
+    /// Makes the seat's call, and wakes a seat that is due. If the seat is parked, its thread parks next. What comes for it from
+    /// now on unparks it, and that is kept.
     fn ask<R: Wait>(&self, rt: &R, seat: &mut Seat<Led>, call: Call<M>) -> Outcome<M>
         ensures { Tells seat.old seat.new call result }
     {

@@ -1,23 +1,29 @@
 //! How entries of lanes and feeds are counted: in the book, for no seat.
-ghost use Rattle.std.specs.Prelude.{◌≡◌, ◌+◌, ◌≤◌, ◌<◌};
+ghost use Rattle.std.specs.Prelude.{◌≡◌, length};
 ghost use Rattle.cml_board.specs.History.{entries_in};
+ghost use Rattle.cml_threads.specs.Hosting.{IsCounted, WasCounted};
 
-use cml_board::{Board, Message};
+use cml_board::Message;
 use cml_log::MessageLog;
+use cml_room::Room;
 use std::sync::ledger::{Book, Ledger, Share};
+
+/// Returns how many entries the room's board had since it was made.
+pub fn count_entries<M: Message, L: MessageLog<M>>(room: &Room<M, L>) -> u64
+    ensures { result ≡ entries_in room.now.board.history }
+{
+    room.board().entries()
+}
 
 /// Counts the entries beyond the first `before`, in the book and as the hall's.
 pub fn count_since<M: Message, L: MessageLog<M>, Led: Ledger>(
     before: u64,
-    board: &Board<M, L>,
+    room: &Room<M, L>,
     book: &mut Book<Led>,
     rest: &mut Share<Led>,
 )
-    requires grown { before ≤ entries_in board.now.history }
-    requires parts { 0 < rest.old.parts }
-    ensures total { book.new.total + before ≡ book.old.total + entries_in board.now.history }
-    ensures amount { rest.new.amount + before ≡ rest.old.amount + entries_in board.now.history }
-    ensures parts { rest.new.parts ≡ rest.old.parts }
+    requires { WasCounted before room.now book.old.total rest.old.amount rest.old.parts Led.parts }
+    ensures { IsCounted room.now.board (length room.now.seats) book.new.total rest.new.amount rest.new.parts Led.parts }
 {
-    book.add(rest, board.entries() - before);
+    book.add(rest, count_entries(room) - before);
 }

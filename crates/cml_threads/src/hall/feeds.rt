@@ -7,7 +7,7 @@ ghost use Rattle.cml_room.specs.Rising.{MakesNoneDue};
 ghost use Rattle.cml_threads.specs.Hosting.{floor_of, room_of};
 
 use super::Hall;
-use super::counting::count_since;
+use super::counting::{count_entries, count_since};
 use cml_board::{Message, Name, Refusal};
 use cml_lanes::{Feed, FeedEnd, MAX_CAPACITY};
 use cml_log::MessageLog;
@@ -30,9 +30,9 @@ impl<M: Message, L: MessageLog<M>, Led: Ledger> Hall<M, L, Led> {
         ensures rings { (number : ℕ) → number < length self.old.feeds → SameFeedRing number (floor_of self.old) (floor_of self.new) }
         ensures stirs { Stirs MakesNoneDue (room_of self.old) (room_of self.new) }
     {
-        let before = self.room.board().entries();
+        let before = count_entries(&self.room);
         let told = self.room.open_feed(channel, capacity);
-        count_since(before, self.room.board(), &mut self.book, &mut self.rest);
+        count_since(before, &self.room, &mut self.book, &mut self.rest);
         told
     }
 
@@ -43,9 +43,9 @@ impl<M: Message, L: MessageLog<M>, Led: Ledger> Hall<M, L, Led> {
         ensures rings { KeepsRings (floor_of self.old) (floor_of self.new) }
         ensures stirs { Stirs MakesNoneDue (room_of self.old) (room_of self.new) }
     {
-        let before = self.room.board().entries();
+        let before = count_entries(&self.room);
         let told = self.room.pump(feed);
-        count_since(before, self.room.board(), &mut self.book, &mut self.rest);
+        count_since(before, &self.room, &mut self.book, &mut self.rest);
         told
     }
 

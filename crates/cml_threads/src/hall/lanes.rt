@@ -7,7 +7,7 @@ ghost use Rattle.cml_room.specs.Rising.{MakesFewByOne, MakesNoneDue};
 ghost use Rattle.cml_threads.specs.Hosting.{floor_of, room_of};
 
 use super::Hall;
-use super::counting::count_since;
+use super::counting::{count_entries, count_since};
 use cml_board::{Message, Name, Refusal};
 use cml_lanes::{Lane, LaneEnd, MAX_CAPACITY};
 use cml_log::MessageLog;
@@ -39,9 +39,9 @@ impl<M: Message, L: MessageLog<M>, Led: Ledger> Hall<M, L, Led> {
         ensures rings { KeepsRings (floor_of self.old) (floor_of self.new) }
         ensures stirs { Stirs MakesFewByOne (room_of self.old) (room_of self.new) }
     {
-        let before = self.room.board().entries();
+        let before = count_entries(&self.room);
         let told = self.room.drain(lane);
-        count_since(before, self.room.board(), &mut self.book, &mut self.rest);
+        count_since(before, &self.room, &mut self.book, &mut self.rest);
         told
     }
 
@@ -53,9 +53,9 @@ impl<M: Message, L: MessageLog<M>, Led: Ledger> Hall<M, L, Led> {
         ensures rings { KeepsRings (floor_of self.old) (floor_of self.new) }
         ensures stirs { Stirs MakesFewByOne (room_of self.old) (room_of self.new) }
     {
-        let before = self.room.board().entries();
+        let before = count_entries(&self.room);
         let told = self.room.close_lane(end);
-        count_since(before, self.room.board(), &mut self.book, &mut self.rest);
+        count_since(before, &self.room, &mut self.book, &mut self.rest);
         told
     }
 
@@ -65,9 +65,9 @@ impl<M: Message, L: MessageLog<M>, Led: Ledger> Hall<M, L, Led> {
         ensures rings { KeepsRings (floor_of self.old) (floor_of self.new) }
         ensures stirs { Stirs MakesFewByOne (room_of self.old) (room_of self.new) }
     {
-        let before = self.room.board().entries();
+        let before = count_entries(&self.room);
         let told = self.room.close_counted(end);
-        count_since(before, self.room.board(), &mut self.book, &mut self.rest);
+        count_since(before, &self.room, &mut self.book, &mut self.rest);
         told
     }
 
@@ -78,9 +78,9 @@ impl<M: Message, L: MessageLog<M>, Led: Ledger> Hall<M, L, Led> {
         ensures rings { KeepsRings (floor_of self.old) (floor_of self.new) }
         ensures stirs { Stirs MakesFewByOne (room_of self.old) (room_of self.new) }
     {
-        let before = self.room.board().entries();
+        let before = count_entries(&self.room);
         let told = self.room.drop_lane(lane);
-        count_since(before, self.room.board(), &mut self.book, &mut self.rest);
+        count_since(before, &self.room, &mut self.book, &mut self.rest);
         told
     }
 

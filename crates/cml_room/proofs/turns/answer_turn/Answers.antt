@@ -1,4 +1,4 @@
-use Rattle.std.proofs.Common.{◌≡◌, sym, subst, ◌∙◌}
+use Rattle.std.proofs.Common.{sym, subst, ◌∙◌}
 use Rattle.cml_room.specs.Ending.{EndsTurn}
 use Rattle.cml_room.proofs.Ending.{all_watched, free_unless_waits}
 use Rattle.cml_room.proofs.Idling.{none_waits}

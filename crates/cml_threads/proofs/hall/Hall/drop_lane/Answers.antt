@@ -3,24 +3,17 @@ use Rattle.cml_lanes.specs.Floor.{KeepsRings}
 use Rattle.cml_lanes.proofs.Deeds.{drops}
 use Rattle.cml_room.specs.Room as room
 use Rattle.cml_threads.specs.Hosting.{Hosted, floor_of}
-use Rattle.cml_threads.proofs.Counting.{grown_in, counted_in}
 use Rattle.cml_threads.proofs.hall.Hall.drop_lane.Goals as goal
 
-pub count_since-requires-clause-grown : goal.count_since-requires-clause-grown
-count_since-requires-clause-grown g c =
-    grown_in c.self.inside.room c.drop_lane-told.new.self c.board.result.now c.board-2.result.now c.entries-before.result
-    c.entries-before.ensures c.board.ensures.board c.board-2.ensures.board
-    (drops g.L.MessageLog.CHUNK g.M.Message.SURE c.args.lane (room.floor_of c.self.inside.room) (room.floor_of c.drop_lane-told.new.self) c.drop_lane-told.result c.drop_lane-told.ensures.drops)
-
-pub invariant_of-self : goal.invariant_of-self
-invariant_of-self g c =
-    counted_in c.self.inside.room c.drop_lane-told.new.self c.board.result.now c.board-2.result.now c.entries-before.result
-    c.self.inside.book.total c.self.inside.rest.amount c.self.inside.rest.parts g.Led.Ledger.parts
-    c.count_since.new.book.total c.count_since.new.rest.amount c.count_since.new.rest.parts
-    c.self.invariant c.entries-before.ensures c.board.ensures.board c.board-2.ensures.board
-    (drops g.L.MessageLog.CHUNK g.M.Message.SURE c.args.lane (room.floor_of c.self.inside.room) (room.floor_of c.drop_lane-told.new.self) c.drop_lane-told.result c.drop_lane-told.ensures.drops)
-    c.drop_lane-told.ensures.stirs.seats
-    c.count_since.ensures.total c.count_since.ensures.amount c.count_since.ensures.parts
+pub count_since-requires : goal.count_since-requires
+count_since-requires g c = record {
+  before = c.self.inside.room;
+  had = c.count_entries-before.ensures;
+  counted = c.self.invariant;
+  seats = c.drop_lane-told.ensures.stirs.seats;
+  deed = drops g.L.MessageLog.CHUNK g.M.Message.SURE c.args.lane (room.floor_of c.self.inside.room) (room.floor_of c.drop_lane-told.new.self)
+      c.drop_lane-told.result c.drop_lane-told.ensures.drops;
+}
 
 pub returns-clause-rings : goal.returns-clause-rings
 returns-clause-rings g c =

@@ -5,9 +5,9 @@ use Rattle.cml_room.specs.declared.state.State.TheVariants.{Left}
 use Rattle.cml_room.specs.Running.{GivesNext}
 use Rattle.cml_threads.specs.Hosting.{Hosted, room_of}
 
--- `next_due` was called once on the hall as it was, and the bell of the seat that it returned was rung; none, if it returned none
-abbrev pub RingsNext : {M : Type 0} → Hosted M → Option ℕ → Type 0
-RingsNext {M} old rung = (new : Hosted M) × GivesNext rung (room_of old) (room_of new)
+-- `next_due` was called once on the hall as it was, and the thread of the seat that it returned was unparked; none, if it returned none
+abbrev pub UnparksNext : {M : Type 0} → Hosted M → Option ℕ → Type 0
+UnparksNext {M} old unparked = (new : Hosted M) × GivesNext unparked (room_of old) (room_of new)
 
 -- all seats have left
 abbrev pub HaveLeft : List State → Type 0
