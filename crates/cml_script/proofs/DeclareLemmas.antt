@@ -1,9 +1,10 @@
 -- How the declared objects are made one after the other.
-use Rattle.std.proofs.Common.{◌≡◌, ℕ, ◌+◌, ◌<◌, ◌≤◌, Bool, true, false, cond, List, [], ◌∷◌, length, take, filter, slice_get, Option, Some, None, Ok, Err, Result, MatchBool, IfSome, IsSome, refl, sym, ap, ap₂, subst, ◌∙◌, arith}
+use Rattle.std.proofs.Common.{◌≡◌, ℕ, ◌+◌, ◌<◌, ◌≤◌, Bool, true, false, cond, List, [], ◌∷◌, length, map, take, filter, get_or, slice_get, Option, Some, None, Ok, Err, Result, MatchBool, IfSome, IsSome, refl, sym, ap, ap₂, subst, ◌∙◌, arith}
+use Rattle.std.specs.Prelude.{All}
 use Rattle.std.specs.Option.{option_map, option_map_or, option_and_then}
 use Rattle.std.specs.Result.{IsErrAnd}
 use Rattle.std.proofs.lemmas.Option.{IfSome_then, same_Some, none-some}
-use Rattle.std.proofs.lemmas.List.{take_all}
+use Rattle.std.proofs.lemmas.List.{length-map, take_all}
 use Rattle.std.proofs.lemmas.Bool.{lt-ltb}
 use Rattle.cml_board.specs.declared.call.Name.{Name}
 use Rattle.cml_board.specs.declared.call.Call.{Call}
@@ -22,7 +23,7 @@ use Rattle.cml_grammar.specs.Names.{Given}
 use Rattle.cml_grammar.specs.Rings.{makes_feed}
 use Rattle.cml_grammar.specs.Script.{SourceLine, Lines}
 use Rattle.cml_grammar.specs.Meaning.{names_of, makes_of}
-use Rattle.cml_grammar.specs.Reading.{source_of, ReadsDeclaration, IsMadeWell}
+use Rattle.cml_grammar.specs.Reading.{source_of, GivesNames, ReadsDeclaration, IsMadeWell}
 use Rattle.cml_script.specs.Counting.{one_if, how_many}
 use Rattle.cml_script.specs.Schedule.{History, declared_count, objects_of, number_of, maker, is_object, is_feed, makes_object, IsDeclaration}
 use Rattle.cml_script.specs.Audit.{IsOfCaller, IsOfScript}
@@ -31,8 +32,8 @@ use Rattle.cml_script.specs.Makes.{IsMadeOfDeclared}
 use Rattle.cml_script.specs.Stage.{Play, IsNext, IsNextObject, IsNextPort}
 use Rattle.cml_script.specs.Working.{Made, with_call, with_feed, is_of_feed, with_refused, BeginsAt, capacity_made, feed_capacity, AreOpened, Declares}
 use Rattle.cml_script.specs.Declaring.{HasCapacity, HasMade, making}
-use Rattle.cml_script.proofs.ListLemmas.{count_taken, filter_at, taken_all, told_more}
-use Rattle.cml_script.proofs.LineLemmas.{declaration_object, declaration_feed}
+use Rattle.cml_script.proofs.ListLemmas.{count_taken, filter_at, read_at, taken_all, told_more}
+use Rattle.cml_script.proofs.LineLemmas.{declaration_object, declaration_feed, declaration_read}
 use Rattle.cml_script.proofs.KindLemmas.{next_object}
 use Rattle.cml_script.proofs.StandLemmas.{declared_is}
 use Rattle.cml_script.proofs.ObjectLemmas.{feeds_before}
@@ -183,6 +184,26 @@ module _ (script : Lines) {i : ℕ} {made : Option Made} (so_far : IsDeclaring s
   refuses (Ok done) refusal later is same = absurd is
   refuses (Err e) refusal later is same = IfSome_then later (told_more _ (with_refused refusal) made later so_far.told same) (λ tells told.
       subst (λ (m : Made). Declares script m (Err e)) (sym told) (record { own = so_far.own; opened = so_far.so; fed = so_far.each; within = few; all = tt; refused = ap Some (sym is) }))
+
+-- a declaration that a loop over a plan's declarations is at
+pub record IsReadAt (script : Lines) (i : ℕ) (d : Declaration) : Type 0 where
+  pub within : i < length script.declarations
+  pub line : slice_get script.declarations i ≡ Some (source_of d.line)
+  pub reads : ReadsDeclaration (names_of script) d
+  pub well : IsMadeWell (names_of script) i d.makes
+
+pub read_of_plan : (script shown : Lines) (items : List Declaration) (i : ℕ) (d : Declaration) → shown ≡ script
+    → map (λ x. source_of x.line) items ≡ shown.declarations → All (ReadsDeclaration (names_of shown)) items
+    → GivesNames (names_of shown) items → i < length items → d ≡ get_or items i d → IsReadAt script i d
+read_of_plan script shown items i d same lines reads gives within is =
+    let read = declaration_read shown items i d lines reads within is in
+    let told : IsReadAt shown i d = record {
+      within = omega (arith, within, ap length lines, length-map items (λ (x : Declaration). source_of x.line));
+      line = read.0;
+      reads = read.1;
+      well = gives.made i d (read_at items i d within is);
+    } in
+    subst (λ (s : Lines). IsReadAt s i d) same told
 
 -- what is made well is made of declared names
 pub well_declared : (script : Lines) (i : ℕ) (m : Makes) → i < length script.declarations → IsMadeWell (names_of script) i m → IsMadeOfDeclared script m
