@@ -29,4 +29,5 @@ pub mod Course
 pub mod Endings
 pub mod Replay
 pub mod Running
+pub mod Ran
 pub mod Laws

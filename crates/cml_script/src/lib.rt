@@ -10,6 +10,7 @@ mod laws;
 mod objects;
 mod perform;
 mod plan;
+mod ran;
 mod read;
 mod replaying;
 mod report;

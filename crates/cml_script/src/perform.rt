@@ -6,6 +6,7 @@ ghost use Rattle.cml_script.specs.Schedule.{declared_count, Ends};
 ghost use Rattle.cml_script.specs.Play.{IsPlayed, IsPlayedAs};
 
 use crate::form::Form;
+use crate::ran::Ran;
 use crate::stage::Stage;
 use crate::stop::Stop;
 use crate::tally::Tally;
@@ -45,7 +46,13 @@ pub(crate) fn play_as(
     let mut stage = Stage::new(alloc, script, limit)?;
     let stop = perform(&mut stage)?;
     let tally = Tally::no_rings(alloc);
-    let report = text_as(alloc, form, script, stage.board(), &tally, stop)?;
+    let ran = Ran {
+        plan: stage.plan(),
+        board: stage.board(),
+        tally: &tally,
+        stop,
+    };
+    let report = text_as(alloc, form, &ran)?;
     Ok(Played { report, stop })
 }
 
@@ -69,7 +76,7 @@ fn perform_all(stage: &mut Stage<'_>) -> Result<Stop, AllocError>
     ensures limit { stage.new.limit ≡ stage.old.limit }
     ensures ends { IfOk result (Ends stage.new.script stage.new.limit stage.new.history) }
 {
-    for _ in 0..stage.script().steps().len() {
+    for _ in 0..stage.plan().script().steps().len() {
         if stage.is_full() {
             return Ok(Stop::Full);
         }

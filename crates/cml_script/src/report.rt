@@ -12,35 +12,29 @@ ghost use Rattle.cml_script.specs.Audit.{IsOfScript};
 ghost use Rattle.cml_script.specs.Trail.{history_of};
 ghost use Rattle.cml_script.specs.Report.{report, entry_lines, entry_line, sent_text, message_mark, reply_word, mailbox_counts, channel_counts, port_counts, held_text, state_text, word_line, named_line, object_lines_from, end_line};
 
+use crate::ran::Ran;
 use crate::scene::Scene;
 use crate::stop::Stop;
-use crate::tally::Tally;
 use crate::trail::Trail;
 use crate::whole::journal;
-use cml_board::{Board, BoardLog, Call, Entry, Name, Reply, Text, Who};
-use cml_grammar::{Named, Script};
+use cml_board::{Call, Entry, Name, Reply, Text, Who};
+use cml_grammar::Named;
 use std::alloc::{AllocError, Global};
 
 /// Writes the report of a script: a line for each entry behind the declared objects, in the journal's order, a line for each
 /// object, and the end. The board has the journal, and the tally what went by lanes and feeds.
-pub fn report(
-    alloc: Global,
-    script: &Script,
-    board: &Board<Text, BoardLog<Text>>,
-    tally: &Tally,
-    stop: Stop,
-) -> Result<String, AllocError>
-    requires own { IsOfScript script.now board.now.history }
-    requires whole { board.now.past ≡ no_entries }
-    ensures { IfOk result (λ text. string_bytes text ≡ report script.now board.now.history tally.now stop) }
+pub(crate) fn report(alloc: Global, ran: &Ran<'_, '_>) -> Result<String, AllocError>
+    requires own { IsOfScript ran.now.plan.now ran.now.board.now.history }
+    requires whole { ran.now.board.now.past ≡ no_entries }
+    ensures { IfOk result (λ text. string_bytes text ≡ report ran.now.plan.now ran.now.board.now.history ran.now.tally.now ran.now.stop) }
 {
-    let journal = journal(board);
+    let journal = journal(ran.board);
     let mut report = String::new(alloc);
-    let mut trail = Trail::new(alloc, script, journal)?;
+    let mut trail = Trail::new(alloc, ran.plan.script(), journal)?;
     write_entries(&mut report, &mut trail, journal)?;
-    let scene = Scene::new(trail, board, tally);
+    let scene = Scene::new(trail, ran.board, ran.tally);
     write_objects(&mut report, &scene)?;
-    write_end(&mut report, &scene, stop)?;
+    write_end(&mut report, &scene, ran.stop)?;
     Ok(report)
 }
 

@@ -75,10 +75,10 @@ impl<'a> Stage<'a> {
         &self.board
     }
 
-    pub fn script(&self) -> &'a Script
+    pub fn plan(&self) -> &Plan<'a>
         ensures { result.now ≡ self.now.script }
     {
-        self.plan.script()
+        &self.plan
     }
 
     /// Whether the journal has as many entries as its limit.

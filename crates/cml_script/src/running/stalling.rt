@@ -4,6 +4,7 @@ ghost use Rattle.cml_board.specs.History.{no_entries};
 ghost use Rattle.cml_script.specs.Stalling.{IsAllMoved, NobodyGoesOn};
 ghost use Rattle.cml_script.specs.Trail.{history_of};
 
+use crate::ran::Ran;
 use crate::scene::count_moved;
 use crate::tally::Tally;
 use crate::trail::Trail;
@@ -12,25 +13,22 @@ use cml_board::{Board, BoardLog, Entry, Text};
 use cml_grammar::Script;
 use std::alloc::{AllocError, Global};
 
-/// Says whether no thread could go on after a board's journal that was never cut, and this tally. It takes time and memory
-/// in proportion to the script and the journal.
-pub fn nobody_goes_on(
-    alloc: Global,
-    script: &Script,
-    board: &Board<Text, BoardLog<Text>>,
-    tally: &Tally,
-) -> Result<bool, AllocError>
-    requires { board.now.past ≡ no_entries }
-    ensures { IfOk result (λ stuck. IsTrue stuck ↔ NobodyGoesOn script.now board.now.limit board.now.history tally.now) }
+/// Says whether no thread could go on after a journal that was never cut, and its tally. It takes time and memory in
+/// proportion to the script and the journal.
+pub(super) fn nobody_goes_on(alloc: Global, ran: &Ran<'_, '_>) -> Result<bool, AllocError>
+    requires { ran.now.board.now.past ≡ no_entries }
+    ensures { IfOk result (λ stuck. IsTrue stuck
+        ↔ NobodyGoesOn ran.now.plan.now ran.now.board.now.limit ran.now.board.now.history ran.now.tally.now) }
 {
-    let trail = follow_all(alloc, script, journal(board))?;
+    let board = ran.board;
+    let trail = follow_all(alloc, ran.plan.script(), journal(board))?;
     if board.entries() >= board.limit() {
         return Ok(false);
     }
     if !trail.has_begun() {
         return Ok(false);
     }
-    if !is_all_moved(&trail, board, tally) {
+    if !is_all_moved(&trail, board, ran.tally) {
         return Ok(false);
     }
     Ok(trail.all_wait(board))

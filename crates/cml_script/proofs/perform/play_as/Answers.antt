@@ -13,12 +13,12 @@ use Rattle.cml_script.proofs.perform.play_as.Goals as goal
 pub text_as-requires-clause-own : goal.text_as-requires-clause-own
 text_as-requires-clause-own c =
     let stage = c.perform.new.stage in
-    let script = c.perform.ensures.script ∙ ap (λ (p : Play). p.script) c.in_ok-stage.ensures in
-    let own = subst (λ s. IsOfScript s stage.history) script (follows_own stage.script stage.history c.board.ensures.follows) in
-    subst (IsOfScript c.args.script.now) (sym c.board.ensures.history) own
+    let own = subst (λ s. IsOfScript s stage.history) (sym c.plan.ensures) (follows_own stage.script stage.history c.board.ensures.follows) in
+    subst (IsOfScript c.plan.result.now) (sym c.board.ensures.history) own
 
 pub returns : goal.returns
 returns c =
+    let form = c.args.form in
     let stage = c.perform.new.stage in
     let stop = c.in_ok-stop.stop in
     let script = c.perform.ensures.script ∙ ap (λ (p : Play). p.script) c.in_ok-stage.ensures in
@@ -30,8 +30,10 @@ returns c =
       follows = c.board.ensures.follows;
       ends = c.in_ok-stop.ensures.ends;
     } in
-    let text = c.in_ok-report.ensures ∙ ap (λ (h : History). text_as c.args.form c.args.script.now h c.no_rings-tally.result stop) c.board.ensures.history
-    ∙ ap (λ (t : Tallied). text_as c.args.form c.args.script.now stage.history t stop) c.no_rings-tally.ensures in
-    let same = subst (λ s. Schedule s stage.limit stage.history stop) script scheduled in
-    subst (λ l. IsPlayedAs c.args.form c.args.script.now l stop (string_bytes c.in_ok-report.report)) limit
-    (record { history = stage.history; scheduled = same; written = text })
+    let text = c.in_ok-report.ensures ∙ ap (λ (s : Lines). text_as form s c.board.result.now.history c.no_rings-tally.result stop) c.plan.ensures
+    ∙ ap (λ (h : History). text_as form stage.script h c.no_rings-tally.result stop) c.board.ensures.history
+    ∙ ap (λ (t : Tallied). text_as form stage.script stage.history t stop) c.no_rings-tally.ensures in
+    let played : IsPlayedAs form stage.script stage.limit stop (string_bytes c.in_ok-report.report) =
+        record { history = stage.history; scheduled = scheduled; written = text } in
+    subst (λ l. IsPlayedAs form c.args.script.now l stop (string_bytes c.in_ok-report.report)) limit
+    (subst (λ s. IsPlayedAs form s stage.limit stop (string_bytes c.in_ok-report.report)) script played)
