@@ -29,7 +29,7 @@ use Rattle.cml_script.specs.Schedule.{History, declared_count, objects_of, numbe
 use Rattle.cml_script.specs.Audit.{IsOfCaller, IsOfScript}
 use Rattle.cml_script.specs.Plan.{IsKnown}
 use Rattle.cml_script.specs.Makes.{IsMadeOfDeclared}
-use Rattle.cml_script.specs.Stage.{Play, IsNext, IsNextObject, IsNextPort}
+use Rattle.cml_script.specs.Execution.{Executed, IsNext, IsNextObject, IsNextPort}
 use Rattle.cml_script.specs.Working.{Made, with_call, with_feed, is_of_feed, with_refused, BeginsAt, capacity_made, feed_capacity, AreOpened, Declares}
 use Rattle.cml_script.specs.Declaring.{HasCapacity, HasMade, making}
 use Rattle.cml_script.proofs.ListLemmas.{count_taken, filter_at, read_at, taken_all, told_more}
@@ -52,18 +52,18 @@ pub record IsDeclaring (script : Lines) (i : ℕ) (made : Option Made) : Type 0 
 pub nothing_declared : (script : Lines) (made : Option Made) → BeginsAt 0 made → IsDeclaring script 0 made
 nothing_declared script made none = record { entries = []; opened = []; told = none; count = refl; fed = refl; each = refl; so = tt; own = tt }
 
-next_port : (play : Play) (channel : ℕ) → IsNextPort play channel → IsNextObject play (call.NewPort (record { 0 = number_of play.script channel }))
-next_port play channel (is_channel, within, o, object, next) =
-    let there = declared_is play.script play.history channel (number_of play.script channel) refl (subst IsSome (sym object) refl) in
-    let same : o ≡ number_of play.script channel = same_Some _ _ (sym object ∙ there) in
-    subst (IsNextObject play) (ap (λ n. call.NewPort (record { 0 = n })) same) next
+next_port : (executed : Executed) (channel : ℕ) → IsNextPort executed channel → IsNextObject executed (call.NewPort (record { 0 = number_of executed.script channel }))
+next_port executed channel (is_channel, within, o, object, next) =
+    let there = declared_is executed.script executed.history channel (number_of executed.script channel) refl (subst IsSome (sym object) refl) in
+    let same : o ≡ number_of executed.script channel = same_Some _ _ (sym object ∙ there) in
+    subst (IsNextObject executed) (ap (λ n. call.NewPort (record { 0 = n })) same) next
 
 -- the call that makes this makes the next object
-next_making : (play : Play) (m : Makes) (asked : Call (List ℕ)) → making play.script m ≡ Some asked → IsNext play m → IsNextObject play asked
-next_making play makes.Thread asked e next = absurd (none-some asked e)
-next_making play (makes.Port channel) asked e next = subst (IsNextObject play) (same_Some _ _ e) (next_port play channel next)
-next_making play (makes.Feed feed) asked e next = subst (IsNextObject play) (same_Some _ _ e) (next_port play feed.channel next)
-next_making play m asked e next = subst (IsNextObject play) (same_Some _ _ e) next
+next_making : (executed : Executed) (m : Makes) (asked : Call (List ℕ)) → making executed.script m ≡ Some asked → IsNext executed m → IsNextObject executed asked
+next_making executed makes.Thread asked e next = absurd (none-some asked e)
+next_making executed (makes.Port channel) asked e next = subst (IsNextObject executed) (same_Some _ _ e) (next_port executed channel next)
+next_making executed (makes.Feed feed) asked e next = subst (IsNextObject executed) (same_Some _ _ e) (next_port executed feed.channel next)
+next_making executed m asked e next = subst (IsNextObject executed) (same_Some _ _ e) next
 
 -- what it makes is an object, unless it is a thread
 made_one : (script : Lines) (m : Makes) (asked : Call (List ℕ)) → making script m ≡ Some asked → makes_object m ≡ true
@@ -132,11 +132,11 @@ module _ (script : Lines) (known : IsKnown script) {i : ℕ} {made : Option Made
       object : makes_object d.makes ≡ true
       object = made_one script d.makes asked is
 
-      play : Play
-      play = record { script = script; history = so_far.entries; limit = 0 }
+      executed : Executed
+      executed = record { script = script; history = so_far.entries; limit = 0 }
 
-      next : IsNextObject play asked
-      next = next_making play d.makes asked is (next_object play known.named i d so_far.count line reads well)
+      next : IsNextObject executed asked
+      next = next_making executed d.makes asked is (next_object executed known.named i d so_far.count line reads well)
 
   -- what a caller made later has it besides
   pub made_more : (later : Option Made) → IsMadeWell (names_of script) i d.makes → HasMade script d.makes made later → IsDeclaring script (i + 1) later

@@ -4,7 +4,7 @@ use Rattle.std.proofs.lemmas.List.{length-reverse, length-take-le, reverse-appen
 use Rattle.cml_board.specs.declared.entry.Entry.{Entry}
 use Rattle.cml_board.specs.Positions.{before}
 use mir.Val.{bool_byte}
-use Rattle.cml_script.specs.Counting.{how_many}
+use Rattle.cml_script.specs.Counting.{one_if, how_many}
 use Rattle.cml_script.proofs.ListLemmas.{read_at, taken_more}
 use Rattle.cml_script.proofs.LineLemmas.{byte_more}
 
@@ -24,6 +24,6 @@ module _ (journal : List (Entry (List ℕ))) where
       → entry ≡ get_or journal k entry → AreCountedBefore p k n → byte ≡ bool_byte t → t ≡ p entry → AreCountedBefore p (k + 1) (n + byte)
   entry_counted p k n byte entry t within is so_far one same =
       let more = ap (how_many p) (before_more k entry (read_at journal k entry within is)) in
-      let all = omega (arith, so_far.count, more) in
+      let all : how_many p (before journal (k + 1)) ≡ n + one_if (p entry) = omega (arith, so_far.count, more) in
       let on = byte_more n (how_many p (before journal (k + 1))) byte k t (p entry) all one same so_far.few in
       record { count = on.0; few = on.1 }

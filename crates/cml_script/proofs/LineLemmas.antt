@@ -194,7 +194,7 @@ pub record AreCounted {X : Type 0} (p : X → Bool) (xs : List X) (i n : ℕ) : 
 pub counted_more : {X : Type 0} (p : X → Bool) (xs : List X) (i n byte : ℕ) (x : X) (t : Bool) → slice_get xs i ≡ Some x
     → AreCounted p xs i n → byte ≡ bool_byte t → t ≡ p x → AreCounted p xs (i + 1) (n + byte)
 counted_more p xs i n byte x t found so_far is same =
-    let all = omega (arith, count_taken p xs i x found, so_far.count) in
+    let all : how_many p (take (i + 1) xs) ≡ n + one_if (p x) = omega (arith, count_taken p xs i x found, so_far.count) in
     let on = byte_more n (how_many p (take (i + 1) xs)) byte i t (p x) all is same so_far.few in
     record { count = on.0; few = on.1 }
 

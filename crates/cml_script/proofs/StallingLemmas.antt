@@ -21,7 +21,7 @@ use Rattle.cml_script.specs.Report.{Tallied}
 use Rattle.cml_script.specs.Left.{is_by_lane, is_laid}
 use Rattle.cml_script.specs.Plan.{HasSeats, route_at}
 use Rattle.cml_script.specs.Stalling.{WaitsOrIsDone, is_before, is_passed, IsAllMoved, NobodyGoesOn}
-use Rattle.cml_script.specs.Trail.{Progress, next_call}
+use Rattle.cml_script.specs.Follower.{Progress, next_call}
 use Rattle.cml_script.proofs.ListLemmas.{how_many-append, mapped_at, taken_more}
 use Rattle.cml_script.proofs.QueueLemmas.{position_is, positions_pushed}
 use Rattle.cml_script.proofs.LineLemmas.{all_at, byte_more, called_seated, stands}
@@ -73,9 +73,11 @@ pub passed_on : (test : SourceLine → Bool) (goes : Route → Bool) (script : L
 passed_on test goes script history i n byte t same within so_far one told =
     let passed = is_passed script history in
     let there = stands script.steps i within in
-    let all = omega (arith, passed_more test passed script.steps i there.0 there.1, so_far.count) in
+    let count = how_many passed (positions_where test 0 (take (i + 1) script.steps)) in
+    let all : count ≡ n + one_if (test there.0 && passed i) =
+    omega (arith, passed_more test passed script.steps i there.0 there.1, so_far.count) in
     let is = told ∙ ap (λ u. u && passed i) (same there.0 there.1) in
-    let on = byte_more n (how_many passed (positions_where test 0 (take (i + 1) script.steps))) byte i t (test there.0 && passed i) all one is so_far.few in
+    let on = byte_more n count byte i t (test there.0 && passed i) all one is so_far.few in
     record { count = on.0; few = on.1 }
 
 -- whether a step is passed, by the next one of its thread

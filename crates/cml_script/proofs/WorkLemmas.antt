@@ -36,7 +36,7 @@ use Rattle.cml_script.proofs.GivingLemmas.{giver, next_at, none_other}
 use Rattle.cml_script.proofs.BindingLemmas.{AreSteps, asks_port, bound_more, maker_is_none, none_seated}
 use Rattle.cml_script.proofs.StandLemmas.{bindings_more}
 use Rattle.cml_script.proofs.UseLemmas.{used_stands_for}
-use Rattle.cml_script.proofs.TrailLemmas.{named, step_calls}
+use Rattle.cml_script.proofs.FollowerLemmas.{named, step_calls}
 
 -- An opening.
 

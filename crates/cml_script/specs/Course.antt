@@ -51,7 +51,7 @@ pub record HasTaken (script : Lines) (seat taken : ℕ) (course : Course) (made 
 -- the turn's step is one of its thread, which is under way there, and has room for one entry more
 pub record IsAt (turn : Turn) (course : Course) (made : Option Made) : Type 0 where
   pub known : IsKnown turn.plan.now
-  pub turn : IsTurn turn.plan.now (turn.thread + 1) turn.step
+  pub own : IsTurn turn.plan.now (turn.thread + 1) turn.step
   pub room : course.made < 2 ^ 63
   pub way : IsUnderWay turn.plan.now (turn.thread + 1) turn.step course made
 

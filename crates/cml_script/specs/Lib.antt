@@ -17,12 +17,12 @@ pub mod Plan
 pub mod Bindings
 pub mod Makes
 pub mod Objects
-pub mod Stage
+pub mod Execution
 pub mod Apart
 pub mod Audit
 pub mod Lanes
-pub mod Trail
-pub mod Scene
+pub mod Follower
+pub mod Snapshot
 pub mod Working
 pub mod Declaring
 pub mod Course

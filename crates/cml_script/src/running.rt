@@ -5,13 +5,13 @@ ghost use Rattle.cml_script.specs.Running.{IsRunText, IsTextOf, IsUnsettled, IsU
 
 mod caller;
 mod concluding;
-mod crew;
 mod declaring;
 mod gate;
 mod lanes;
 mod rings;
 mod stalling;
 mod worker;
+mod workers;
 
 use crate::ending::Ending;
 use crate::form::Form;
@@ -28,7 +28,6 @@ use cml_grammar::{Script, read_script};
 use cml_threads::{PARTS, Settled, Switchboard};
 pub use concluding::conclude;
 use concluding::conclude_as;
-pub use crew::{Ended, perform_in_threads};
 pub use declaring::declare;
 pub use gate::{Gate, OpenGate};
 use std::alloc::{AllocError, Global};
@@ -38,6 +37,7 @@ use std::sync::Wait;
 use std::sync::ledger::{Blank, Ledger};
 use std::thread::Threads;
 pub use worker::work;
+pub use workers::{Ended, perform_in_threads};
 
 /// Runs a script: it reads the whole script, and performs each of its threads on an operating-system thread, all on one
 /// switchboard. Then it audits the journal and writes the report. The order of the threads differs from run to run.

@@ -14,7 +14,7 @@ use crate::form::Form;
 use crate::perform::Played;
 use crate::plan::{Plan, count_feeds};
 use crate::ran::Ran;
-use crate::scene::{count_moved, unperformed};
+use crate::snapshot::{count_moved, unperformed};
 use crate::stop::Stop;
 use crate::tally::Tally;
 use crate::verdict::Verdict;

@@ -16,6 +16,10 @@ pub returns-then-not-is_taken : goal.returns-then-not-is_taken
 returns-then-not-is_taken c =
     let declarations = rw c.script.ensures at c.declarations-at-end.ensures in
     let within : c.loop-at.at < length c.args.ran.now.plan.now.declarations =
-        omega (arith, c.loop-at-test.true, ap length declarations.lines,
-          length-map c.declarations-at-end.result.now (λ (x : Declaration). source_of x.line)) in
+    omega (
+      arith,
+      c.loop-at-test.true,
+      ap length declarations.lines,
+      length-map c.declarations-at-end.result.now (λ (x : Declaration). source_of x.line),
+    ) in
     (λ yes. absurd (false≢true yes), λ all. absurd (false≢true (c.if-not-is_taken.ensures.1 (all c.loop-at.at within))))

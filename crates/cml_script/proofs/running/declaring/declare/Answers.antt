@@ -46,12 +46,12 @@ loop-declaration-preserved g c =
     record {
       goes_on = c.in_ok-make.ensures.goes_on;
       declaring = made_more script c.requires.known c.loop-declaration.invariant.declaring d read.line read.reads later read.well
-        c.in_ok-make.ensures.made;
+          c.in_ok-make.ensures.made;
     }
 
 pub returns : goal.returns
 returns g c =
     let items = c.declarations-declaration-items.result.now in
     let told = rw c.script.ensures at c.declarations-declaration-items.ensures in
-    let all = omega (arith, c.loop-declaration-test.false, ap length told.lines, length-map items (λ (x : Declaration). source_of x.line)) in
-    declares c.args.plan.now c.loop-declaration.invariant.declaring all
+    let long = length-map items (λ (x : Declaration). source_of x.line) in
+    declares c.args.plan.now c.loop-declaration.invariant.declaring (omega (arith, c.loop-declaration-test.false, ap length told.lines, long))

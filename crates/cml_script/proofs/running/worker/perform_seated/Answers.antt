@@ -23,7 +23,7 @@ call-requires-clause-closed g c =
     may_call script seat step c.args.course.now.is_sending c.in-Ok.call under (ap (λ (k : Course). k.is_sending) told.course)
 
 pub given-given-requires : goal.given-given-requires
-given-given-requires g c = turn_within c.args.turn.now.plan.now (c.args.turn.now.thread + 1) c.args.turn.now.step c.requires.at.turn
+given-given-requires g c = turn_within c.args.turn.now.plan.now (c.args.turn.now.thread + 1) c.args.turn.now.step c.requires.at.own
 
 pub bind-requires : goal.bind-requires
 bind-requires g c =
@@ -45,7 +45,7 @@ returns-clause-way g c =
     let step = c.args.turn.now.step in
     let script = c.args.turn.now.plan.now in
     let seat = c.args.turn.now.thread + 1 in
-    let turn = c.requires.at.turn in
+    let turn = c.requires.at.own in
     let told = c.in_ok-close_before.ensures in
     let made = g.C.Caller.made c.close_before.new.caller in
     let under : IsUnderWay script seat step c.close_before.new.course made =

@@ -12,7 +12,7 @@ unreachable-requires g c =
     let script = turn.plan.now in
     let steps = rw c.script.ensures at c.steps.ensures in
     let items = c.steps.result.now in
-    let within = turn_listed script (turn.thread + 1) turn.step c.requires.at.turn items steps.lines in
+    let within = turn_listed script (turn.thread + 1) turn.step c.requires.at.own items steps.lines in
     lane_gives script items turn.step c.args.capacity _ steps.lines steps.asked within c.requires.laid _ _ c.in-Ask.is
 
 pub number-requires : goal.number-requires
@@ -21,7 +21,7 @@ number-requires g c =
     let script = turn.plan.now in
     let steps = rw c.script.ensures at c.steps.ensures in
     let items = c.steps.result.now in
-    let within = turn_listed script (turn.thread + 1) turn.step c.requires.at.turn items steps.lines in
+    let within = turn_listed script (turn.thread + 1) turn.step c.requires.at.own items steps.lines in
     lane_target script items turn.step c.args.capacity _ steps.lines steps.asked within c.requires.laid c.requires.at.known
     _ c.in-Give.at c.in-Give.message c.in-Give.is
 
@@ -30,7 +30,7 @@ returns-clause-way g c =
     let step = c.args.turn.now.step in
     let script = c.args.turn.now.plan.now in
     let seat = c.args.turn.now.thread + 1 in
-    let turn = c.requires.at.turn in
+    let turn = c.requires.at.own in
     let capacity = c.args.capacity in
     let steps = rw c.script.ensures at c.steps.ensures in
     let items = c.steps.result.now in

@@ -43,7 +43,7 @@ perform-requires-clause-at g c =
     let long = length-map c.steps-nth-end.result.now (λ (x : Step). source_of x.line) in
     record {
       known = c.declared.ensures.known;
-      turn = turn_at script seat nth c.in-Some.step next;
+      own = turn_at script seat nth c.in-Some.step next;
       room = omega (arith, few, c.declared.ensures.count, c.declared.ensures.few, steps.few, ap length steps.lines, long);
       way = under_way_at script seat nth way c.in-Some.step (turns_before script seat nth c.in-Some.step next);
     }
