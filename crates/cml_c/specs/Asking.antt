@@ -15,8 +15,6 @@ use Rattle.cml_room.specs.Rising.{news_by}
 use Rattle.cml_room.specs.Running.{asked_by}
 use Rattle.cml_board.specs.declared.outcome.Outcome.{Outcome}
 use Rattle.cml_board.specs.declared.outcome.Outcome.TheVariants as outcome
-use Rattle.cml_c.specs.declared.bare.Bare.{Bare}
-use Rattle.cml_c.specs.declared.bare.Bare.TheVariants as bare
 use Rattle.cml_c.specs.declared.code.Code.{Code}
 use Rattle.cml_c.specs.declared.code.Code.TheVariants.{Done, Nothing, Put, Closed, Parked}
 use Rattle.cml_c.specs.declared.kept.Kept.{Kept}
@@ -82,16 +80,6 @@ pub record Makes {M : Type 0} (sure again : Bool) (seat : ℕ) (call : Call M) (
   pub told : code ≡ number (told_outcome becomes)
   pub gives : Gives becomes
 
--- a call without a message, as one of a room
-abbrev pub bare_call : {M : Type 0} → Bare → Call M
-bare_call bare.NewMailbox = call.NewMailbox
-bare_call bare.NewChannel = call.NewChannel
-bare_call (bare.NewPort channel) = call.NewPort channel
-bare_call (bare.CopyPort port) = call.CopyPort port
-bare_call (bare.ClosePort port) = call.ClosePort port
-bare_call bare.NewIVar = call.NewIVar
-bare_call bare.NewMVar = call.NewMVar
-
 -- a call that sends this message
 abbrev pub sending_call : {M : Type 0} → Sending → M → Call M
 sending_call (sending.Send mailbox) message = call.Send mailbox message
@@ -104,12 +92,12 @@ abbrev pub Gives : {M : Type 0} → Bool → ℕ → Call M → ℕ → ℕ → 
 Gives sure seat call before after same code old new =
     OnRoom (Makes sure false seat call code (λ becomes. after ≡ named_outcome before becomes)) same code old new
 
--- such a call in whichever room a handle leads to, with the content before and after of the place where a name is written
-abbrev pub Names : ℕ → Bare → Kept → Kept → ℕ → ℕ → ℕ → Type 0
-Names seat call old new code before after = OnEither (λ M sure. Gives sure seat (bare_call call) before after) (after ≡ before) code old new
+-- this call in whichever room a handle leads to, with the content before and after of the place where a name is written
+abbrev pub Names : ℕ → ((M : Type 0) → Call M) → Kept → Kept → ℕ → ℕ → ℕ → Type 0
+Names seat call old new code before after = OnEither (λ M sure. Gives sure seat (call M) before after) (after ≡ before) code old new
 
 -- the same where nothing is written
-abbrev pub NamesNothing : ℕ → Bare → Kept → Kept → ℕ → Type 0
+abbrev pub NamesNothing : ℕ → ((M : Type 0) → Call M) → Kept → Kept → ℕ → Type 0
 NamesNothing seat call old new code = (after : ℕ) × Names seat call old new code 0 after
 
 -- a call in a room of numbers, with the content before and after of the place where a number is written

@@ -13,6 +13,7 @@ use Rattle.cml_board.specs.declared.entry.Reply.TheVariants as reply
 use Rattle.cml_board.specs.declared.entry.Who.{Who}
 use Rattle.cml_board.specs.declared.entry.Who.TheVariants as who
 use Rattle.cml_board.specs.Checking.{Feeds, Pauses, count_of, verdict_of}
+use Rattle.cml_c.specs.declared.checked_entries.Parts.{Parts}
 use Rattle.cml_c.specs.declared.code.Code.{Code}
 use Rattle.cml_c.specs.declared.code.Code.TheVariants.{Done, NoSuch, NoMemory, OutOfBounds, Unlawful}
 use Rattle.cml_c.specs.declared.entries.SeryugoEntry.{SeryugoEntry}
@@ -84,16 +85,7 @@ entry_in given = entry_of (who_in given.maker)
     (call_at given.call.kind (record { 0 = given.call.object }) given.call.message)
     (slice_get (replies (record { 0 = given.reply.given }) given.reply.given) given.reply.kind)
 
--- the same of bytes, and the parts of such an entry
-pub record Parts : Type 0 where
-  pub maker : SeryugoMaker
-  pub call : ℕ
-  pub object : ℕ
-  pub sent : List ℕ
-  pub reply : ℕ
-  pub name : ℕ
-  pub got : List ℕ
-
+-- the same of bytes, by its parts
 abbrev pub entry_with : Parts → Option (Entry (List ℕ))
 entry_with given = entry_of (who_in given.maker)
     (call_at given.call (record { 0 = given.object }) given.sent)

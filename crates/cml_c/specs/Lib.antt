@@ -1,6 +1,5 @@
 pub mod Version
 pub mod Owning
-pub mod Keeping
 pub mod Lending
 pub mod Codes
 pub mod Handles

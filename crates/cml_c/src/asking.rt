@@ -1,27 +1,31 @@
-//! A seat's call that gives a number at most.
-ghost use Rattle.std.specs.Prelude.{◌≡◌, true};
+//! A seat's call, and the code of what becomes of it.
+ghost use Rattle.std.specs.Prelude.{◌≡◌, false};
+ghost use Rattle.cml_room.specs.Asking.{Asks};
+ghost use Rattle.cml_room.specs.Frames.{Turns};
+ghost use Rattle.cml_room.specs.Rising.{news_by};
+ghost use Rattle.cml_room.specs.Running.{asked_by};
 ghost use Rattle.cml_c.specs.Codes.{number};
-ghost use Rattle.cml_c.specs.Asking.{Names, NamesNothing, Calls, CallsPlain, Makes, told_outcome, named_outcome, written_outcome, told_reply};
+ghost use Rattle.cml_c.specs.Asking.{Calls, CallsPlain, MayMake, chunk, told_outcome, named_outcome, written_outcome, told_reply};
 
-use crate::bare::Bare;
 use crate::code::Code;
 use crate::handle::Handle;
-use crate::kept::{Kept, Resource, RoomOf, on_either};
+use crate::kept::{RoomOf, on_one};
 use cml_board::{Call, Message, Outcome, Reply};
 
-/// Makes a call without a message, and writes the name of the object that it makes, if it makes one.
-pub(crate) fn make_bare_call(handle: &mut Handle, seat: u64, call: Bare, name: &mut u64) -> u32
-    ensures { Names seat call handle.old.kept handle.new.kept result name.old name.new }
+/// Makes a call, again if it had parked its seat.
+pub(crate) fn ask<M: Message>(
+    room: &mut RoomOf<M>,
+    seat: u64,
+    is_again: bool,
+    call: Call<M>,
+) -> Outcome<M>
+    ensures asks { Asks chunk M.SURE (MayMake is_again room.old seat call) room.old room.new seat call result }
+    ensures turns { Turns seat (asked_by seat result) (news_by result) room.old room.new }
 {
-    on_either!(handle, Room(room) => tell_name(room.room.ask(seat, call.into_call()), name))
-}
-
-/// Makes one that makes no object.
-pub(crate) fn make_nameless_call(handle: &mut Handle, seat: u64, call: Bare) -> u32
-    ensures { NamesNothing seat call handle.old.kept handle.new.kept result }
-{
-    let mut name = 0;
-    make_bare_call(handle, seat, call, &mut name)
+    if is_again {
+        return room.ask_again(seat, call);
+    }
+    room.ask(seat, call)
 }
 
 /// The code of what became of a call. A name that it gave is written.
@@ -70,44 +74,15 @@ pub(crate) fn make_call(
 ) -> u32
     ensures { Calls is_again seat call handle.old.kept handle.new.kept result given.old given.new }
 {
-    match handle.as_mut() {
-        Kept::Numbers(Resource::Room(room)) => make_in_room(
-            &mut room.room,
-            seat,
-            is_again,
-            call,
-            given,
-        ),
-        _ => Code::WrongHandle.number(),
-    }
+    on_one!(handle, Numbers(Room(room)) => tell(ask(&mut room.room, seat, is_again, call), given))
 }
 
 /// Makes a call that gives none.
-pub(crate) fn make_plain_call(
-    handle: &mut Handle,
-    seat: u64,
-    is_again: bool,
-    call: Call<u64>,
-) -> u32
-    ensures { CallsPlain is_again seat call handle.old.kept handle.new.kept result }
+pub(crate) fn make_plain_call(handle: &mut Handle, seat: u64, call: Call<u64>) -> u32
+    ensures { CallsPlain false seat call handle.old.kept handle.new.kept result }
 {
     let mut given = 0;
-    make_call(handle, seat, is_again, call, &mut given)
-}
-
-fn make_in_room(
-    room: &mut RoomOf<u64>,
-    seat: u64,
-    is_again: bool,
-    call: Call<u64>,
-    given: &mut u64,
-) -> u32
-    ensures { Makes true is_again seat call result (λ becomes. given.new ≡ written_outcome given.old becomes) room.old room.new }
-{
-    if is_again {
-        return tell(room.ask_again(seat, call), given);
-    }
-    tell(room.ask(seat, call), given)
+    make_call(handle, seat, false, call, &mut given)
 }
 
 /// The code of what became of a call. A number that it gave is written.

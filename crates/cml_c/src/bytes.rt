@@ -4,8 +4,9 @@ ghost use Rattle.cml_board.specs.declared.call.Call.TheVariants.{Send, Cast, Rec
 ghost use Rattle.cml_c.specs.Messages.{CallsBytes, SendsBytes, FillsBytes, SwapsBytes};
 
 use crate::bytes_asking::make_call;
-use crate::bytes_sending::{make_nameless_sending_call, make_sending_call, make_swap};
+use crate::bytes_sending::{make_nameless_sending_call, make_sending_call, swap};
 use crate::handle::Handle;
+use crate::kept::on_one;
 use crate::messages::SeryugoBytes;
 use crate::sending::Sending;
 use cml_board::{Call, Name};
@@ -51,14 +52,8 @@ pub extern "C" fn seryugo_bytes_recv(
 ) -> u32
     ensures { CallsBytes is_again seat (Recv (record { 0 = source })) room.old.kept room.new.kept result message.old message.new }
 {
-    make_call(
-        alloc,
-        room,
-        seat,
-        is_again,
-        Call::Recv(Name(source)),
-        message,
-    )
+    let call = Call::Recv(Name(source));
+    make_call(alloc, room, seat, is_again, call, message)
 }
 
 /// Receives the next message of a mailbox or a port, if there is one.
@@ -115,14 +110,8 @@ pub extern "C" fn seryugo_bytes_get(
 ) -> u32
     ensures { CallsBytes is_again seat (Get (record { 0 = variable })) room.old.kept room.new.kept result message.old message.new }
 {
-    make_call(
-        alloc,
-        room,
-        seat,
-        is_again,
-        Call::Get(Name(variable)),
-        message,
-    )
+    let call = Call::Get(Name(variable));
+    make_call(alloc, room, seat, is_again, call, message)
 }
 
 /// Reads a variable, if it is full.
@@ -136,14 +125,8 @@ pub extern "C" fn seryugo_bytes_get_poll(
 ) -> u32
     ensures { CallsBytes false seat (GetPoll (record { 0 = variable })) room.old.kept room.new.kept result message.old message.new }
 {
-    make_call(
-        alloc,
-        room,
-        seat,
-        false,
-        Call::GetPoll(Name(variable)),
-        message,
-    )
+    let call = Call::GetPoll(Name(variable));
+    make_call(alloc, room, seat, false, call, message)
 }
 
 /// Reads and empties an m-variable. If it is empty, the seat is parked.
@@ -158,14 +141,8 @@ pub extern "C" fn seryugo_bytes_take(
 ) -> u32
     ensures { CallsBytes is_again seat (Take (record { 0 = variable })) room.old.kept room.new.kept result message.old message.new }
 {
-    make_call(
-        alloc,
-        room,
-        seat,
-        is_again,
-        Call::Take(Name(variable)),
-        message,
-    )
+    let call = Call::Take(Name(variable));
+    make_call(alloc, room, seat, is_again, call, message)
 }
 
 /// Reads and empties an m-variable, if it is full.
@@ -179,14 +156,8 @@ pub extern "C" fn seryugo_bytes_take_poll(
 ) -> u32
     ensures { CallsBytes false seat (TakePoll (record { 0 = variable })) room.old.kept room.new.kept result message.old message.new }
 {
-    make_call(
-        alloc,
-        room,
-        seat,
-        false,
-        Call::TakePoll(Name(variable)),
-        message,
-    )
+    let call = Call::TakePoll(Name(variable));
+    make_call(alloc, room, seat, false, call, message)
 }
 
 /// Stores a copy of these bytes in an m-variable, and hands over what it held. If it is empty, the seat is parked.
@@ -202,5 +173,5 @@ pub extern "C" fn seryugo_bytes_swap_from(
 ) -> u32
     ensures { SwapsBytes is_again seat message.now (Swap (record { 0 = variable }) message.now) room.old.kept room.new.kept result held.old held.new }
 {
-    make_swap(alloc, room, seat, is_again, Name(variable), message, held)
+    on_one!(room, Bytes(Room(room)) => swap(alloc, room, seat, is_again, Name(variable), message, held))
 }

@@ -1,15 +1,10 @@
 //! A seat's call in a room of bytes.
-ghost use Rattle.std.specs.Prelude.{◌≡◌, false};
-ghost use Rattle.cml_room.specs.Asking.{Asks};
-ghost use Rattle.cml_room.specs.Frames.{Turns};
-ghost use Rattle.cml_room.specs.Rising.{news_by};
-ghost use Rattle.cml_room.specs.Running.{asked_by};
-ghost use Rattle.cml_c.specs.Codes.{number};
-ghost use Rattle.cml_c.specs.Asking.{MayMake, chunk, told_outcome};
+ghost use Rattle.std.specs.Prelude.{◌≡◌};
+ghost use Rattle.cml_c.specs.Asking.{told_outcome};
 ghost use Rattle.cml_c.specs.Blocks.{GivesShort};
 ghost use Rattle.cml_c.specs.Messages.{CallsBytes, MakesBytes, HandsOutcome};
 
-use crate::asking::{code_of_outcome, code_of_reply};
+use crate::asking::{ask, code_of_outcome, code_of_reply};
 use crate::blocks::needs_block;
 use crate::code::Code;
 use crate::handle::Handle;
@@ -74,16 +69,6 @@ fn make_without_block(
         return Code::NoMemory.number();
     }
     tell_short(ask(room, seat, is_again, call), given).number()
-}
-
-fn ask(room: &mut RoomOf<Bytes>, seat: u64, is_again: bool, call: Call<Bytes>) -> Outcome<Bytes>
-    ensures asks { Asks chunk false (MayMake is_again room.old seat call) room.old room.new seat call result }
-    ensures turns { Turns seat (asked_by seat result) (news_by result) room.old room.new }
-{
-    if is_again {
-        return room.ask_again(seat, call);
-    }
-    room.ask(seat, call)
 }
 
 /// The spare block, or a new one.

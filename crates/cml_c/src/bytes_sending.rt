@@ -1,14 +1,14 @@
 //! A seat's call that sends a copy of bytes from C.
 ghost use Rattle.cml_board.specs.declared.call.Call.TheVariants.{Swap};
 ghost use Rattle.cml_c.specs.Asking.{sending_call};
-ghost use Rattle.cml_c.specs.Messages.{FillsBytes, SendsBytes, SwapsBytes, MakesCopied, SwapsCopied};
+ghost use Rattle.cml_c.specs.Messages.{FillsBytes, SendsBytes, MakesCopied, SwapsCopied};
 
 use crate::asking::tell_name;
 use crate::blocks::may_make;
 use crate::bytes_asking::make_in_room;
 use crate::code::Code;
 use crate::handle::Handle;
-use crate::kept::{Kept, Resource, RoomOf, Stocked};
+use crate::kept::{RoomOf, Stocked, on_one};
 use crate::messages::{SeryugoBytes, copied};
 use crate::sending::Sending;
 use cml_board::{Bytes, Call, Name, Want};
@@ -25,17 +25,7 @@ pub(crate) fn make_sending_call(
 ) -> u32
     ensures { FillsBytes seat message.now (sending_call sending message.now) handle.old.kept handle.new.kept result name.old name.new }
 {
-    match handle.as_mut() {
-        Kept::Bytes(Resource::Room(room)) => send_in(
-            alloc,
-            &mut room.room,
-            seat,
-            sending,
-            message,
-            name,
-        ),
-        _ => Code::WrongHandle.number(),
-    }
+    on_one!(handle, Bytes(Room(room)) => send_in(alloc, &mut room.room, seat, sending, message, name))
 }
 
 /// The same of a call that gives no name.
@@ -74,26 +64,7 @@ fn send_in(
 }
 
 /// Copies a message and makes the call that swaps it for another, and hands that over.
-pub(crate) fn make_swap(
-    alloc: Global,
-    handle: &mut Handle,
-    seat: u64,
-    is_again: bool,
-    variable: Name,
-    message: &[u8],
-    held: &mut SeryugoBytes,
-) -> u32
-    ensures { SwapsBytes is_again seat message.now (Swap variable message.now) handle.old.kept handle.new.kept result held.old held.new }
-{
-    match handle.as_mut() {
-        Kept::Bytes(Resource::Room(room)) => swap_in(
-            alloc, room, seat, is_again, variable, message, held,
-        ),
-        _ => Code::WrongHandle.number(),
-    }
-}
-
-fn swap_in(
+pub(crate) fn swap(
     alloc: Global,
     stocked: &mut Stocked<Bytes>,
     seat: u64,

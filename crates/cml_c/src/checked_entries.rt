@@ -18,7 +18,7 @@ use std::alloc::Global;
 pub extern "C" fn seryugo_checker_feed(checker: &mut Handle, entry: &SeryugoEntry) -> u32
     ensures { OnNumbers (OnChecker (FeedsEntry (entry_in entry.now) result)) ⊤ result checker.old.kept checker.new.kept }
 {
-    on_one!(checker, Numbers(Checker(checker)) => feed_number(checker, entry_in(entry)))
+    on_one!(checker, Numbers(Checker(checker)) => feed_one(checker, entry_in(entry)))
 }
 
 /// Copies an entry of bytes, and checks it behind those before. What its kind doesn't have is not read.
@@ -44,32 +44,38 @@ pub extern "C" fn seryugo_bytes_checker_feed_from(
         Ok(got) => got,
         Err(code) => return code.number(),
     };
-    let entry = entry_with(maker, call, object, sent, reply, name, got);
-    feed_bytes(checker.as_mut(), entry)
+    let parts = Parts {
+        maker: *maker,
+        call,
+        object,
+        sent,
+        reply,
+        name,
+        got,
+    };
+    feed_bytes(checker.as_mut(), parts.into_entry())
 }
 
-fn entry_with(
-    maker: &SeryugoMaker,
-    call: u32,
-    object: u64,
-    sent: Bytes,
-    reply: u32,
-    name: u64,
-    got: Bytes,
-) -> Option<Entry<Bytes>>
-    ensures { result ≡ entry_with (record { maker = maker.now; call = call; object = object; sent = sent; reply = reply; name = name; got = got }) }
-{
-    let call = call_of(call, Name(object), sent);
-    let reply = reply_of(reply, Name(name), got);
-    entry_of(who_of(maker), call, reply)
+/// An entry of bytes, by its parts.
+#[derive(Drop)]
+pub struct Parts {
+    pub maker: SeryugoMaker,
+    pub call: u32,
+    pub object: u64,
+    pub sent: Bytes,
+    pub reply: u32,
+    pub name: u64,
+    pub got: Bytes,
 }
 
-fn feed_number(checker: &mut Checker<u64>, entry: Option<Entry<u64>>) -> u32
-    ensures { FeedsEntry entry result checker.old checker.new }
-{
-    match entry {
-        Some(entry) => feed(checker, &[entry]),
-        None => Code::OutOfBounds.number(),
+impl Parts {
+    /// The entry that has these parts, if each kind is one.
+    fn into_entry(self) -> Option<Entry<Bytes>>
+        ensures { result ≡ entry_with self }
+    {
+        let call = call_of(self.call, Name(self.object), self.sent);
+        let reply = reply_of(self.reply, Name(self.name), self.got);
+        entry_of(who_of(&self.maker), call, reply)
     }
 }
 
@@ -77,7 +83,7 @@ fn feed_bytes(checker: &mut Kept, entry: Option<Entry<Bytes>>) -> u32
     ensures { OnBytes (OnChecker (FeedsEntry entry result)) ⊤ result checker.old checker.new }
 {
     match checker {
-        Kept::Bytes(Resource::Checker(checker)) => feed_bytes_to(checker, entry),
+        Kept::Bytes(Resource::Checker(checker)) => feed_one(checker, entry),
         _ => {
             drop(entry);
             Code::WrongHandle.number()
@@ -85,7 +91,7 @@ fn feed_bytes(checker: &mut Kept, entry: Option<Entry<Bytes>>) -> u32
     }
 }
 
-fn feed_bytes_to(checker: &mut Checker<Bytes>, entry: Option<Entry<Bytes>>) -> u32
+fn feed_one<M: Message>(checker: &mut Checker<M>, entry: Option<Entry<M>>) -> u32
     ensures { FeedsEntry entry result checker.old checker.new }
 {
     match entry {

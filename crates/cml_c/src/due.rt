@@ -5,7 +5,8 @@ ghost use Rattle.cml_c.specs.Handles.{OnEither, OnRoom};
 
 use crate::code::Code;
 use crate::handle::Handle;
-use crate::kept::{Resource, RoomOf, for_both, on_either};
+use crate::kept::{RoomOf, on_either};
+use crate::telling::write_number;
 use cml_board::Message;
 
 /// Writes the next seat that is due and was not given since it last asked. Wake its thread, and let it ask again. Returns
@@ -14,21 +15,14 @@ use cml_board::Message;
 pub extern "C" fn seryugo_next_due(room: &mut Handle, seat: &mut u64) -> u32
     ensures { OnEither (λ M sure. OnRoom (GivesNext result seat.old seat.new)) (seat.new ≡ seat.old) result room.old.kept room.new.kept }
 {
-    for_both!(room.as_mut(), resource => give_next(resource, seat))
+    on_either!(room, Room(room) => give_next(&mut room.room, seat))
 }
 
-fn give_next<M: Message>(resource: &mut Resource<M>, seat: &mut u64) -> u32
-    ensures { OnRoom (GivesNext result seat.old seat.new) (seat.new ≡ seat.old) result resource.old resource.new }
+fn give_next<M: Message>(room: &mut RoomOf<M>, seat: &mut u64) -> u32
+    ensures { GivesNext result seat.old seat.new room.old room.new }
 {
-    let Resource::Room(room) = resource else {
-        return Code::WrongHandle.number();
-    };
-    let room = &mut room.room;
     match room.next_due() {
-        Some(number) => {
-            *seat = number;
-            Code::Done.number()
-        }
+        Some(number) => write_number(number, seat),
         None => Code::Nothing.number(),
     }
 }

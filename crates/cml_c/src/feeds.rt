@@ -10,7 +10,7 @@ ghost use Rattle.cml_c.specs.Feeds.{OpensFeed, TakesNumber, TakesBytes, TellsPor
 
 use crate::code::Code;
 use crate::handle::{Handle, Slot};
-use crate::kept::{Kept, Resource, RoomOf, Sort, for_both, on_either, on_one};
+use crate::kept::{Kept, Resource, RoomOf, Sort, on_either, on_one};
 use crate::lanes::tell_count;
 use crate::messages::{SeryugoBytes, hand_over, new_block};
 use crate::rooms::code_of;
@@ -32,33 +32,10 @@ pub extern "C" fn seryugo_feed_open(
 ) -> u32
     ensures { OnEitherKept (λ M sure wrap. OnRoom (OpensFeed wrap sure (record { 0 = channel }) capacity feed.old feed.new result feed_number.old feed_number.new)) ((feed_number.new ≡ feed_number.old) × (feed.new ≡ feed.old)) result room.old.kept room.new.kept }
 {
-    for_both!(room.as_mut(), resource => open(alloc, resource, Name(channel), capacity, feed, feed_number))
+    on_either!(room, Room(room) => open(alloc, &mut room.room, Name(channel), capacity, feed, feed_number))
 }
 
 fn open<M: Sort>(
-    alloc: Global,
-    resource: &mut Resource<M>,
-    channel: Name,
-    capacity: usize,
-    feed: &mut Slot,
-    feed_number: &mut u64,
-) -> u32
-    ensures { OnRoom (OpensFeed M.KEPT M.SURE channel capacity feed.old feed.new result feed_number.old feed_number.new) ((feed_number.new ≡ feed_number.old) × (feed.new ≡ feed.old)) result resource.old resource.new }
-{
-    match resource {
-        Resource::Room(room) => open_in(
-            alloc,
-            &mut room.room,
-            channel,
-            capacity,
-            feed,
-            feed_number,
-        ),
-        _ => Code::WrongHandle.number(),
-    }
-}
-
-fn open_in<M: Sort>(
     alloc: Global,
     room: &mut RoomOf<M>,
     channel: Name,
@@ -91,19 +68,10 @@ fn open_in<M: Sort>(
 pub extern "C" fn seryugo_feed_pump(room: &mut Handle, feed_number: u64, count: &mut u64) -> u32
     ensures { OnEither (λ M sure. OnRoom (Counts (Pumps chunk sure feed_number) (Stirs MakesNoneDue) result count.old count.new)) (count.new ≡ count.old) result room.old.kept room.new.kept }
 {
-    for_both!(room.as_mut(), resource => pump(resource, feed_number, count))
+    on_either!(room, Room(room) => pump(&mut room.room, feed_number, count))
 }
 
-fn pump<M: Message>(resource: &mut Resource<M>, feed_number: u64, count: &mut u64) -> u32
-    ensures { OnRoom (Counts (Pumps chunk M.SURE feed_number) (Stirs MakesNoneDue) result count.old count.new) (count.new ≡ count.old) result resource.old resource.new }
-{
-    match resource {
-        Resource::Room(room) => pump_in(&mut room.room, feed_number, count),
-        _ => Code::WrongHandle.number(),
-    }
-}
-
-fn pump_in<M: Message>(room: &mut RoomOf<M>, feed_number: u64, count: &mut u64) -> u32
+fn pump<M: Message>(room: &mut RoomOf<M>, feed_number: u64, count: &mut u64) -> u32
     ensures { Counts (Pumps chunk M.SURE feed_number) (Stirs MakesNoneDue) result count.old count.new room.old room.new }
 {
     tell_count(room.pump(feed_number), count)
@@ -161,19 +129,10 @@ pub extern "C" fn seryugo_feed_port(feed: &mut Handle, port: &mut u64) -> u32
 pub extern "C" fn seryugo_feed_end(room: &mut Handle, feed_number: u64) -> u32
     ensures { OnEither (λ M sure. OnRoom (EndsFeed feed_number result)) ⊤ result room.old.kept room.new.kept }
 {
-    for_both!(room.as_mut(), resource => end(resource, feed_number))
+    on_either!(room, Room(room) => end(&mut room.room, feed_number))
 }
 
-fn end<M: Message>(resource: &mut Resource<M>, feed_number: u64) -> u32
-    ensures { OnRoom (EndsFeed feed_number result) ⊤ result resource.old resource.new }
-{
-    match resource {
-        Resource::Room(room) => end_in(&mut room.room, feed_number),
-        _ => Code::WrongHandle.number(),
-    }
-}
-
-fn end_in<M: Message>(room: &mut RoomOf<M>, feed_number: u64) -> u32
+fn end<M: Message>(room: &mut RoomOf<M>, feed_number: u64) -> u32
     ensures { EndsFeed feed_number result room.old room.new }
 {
     code_of(room.end_feed(feed_number))

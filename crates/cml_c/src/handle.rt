@@ -1,6 +1,7 @@
 //! What C holds: where a room, a lane or a feed lies.
 ghost use Rattle.std.specs.Prelude.{◌≡◌, Option, Some, IfOk};
 ghost use Rattle.cml_c.specs.declared.kept.Kept.{Kept};
+ghost use Rattle.cml_c.specs.contracts.kept.Kept.{the_row as kept_row};
 ghost use Rattle.cml_c.specs.Owning.{kept_coded, slot_coded};
 
 use crate::kept::Kept;
@@ -14,13 +15,14 @@ use std::mem;
 pub struct Handle {
     at: *mut u8,
     alloc: Global,
-    pub ghost kept: { Kept } by { kept_coded },
+    pub ghost kept: { Kept } by { kept_coded kept_row },
 }
 
 impl Model for Handle {
+    ghost use Rattle.cml_c.specs.contracts.kept.Kept.{the_row as kept_row};
     ghost use Rattle.cml_c.specs.Owning.{handle_owns};
 
-    ghost also_owns = { λ handle. handle_owns handle.alloc handle.at handle.kept };
+    ghost also_owns = { λ handle. handle_owns kept_row handle.alloc handle.at handle.kept };
 }
 
 /// Where a handle is written. What C had there before is forgotten; once a handle was written, C has one there, and `kept` is
@@ -30,13 +32,14 @@ impl Model for Handle {
 pub struct Slot {
     at: *mut u8,
     alloc: Global,
-    pub ghost kept: { Option Kept } by { slot_coded },
+    pub ghost kept: { Option Kept } by { slot_coded kept_row },
 }
 
 impl Model for Slot {
+    ghost use Rattle.cml_c.specs.contracts.kept.Kept.{the_row as kept_row};
     ghost use Rattle.cml_c.specs.Owning.{slot_owns};
 
-    ghost also_owns = { λ slot. slot_owns slot.alloc slot.at slot.kept };
+    ghost also_owns = { λ slot. slot_owns kept_row slot.alloc slot.at slot.kept };
 }
 
 unsafe impl Send for Handle {}

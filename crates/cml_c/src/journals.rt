@@ -11,7 +11,7 @@ use crate::bytes_entries::{SeryugoBytesEntry, hand_over_found};
 use crate::code::Code;
 use crate::entries::{SeryugoEntry, entry_of_place, write_found};
 use crate::handle::{Handle, Slot};
-use crate::kept::{Kept, Resource, RoomOf, Sort, for_both, on_one};
+use crate::kept::{Kept, Resource, RoomOf, Sort, on_either, on_one};
 use crate::rooms::code_of;
 use cml_board::Message;
 use std::alloc::Global;
@@ -21,16 +21,13 @@ use std::alloc::Global;
 pub extern "C" fn seryugo_reserve(room: &mut Handle, entries: usize) -> u32
     ensures { OnEither (λ M sure. OnRoom (Does (ReservesSome entries) KeepsSeats result)) ⊤ result room.old.kept room.new.kept }
 {
-    for_both!(room.as_mut(), resource => reserve(resource, entries))
+    on_either!(room, Room(room) => reserve(&mut room.room, entries))
 }
 
-fn reserve<M: Message>(resource: &mut Resource<M>, entries: usize) -> u32
-    ensures { OnRoom (Does (ReservesSome entries) KeepsSeats result) ⊤ result resource.old resource.new }
+fn reserve<M: Message>(room: &mut RoomOf<M>, entries: usize) -> u32
+    ensures { Does (ReservesSome entries) KeepsSeats result room.old room.new }
 {
-    match resource {
-        Resource::Room(room) => code_of(room.room.reserve(entries)),
-        _ => Code::WrongHandle.number(),
-    }
+    code_of(room.reserve(entries))
 }
 
 /// Cuts the journal: drops its entries, so that it takes as many again. Keeps the reserved memory.
@@ -38,16 +35,13 @@ fn reserve<M: Message>(resource: &mut Resource<M>, entries: usize) -> u32
 pub extern "C" fn seryugo_cut(room: &mut Handle) -> u32
     ensures { OnEither (λ M sure. OnRoom (Does CutsReserved KeepsSeats result)) ⊤ result room.old.kept room.new.kept }
 {
-    for_both!(room.as_mut(), resource => cut(resource))
+    on_either!(room, Room(room) => cut(&mut room.room))
 }
 
-fn cut<M: Message>(resource: &mut Resource<M>) -> u32
-    ensures { OnRoom (Does CutsReserved KeepsSeats result) ⊤ result resource.old resource.new }
+fn cut<M: Message>(room: &mut RoomOf<M>) -> u32
+    ensures { Does CutsReserved KeepsSeats result room.old room.new }
 {
-    match resource {
-        Resource::Room(room) => code_of(room.room.cut()),
-        _ => Code::WrongHandle.number(),
-    }
+    code_of(room.cut())
 }
 
 /// Cuts the journal, and writes a handle to the entries that it had, and how many they are. The reserved memory goes with them.
@@ -60,24 +54,10 @@ pub extern "C" fn seryugo_take_journal(
 ) -> u32
     ensures { OnEitherKept (λ M sure wrap. OnRoom (TakesJournal wrap journal.old journal.new result count.old count.new)) ((count.new ≡ count.old) × (journal.new ≡ journal.old)) result room.old.kept room.new.kept }
 {
-    for_both!(room.as_mut(), resource => take(alloc, resource, journal, count))
+    on_either!(room, Room(room) => take(alloc, &mut room.room, journal, count))
 }
 
-fn take<M: Sort>(
-    alloc: Global,
-    resource: &mut Resource<M>,
-    journal: &mut Slot,
-    count: &mut u64,
-) -> u32
-    ensures { OnRoom (TakesJournal M.KEPT journal.old journal.new result count.old count.new) ((count.new ≡ count.old) × (journal.new ≡ journal.old)) result resource.old resource.new }
-{
-    match resource {
-        Resource::Room(room) => take_in(alloc, &mut room.room, journal, count),
-        _ => Code::WrongHandle.number(),
-    }
-}
-
-fn take_in<M: Sort>(alloc: Global, room: &mut RoomOf<M>, journal: &mut Slot, count: &mut u64) -> u32
+fn take<M: Sort>(alloc: Global, room: &mut RoomOf<M>, journal: &mut Slot, count: &mut u64) -> u32
     ensures { TakesJournal M.KEPT journal.old journal.new result count.old count.new room.old room.new }
 {
     // The handle's memory is taken first, so that no entries are taken without one.

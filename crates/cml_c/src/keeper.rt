@@ -1,7 +1,8 @@
 //! What C holds of a message of more than 14 bytes.
 ghost use Rattle.std.specs.Prelude.{◌≡◌, Option, Some};
 ghost use Rattle.cml_c.specs.declared.keeper.Held.{Held};
-ghost use Rattle.cml_c.specs.Keeping.{held_coded, share_coded};
+ghost use Rattle.cml_c.specs.contracts.keeper.Held.{the_row as held_row};
+ghost use Rattle.cml_c.specs.Owning.{kept_coded, slot_coded};
 
 use crate::raw::Loose;
 use cml_board::Bytes;
@@ -19,13 +20,14 @@ pub struct Held {
 pub struct Keeper {
     at: *mut u8,
     alloc: Global,
-    pub ghost kept: { Held } by { held_coded },
+    pub ghost kept: { Held } by { kept_coded held_row },
 }
 
 impl Model for Keeper {
-    ghost use Rattle.cml_c.specs.Keeping.{keeper_owns};
+    ghost use Rattle.cml_c.specs.contracts.keeper.Held.{the_row as held_row};
+    ghost use Rattle.cml_c.specs.Owning.{handle_owns};
 
-    ghost also_owns = { λ keeper. keeper_owns keeper.alloc keeper.at keeper.kept };
+    ghost also_owns = { λ keeper. handle_owns held_row keeper.alloc keeper.at keeper.kept };
 }
 
 /// Where a keeper is written. What C had there before is forgotten; once a keeper was written, C has one there, and `kept` is the
@@ -35,13 +37,14 @@ impl Model for Keeper {
 pub struct Share {
     at: *mut u8,
     alloc: Global,
-    pub ghost kept: { Option Held } by { share_coded },
+    pub ghost kept: { Option Held } by { slot_coded held_row },
 }
 
 impl Model for Share {
-    ghost use Rattle.cml_c.specs.Keeping.{share_owns};
+    ghost use Rattle.cml_c.specs.contracts.keeper.Held.{the_row as held_row};
+    ghost use Rattle.cml_c.specs.Owning.{slot_owns};
 
-    ghost also_owns = { λ share. share_owns share.alloc share.at share.kept };
+    ghost also_owns = { λ share. slot_owns held_row share.alloc share.at share.kept };
 }
 
 unsafe impl Send for Keeper {}

@@ -11,7 +11,7 @@ ghost use Rattle.cml_c.specs.Lanes.{OpensLane, Sends, SendsBytes, SendsCopied, F
 
 use crate::code::Code;
 use crate::handle::{Handle, Slot};
-use crate::kept::{Kept, Resource, RoomOf, Sort, for_both, on_both, on_one};
+use crate::kept::{Kept, Resource, RoomOf, Sort, for_both, on_both, on_either, on_one};
 use crate::messages::copied;
 use crate::rooms::code_of;
 use crate::telling::write_number;
@@ -32,26 +32,10 @@ pub extern "C" fn seryugo_lane_open(
 ) -> u32
     ensures { OnEitherKept (λ M sure wrap. OnRoom (OpensLane wrap (record { 0 = target }) capacity lane.old lane.new result lane_number.old lane_number.new)) ((lane_number.new ≡ lane_number.old) × (lane.new ≡ lane.old)) result room.old.kept room.new.kept }
 {
-    for_both!(room.as_mut(), resource => open(alloc, resource, Name(target), capacity, lane, lane_number))
+    on_either!(room, Room(room) => open(alloc, &mut room.room, Name(target), capacity, lane, lane_number))
 }
 
 fn open<M: Sort>(
-    alloc: Global,
-    resource: &mut Resource<M>,
-    target: Name,
-    capacity: usize,
-    lane: &mut Slot,
-    lane_number: &mut u64,
-) -> u32
-    ensures { OnRoom (OpensLane M.KEPT target capacity lane.old lane.new result lane_number.old lane_number.new) ((lane_number.new ≡ lane_number.old) × (lane.new ≡ lane.old)) result resource.old resource.new }
-{
-    match resource {
-        Resource::Room(room) => open_in(alloc, &mut room.room, target, capacity, lane, lane_number),
-        _ => Code::WrongHandle.number(),
-    }
-}
-
-fn open_in<M: Sort>(
     alloc: Global,
     room: &mut RoomOf<M>,
     target: Name,
@@ -184,19 +168,10 @@ fn close_end<M: Message>(room: &mut RoomOf<M>, end: LaneEnd<M>) -> (Resource<M>,
 pub extern "C" fn seryugo_lane_drain(room: &mut Handle, lane_number: u64, count: &mut u64) -> u32
     ensures { OnEither (λ M sure. OnRoom (Counts (Drains chunk sure lane_number) (Stirs MakesFewByOne) result count.old count.new)) (count.new ≡ count.old) result room.old.kept room.new.kept }
 {
-    for_both!(room.as_mut(), resource => drain(resource, lane_number, count))
+    on_either!(room, Room(room) => drain(&mut room.room, lane_number, count))
 }
 
-fn drain<M: Message>(resource: &mut Resource<M>, lane_number: u64, count: &mut u64) -> u32
-    ensures { OnRoom (Counts (Drains chunk M.SURE lane_number) (Stirs MakesFewByOne) result count.old count.new) (count.new ≡ count.old) result resource.old resource.new }
-{
-    match resource {
-        Resource::Room(room) => drain_in(&mut room.room, lane_number, count),
-        _ => Code::WrongHandle.number(),
-    }
-}
-
-fn drain_in<M: Message>(room: &mut RoomOf<M>, lane_number: u64, count: &mut u64) -> u32
+fn drain<M: Message>(room: &mut RoomOf<M>, lane_number: u64, count: &mut u64) -> u32
     ensures { Counts (Drains chunk M.SURE lane_number) (Stirs MakesFewByOne) result count.old count.new room.old room.new }
 {
     tell_count(room.drain(lane_number), count)
@@ -208,19 +183,10 @@ fn drain_in<M: Message>(room: &mut RoomOf<M>, lane_number: u64, count: &mut u64)
 pub extern "C" fn seryugo_lane_drop(room: &mut Handle, lane_number: u64, count: &mut u64) -> u32
     ensures { OnEither (λ M sure. OnRoom (DropsLane sure lane_number result count.old count.new)) (count.new ≡ count.old) result room.old.kept room.new.kept }
 {
-    for_both!(room.as_mut(), resource => drop_lane(resource, lane_number, count))
+    on_either!(room, Room(room) => drop_lane(&mut room.room, lane_number, count))
 }
 
-fn drop_lane<M: Message>(resource: &mut Resource<M>, lane_number: u64, count: &mut u64) -> u32
-    ensures { OnRoom (DropsLane M.SURE lane_number result count.old count.new) (count.new ≡ count.old) result resource.old resource.new }
-{
-    match resource {
-        Resource::Room(room) => drop_in(&mut room.room, lane_number, count),
-        _ => Code::WrongHandle.number(),
-    }
-}
-
-fn drop_in<M: Message>(room: &mut RoomOf<M>, lane_number: u64, count: &mut u64) -> u32
+fn drop_lane<M: Message>(room: &mut RoomOf<M>, lane_number: u64, count: &mut u64) -> u32
     ensures { DropsLane M.SURE lane_number result count.old count.new room.old room.new }
 {
     tell_dropped(room.drop_lane(lane_number), count)
@@ -246,16 +212,13 @@ fn tell_dropped(outcome: Result<(usize, bool), Refusal>, count: &mut u64) -> u32
 pub extern "C" fn seryugo_lane_abandon(room: &mut Handle, lane_number: u64) -> u32
     ensures { OnEither (λ M sure. OnRoom (Does (Abandons lane_number) (Stirs MakesNoneDue) result)) ⊤ result room.old.kept room.new.kept }
 {
-    for_both!(room.as_mut(), resource => abandon(resource, lane_number))
+    on_either!(room, Room(room) => abandon(&mut room.room, lane_number))
 }
 
-fn abandon<M: Message>(resource: &mut Resource<M>, lane_number: u64) -> u32
-    ensures { OnRoom (Does (Abandons lane_number) (Stirs MakesNoneDue) result) ⊤ result resource.old resource.new }
+fn abandon<M: Message>(room: &mut RoomOf<M>, lane_number: u64) -> u32
+    ensures { Does (Abandons lane_number) (Stirs MakesNoneDue) result room.old room.new }
 {
-    match resource {
-        Resource::Room(room) => code_of(room.room.abandon_lane(lane_number)),
-        _ => Code::WrongHandle.number(),
-    }
+    code_of(room.abandon_lane(lane_number))
 }
 
 /// The code of a call that gives a count, which is written.

@@ -3,13 +3,11 @@
 #![tactic(auto)]
 
 mod asking;
-mod bare;
 mod blocks;
 mod bytes;
 mod bytes_asking;
 mod bytes_entries;
 mod bytes_sending;
-mod channels;
 mod checked_entries;
 mod checkers;
 mod code;
@@ -22,8 +20,9 @@ mod keeper;
 mod kept;
 mod lanes;
 pub mod laws;
-mod mailboxes;
 mod messages;
+mod numbers;
+mod objects;
 mod raw;
 mod read_journals;
 mod readers;
@@ -32,5 +31,4 @@ mod rooms;
 mod sending;
 mod telling;
 mod texts;
-mod variables;
 mod version;

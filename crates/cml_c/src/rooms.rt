@@ -9,7 +9,7 @@ ghost use Rattle.cml_c.specs.Opening.{IsLimit, IsNew, OpensARoom, Writes};
 
 use crate::code::Code;
 use crate::handle::{Handle, Slot};
-use crate::kept::{Kept, Resource, Stocked, for_both};
+use crate::kept::{Kept, Resource, RoomOf, Stocked, on_either};
 use crate::telling::write_number;
 use cml_board::{Message, Refusal};
 use cml_room::Room;
@@ -80,16 +80,13 @@ pub extern "C" fn seryugo_close(handle: Handle) {
 pub extern "C" fn seryugo_new_seat(room: &mut Handle, seat: &mut u64) -> u32
     ensures { OnEither (λ M sure. OnRoom (MakesSeat result seat.old seat.new)) (seat.new ≡ seat.old) result room.old.kept room.new.kept }
 {
-    for_both!(room.as_mut(), resource => new_seat(resource, seat))
+    on_either!(room, Room(room) => new_seat(&mut room.room, seat))
 }
 
-fn new_seat<M: Message>(resource: &mut Resource<M>, seat: &mut u64) -> u32
-    ensures { OnRoom (MakesSeat result seat.old seat.new) (seat.new ≡ seat.old) result resource.old resource.new }
+fn new_seat<M: Message>(room: &mut RoomOf<M>, seat: &mut u64) -> u32
+    ensures { MakesSeat result seat.old seat.new room.old room.new }
 {
-    let Resource::Room(room) = resource else {
-        return Code::WrongHandle.number();
-    };
-    match room.room.new_seat() {
+    match room.new_seat() {
         Ok(number) => write_number(number, seat),
         Err(refusal) => Code::of_refusal(refusal).number(),
     }
@@ -100,16 +97,13 @@ fn new_seat<M: Message>(resource: &mut Resource<M>, seat: &mut u64) -> u32
 pub extern "C" fn seryugo_leave(room: &mut Handle, seat: u64) -> u32
     ensures { OnEither (λ M sure. OnRoom (Leaves seat result)) ⊤ result room.old.kept room.new.kept }
 {
-    for_both!(room.as_mut(), resource => leave(resource, seat))
+    on_either!(room, Room(room) => leave(&mut room.room, seat))
 }
 
-fn leave<M: Message>(resource: &mut Resource<M>, seat: u64) -> u32
-    ensures { OnRoom (Leaves seat result) ⊤ result resource.old resource.new }
+fn leave<M: Message>(room: &mut RoomOf<M>, seat: u64) -> u32
+    ensures { Leaves seat result room.old room.new }
 {
-    match resource {
-        Resource::Room(room) => code_of(room.room.leave(seat)),
-        _ => Code::WrongHandle.number(),
-    }
+    code_of(room.leave(seat))
 }
 
 /// Withdraws a parked seat's call. Fails with `Gone` if the seat isn't parked.
@@ -117,16 +111,13 @@ fn leave<M: Message>(resource: &mut Resource<M>, seat: u64) -> u32
 pub extern "C" fn seryugo_withdraw(room: &mut Handle, seat: u64) -> u32
     ensures { OnEither (λ M sure. OnRoom (Withdraws seat result)) ⊤ result room.old.kept room.new.kept }
 {
-    for_both!(room.as_mut(), resource => withdraw(resource, seat))
+    on_either!(room, Room(room) => withdraw(&mut room.room, seat))
 }
 
-fn withdraw<M: Message>(resource: &mut Resource<M>, seat: u64) -> u32
-    ensures { OnRoom (Withdraws seat result) ⊤ result resource.old resource.new }
+fn withdraw<M: Message>(room: &mut RoomOf<M>, seat: u64) -> u32
+    ensures { Withdraws seat result room.old room.new }
 {
-    match resource {
-        Resource::Room(room) => code_of(room.room.withdraw(seat)),
-        _ => Code::WrongHandle.number(),
-    }
+    code_of(room.withdraw(seat))
 }
 
 /// The code of a call that is done or refused.

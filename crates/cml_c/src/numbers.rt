@@ -1,28 +1,54 @@
-//! Variables: those that are filled once, and those that are filled and emptied again.
+//! Calls with messages of numbers, which a room of numbers alone takes.
 ghost use Rattle.std.specs.Prelude.{false};
-ghost use Rattle.cml_board.specs.declared.call.Call.TheVariants.{MVarInit, Put, Get, GetPoll, Take, TakePoll, Swap};
-ghost use Rattle.cml_c.specs.declared.bare.Bare.TheVariants.{NewIVar, NewMVar};
-ghost use Rattle.cml_c.specs.Asking.{Names, Calls, CallsPlain};
+ghost use Rattle.cml_board.specs.declared.call.Call.TheVariants.{Send, Cast, Recv, Poll, MVarInit, Put, Get, GetPoll, Take, TakePoll, Swap};
+ghost use Rattle.cml_c.specs.Asking.{Calls, CallsPlain};
 
-use crate::asking::{make_bare_call, make_call, make_plain_call};
-use crate::bare::Bare;
+use crate::asking::{make_call, make_plain_call};
 use crate::handle::Handle;
 use cml_board::{Call, Name};
 
-/// Makes an empty i-variable, and writes its name.
+/// Sends a message to a mailbox.
 #[unsafe(no_mangle)]
-pub extern "C" fn seryugo_new_ivar(room: &mut Handle, seat: u64, variable: &mut u64) -> u32
-    ensures { Names seat NewIVar room.old.kept room.new.kept result variable.old variable.new }
+pub extern "C" fn seryugo_send(room: &mut Handle, seat: u64, mailbox: u64, message: u64) -> u32
+    ensures { CallsPlain false seat (Send (record { 0 = mailbox }) message) room.old.kept room.new.kept result }
 {
-    make_bare_call(room, seat, Bare::NewIVar, variable)
+    make_plain_call(room, seat, Call::Send(Name(mailbox), message))
 }
 
-/// Makes an empty m-variable, and writes its name.
+/// Sends a message to every port of a channel.
 #[unsafe(no_mangle)]
-pub extern "C" fn seryugo_new_mvar(room: &mut Handle, seat: u64, variable: &mut u64) -> u32
-    ensures { Names seat NewMVar room.old.kept room.new.kept result variable.old variable.new }
+pub extern "C" fn seryugo_multicast(room: &mut Handle, seat: u64, channel: u64, message: u64) -> u32
+    ensures { CallsPlain false seat (Cast (record { 0 = channel }) message) room.old.kept room.new.kept result }
 {
-    make_bare_call(room, seat, Bare::NewMVar, variable)
+    make_plain_call(room, seat, Call::Cast(Name(channel), message))
+}
+
+/// Receives the next message of a mailbox or a port, and writes it. If there is none, the seat is parked: then make the call
+/// again, with `is_again`.
+#[unsafe(no_mangle)]
+pub extern "C" fn seryugo_recv(
+    room: &mut Handle,
+    seat: u64,
+    source: u64,
+    is_again: bool,
+    message: &mut u64,
+) -> u32
+    ensures { Calls is_again seat (Recv (record { 0 = source })) room.old.kept room.new.kept result message.old message.new }
+{
+    make_call(room, seat, is_again, Call::Recv(Name(source)), message)
+}
+
+/// Receives the next message of a mailbox or a port, if there is one.
+#[unsafe(no_mangle)]
+pub extern "C" fn seryugo_recv_poll(
+    room: &mut Handle,
+    seat: u64,
+    source: u64,
+    message: &mut u64,
+) -> u32
+    ensures { Calls false seat (Poll (record { 0 = source })) room.old.kept room.new.kept result message.old message.new }
+{
+    make_call(room, seat, false, Call::Poll(Name(source)), message)
 }
 
 /// Makes an m-variable that holds this, and writes its name.
@@ -43,7 +69,7 @@ pub extern "C" fn seryugo_mvar_init(
 pub extern "C" fn seryugo_put(room: &mut Handle, seat: u64, variable: u64, message: u64) -> u32
     ensures { CallsPlain false seat (Put (record { 0 = variable }) message) room.old.kept room.new.kept result }
 {
-    make_plain_call(room, seat, false, Call::Put(Name(variable), message))
+    make_plain_call(room, seat, Call::Put(Name(variable), message))
 }
 
 /// Reads a variable, which keeps what it holds. If it is empty, the seat is parked.
@@ -112,11 +138,6 @@ pub extern "C" fn seryugo_swap(
 ) -> u32
     ensures { Calls is_again seat (Swap (record { 0 = variable }) message) room.old.kept room.new.kept result held.old held.new }
 {
-    make_call(
-        room,
-        seat,
-        is_again,
-        Call::Swap(Name(variable), message),
-        held,
-    )
+    let call = Call::Swap(Name(variable), message);
+    make_call(room, seat, is_again, call, held)
 }

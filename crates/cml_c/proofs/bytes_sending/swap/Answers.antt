@@ -4,7 +4,7 @@ use Rattle.std.proofs.lemmas.Bool.{false≢true}
 use Rattle.cml_board.specs.declared.call.Call.TheVariants.{Swap}
 use Rattle.cml_c.proofs.Refusing.{is_gone}
 use Rattle.cml_c.specs.Messages.{HandsOutcome}
-use Rattle.cml_c.proofs.bytes_sending.swap_in.Goals as goal
+use Rattle.cml_c.proofs.bytes_sending.swap.Goals as goal
 
 pub returns-else-may_make : goal.returns-else-may_make
 returns-else-may_make c = inl (record {
