@@ -18,7 +18,7 @@ use std::alloc::Global;
 pub extern "C" fn seryugo_checker_feed(checker: &mut Handle, entry: &SeryugoEntry) -> u32
     ensures { OnNumbers (OnChecker (FeedsEntry (entry_in entry.now) result)) ⊤ result checker.old.kept checker.new.kept }
 {
-    on_one!(checker, Numbers(Checker(checker)) => feed_one(checker, entry_in(entry)))
+    on_one!(checker, Numbers(Checker(checker)) => feed_number(checker, entry_in(entry)))
 }
 
 /// Copies an entry of bytes, and checks it behind those before. What its kind doesn't have is not read.
@@ -79,11 +79,20 @@ impl Parts {
     }
 }
 
+fn feed_number(checker: &mut Checker<u64>, entry: Option<Entry<u64>>) -> u32
+    ensures { FeedsEntry entry result checker.old checker.new }
+{
+    match entry {
+        Some(entry) => feed(checker, &[entry]),
+        None => Code::OutOfBounds.number(),
+    }
+}
+
 fn feed_bytes(checker: &mut Kept, entry: Option<Entry<Bytes>>) -> u32
     ensures { OnBytes (OnChecker (FeedsEntry entry result)) ⊤ result checker.old checker.new }
 {
     match checker {
-        Kept::Bytes(Resource::Checker(checker)) => feed_one(checker, entry),
+        Kept::Bytes(Resource::Checker(checker)) => feed_bytes_to(checker, entry),
         _ => {
             drop(entry);
             Code::WrongHandle.number()
@@ -91,7 +100,7 @@ fn feed_bytes(checker: &mut Kept, entry: Option<Entry<Bytes>>) -> u32
     }
 }
 
-fn feed_one<M: Message>(checker: &mut Checker<M>, entry: Option<Entry<M>>) -> u32
+fn feed_bytes_to(checker: &mut Checker<Bytes>, entry: Option<Entry<Bytes>>) -> u32
     ensures { FeedsEntry entry result checker.old checker.new }
 {
     match entry {

@@ -56,12 +56,30 @@ pub extern "C" fn seryugo_checker_feed_journal(
 fn feed_journal<M: Message>(checker: &mut Resource<M>, journal: &mut Resource<M>, place: u64) -> u32
     ensures { FeedsJournal place result checker.old checker.new journal.old journal.new }
 {
-    match (checker, journal) {
-        (Resource::Checker(checker), Resource::Journal(journal)) => feed_from(
-            checker, journal, place,
-        ),
+    match checker {
+        Resource::Checker(checker) => feed_taken(checker, journal, place),
         _ => Code::WrongHandle.number(),
     }
+}
+
+fn feed_taken<M: Message>(checker: &mut Checker<M>, journal: &mut Resource<M>, place: u64) -> u32
+    ensures { FeedsTaken place result journal.old journal.new checker.old checker.new }
+{
+    match journal {
+        Resource::Journal(journal) => feed_entries(checker, journal, place),
+        _ => Code::WrongHandle.number(),
+    }
+}
+
+fn feed_entries<M: Message>(
+    checker: &mut Checker<M>,
+    journal: &mut Vec<Entry<M>>,
+    place: u64,
+) -> u32
+    ensures journal { journal.new ≡ journal.old }
+    ensures feeds { FeedsFrom journal.old.items place result checker.old checker.new }
+{
+    feed_from(checker, journal, place)
 }
 
 fn feed_from<M: Message>(checker: &mut Checker<M>, journal: &[Entry<M>], place: u64) -> u32

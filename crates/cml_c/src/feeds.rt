@@ -10,7 +10,7 @@ ghost use Rattle.cml_c.specs.Feeds.{OpensFeed, TakesNumber, TakesBytes, TellsPor
 
 use crate::code::Code;
 use crate::handle::{Handle, Slot};
-use crate::kept::{Kept, Resource, RoomOf, Sort, on_either, on_one};
+use crate::kept::{Kept, Resource, RoomOf, Sort, for_both, on_either, on_one};
 use crate::lanes::tell_count;
 use crate::messages::{SeryugoBytes, hand_over, new_block};
 use crate::rooms::code_of;
@@ -32,10 +32,33 @@ pub extern "C" fn seryugo_feed_open(
 ) -> u32
     ensures { OnEitherKept (λ M sure wrap. OnRoom (OpensFeed wrap sure (record { 0 = channel }) capacity feed.old feed.new result feed_number.old feed_number.new)) ((feed_number.new ≡ feed_number.old) × (feed.new ≡ feed.old)) result room.old.kept room.new.kept }
 {
-    on_either!(room, Room(room) => open(alloc, &mut room.room, Name(channel), capacity, feed, feed_number))
+    for_both!(room.as_mut(), resource => open(alloc, resource, Name(channel), capacity, feed, feed_number))
 }
 
 fn open<M: Sort>(
+    alloc: Global,
+    resource: &mut Resource<M>,
+    channel: Name,
+    capacity: usize,
+    feed: &mut Slot,
+    feed_number: &mut u64,
+) -> u32
+    ensures { OnRoom (OpensFeed M.KEPT M.SURE channel capacity feed.old feed.new result feed_number.old feed_number.new) ((feed_number.new ≡ feed_number.old) × (feed.new ≡ feed.old)) result resource.old resource.new }
+{
+    match resource {
+        Resource::Room(room) => open_in(
+            alloc,
+            &mut room.room,
+            channel,
+            capacity,
+            feed,
+            feed_number,
+        ),
+        _ => Code::WrongHandle.number(),
+    }
+}
+
+fn open_in<M: Sort>(
     alloc: Global,
     room: &mut RoomOf<M>,
     channel: Name,

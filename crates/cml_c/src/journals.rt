@@ -11,7 +11,7 @@ use crate::bytes_entries::{SeryugoBytesEntry, hand_over_found};
 use crate::code::Code;
 use crate::entries::{SeryugoEntry, entry_of_place, write_found};
 use crate::handle::{Handle, Slot};
-use crate::kept::{Kept, Resource, RoomOf, Sort, on_either, on_one};
+use crate::kept::{Kept, Resource, RoomOf, Sort, for_both, on_either, on_one};
 use crate::rooms::code_of;
 use cml_board::Message;
 use std::alloc::Global;
@@ -54,10 +54,24 @@ pub extern "C" fn seryugo_take_journal(
 ) -> u32
     ensures { OnEitherKept (λ M sure wrap. OnRoom (TakesJournal wrap journal.old journal.new result count.old count.new)) ((count.new ≡ count.old) × (journal.new ≡ journal.old)) result room.old.kept room.new.kept }
 {
-    on_either!(room, Room(room) => take(alloc, &mut room.room, journal, count))
+    for_both!(room.as_mut(), resource => take(alloc, resource, journal, count))
 }
 
-fn take<M: Sort>(alloc: Global, room: &mut RoomOf<M>, journal: &mut Slot, count: &mut u64) -> u32
+fn take<M: Sort>(
+    alloc: Global,
+    resource: &mut Resource<M>,
+    journal: &mut Slot,
+    count: &mut u64,
+) -> u32
+    ensures { OnRoom (TakesJournal M.KEPT journal.old journal.new result count.old count.new) ((count.new ≡ count.old) × (journal.new ≡ journal.old)) result resource.old resource.new }
+{
+    match resource {
+        Resource::Room(room) => take_in(alloc, &mut room.room, journal, count),
+        _ => Code::WrongHandle.number(),
+    }
+}
+
+fn take_in<M: Sort>(alloc: Global, room: &mut RoomOf<M>, journal: &mut Slot, count: &mut u64) -> u32
     ensures { TakesJournal M.KEPT journal.old journal.new result count.old count.new room.old room.new }
 {
     // The handle's memory is taken first, so that no entries are taken without one.

@@ -32,10 +32,26 @@ pub extern "C" fn seryugo_lane_open(
 ) -> u32
     ensures { OnEitherKept (λ M sure wrap. OnRoom (OpensLane wrap (record { 0 = target }) capacity lane.old lane.new result lane_number.old lane_number.new)) ((lane_number.new ≡ lane_number.old) × (lane.new ≡ lane.old)) result room.old.kept room.new.kept }
 {
-    on_either!(room, Room(room) => open(alloc, &mut room.room, Name(target), capacity, lane, lane_number))
+    for_both!(room.as_mut(), resource => open(alloc, resource, Name(target), capacity, lane, lane_number))
 }
 
 fn open<M: Sort>(
+    alloc: Global,
+    resource: &mut Resource<M>,
+    target: Name,
+    capacity: usize,
+    lane: &mut Slot,
+    lane_number: &mut u64,
+) -> u32
+    ensures { OnRoom (OpensLane M.KEPT target capacity lane.old lane.new result lane_number.old lane_number.new) ((lane_number.new ≡ lane_number.old) × (lane.new ≡ lane.old)) result resource.old resource.new }
+{
+    match resource {
+        Resource::Room(room) => open_in(alloc, &mut room.room, target, capacity, lane, lane_number),
+        _ => Code::WrongHandle.number(),
+    }
+}
+
+fn open_in<M: Sort>(
     alloc: Global,
     room: &mut RoomOf<M>,
     target: Name,

@@ -50,7 +50,13 @@ pub extern "C" fn seryugo_close_port(room: &mut Handle, seat: u64, port: u64) ->
     ensures { NamesNothing seat (λ M. ClosePort (record { 0 = port })) room.old.kept room.new.kept result }
 {
     let mut name = 0;
-    on_either!(room, Room(room) => tell_name(room.room.ask(seat, Call::ClosePort(Name(port))), &mut name))
+    close_port(room, seat, Name(port), &mut name)
+}
+
+fn close_port(room: &mut Handle, seat: u64, port: Name, name: &mut u64) -> u32
+    ensures { Names seat (λ M. ClosePort port) room.old.kept room.new.kept result name.old name.new }
+{
+    on_either!(room, Room(room) => tell_name(room.room.ask(seat, Call::ClosePort(port)), name))
 }
 
 /// Makes an empty i-variable, and writes its name.

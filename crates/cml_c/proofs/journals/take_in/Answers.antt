@@ -1,6 +1,7 @@
 use Rattle.std.proofs.Common.{rules, inl}
-use Rattle.cml_c.proofs.journals.take.Goals as goal
+use Rattle.cml_c.proofs.journals.take_in.Goals as goal
 
+-- src/journals.rt:66:1
 pub returns-in-Ok-take_journal : goal.returns-in-Ok-take_journal
 returns-in-Ok-take_journal g c = inl
     (record {
