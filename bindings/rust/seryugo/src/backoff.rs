@@ -3,6 +3,13 @@
 use std::hint;
 use std::sync::atomic::{AtomicU16, AtomicU8, Ordering};
 
+/// The backoff of a wait of which nothing is known. `cml_threads/src/backoff.rt` has the same numbers, and the reason for each.
+pub(crate) type ShortBackoff = Backoff<8, 16>;
+
+/// The backoff of a wait whose answer may be near: the thread's last call has woken a thread that slept, or the one that had woken it.
+/// So two threads that answer each other don't sleep at each turn.
+pub(crate) type LongBackoff = Backoff<50, 512>;
+
 /// How often a thread doubles the time for which it spins, from once to 64 times.
 const DOUBLINGS: u32 = 6;
 

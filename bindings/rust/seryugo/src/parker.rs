@@ -1,18 +1,12 @@
 //! How a parked seat waits: by a thread that sleeps, or by a future's waker.
 
-use crate::backoff::Backoff;
+use crate::backoff::{LongBackoff, ShortBackoff};
 use std::mem;
 use std::sync::atomic::{AtomicBool, AtomicU64, AtomicU8, Ordering};
 use std::sync::{Condvar, Mutex, MutexGuard, PoisonError};
 use std::task::Waker;
 use std::time::{Duration, Instant};
 
-/// A thread looks 8 times before it sleeps. Once that was in vain, it doesn't look in its next waits, in 16 at the most.
-type ShortBackoff = Backoff<8, 16>;
-/// The same if an answer may be near: if its last call has woken a thread that slept, or the one that had woken it. That thread may
-/// answer as soon as it runs, and to wake it takes longer than the few looks. So two threads that answer each other don't sleep at
-/// each turn.
-type LongBackoff = Backoff<50, 512>;
 /// If more calls than this were made on the switchboard while a seat waited, its thread sleeps at once in its next wait. In a token
 /// round eight threads there are some 20 calls between two waits of each. To read the clock instead took 0.1 microseconds a sleep.
 const FEW_CALLS: u64 = 32;
@@ -77,8 +71,8 @@ impl Parker {
             woken: Condvar::new(),
             is_answer_near: AtomicBool::new(false),
             has_waited_long: AtomicBool::new(false),
-            short: Backoff::new(),
-            long: Backoff::new(),
+            short: ShortBackoff::new(),
+            long: LongBackoff::new(),
             parked_at: AtomicU64::new(0),
         }
     }
