@@ -29,7 +29,7 @@ use Rattle.cml_journal.proofs.Cutting.{has_space, printed_no_space, colon_no_spa
 use Rattle.cml_journal.proofs.WordLaws.{bind_ok, ok_is, some_from_ok, found_passes, same_bytes, word_takes, word_again, last_takes, last_again, name_takes, name_again, number_no_space}
 
 -- what a call's text and parts are, by its row
-text_among : {M : Type 0} → (M → List ℕ) → Parts M → List ℕ
+abbrev text_among : {M : Type 0} → (M → List ℕ) → Parts M → List ℕ
 text_among text parts = (row_among parts).word ++ field (λ (name : Name). decimal name.0) (object_among parts) ++ field text (message_among parts)
 
 made_text : {M : Type 0} (text : M → List ℕ) (m : Make)

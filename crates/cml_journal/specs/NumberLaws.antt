@@ -1,5 +1,5 @@
 -- The laws of numbers as words.
-use Rattle.std.proofs.Common.{◌≡◌, ℕ, ◌^◌, true, if◌then◌else◌, List, [], ◌∷◌, Some, None, sym, ap, subst, ◌∙◌, true≢false}
+use Rattle.std.proofs.Common.{◌≡◌, ℕ, ◌^◌, true, if◌then◌else◌, List, [], ◌∷◌, Some, None, refl, sym, ap, subst, ◌∙◌, true≢false}
 use Rattle.std.specs.Fmt.{decimal}
 use Rattle.std.specs.List.{list_all}
 use Rattle.std.specs.Str.Parse.{digits_value}
