@@ -12,7 +12,7 @@ use Rattle.cml_grammar.proofs.ReadableLemmas.{CanBeRead, can_be_read}
 use Rattle.cml_script.specs.declared.stop.Stop.{Stop}
 use Rattle.cml_script.specs.declared.stop.Stop.TheVariants.{Done, Stalled, Full}
 use Rattle.cml_script.specs.Schedule.{History, Schedule, Follows, Ends, NoneReady, declared_count, left, is_called, performed, positions_from, step_call}
-use Rattle.cml_script.specs.Execution.{IsLeast}
+use Rattle.cml_script.specs.Stage.{IsLeast}
 use Rattle.cml_script.specs.Laws.{ScriptsHaveASchedule, StalledThreadsWait, SomeThreadWaits, steps_of_seat}
 use Rattle.cml_script.specs.Stalling.{WaitsAtNext}
 use Rattle.cml_grammar.specs.Rings.{first_ring}

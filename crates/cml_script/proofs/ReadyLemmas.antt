@@ -8,7 +8,7 @@ use Rattle.cml_grammar.specs.Script.{Lines}
 use Rattle.cml_script.specs.Counting.{how_many}
 use Rattle.cml_script.specs.Schedule.{History, IsReady, NoneReady, is_called, performed, positions_from, step_call}
 use Rattle.cml_script.specs.Plan.{HasSeats}
-use Rattle.cml_script.specs.Execution.{earlier_of, IsReadyOf, NoneReadyOf, IsLeast, IsLeastBelow}
+use Rattle.cml_script.specs.Stage.{earlier_of, IsReadyOf, NoneReadyOf, IsLeast, IsLeastBelow}
 use Rattle.cml_script.proofs.LineLemmas.{called_seated}
 use Rattle.cml_script.proofs.QueueLemmas.{position_is, position_of_step}
 

@@ -13,7 +13,7 @@ use Rattle.cml_grammar.specs.Script.{Lines}
 use Rattle.cml_grammar.specs.Reading.{source_of}
 use Rattle.cml_board.specs.declared.entry.Who.{Who}
 use Rattle.cml_script.specs.Schedule.{History, declared_count, next_position}
-use Rattle.cml_script.specs.Follower.{Progress, history_of}
+use Rattle.cml_script.specs.Trail.{Progress, history_of}
 use Rattle.cml_script.specs.Report.{Tallied, entry_lines, entry_line, next_step, line_text, given_word, object_lines_from, object_line}
 use Rattle.cml_board.specs.Positions.{before}
 use Rattle.cml_grammar.specs.Script.{SourceLine}
@@ -56,7 +56,7 @@ module _ (script : Lines) where
       ∙ ap (λ n. written ++ (object_line script history tally at given ++ object_lines_from script history tally n (drop (at + 1) names))) (add-one at)
       ∙ ap (λ l. written ++ object_lines_from script history tally at l) (sym (dropped names at given found))
 
--- what a follower tells behind so many entries
+-- what a trail tells behind so many entries
 module _ (p : Progress) (script : Lines) (journal : List (Entry (List ℕ))) (k : ℕ) (s : p.script ≡ script) (j : p.journal ≡ journal) (f : p.followed ≡ k) where
   pub begun_at : declared_count p.script ≤ length (history_of p) → declared_count script ≤ length (before journal k)
   begun_at ge = rw (sym s, sym j, sym f) ge

@@ -12,8 +12,6 @@ use Rattle.cml_grammar.specs.declared.script.Step.{Step}
 use Rattle.cml_grammar.specs.Script.{SourceLine, Lines}
 use Rattle.cml_grammar.specs.Meaning.{names_of, seat_of_step}
 use Rattle.cml_grammar.specs.Reading.{source_of, ReadsStep}
-use mir.Val.{bool_byte}
-use Rattle.cml_script.specs.declared.route.Route.{Route}
 use Rattle.cml_script.specs.declared.route.Route.TheVariants as route
 use Rattle.cml_script.specs.Counting.{one_if, how_many}
 use Rattle.cml_script.specs.Schedule.{History, declared_count, is_apart, is_by_ring, is_called, next_position, performed, positions_where, route_of_line, step_call}
@@ -21,10 +19,10 @@ use Rattle.cml_script.specs.Report.{Tallied}
 use Rattle.cml_script.specs.Left.{is_by_lane, is_laid}
 use Rattle.cml_script.specs.Plan.{HasSeats, route_at}
 use Rattle.cml_script.specs.Stalling.{WaitsOrIsDone, is_before, is_passed, IsAllMoved, NobodyGoesOn}
-use Rattle.cml_script.specs.Follower.{Progress, next_call}
+use Rattle.cml_script.specs.Trail.{Progress, next_call}
 use Rattle.cml_script.proofs.ListLemmas.{how_many-append, mapped_at, taken_more}
 use Rattle.cml_script.proofs.QueueLemmas.{position_is, positions_pushed}
-use Rattle.cml_script.proofs.LineLemmas.{all_at, byte_more, called_seated, stands}
+use Rattle.cml_script.proofs.LineLemmas.{all_at, called_seated}
 
 pub one_more : (P : ℕ → Type 0) (n : ℕ) → ((k : ℕ) → k < n → P k) → P n → (k : ℕ) → k < n + 1 → P k
 one_more P n each last k lt = elim (cases_lt k n) [ inl before ↦ each k before | inr ge ↦ let same : n ≡ k = omega (arith, lt, ge) in subst P same last ]
@@ -60,25 +58,6 @@ apart_at script i line found = ap (λ o. is_by_ring (option_map_or (route_of_lin
 
 pub laid_at : (script : Lines) (i : ℕ) (line : SourceLine) → slice_get script.steps i ≡ Some line → is_by_lane (route_at script i) ≡ is_laid script line
 laid_at script i line found = ap (λ o. is_by_lane (option_map_or (route_of_line script) o route.Seat)) found
-
--- so many of the first steps that pass a test are passed
-pub record ArePassed (test : SourceLine → Bool) (script : Lines) (history : History) (i n : ℕ) : Type 0 where
-  pub count : n ≡ how_many (is_passed script history) (positions_where test 0 (take i script.steps))
-  pub few : n ≤ i
-
-pub passed_on : (test : SourceLine → Bool) (goes : Route → Bool) (script : Lines) (history : History) (i n byte : ℕ) (t : Bool)
-    → ((line : SourceLine) → slice_get script.steps i ≡ Some line → goes (route_at script i) ≡ test line) → i < length script.steps
-    → ArePassed test script history i n → byte ≡ bool_byte t → t ≡ (goes (route_at script i) && is_passed script history i)
-    → ArePassed test script history (i + 1) (n + byte)
-passed_on test goes script history i n byte t same within so_far one told =
-    let passed = is_passed script history in
-    let there = stands script.steps i within in
-    let count = how_many passed (positions_where test 0 (take (i + 1) script.steps)) in
-    let all : count ≡ n + one_if (test there.0 && passed i) =
-    omega (arith, passed_more test passed script.steps i there.0 there.1, so_far.count) in
-    let is = told ∙ ap (λ u. u && passed i) (same there.0 there.1) in
-    let on = byte_more n count byte i t (test there.0 && passed i) all one is so_far.few in
-    record { count = on.0; few = on.1 }
 
 -- whether a step is passed, by the next one of its thread
 pub passed_is : (script : Lines) (history : History) (items : List Step) (i : ℕ) (s : Step) (next : Option ℕ) → map (λ x. source_of x.line) items ≡ script.steps → All (ReadsStep (names_of script)) items → slice_get items i ≡ Some s

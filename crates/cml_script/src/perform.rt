@@ -5,9 +5,8 @@ ghost use Rattle.cml_grammar.specs.Rings.{first_ring};
 ghost use Rattle.cml_script.specs.Schedule.{declared_count, Ends};
 ghost use Rattle.cml_script.specs.Play.{IsPlayed, IsPlayedAs};
 
-use crate::execution::Execution;
 use crate::form::Form;
-use crate::ran::Ran;
+use crate::stage::Stage;
 use crate::stop::Stop;
 use crate::tally::Tally;
 use crate::writing::text_as;
@@ -43,47 +42,41 @@ pub(crate) fn play_as(
     requires plain { first_ring script.now ≡ None }
     ensures { IfOk result (λ played. IsPlayedAs form script.now limit played.stop (string_bytes played.report)) }
 {
-    let mut execution = Execution::new(alloc, script, limit)?;
-    let stop = perform(&mut execution)?;
+    let mut stage = Stage::new(alloc, script, limit)?;
+    let stop = perform(&mut stage)?;
     let tally = Tally::no_rings(alloc);
-    let ran = Ran {
-        plan: execution.plan(),
-        board: execution.board(),
-        tally: &tally,
-        stop,
-    };
-    let report = text_as(alloc, form, &ran)?;
+    let report = text_as(alloc, form, script, stage.board(), &tally, stop)?;
     Ok(Played { report, stop })
 }
 
 /// Makes the declared objects, and then performs the steps.
-fn perform(execution: &mut Execution<'_>) -> Result<Stop, AllocError>
-    requires { execution.old.history ≡ no_entries }
-    ensures script { execution.new.script ≡ execution.old.script }
-    ensures limit { execution.new.limit ≡ execution.old.limit }
-    ensures ends { IfOk result (Ends execution.new.script execution.new.limit execution.new.history) }
+fn perform(stage: &mut Stage<'_>) -> Result<Stop, AllocError>
+    requires { stage.old.history ≡ no_entries }
+    ensures script { stage.new.script ≡ stage.old.script }
+    ensures limit { stage.new.limit ≡ stage.old.limit }
+    ensures ends { IfOk result (Ends stage.new.script stage.new.limit stage.new.history) }
 {
-    if !execution.declare()? {
+    if !stage.declare()? {
         return Ok(Stop::Full);
     }
-    perform_all(execution)
+    perform_all(stage)
 }
 
 /// Performs the steps of a script whose objects are made.
-fn perform_all(execution: &mut Execution<'_>) -> Result<Stop, AllocError>
-    requires { entries_in execution.old.history ≡ declared_count execution.old.script }
-    ensures script { execution.new.script ≡ execution.old.script }
-    ensures limit { execution.new.limit ≡ execution.old.limit }
-    ensures ends { IfOk result (Ends execution.new.script execution.new.limit execution.new.history) }
+fn perform_all(stage: &mut Stage<'_>) -> Result<Stop, AllocError>
+    requires { entries_in stage.old.history ≡ declared_count stage.old.script }
+    ensures script { stage.new.script ≡ stage.old.script }
+    ensures limit { stage.new.limit ≡ stage.old.limit }
+    ensures ends { IfOk result (Ends stage.new.script stage.new.limit stage.new.history) }
 {
-    for _ in 0..execution.plan().script().steps().len() {
-        if execution.is_full() {
+    for _ in 0..stage.script().steps().len() {
+        if stage.is_full() {
             return Ok(Stop::Full);
         }
-        let Some(i) = execution.least_ready() else {
+        let Some(i) = stage.least_ready() else {
             return Ok(Stop::Stalled);
         };
-        execution.perform(i)?;
+        stage.perform(i)?;
     }
     Ok(Stop::Done)
 }

@@ -4,10 +4,10 @@ ghost use Rattle.std.specs.Option.{option_map};
 ghost use Rattle.cml_board.specs.History.{entries_in};
 ghost use Rattle.cml_script.specs.Schedule.{History, step_call};
 ghost use Rattle.cml_script.specs.Bindings.{AreBindings};
-ghost use Rattle.cml_script.specs.Working.{Made, BeginsAt, IsOpening, IsUnheld, Works, waits, with_refused, stop_of, first_of, ending_with};
-ghost use Rattle.cml_script.specs.Plan.{route_at};
+ghost use Rattle.cml_script.specs.Working.{Made, BeginsAt, IsOpening, IsTurn, IsUnheld, Works, waits, with_refused, stop_of, first_of, ending_with};
+ghost use Rattle.cml_script.specs.Plan.{IsKnown, route_at};
 ghost use Rattle.cml_grammar.specs.Reading.{IsCapacity};
-ghost use Rattle.cml_script.specs.Course.{IsAfter, IsAt, IsRefusedSo, closed_if};
+ghost use Rattle.cml_script.specs.Course.{IsUnderWay, IsRefusedSo, closed_if};
 
 use super::caller::Caller;
 use super::gate::Gate;
@@ -29,14 +29,6 @@ struct Course {
     made: usize,
     // Whether the thread may have a lane open.
     is_sending: bool,
-}
-
-/// A step that a thread performs now.
-#[derive(Clone, Copy)]
-struct Turn<'a, 's> {
-    plan: &'a Plan<'s>,
-    thread: usize,
-    step: usize,
 }
 
 /// Performs the steps of a thread, in order, once the declared objects are made. It stops at the first that fails, or when
@@ -68,8 +60,7 @@ pub fn work<C: Caller, G: Gate>(
         if !gate.before(thread, nth) {
             return close(&course, caller, Stop::Held);
         }
-        let turn = Turn { plan, thread, step };
-        if let Err(refusal) = perform(&turn, &mut course, caller) {
+        if let Err(refusal) = perform(plan, thread, step, &mut course, caller) {
             return stop_of(refusal);
         }
         gate.after(thread, nth);
@@ -95,42 +86,54 @@ fn close<C: Caller>(course: &Course, caller: &mut C, stop: Stop) -> Result<Stop,
 
 /// Performs a step of the thread, by its seat or by a ring.
 fn perform<C: Caller>(
-    turn: &Turn<'_, '_>,
+    plan: &Plan<'_>,
+    thread: usize,
+    step: usize,
     course: &mut Course,
     caller: &mut C,
 ) -> Result<(), Refusal>
+    requires thread { thread < 64 }
+    requires known { IsKnown plan.now }
     requires goes_on { C.goes_on caller.old ≡ true }
-    requires at { IsAt turn.now course.old (C.made caller.old) }
+    requires turn { IsTurn plan.now (thread + 1) step }
+    requires room { course.old.made < 2 ^ 63 }
+    requires way { IsUnderWay plan.now (thread + 1) step course.old (C.made caller.old) }
     ensures goes_on { OnOk result (C.goes_on caller.new ≡ true) }
-    ensures way { OnOk result (IsAfter turn.now course.new (C.made caller.new)) }
+    ensures way { OnOk result (IsUnderWay plan.now (thread + 1) (step + 1) course.new (C.made caller.new)) }
     ensures refused { IfErr result (λ refusal. IsRefusedSo refusal (C.made caller.old) (C.made caller.new)) }
 {
-    match turn.plan.route(turn.step) {
-        Route::Seat => perform_seated(turn, course, caller),
-        Route::Lane(capacity) => send_apart(turn, capacity, course, caller),
+    match plan.route(step) {
+        Route::Seat => perform_seated(plan, thread, step, course, caller),
+        Route::Lane(capacity) => send_apart(plan, thread, step, capacity, course, caller),
         Route::Feed(feed) => caller.poll_apart(feed),
     }
 }
 
 /// Performs a step by the thread's seat.
 fn perform_seated<C: Caller>(
-    turn: &Turn<'_, '_>,
+    plan: &Plan<'_>,
+    thread: usize,
+    step: usize,
     course: &mut Course,
     caller: &mut C,
 ) -> Result<(), Refusal>
+    requires thread { thread < 64 }
+    requires known { IsKnown plan.now }
     requires goes_on { C.goes_on caller.old ≡ true }
-    requires at { IsAt turn.now course.old (C.made caller.old) }
-    requires called { route_at turn.now.plan.now turn.now.step ≡ Route.Seat }
+    requires turn { IsTurn plan.now (thread + 1) step }
+    requires room { course.old.made < 2 ^ 63 }
+    requires called { route_at plan.now step ≡ Route.Seat }
+    requires way { IsUnderWay plan.now (thread + 1) step course.old (C.made caller.old) }
     ensures goes_on { OnOk result (C.goes_on caller.new ≡ true) }
-    ensures way { OnOk result (IsAfter turn.now course.new (C.made caller.new)) }
+    ensures way { OnOk result (IsUnderWay plan.now (thread + 1) (step + 1) course.new (C.made caller.new)) }
     ensures refused { IfErr result (λ refusal. IsRefusedSo refusal (C.made caller.old) (C.made caller.new)) }
 {
-    let Ok(call) = call_of(turn, course) else {
+    let Ok(call) = call_of(plan, thread, step, course) else {
         return Err(caller.lack_memory());
     };
     close_before(&call, course, caller)?;
     let answer = caller.call(call)?;
-    let given = turn.plan.given(turn.step);
+    let given = plan.given(step);
     bind(&mut course.bindings, given, answer.call(), answer.reply());
     course.made += 1;
     Ok(())
@@ -164,40 +167,51 @@ fn may_wait(call: &Call<Text>) -> bool
 
 /// Performs a step by the thread's lane.
 fn send_apart<C: Caller>(
-    turn: &Turn<'_, '_>,
+    plan: &Plan<'_>,
+    thread: usize,
+    step: usize,
     capacity: usize,
     course: &mut Course,
     caller: &mut C,
 ) -> Result<(), Refusal>
+    requires thread { thread < 64 }
+    requires known { IsKnown plan.now }
     requires goes_on { C.goes_on caller.old ≡ true }
-    requires at { IsAt turn.now course.old (C.made caller.old) }
-    requires laid { route_at turn.now.plan.now turn.now.step ≡ Route.Lane capacity }
+    requires turn { IsTurn plan.now (thread + 1) step }
+    requires laid { route_at plan.now step ≡ Route.Lane capacity }
     requires capacity { IsCapacity capacity }
+    requires way { IsUnderWay plan.now (thread + 1) step course.old (C.made caller.old) }
     ensures goes_on { OnOk result (C.goes_on caller.new ≡ true) }
-    ensures way { OnOk result (IsAfter turn.now course.new (C.made caller.new)) }
+    ensures way { OnOk result (IsUnderWay plan.now (thread + 1) (step + 1) course.new (C.made caller.new)) }
     ensures refused { IfErr result (λ refusal. C.made caller.new ≡ option_map (with_refused refusal) (C.made caller.old)) }
 {
-    match &turn.plan.script().steps()[turn.step].action {
+    match &plan.script().steps()[step].action {
         Action::Give(_, at, message) => {
             let Ok(message) = message.clone() else {
                 return Err(caller.lack_memory());
             };
             course.is_sending = true;
-            caller.send_apart(turn.plan.number(*at), capacity, message)
+            caller.send_apart(plan.number(*at), capacity, message)
         }
         Action::Ask(_, _) => unreachable!(),
     }
 }
 
 /// The call of a step that the thread's seat performs next, with a copy of its message.
-fn call_of(turn: &Turn<'_, '_>, course: &Course) -> Result<Call<Text>, AllocError>
-    requires called { route_at turn.now.plan.now turn.now.step ≡ Route.Seat }
-    requires at { (made : Option Made) × IsAt turn.now course.now made }
-    ensures { IfOk result (λ call. (history : History) → entries_in history ≡ course.now.made → AreBindings turn.now.plan.now history course.now.bindings.items
-        → step_call turn.now.plan.now history turn.now.step ≡ Some call) }
+fn call_of(
+    plan: &Plan<'_>,
+    thread: usize,
+    step: usize,
+    course: &Course,
+) -> Result<Call<Text>, AllocError>
+    requires known { IsKnown plan.now }
+    requires turn { IsTurn plan.now (thread + 1) step }
+    requires called { route_at plan.now step ≡ Route.Seat }
+    requires way { (made : Option Made) × IsUnderWay plan.now (thread + 1) step course.now made }
+    ensures { IfOk result (λ call. (history : History) → entries_in history ≡ course.now.made → AreBindings plan.now history course.now.bindings.items
+        → step_call plan.now history step ≡ Some call) }
 {
-    let plan = turn.plan;
-    let action = &plan.script().steps()[turn.step].action;
+    let action = &plan.script().steps()[step].action;
     let object = plan.object(used_by(action), course.made as u64, &course.bindings);
     let call = call_on(action, object.unwrap())?;
     Ok(call)

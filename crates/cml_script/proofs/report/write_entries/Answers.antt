@@ -2,7 +2,7 @@ use Rattle.std.proofs.Common.{◌++◌, ◌+◌, ap, sym, ◌∙◌, string_byte
 use Rattle.std.proofs.lemmas.Bool.{false≢true}
 use Rattle.cml_board.specs.Positions.{before}
 use Rattle.cml_script.specs.Report.{entry_lines, entry_line}
-use Rattle.cml_script.specs.Follower.{Progress}
+use Rattle.cml_script.specs.Trail.{Progress}
 use Rattle.cml_script.proofs.ListLemmas.{read_at}
 use Rattle.cml_script.proofs.JournalLemmas.{before_more}
 use Rattle.cml_script.proofs.ReportLemmas.{line_more, no_line, begun_at, not_begun_at, entry_at}
@@ -14,8 +14,8 @@ use Rattle.cml_script.proofs.report.write_entries.Goals.{then-has_begun+in_ok-wr
 pub loop-entry-preserved : goal.loop-entry-preserved
 loop-entry-preserved c =
     let so_far = c.loop-entry.invariant in
-    let follower = c.loop-entry.follower in
-    let script = c.args.follower.now.script in
+    let trail = c.loop-entry.trail in
+    let script = c.args.trail.now.script in
     let journal = c.args.journal.now in
     let k = c.loop-entry.entry-index in
     let entry = c.entry-item.result in
@@ -27,14 +27,14 @@ loop-entry-preserved c =
       followed = ap (λ (p : Progress). p.followed) c.follow.ensures ∙ ap (λ n. n + 1) so_far.followed;
       text = elim c.if-has_begun.branch [
         | then-has_begun+in_ok-write_entry w ↦
-            let begun = begun_at follower script journal k so_far.script so_far.journal so_far.followed (c.has_begun.ensures.0 w.if-has_begun.true) in
+            let begun = begun_at trail script journal k so_far.script so_far.journal so_far.followed (c.has_begun.ensures.0 w.if-has_begun.true) in
             ap (λ (r : String Global). string_bytes r) w.report-is ∙ w.in_ok-write_entry.ensures
-            ∙ ap (λ t. t ++ entry_line follower.script (before follower.journal follower.followed) entry) so_far.text
-            ∙ ap (λ t. entry_lines script (before journal k) ++ t) (entry_at follower script journal k so_far.script so_far.journal so_far.followed entry)
+            ∙ ap (λ t. t ++ entry_line trail.script (before trail.journal trail.followed) entry) so_far.text
+            ∙ ap (λ t. entry_lines script (before journal k) ++ t) (entry_at trail script journal k so_far.script so_far.journal so_far.followed entry)
             ∙ sym (line_more script (before journal k) entry begun)
             ∙ sym (ap (entry_lines script) more)
         | else-has_begun w ↦
-            let early = not_begun_at follower script journal k so_far.script so_far.journal so_far.followed (λ ge. false≢true (sym w.if-has_begun.false ∙ c.has_begun.ensures.1 ge)) in
+            let early = not_begun_at trail script journal k so_far.script so_far.journal so_far.followed (λ ge. false≢true (sym w.if-has_begun.false ∙ c.has_begun.ensures.1 ge)) in
             ap (λ (r : String Global). string_bytes r) w.report-is ∙ so_far.text
             ∙ sym (no_line script (before journal k) entry early) ∙ sym (ap (entry_lines script) more)
       ];

@@ -1,0 +1,7 @@
+use Rattle.std.proofs.Common.{ℕ, ◌+◌, ◌<◌}
+use Rattle.cml_script.specs.Stalling.{WaitsOrIsDone}
+use Rattle.cml_script.specs.Trail.{history_of}
+use Rattle.cml_script.proofs.trail.Trail.all_wait.Given as goal
+
+abbrev pub invariant-loop-thread : goal.invariant-loop-thread
+invariant-loop-thread l = (k : ℕ) → k < l.thread → WaitsOrIsDone l.self.script (history_of l.self) (k + 1)

@@ -1,0 +1,17 @@
+use Rattle.std.proofs.Common.{ap, arith}
+use Rattle.std.proofs.lemmas.Bool.{leb-true, le-leb}
+use Rattle.cml_script.specs.Trail.{Progress}
+use Rattle.cml_script.proofs.JournalLemmas.{before_length}
+use Rattle.cml_script.proofs.TrailLemmas.{followed_at, places_length}
+use Rattle.cml_script.proofs.trail.Trail.has_begun.Goals as goal
+
+pub returns : goal.returns
+returns c =
+    let trail = c.args.self.now in
+    let follows = followed_at c.self.view_is c.self.invariant in
+    let long = before_length trail.journal trail.followed follows.within in
+    let made = places_length trail.script c.self.inside.objects.places.items follows.objects.placed in
+    let same = ap (λ (p : Progress). p.followed) c.self.view_is in (
+      λ begun. omega (arith, long, made, same, leb-true c.len.result c.self.inside.followed begun, c.len.ensures, c.self.inside.objects.places.ok.0),
+      λ le. le-leb c.len.result c.self.inside.followed (omega (arith, long, made, same, le, c.len.ensures, c.self.inside.objects.places.ok.0)),
+    )

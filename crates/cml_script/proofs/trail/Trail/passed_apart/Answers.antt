@@ -1,0 +1,21 @@
+use Rattle.std.proofs.Common.{◌&&◌, ◌+◌, take, ap, ◌∙◌, arith}
+use Rattle.cml_script.specs.Counting.{how_many}
+use Rattle.cml_script.specs.Schedule.{is_apart, positions_where}
+use Rattle.cml_script.specs.Stalling.{is_passed}
+use Rattle.cml_script.specs.Trail.{history_of}
+use Rattle.cml_script.proofs.LineLemmas.{byte_more, stands}
+use Rattle.cml_script.proofs.StallingLemmas.{kept_within, passed_more, apart_at}
+use Rattle.cml_script.proofs.trail.Trail.passed_apart.Goals as goal
+
+pub loop-i-preserved : goal.loop-i-preserved
+loop-i-preserved c =
+    let script = c.args.self.now.script in
+    let passed = is_passed script (history_of c.args.self.now) in
+    let i = c.loop-i.i in
+    let steps = rw c.script.ensures at c.steps-i-end.ensures in
+    let there = stands script.steps i (kept_within _ c.args.self.now c.steps-i-end.result.now i c.self.view_is steps.lines c.loop-i-test.true) in
+    let more = passed_more (is_apart script) passed script.steps i there.0 there.1 in
+    let told = c.is_passed_apart.ensures ∙ ap (λ t. t && passed i) (apart_at script i there.0 there.1) in
+    let so_far = c.loop-i.invariant in
+    let on = byte_more _ (how_many passed (positions_where (is_apart script) 0 (take (i + 1) script.steps))) _ i _ (is_apart script there.0 && passed i) (omega (arith, more, so_far.passed)) c.from-passed.ensures told so_far.few in
+    record { passed = on.0; few = on.1 }

@@ -1,0 +1,12 @@
+use Rattle.std.proofs.Common.{◌≡◌, ◌≤◌, take}
+use Rattle.cml_script.specs.Counting.{how_many}
+use Rattle.cml_script.specs.Schedule.{is_apart, positions_where}
+use Rattle.cml_script.specs.Stalling.{is_passed}
+use Rattle.cml_script.specs.Trail.{history_of}
+use Rattle.cml_script.proofs.trail.Trail.passed_apart.Given as goal
+
+abbrev pub invariant-loop-i : goal.invariant-loop-i
+invariant-loop-i l = record {
+  passed : l.passed ≡ how_many (is_passed l.self.script (history_of l.self)) (positions_where (is_apart l.self.script) 0 (take l.i l.self.script.steps));
+  few : l.passed ≤ l.i;
+}
