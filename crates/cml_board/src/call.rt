@@ -137,14 +137,30 @@ impl<M> Call<M> {
     }
 
     /// Returns which objects take the call. This is one column of the row, which a board looks at in each call.
+    // A board calls this and `object` in each call. To match the variants costs less than to take the call apart.
     #[inline(always)]
     pub fn takers(&self) -> Takers
         ensures { result ≡ (row_of self.now).takers }
     {
-        match self.parts() {
-            Parts::Make(_) | Parts::Fill(_) => Takers::Nobody,
-            Parts::Give(give, _, _) => give.takers(),
-            Parts::Ask(ask, _) => ask.takers(),
+        match self {
+            Call::NewMailbox
+            | Call::NewChannel
+            | Call::NewIVar
+            | Call::NewMVar
+            | Call::MVarInit(_) => { Takers::Nobody }
+            Call::NewPort(_) => Ask::NewPort.takers(),
+            Call::CopyPort(_) => Ask::CopyPort.takers(),
+            Call::ClosePort(_) => Ask::ClosePort.takers(),
+            Call::Send(_, _) => Give::Send.takers(),
+            Call::Cast(_, _) => Give::Cast.takers(),
+            Call::Recv(_) => Ask::Recv.takers(),
+            Call::Poll(_) => Ask::Poll.takers(),
+            Call::Put(_, _) => Give::Put.takers(),
+            Call::Get(_) => Ask::Get.takers(),
+            Call::GetPoll(_) => Ask::GetPoll.takers(),
+            Call::Take(_) => Ask::Take.takers(),
+            Call::TakePoll(_) => Ask::TakePoll.takers(),
+            Call::Swap(_, _) => Give::Swap.takers(),
         }
     }
 
@@ -164,9 +180,15 @@ impl<M> Call<M> {
     pub fn object(&self) -> Option<Name>
         ensures { result ≡ object_in self.now }
     {
-        match self.parts() {
-            Parts::Give(_, name, _) | Parts::Ask(_, name) => Some(name),
-            Parts::Make(_) | Parts::Fill(_) => None,
+        match self {
+            Call::NewMailbox | Call::NewChannel => None,
+            Call::NewIVar | Call::NewMVar | Call::MVarInit(_) => None,
+            Call::NewPort(name) | Call::CopyPort(name) | Call::ClosePort(name) => Some(*name),
+            Call::Send(name, _) | Call::Cast(name, _) => Some(*name),
+            Call::Recv(name) | Call::Poll(name) => Some(*name),
+            Call::Put(name, _) | Call::Swap(name, _) => Some(*name),
+            Call::Get(name) | Call::GetPoll(name) => Some(*name),
+            Call::Take(name) | Call::TakePoll(name) => Some(*name),
         }
     }
 }
