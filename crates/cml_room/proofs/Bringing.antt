@@ -29,7 +29,7 @@ use Rattle.cml_lanes.proofs.Laning.{kind_more}
 use Rattle.cml_room.specs.declared.news.News.{News}
 use Rattle.cml_room.specs.declared.place.Place.{Place}
 use Rattle.cml_room.specs.News.{object_of, news_in, IsOf}
-use Rattle.cml_room.specs.Waking.{AreAt, Follows, HasEntries, IsWatched, WasWatched}
+use Rattle.cml_room.specs.Waking.{AreAt, Follows, HasEntries, IsWatched, WasWatched, WasWatchedAt}
 use Rattle.cml_room.proofs.Following.{Leads, way_news, lanes_lead, feeds_lead, one_leads, follows, same_follows}
 use Rattle.cml_room.proofs.Unmoved.{by_reason}
 
@@ -186,3 +186,8 @@ module _ {M : Type 0} where
   pub was_placed : (news : Option News) (floor : FloorShown M) (places : List Place) (all_due : Bool) → WasWatched news floor places all_due
       → AreAt floor.board.history places
   was_placed news floor places all_due was = placed_on was.before floor places all_due news was.watched was.follows
+
+  -- what a call on a lane or a feed leaves to be told
+  pub was_watched_at : {entries : ℕ} {floor : FloorShown M} {places : List Place} {all_due : Bool} (before : FloorShown M) → HasEntries entries before
+      → IsWatched before places all_due → Deed before floor → WasWatchedAt entries floor places all_due
+  was_watched_at before had watched deed = record { before = before; had = had; watched = watched; deed = deed }

@@ -86,3 +86,9 @@ module _ {M : Type 0} where
         enough = counted.enough;
         own_parts = omega (arith, same, counted.own_parts);
       }
+
+  -- what a call on a lane or a feed leaves to be counted
+  pub was_counted : {entries book own parts whole : ℕ} {new : RoomShown M} (before : RoomShown M) → entries ≡ entries_in before.board.history
+      → IsCounted before.board (length before.seats) book own parts whole → new.seats ≡ before.seats → Deed (floor_of before) (floor_of new)
+      → WasCounted entries new book own parts whole
+  was_counted before had counted seats deed = record { before = before; had = had; counted = counted; seats = seats; deed = deed }

@@ -2,16 +2,13 @@ use Rattle.std.proofs.Common.{subst}
 use Rattle.cml_lanes.specs.Lanes.{Closes}
 use Rattle.cml_room.specs.Room.{RoomShown, floor_of}
 use Rattle.cml_lanes.proofs.Deeds.{closes}
+use Rattle.cml_room.proofs.Bringing.{was_watched_at}
 use Rattle.cml_room.proofs.Frames.{stirs_few}
 use Rattle.cml_room.proofs.room.Room.close_lane.Goals as goal
 
 pub settle_since-requires : goal.settle_since-requires
-settle_since-requires g c = record {
-  before = c.self.inside.floor;
-  had = c.count_entries-before.ensures;
-  watched = c.self.invariant;
-  deed = closes g.L.MessageLog.CHUNK g.M.Message.SURE c.self.inside.floor c.close_lane-told.new.self c.args.end c.close_lane-told.result c.close_lane-told.ensures.closes;
-}
+settle_since-requires g c = was_watched_at c.self.inside.floor c.count_entries-before.ensures c.self.invariant
+    (closes g.L.MessageLog.CHUNK g.M.Message.SURE c.self.inside.floor c.close_lane-told.new.self c.args.end c.close_lane-told.result c.close_lane-told.ensures.closes)
 
 pub returns-clause-closes : goal.returns-clause-closes
 returns-clause-closes g c =

@@ -1,13 +1,15 @@
-use Rattle.std.proofs.Common.{◌≡◌, true, slice_get, slice_set, Some, refl, sym, ap, subst, ◌∙◌, arith}
+use Rattle.std.proofs.Common.{◌≡◌, ◌<◌, true, length, slice_get, slice_set, Some, refl, sym, ap, subst, ◌∙◌, arith}
 use Rattle.std.proofs.lemmas.Option.{slice_get_within, slice_get-get_or, same_Some}
 use Rattle.std.proofs.lemmas.List.{set-set}
 use Rattle.cml_board.proofs.ListLemmas.{slice_get-set_same}
+use Rattle.cml_room.specs.declared.place.Waiter.{Waiter}
 use Rattle.cml_room.specs.declared.notice.Notice.TheVariants as notice
 use Rattle.cml_room.specs.declared.place.Place.TheVariants as place
 use Rattle.cml_room.specs.Places.{noted_as, row_in, noted_in, notice_in, AreListed}
 use Rattle.cml_queues.specs.Queues.{queue_of, is_in}
 use Rattle.cml_room.specs.Seats.{SeatsShown, WakesNext}
 use Rattle.cml_room.proofs.Listing.{listed_same, listed_push, listed_remove, has_at, unwoken_waits, not_due, seen_at, kept_set}
+use Rattle.cml_room.proofs.seats.Seats.wake_next.Goals.{In_ok-number, In-Waiting}
 use Rattle.cml_room.proofs.seats.Seats.wake_next.Goals as goal
 
 pub returns-in_err-number-clause-woken : goal.returns-in_err-number-clause-woken
@@ -20,39 +22,43 @@ returns-in_err-number-clause-woken c =
           (sym c.in_err-number.ensures.first) here,
     )
 
+-- the seat is in the row of those that `next_due` has not returned
+listed : (c : In_ok-number) → is_in c.self.inside.due 0 c.in_ok-number.number ≡ true
+listed c = has_at (queue_of c.self.inside.due 0) 0 c.in_ok-number.number (sym c.in_ok-number.ensures.first)
+
+-- so it waits, and is due
+waits : (c : In_ok-number) → (waiter : Waiter) × (slice_get c.self.inside.places.items c.in_ok-number.number ≡ Some (place.Waiting waiter)) × (waiter.notice ≡ notice.Due)
+waits c = unwoken_waits (slice_get c.self.inside.places.items c.in_ok-number.number) (sym (c.self.invariant.in_due c.in_ok-number.number 0) ∙ listed c)
+
+within : (c : In_ok-number) → c.in_ok-number.number < length c.self.inside.places.items
+within c = slice_get_within c.self.inside.places.items c.in_ok-number.number (place.Waiting (waits c).0) (waits c).1
+
+-- and the place that the code reads is this one
+seen : (c : In-Waiting) → c.in_ok-number.number < length c.self.inside.places.items
+    → slice_get c.self.inside.places.items c.in_ok-number.number ≡ Some (place.Waiting c.in-Waiting.waiter)
+seen c inside = seen_at c.self.inside.places.items c.in_ok-number.number c.index.result.now _ inside c.index.ensures c.in-Waiting.is
+
 pub index-requires : goal.index-requires
-index-requires c =
-    let number = c.in_ok-number.number in
-    let at : is_in c.self.inside.due 0 number ≡ true = has_at (queue_of c.self.inside.due 0) 0 number (sym c.in_ok-number.ensures.first) in
-    let is = unwoken_waits (slice_get c.self.inside.places.items number) (sym (c.self.invariant.in_due number 0) ∙ at) in
-    omega (arith, slice_get_within c.self.inside.places.items number (place.Waiting is.0) is.1, c.self.inside.places.ok)
+index-requires c = omega (arith, within (goal.at.index-requires c).In_ok-number, c.self.inside.places.ok)
 
 pub unreachable-requires : goal.unreachable-requires
 unreachable-requires c =
-    let number = c.in_ok-number.number in
-    let at : is_in c.self.inside.due 0 number ≡ true = has_at (queue_of c.self.inside.due 0) 0 number (sym c.in_ok-number.ensures.first) in
-    let is = unwoken_waits (slice_get c.self.inside.places.items number) (sym (c.self.invariant.in_due number 0) ∙ at) in
-    let within = slice_get_within c.self.inside.places.items number (place.Waiting is.0) is.1 in
-    c.in_default.not-Waiting is.0 (same_Some _ _ (sym (slice_get-get_or c.self.inside.places.items number c.index.result.now within ∙ ap Some (sym c.index.ensures)) ∙ is.1))
+    let at = (goal.at.unreachable-requires c).In_ok-number in
+    c.in_default.not-Waiting (waits at).0
+    (same_Some _ _ (sym (slice_get-get_or c.self.inside.places.items c.in_ok-number.number c.index.result.now (within at) ∙ ap Some (sym c.index.ensures)) ∙ (waits at).1))
 
 pub remove-requires : goal.remove-requires
-remove-requires c = has_at (queue_of c.self.inside.due 0) 0 c.in_ok-number.number (sym c.in_ok-number.ensures.first)
+remove-requires c = listed (goal.at.remove-requires c).In_ok-number
 
 pub index_mut-requires : goal.index_mut-requires
-index_mut-requires c =
-    let number = c.in_ok-number.number in
-    let at : is_in c.self.inside.due 0 number ≡ true = has_at (queue_of c.self.inside.due 0) 0 number (sym c.in_ok-number.ensures.first) in
-    let is = unwoken_waits (slice_get c.self.inside.places.items number) (sym (c.self.invariant.in_due number 0) ∙ at) in
-    omega (arith, slice_get_within c.self.inside.places.items number (place.Waiting is.0) is.1, c.self.inside.places.ok)
+index_mut-requires c = omega (arith, within (goal.at.index_mut-requires c).In_ok-number, c.self.inside.places.ok)
 
 pub invariant_of-self : goal.invariant_of-self
 invariant_of-self c =
     let number = c.in_ok-number.number in
-    let at : is_in c.self.inside.due 0 number ≡ true = has_at (queue_of c.self.inside.due 0) 0 number (sym c.in_ok-number.ensures.first) in
-    let is = unwoken_waits (slice_get c.self.inside.places.items number) (sym (c.self.invariant.in_due number 0) ∙ at) in
-    let within = slice_get_within c.self.inside.places.items number (place.Waiting is.0) is.1 in
-    let was = seen_at c.self.inside.places.items number c.index.result.now _ within c.index.ensures c.in-Waiting.is in
-    let due : c.in-Waiting.waiter.notice ≡ notice.Due = ap notice_in (sym was ∙ is.1) ∙ is.2 in
+    let at = (goal.at.invariant_of-self c).In_ok-number in
+    let was = seen (goal.at.invariant_of-self c).In-Waiting (within at) in
+    let due : c.in-Waiting.waiter.notice ≡ notice.Due = ap notice_in (sym was ∙ (waits at).1) ∙ (waits at).2 in
     let quiet = listed_remove c.self.inside.due c.remove.new.self noted_in c.self.inside.places.items 0 number (place.Waiting c.in-Waiting.waiter)
     (place.Waiting (record c.in-Waiting.waiter { notice = notice.Nothing })) was c.self.invariant.in_due (λ r. ap (λ n. noted_as n r) due) (λ r. refl)
     c.remove.ensures.gone c.remove.ensures.kept c.remove.ensures.others in
@@ -67,11 +73,9 @@ invariant_of-self c =
 pub returns-clause-woken : goal.returns-clause-woken
 returns-clause-woken c =
     let number = c.in_ok-number.number in
-    let at : is_in c.self.inside.due 0 number ≡ true = has_at (queue_of c.self.inside.due 0) 0 number (sym c.in_ok-number.ensures.first) in
-    let is = unwoken_waits (slice_get c.self.inside.places.items number) (sym (c.self.invariant.in_due number 0) ∙ at) in
-    let within = slice_get_within c.self.inside.places.items number (place.Waiting is.0) is.1 in
-    let was = seen_at c.self.inside.places.items number c.index.result.now _ within c.index.ensures c.in-Waiting.is in
-    let due : c.in-Waiting.waiter.notice ≡ notice.Due = ap notice_in (sym was ∙ is.1) ∙ is.2 in (
+    let at = (goal.at.returns-clause-woken c).In_ok-number in
+    let was = seen (goal.at.returns-clause-woken c).In-Waiting (within at) in
+    let due : c.in-Waiting.waiter.notice ≡ notice.Due = ap notice_in (sym was ∙ (waits at).1) ∙ (waits at).2 in (
       c.in-Waiting.waiter,
       ap (λ (v : SeatsShown). slice_get v.places number) (sym c.self.view_is) ∙ was,
       due,

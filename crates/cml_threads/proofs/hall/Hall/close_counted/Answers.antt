@@ -3,17 +3,13 @@ use Rattle.cml_lanes.specs.Lanes.{ClosesCounted}
 use Rattle.cml_lanes.proofs.Deeds.{closes_counted}
 use Rattle.cml_room.specs.Room as room
 use Rattle.cml_threads.specs.Hosting.{Hosted, floor_of}
+use Rattle.cml_threads.proofs.Counting.{was_counted}
 use Rattle.cml_threads.proofs.hall.Hall.close_counted.Goals as goal
 
 pub count_since-requires : goal.count_since-requires
-count_since-requires g c = record {
-  before = c.self.inside.room;
-  had = c.count_entries-before.ensures;
-  counted = c.self.invariant;
-  seats = c.close_counted-told.ensures.stirs.seats;
-  deed = closes_counted g.L.MessageLog.CHUNK g.M.Message.SURE (room.floor_of c.self.inside.room) (room.floor_of c.close_counted-told.new.self) c.args.end
-      c.close_counted-told.result c.close_counted-told.ensures.closes;
-}
+count_since-requires g c = was_counted c.self.inside.room c.count_entries-before.ensures c.self.invariant c.close_counted-told.ensures.stirs.seats
+    (closes_counted g.L.MessageLog.CHUNK g.M.Message.SURE _ (room.floor_of c.close_counted-told.new.self) c.args.end
+    c.close_counted-told.result c.close_counted-told.ensures.closes)
 
 pub returns-clause-closes : goal.returns-clause-closes
 returns-clause-closes g c =

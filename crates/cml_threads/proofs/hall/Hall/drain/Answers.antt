@@ -3,17 +3,13 @@ use Rattle.cml_lanes.specs.Floor.{KeepsRings}
 use Rattle.cml_lanes.proofs.Deeds.{drains}
 use Rattle.cml_room.specs.Room as room
 use Rattle.cml_threads.specs.Hosting.{Hosted, floor_of}
+use Rattle.cml_threads.proofs.Counting.{was_counted}
 use Rattle.cml_threads.proofs.hall.Hall.drain.Goals as goal
 
 pub count_since-requires : goal.count_since-requires
-count_since-requires g c = record {
-  before = c.self.inside.room;
-  had = c.count_entries-before.ensures;
-  counted = c.self.invariant;
-  seats = c.drain-told.ensures.stirs.seats;
-  deed = drains g.L.MessageLog.CHUNK g.M.Message.SURE c.args.lane (room.floor_of c.self.inside.room) (room.floor_of c.drain-told.new.self)
-      c.drain-told.result c.drain-told.ensures.drains;
-}
+count_since-requires g c = was_counted c.self.inside.room c.count_entries-before.ensures c.self.invariant c.drain-told.ensures.stirs.seats
+    (drains g.L.MessageLog.CHUNK g.M.Message.SURE c.args.lane _ (room.floor_of c.drain-told.new.self)
+    c.drain-told.result c.drain-told.ensures.drains)
 
 pub returns-clause-rings : goal.returns-clause-rings
 returns-clause-rings g c =
