@@ -16,26 +16,15 @@ use Rattle.cml_board.specs.Parts.{parts_of, made_call, given_call, asked_call, c
 module _ {M : Type 0} where
   pub made_parts : (m : Make) → parts_of {M = M} (made_call m) ≡ parts.Make m
   made_parts make.Mailbox = refl
-  made_parts make.Channel = refl
-  made_parts make.IVar = refl
-  made_parts make.MVar = refl
+  made_parts other = refl
 
   pub given_parts : (g : Give) (name : Name) (message : M) → parts_of (given_call g name message) ≡ parts.Give g name message
   given_parts give.Send name message = refl
-  given_parts give.Cast name message = refl
-  given_parts give.Put name message = refl
-  given_parts give.Swap name message = refl
+  given_parts other name message = refl
 
   pub asked_parts : (a : Ask) (name : Name) → parts_of {M = M} (asked_call a name) ≡ parts.Ask a name
   asked_parts ask.NewPort name = refl
-  asked_parts ask.CopyPort name = refl
-  asked_parts ask.ClosePort name = refl
-  asked_parts ask.Recv name = refl
-  asked_parts ask.Poll name = refl
-  asked_parts ask.Get name = refl
-  asked_parts ask.GetPoll name = refl
-  asked_parts ask.Take name = refl
-  asked_parts ask.TakePoll name = refl
+  asked_parts other name = refl
 
   -- what was put together is taken apart again
   pub parts_again : (p : Parts M) → parts_of (call_of p) ≡ p
@@ -47,23 +36,7 @@ module _ {M : Type 0} where
   -- and what was taken apart is put together again
   pub call_again : (c : Call M) → call_of (parts_of c) ≡ c
   call_again call.NewMailbox = refl
-  call_again call.NewChannel = refl
-  call_again (call.NewPort name) = refl
-  call_again (call.CopyPort name) = refl
-  call_again (call.ClosePort name) = refl
-  call_again call.NewIVar = refl
-  call_again call.NewMVar = refl
-  call_again (call.MVarInit message) = refl
-  call_again (call.Send name message) = refl
-  call_again (call.Cast name message) = refl
-  call_again (call.Recv name) = refl
-  call_again (call.Poll name) = refl
-  call_again (call.Put name message) = refl
-  call_again (call.Get name) = refl
-  call_again (call.GetPoll name) = refl
-  call_again (call.Take name) = refl
-  call_again (call.TakePoll name) = refl
-  call_again (call.Swap name message) = refl
+  call_again other = refl
 
   -- so what holds of the calls of each row holds of each call
   pub by_row : (P : Call M → Type 0) → ((m : Make) → P (made_call m)) → ((message : M) → P (call.MVarInit message))

@@ -174,10 +174,9 @@ module _ {M : Type 0} where
       same_facts h (noted who (asked_call ask.Recv name) Closed) k (same_origin h k) refl (no_messages (eqb name.0 k)) refl refl
   asking_same h who ask.Poll name k is =
       same_facts h (noted who (asked_call ask.Poll name) Closed) k (same_origin h k) refl (no_messages (eqb name.0 k)) refl refl
-  asking_same h who ask.CopyPort name k is = same_facts h (noted who (asked_call ask.CopyPort name) Closed) k (same_origin h k) refl refl refl refl
   asking_same h who ask.ClosePort name k is =
       same_facts h (noted who (asked_call ask.ClosePort name) Closed) k (same_origin h k) refl refl (not_closing (eqb name.0 k)) refl
-  asking_same h who other name k is = absurd (false≢true is)
+  asking_same h who other name k is = same_facts h (noted who (asked_call other name) Closed) k (same_origin h k) refl refl refl refl
 
   pub asking_made : (h : List (Entry M)) (who : Who) (asks : Ask) (name : Name)
       → length (made (noted who (asked_call asks name) Closed ∷ h)) ≡ length (made h)

@@ -22,23 +22,7 @@ who_round (who.Feed number) = refl
 call_round : {M : Type 0} (other : M) (call : Call M)
     → call_at (call_kind call) (record { 0 = call_object call }) (unwrap_or (message_of call) other) ≡ Some call
 call_round other call.NewMailbox = refl
-call_round other call.NewChannel = refl
-call_round other (call.NewPort name) = refl
-call_round other (call.CopyPort name) = refl
-call_round other (call.ClosePort name) = refl
-call_round other call.NewIVar = refl
-call_round other call.NewMVar = refl
-call_round other (call.MVarInit message) = refl
-call_round other (call.Send name message) = refl
-call_round other (call.Cast name message) = refl
-call_round other (call.Recv name) = refl
-call_round other (call.Poll name) = refl
-call_round other (call.Put name message) = refl
-call_round other (call.Get name) = refl
-call_round other (call.GetPoll name) = refl
-call_round other (call.Take name) = refl
-call_round other (call.TakePoll name) = refl
-call_round other (call.Swap name message) = refl
+call_round other call = refl
 
 zero_is_other : (message : Option ℕ) → or_zero message ≡ unwrap_or message 0
 zero_is_other (Some message) = refl

@@ -62,14 +62,7 @@ given_word give.Swap = (refl, refl, refl, refl)
 
 pub asked_word : (a : Ask) → (has_space (asked a).word ≡ false) × (without_colon (asked a).word ≡ None) × (give_of (asked a).word ≡ None) × (ask_of (asked a).word ≡ Some a) × (list_any is_bad_byte (asked a).word ≡ false)
 asked_word ask.NewPort = (refl, refl, refl, refl, refl)
-asked_word ask.CopyPort = (refl, refl, refl, refl, refl)
-asked_word ask.ClosePort = (refl, refl, refl, refl, refl)
-asked_word ask.Recv = (refl, refl, refl, refl, refl)
-asked_word ask.Poll = (refl, refl, refl, refl, refl)
-asked_word ask.Get = (refl, refl, refl, refl, refl)
-asked_word ask.GetPoll = (refl, refl, refl, refl, refl)
-asked_word ask.Take = (refl, refl, refl, refl, refl)
-asked_word ask.TakePoll = (refl, refl, refl, refl, refl)
+asked_word other = (refl, refl, refl, refl, refl)
 
 -- a call's numbers are below 2 ^ 64, and its message can be written
 pub record CallFits {M : Type 0} (fits : M → Bool) (call : Call M) : Type 0 where

@@ -105,22 +105,29 @@ module _ {T : Type 0} where
       let there : IsOpen l key = subst (λ m. IsOpen m key) (sym seen) (subst (λ n. IsOpen now n) (sym same) opened) in
       subst (λ ps. IsTrimmable chunk (record l { places = ps })) (sym written) (IsTrimmable-close chunk l key tidy there)
 
-  -- the least place that the code finds is that of the log
-  pub least_found : (l now : Log T) (places : List (Option ℕ)) (end low : ℕ) → l ≡ now → end ≡ next_of now → low ≡ least end places → low ≡ least (next_of l) places
-  least_found l now places end low seen next found =
-      found ∙ ap (λ n. least n places) (next ∙ ap (λ m. next_of m) (sym seen))
+  -- the code found the least of these places, with which the log may be trimmed
+  pub record FindsLeast (chunk : ℕ) (l : Log T) (places : List (Option ℕ)) (low : ℕ) : Type 0 where
+    pub ready : IsTrimmable chunk (record l { places = places })
+    pub found : low ≡ least (next_of l) places
 
-  -- a log that may be trimmed keeps nothing past its least place's chunk
-  pub kept_before : (chunk : ℕ) (l : Log T) (places : List (Option ℕ)) (low : ℕ) → IsTrimmable chunk (record l { places = places }) → low ≡ least (next_of l) places → l.first ≤ chunk * (low / chunk)
-  kept_before chunk l places low ready found = subst (λ n. l.first ≤ chunk * (n / chunk)) (sym found) ready.kept
+  pub finds_least : (chunk : ℕ) (l now : Log T) (places : List (Option ℕ)) (end low : ℕ) → IsTrimmable chunk (record l { places = places })
+      → l ≡ now → end ≡ next_of now → low ≡ least end places → FindsLeast chunk l places low
+  finds_least chunk l now places end low ready seen next found = record {
+    ready = ready;
+    found = found ∙ ap (λ n. least n places) (next ∙ ap (λ m. next_of m) (sym seen));
+  }
+
+  -- then the log keeps nothing past this place's chunk
+  pub kept_before : (chunk : ℕ) (l : Log T) (places : List (Option ℕ)) (low : ℕ) → FindsLeast chunk l places low → l.first ≤ chunk * (low / chunk)
+  kept_before chunk l places low finds = subst (λ n. l.first ≤ chunk * (n / chunk)) (sym finds.found) finds.ready.kept
 
   -- what the trimming of the fields leaves is sound
-  pub IsSound-by_trim : (chunk : ℕ) (old : Log T) (capacity : ℕ) (places : List (Option ℕ)) (low first later : ℕ) (kept : List T) → IsSound chunk old capacity → IsTrimmable chunk (record old { places = places }) → low ≡ least (next_of old) places → first ≡ chunk * (low / chunk) → kept ≡ drop (chunk * (low / chunk) - old.first) old.kept → later ≡ capacity → IsSound chunk (record { first = first; kept = kept; places = places }) later
-  IsSound-by_trim chunk old capacity places low first later kept sound ready found begins keeps same =
+  pub IsSound-by_trim : (chunk : ℕ) (old : Log T) (capacity : ℕ) (places : List (Option ℕ)) (low first later : ℕ) (kept : List T) → IsSound chunk old capacity → FindsLeast chunk old places low → first ≡ chunk * (low / chunk) → kept ≡ drop (chunk * (low / chunk) - old.first) old.kept → later ≡ capacity → IsSound chunk (record { first = first; kept = kept; places = places }) later
+  IsSound-by_trim chunk old capacity places low first later kept sound finds begins keeps same =
       let moved : Log T = record old { places = places } in
-      let done = IsSound-trimmed chunk moved capacity sound.holds_one sound.small ready sound.counted sound.room in
-      let start : first ≡ chunk_start chunk moved = begins ∙ ap (λ n. chunk * (n / chunk)) found in
-      let rest : kept ≡ drop (chunk_start chunk moved - old.first) old.kept = keeps ∙ ap (λ n. drop (chunk * (n / chunk) - old.first) old.kept) found in
+      let done = IsSound-trimmed chunk moved capacity sound.holds_one sound.small finds.ready sound.counted sound.room in
+      let start : first ≡ chunk_start chunk moved = begins ∙ ap (λ n. chunk * (n / chunk)) finds.found in
+      let rest : kept ≡ drop (chunk_start chunk moved - old.first) old.kept = keeps ∙ ap (λ n. drop (chunk * (n / chunk) - old.first) old.kept) finds.found in
       subst (λ c. IsSound chunk (record { first = first; kept = kept; places = places }) c) (sym same)
       (subst (λ f. IsSound chunk (record { first = f; kept = kept; places = places }) capacity) (sym start)
       (subst (λ k. IsSound chunk (record { first = chunk_start chunk moved; kept = k; places = places }) capacity) (sym rest) done))
