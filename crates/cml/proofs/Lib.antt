@@ -1,3 +1,3 @@
-pub mod Words
+pub mod CommandWordsLemmas
 pub mod CommandLineLemmas
-pub mod Telling
+pub mod EndingsLemmas

@@ -1,7 +1,7 @@
-mod HandleBox
-mod KeeperBox
-mod GoingOn
-mod Taking
-mod Needing
-mod Refusing
-mod GoingRound
+mod HandleBoxLemmas
+mod KeeperBoxLemmas
+mod GoingOnLemmas
+mod TakingLemmas
+mod NeedingLemmas
+mod RefusingLemmas
+mod GoingRoundLemmas

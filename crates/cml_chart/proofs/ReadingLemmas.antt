@@ -1,7 +1,7 @@
 -- One line more of a text, whether it fits or not.
 use Rattle.std.proofs.Common.{◌≡◌, ℕ, ◌+◌, ◌⊎◌, inl, inr, List, ◌∷◌, Ok, Err, sym, ap, ◌∙◌}
 use Rattle.cml_grammar.specs.Words.{parts_of}
-use Rattle.cml_grammar.proofs.PartsLemmas.{some_part}
+use Rattle.cml_grammar.proofs.LinesLemmas.{some_part}
 use Rattle.cml_chart.specs.declared.report.faults.What.{What}
 use Rattle.cml_chart.specs.declared.report.faults.What.TheVariants.{Memory}
 use Rattle.cml_chart.specs.Reading.{SoFar, Told, told_by, told_from, with_text, wrong_at}

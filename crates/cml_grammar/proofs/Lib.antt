@@ -3,14 +3,14 @@ pub mod FormLemmas
 pub mod GivingLemmas
 pub mod GrowingLemmas
 pub mod KeepingLemmas
-pub mod LaneLemmas
+pub mod DeclaredLaneLemmas
 pub mod ListLemmas
 pub mod MeaningLemmas
 pub mod NameLemmas
-pub mod PartsLemmas
+pub mod LinesLemmas
 pub mod ReadingLemmas
 pub mod RingLemmas
-pub mod ScriptLaws
+pub mod ScriptLemmas
 pub mod SeatLemmas
 pub mod TableLemmas
 pub mod WordLemmas

@@ -20,13 +20,13 @@ use Rattle.cml_grammar.specs.Script.{Lines, source, IsScript}
 use Rattle.cml_grammar.specs.Meaning.{scope_of, names_of}
 use Rattle.cml_grammar.specs.Reading.{source_of, view_of, texts_of, threads_by, capacities_of, IsReadSoFar, IsReading, with_words, with_next}
 use Rattle.cml_grammar.proofs.TableLemmas.{Passes, not_first, words_pass, all_suit-passes, fresh_suits}
-use Rattle.cml_grammar.proofs.PartsLemmas.{SaysThese, behind, in_front, no_lines, behind-line, behind-nothing}
-use Rattle.cml_grammar.proofs.ScriptLaws.{script_short}
+use Rattle.cml_grammar.proofs.LinesLemmas.{SaysThese, behind, in_front, no_lines, behind-line, behind-nothing}
+use Rattle.cml_grammar.proofs.ScriptLemmas.{script_short}
 use Rattle.cml_grammar.proofs.ReadingLemmas.{view-declaration, view-lane, view-step}
 use Rattle.cml_grammar.proofs.WordLemmas.{text_from_bytes}
 use Rattle.cml_grammar.proofs.TextLemmas.{string_from, name_text, name_short}
 use Rattle.cml_grammar.proofs.SuitingLemmas.{makes_this, lays_this, asks_this}
-use Rattle.cml_grammar.proofs.LaneLemmas.{laid_so_far}
+use Rattle.cml_grammar.proofs.DeclaredLaneLemmas.{laid_so_far}
 use Rattle.cml_grammar.proofs.KeepingLemmas.{next_scope, declared_so_far, asked_so_far}
 
 -- lines that were read

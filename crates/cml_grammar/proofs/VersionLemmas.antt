@@ -13,7 +13,7 @@ use Rattle.cml_grammar.specs.Faults.{Scope, start, says, is_bad_header, fault_in
 use Rattle.cml_grammar.specs.Script.{SourceLine, Says}
 use Rattle.cml_grammar.specs.Laws.{NumbersAreTexts}
 use Rattle.cml_grammar.proofs.NameLemmas.{number_word_is_text}
-use Rattle.cml_grammar.proofs.PartsLemmas.{parts-some}
+use Rattle.cml_grammar.proofs.LinesLemmas.{parts-some}
 use Rattle.cml_grammar.proofs.TableLemmas.{not_first, words_pass}
 
 -- the same scope in another version

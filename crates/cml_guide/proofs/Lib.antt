@@ -1,2 +1,2 @@
-pub mod Checking
-pub mod Polling
+pub mod CheckingLemmas
+pub mod PollingLemmas

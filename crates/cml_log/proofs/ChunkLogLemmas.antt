@@ -10,7 +10,7 @@ use Rattle.cml_log.specs.ChunkLog.{cursor_at, HoldsChunk, IsHeld, IsTrim, log_of
 use Rattle.cml_log.proofs.LogLemmas.{trimmed-tidy}
 use Rattle.cml_log.proofs.PassedLemmas.{idle_before}
 use Rattle.cml_log.proofs.StandingLemmas.{standing-lt, weight-elsewhere}
-use Rattle.cml_log.proofs.HeldLemmas.{lies-recounted, count-other, given-le_end, IsTidy-shown, IsHeld-passed, IsHeld-pushed, shown-pushed, IsHeld-closed, shown-passed, shown-set}
+use Rattle.cml_log.proofs.CursorsLemmas.{lies-recounted, count-other, given-le_end, IsTidy-shown, IsHeld-passed, IsHeld-pushed, shown-pushed, IsHeld-closed, shown-passed, shown-set}
 use Rattle.cml_log.proofs.MovedLemmas.{next_begins, lies_left, idle_left, IsTrim-moved, left, stood, given_on, IsHeld-stepped, Passed-stepped, IsTrim-given, IsTrim-opened, Opens-shown}
 
 module _ {T : Type 0} (n : ℕ) (c : Chunks T) (slots : List (Option Cursor)) (trim : IsTrim n c slots) where

@@ -2,18 +2,18 @@ pub mod LeastLemmas
 pub mod LogLemmas
 pub mod HoldsLemmas
 mod PlainLogLemmas
-pub mod Steps
-pub mod HeapBox
-mod BlockMemory
-mod BlockValues
-mod BlockSend
-mod Sharing
+pub mod WalksLemmas
+pub mod HeapBoxLemmas
+mod BlockMemoryLemmas
+mod BlockValuesLemmas
+mod BlockSendLemmas
+mod SharingLemmas
 mod RowLemmas
 mod BlockLemmas
 mod LinkedLemmas
 mod ChainLemmas
 mod PassedLemmas
 mod StandingLemmas
-mod HeldLemmas
+mod CursorsLemmas
 mod MovedLemmas
 mod ChunkLogLemmas

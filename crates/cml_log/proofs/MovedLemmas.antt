@@ -12,7 +12,7 @@ use Rattle.cml_log.specs.Chain.{Chunks, count_at, LiesAt, end_of, is_idle, passe
 use Rattle.cml_log.specs.ChunkLog.{cursor_at, place_in, weight, standing, HoldsChunk, IsHeld, IsTrim, log_of}
 use Rattle.cml_log.proofs.PassedLemmas.{idle_before, idle_bare, Passed-none, Passed-more}
 use Rattle.cml_log.proofs.StandingLemmas.{standing-set, standing-opened, weight-here, weight-elsewhere}
-use Rattle.cml_log.proofs.HeldLemmas.{key_within, place_shows, count-here, count-other, lies-recounted, entered, IsHeld-passed}
+use Rattle.cml_log.proofs.CursorsLemmas.{key_within, place_shows, count-here, count-other, lies-recounted, entered, IsHeld-passed}
 
 -- a place and the next are in one chunk, or the next begins one
 pub next_in : (n place : ℕ) → 0 < n → (place + 1) % n ≢ 0 → (place + 1) / n ≡ place / n

@@ -1,4 +1,4 @@
-pub mod Chains
-pub mod Changes
-pub mod Rows
-pub mod Shown
+pub mod ChainsLemmas
+pub mod ChangesLemmas
+pub mod RowsLemmas
+pub mod ShownLemmas

@@ -18,7 +18,7 @@ use Rattle.cml_board.specs.declared.entry.Entry.{Entry}
 use Rattle.cml_board.specs.Origins.{Origin, port, kind_by, copy_of}
 use Rattle.cml_calls.specs.Kinds.{is_port}
 use Rattle.cml_board.specs.History.{Lawful, Fits, made, begun_by, if_made, new_name, origin_of, kind_of, is_open, answer, sent, got}
-use Rattle.cml_board.proofs.Closing.{kind_kept}
+use Rattle.cml_board.proofs.ClosingLemmas.{kind_kept}
 use Rattle.cml_grammar.specs.declared.forms.Action.{Action}
 use Rattle.cml_grammar.specs.declared.forms.Action.TheVariants as action
 use Rattle.cml_grammar.specs.Script.{SourceLine, Lines}

@@ -8,7 +8,7 @@ use Rattle.cml_board.specs.Origins.{Origin, port, kind_by}
 use Rattle.cml_calls.specs.Kinds.{is_variable}
 use Rattle.cml_board.specs.Counts.{only_if, start_in}
 use Rattle.cml_board.specs.History.{Lawful, kind_of, is_open}
-use Rattle.cml_board.proofs.Closing.{mailbox_open}
+use Rattle.cml_board.proofs.ClosingLemmas.{mailbox_open}
 use Rattle.cml_grammar.specs.declared.names.Named.TheVariants as called
 use Rattle.cml_grammar.specs.Names.{Given}
 use Rattle.cml_grammar.specs.Reading.{IsVariableAt}

@@ -11,7 +11,7 @@ use Rattle.cml_calls.specs.declared.kind.Kind.TheVariants as kind
 use Rattle.cml_board.specs.declared.entry.Entry.{Entry}
 use Rattle.cml_board.specs.Origins.{Origin, mailbox, channel, port, ivar, mvar, kind_by}
 use Rattle.cml_board.specs.History.{Lawful, made, begun_by, if_made, new_name, kind_of, answer, sent}
-use Rattle.cml_board.proofs.Received.{slice_get-append_within}
+use Rattle.cml_board.proofs.ReceivedLemmas.{slice_get-append_within}
 use Rattle.cml_grammar.specs.declared.names.Named.TheVariants as called
 use Rattle.cml_grammar.specs.declared.forms.Makes.{Makes}
 use Rattle.cml_grammar.specs.declared.forms.Makes.TheVariants as makes

@@ -25,7 +25,7 @@ pub mod SendLemmas
 pub mod WorkLemmas
 pub mod TurnLemmas
 pub mod DeclareLemmas
-pub mod HeldLemmas
+pub mod GatesLemmas
 pub mod ConcludingLemmas
 pub mod WholeLemmas
-pub mod LaneLemmas
+pub mod MovedLemmas

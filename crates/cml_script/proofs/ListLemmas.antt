@@ -5,7 +5,7 @@ use Rattle.std.proofs.lemmas.Option.{same_Some, none-some, slice_get-map, slice_
 use Rattle.std.proofs.lemmas.List.{length_push}
 use Rattle.std.proofs.lemmas.Bool.{cases_lt, false≢true}
 use Rattle.cml_board.proofs.ListLemmas.{slice_get_pushed as push_at}
-use Rattle.cml_board.proofs.Received.{slice_get-append_within}
+use Rattle.cml_board.proofs.ReceivedLemmas.{slice_get-append_within}
 use Rattle.cml_script.specs.Counting.{one_if, how_many}
 
 module _ {X : Type 0} where

@@ -5,7 +5,7 @@ use Rattle.cml_board.specs.Answered.{Answered}
 use Rattle.cml_board.specs.declared.outcome.Outcome.TheVariants as outcome
 use Rattle.cml_board.specs.declared.outcome.Refusal.TheVariants.{WrongKind}
 use Rattle.cml_board.specs.History.{answer}
-use Rattle.cml_board.proofs.Suiting.{answer_suits}
+use Rattle.cml_board.proofs.SuitingLemmas.{answer_suits}
 use Rattle.cml_lanes.specs.Floor.{FloorShown}
 use Rattle.cml_lanes.specs.Barring.{is_barred}
 use Rattle.cml_threads.specs.Telling.{suits}

@@ -1,4 +1,4 @@
-pub mod Counting
-pub mod Tallying
-pub mod Lasting
-pub mod Restoring
+pub mod AddedEntriesLemmas
+pub mod TallyingLemmas
+pub mod ReservedLemmas
+pub mod RestoringLemmas

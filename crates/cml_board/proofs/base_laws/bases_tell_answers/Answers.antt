@@ -1,6 +1,6 @@
-use Rattle.cml_board.proofs.Trailing.{kept_told, messages_told}
-use Rattle.cml_board.proofs.Receiving.{open_before, owed_told}
-use Rattle.cml_board.proofs.Renewing.{answer_told, next_told}
+use Rattle.cml_board.proofs.TrailingLemmas.{kept_told, messages_told}
+use Rattle.cml_board.proofs.ReceivingLemmas.{open_before, owed_told}
+use Rattle.cml_board.proofs.RenewingLemmas.{answer_told, next_told}
 use Rattle.cml_board.proofs.base_laws.bases_tell_answers.Goals as goal
 
 pub returns-clause-kept : goal.returns-clause-kept

@@ -1,4 +1,4 @@
-use Rattle.cml_board.proofs.Receiving.{received_open, received_closed, received_nothing, waiting_since}
+use Rattle.cml_board.proofs.ReceivingLemmas.{received_open, received_closed, received_nothing, waiting_since}
 use Rattle.cml_board.proofs.base_laws.bases_tell_messages.Goals as goal
 
 pub returns-clause-received : goal.returns-clause-received

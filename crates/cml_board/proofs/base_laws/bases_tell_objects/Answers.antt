@@ -1,4 +1,4 @@
-use Rattle.cml_board.proofs.Resuming.{made_told, count_told, place_told, open_told, held_told}
+use Rattle.cml_board.proofs.ResumingLemmas.{made_told, count_told, place_told, open_told, held_told}
 use Rattle.cml_board.proofs.base_laws.bases_tell_objects.Goals as goal
 
 pub returns-clause-made : goal.returns-clause-made

@@ -1,4 +1,4 @@
-use Rattle.cml_board.proofs.Following.{first_unlawful}
+use Rattle.cml_board.proofs.CheckingLemmas.{first_unlawful}
 use Rattle.cml_board.proofs.checking.check.Goals as goal
 
 pub returns : goal.returns

@@ -1,4 +1,4 @@
-use Rattle.cml_board.proofs.Everywhere.{lawful_each, lawful_only}
+use Rattle.cml_board.proofs.EverywhereLemmas.{lawful_each, lawful_only}
 use Rattle.cml_board.proofs.laws.lawful_at_every_position.Goals as goal
 
 pub returns-clause-each : goal.returns-clause-each

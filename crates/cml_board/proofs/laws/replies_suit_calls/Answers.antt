@@ -1,4 +1,4 @@
-use Rattle.cml_board.proofs.Suiting.{lawful_suits}
+use Rattle.cml_board.proofs.SuitingLemmas.{lawful_suits}
 use Rattle.cml_board.proofs.laws.replies_suit_calls.Goals as goal
 
 pub returns : goal.returns

@@ -1,4 +1,4 @@
-use Rattle.cml_board.proofs.Lasting.{lasts, serves}
+use Rattle.cml_board.proofs.ReservedLemmas.{lasts, serves}
 use Rattle.cml_board.proofs.laws.reserved_lasts.Goals as goal
 
 pub returns-clause-lasts : goal.returns-clause-lasts

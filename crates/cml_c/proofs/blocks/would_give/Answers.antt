@@ -1,4 +1,4 @@
-use Rattle.cml_c.proofs.Needing.{given_there, there_given}
+use Rattle.cml_c.proofs.NeedingLemmas.{given_there, there_given}
 use Rattle.cml_c.proofs.blocks.would_give.Goals as goal
 
 pub returns-then-takes : goal.returns-then-takes

@@ -1,4 +1,4 @@
-use Rattle.cml_c.proofs.GoingRound.{entry_goes_round, bytes_go_round}
+use Rattle.cml_c.proofs.GoingRoundLemmas.{entry_goes_round, bytes_go_round}
 use Rattle.cml_c.proofs.laws.entries_go_round.Goals as goal
 
 pub returns-clause-numbers : goal.returns-clause-numbers

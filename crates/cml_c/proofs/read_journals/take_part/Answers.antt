@@ -1,5 +1,5 @@
 use Rattle.std.proofs.Common.{rules}
-use Rattle.cml_c.proofs.Taking.{stops_in}
+use Rattle.cml_c.proofs.TakingLemmas.{stops_in}
 use Rattle.cml_c.proofs.read_journals.take_part.Goals as goal
 
 pub returns-in-Err : goal.returns-in-Err

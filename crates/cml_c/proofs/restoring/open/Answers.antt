@@ -1,4 +1,4 @@
-use Rattle.cml_c.proofs.GoingOn.{opens_on}
+use Rattle.cml_c.proofs.GoingOnLemmas.{opens_on}
 use Rattle.cml_c.proofs.restoring.open.Goals as goal
 
 pub returns-in-Ok : goal.returns-in-Ok

@@ -1,5 +1,5 @@
 use Rattle.std.proofs.Common.{rules, refl}
-use Rattle.cml_c.proofs.GoingOn.{goes_on, gives_none}
+use Rattle.cml_c.proofs.GoingOnLemmas.{goes_on, gives_none}
 use Rattle.cml_c.proofs.restoring.restore_by.Goals as goal
 
 pub returns-in-Some-restore : goal.returns-in-Some-restore

@@ -1,5 +1,5 @@
 use Rattle.std.proofs.Common.{length}
-use Rattle.cml_grammar.proofs.PartsLemmas.{ReadsOn}
+use Rattle.cml_grammar.proofs.LinesLemmas.{ReadsOn}
 use Rattle.cml_grammar.proofs.read.read_lines.Given as goal
 
 abbrev pub invariant-loop-line : goal.invariant-loop-line

@@ -1,5 +1,5 @@
 use Rattle.std.proofs.Common.{◌∙◌}
-use Rattle.cml_guide.proofs.Checking.{lawful_is_ok}
+use Rattle.cml_guide.proofs.CheckingLemmas.{lawful_is_ok}
 use Rattle.cml_guide.proofs.journals.own_is_lawful.Goals as goal
 
 pub returns : goal.returns

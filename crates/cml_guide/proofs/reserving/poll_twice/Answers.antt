@@ -2,7 +2,7 @@ use Rattle.std.proofs.Common.{Err, sym, ap, ◌∙◌, arith}
 use Rattle.cml_board.specs.declared.outcome.Refusal.TheVariants.{NoMemory}
 use Rattle.cml_guide.specs.declared.calls.Trouble.TheVariants.{Refused}
 use Rattle.cml_board.proofs.ListLemmas.{on_ok}
-use Rattle.cml_guide.proofs.Polling.{poll_served, same_error}
+use Rattle.cml_guide.proofs.PollingLemmas.{poll_served, same_error}
 use Rattle.cml_guide.proofs.reserving.poll_twice.Goals as goal
 
 pub returns-in_err-first : goal.returns-in_err-first

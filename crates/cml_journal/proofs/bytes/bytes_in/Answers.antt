@@ -3,7 +3,7 @@ use Rattle.std.specs.Bool.{then_some}
 use Rattle.std.specs.Global.{Vec}
 use Rattle.std.specs.Option.{option_map}
 use Rattle.cml_journal.specs.Escapes.{bytes_in}
-use Rattle.cml_journal.proofs.EscapeSteps.{goes_on, ends}
+use Rattle.cml_journal.proofs.EscapeStepsLemmas.{goes_on, ends}
 use Rattle.cml_journal.proofs.bytes.bytes_in.Goals as goal
 
 pub loop-byte-preserved : goal.loop-byte-preserved

@@ -1,4 +1,4 @@
-use Rattle.cml_journal.proofs.EntryLaws.{entry_again, entry_by_line}
+use Rattle.cml_journal.proofs.EntryLemmas.{entry_again, entry_by_line}
 use Rattle.cml_journal.proofs.laws.lines_are_entries.Goals as goal
 
 pub returns-clause-read : goal.returns-clause-read

@@ -1,5 +1,5 @@
 use Rattle.std.proofs.Common.{ap, ◌∙◌}
-use Rattle.cml_journal.proofs.FeedLaws.{on, reading-append}
+use Rattle.cml_journal.proofs.FeedLemmas.{on, reading-append}
 use Rattle.cml_journal.proofs.laws.streams_may_be_cut.Goals as goal
 
 pub returns-clause-on : goal.returns-clause-on

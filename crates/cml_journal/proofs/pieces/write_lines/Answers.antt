@@ -3,7 +3,7 @@ use Rattle.std.proofs.Common.{◌≡◌, ℕ, List, [], ◌∷◌, ◌++◌, tak
 use Rattle.cml_board.specs.declared.entry.Entry.{Entry}
 use Rattle.cml_journal.specs.Lines.{line_of}
 use Rattle.cml_journal.specs.Streams.{with_line_end, Writes}
-use Rattle.cml_journal.proofs.PartLaws.{writes_more, lines_more}
+use Rattle.cml_journal.proofs.PartLemmas.{writes_more, lines_more}
 use Rattle.cml_journal.proofs.pieces.write_lines.Goals as goal
 
 pub loop-entry-preserved : goal.loop-entry-preserved

@@ -4,8 +4,8 @@ use Rattle.std.specs.List.{flat_map}
 use Rattle.std.specs.Io.KnownBytes.{Appends}
 use Rattle.cml_journal.specs.Lines.{line_of}
 use Rattle.cml_journal.specs.Streams.{numbered_line, with_line_end, text_of, head_lines}
-use Rattle.cml_journal.proofs.PieceLaws.{piece_text}
-use Rattle.cml_journal.proofs.PartLaws.{on_ok, writes_end}
+use Rattle.cml_journal.proofs.PieceLemmas.{piece_text}
+use Rattle.cml_journal.proofs.PartLemmas.{on_ok, writes_end}
 use Rattle.cml_journal.proofs.pieces.write_piece.Goals as goal
 
 pub returns : goal.returns

@@ -1,6 +1,6 @@
 use Rattle.std.proofs.Common.{ℕ, List, ◌++◌, ◌∷◌, ◌+◌, take, ap, sym, ◌∙◌}
 use Rattle.std.proofs.lemmas.List.{take_rest}
-use Rattle.cml_journal.proofs.LineEnds.{no_line_end, line_end_parts}
+use Rattle.cml_journal.proofs.LineEndsLemmas.{no_line_end, line_end_parts}
 use Rattle.cml_journal.proofs.reader.cut_line.Goals as goal
 
 pub returns-in_err-end : goal.returns-in_err-end

@@ -1,6 +1,6 @@
 use Rattle.std.proofs.Common.{ap, subst, ◌∙◌}
 use Rattle.cml_journal.specs.Reading.{Gives, entry_in}
-use Rattle.cml_journal.proofs.EntryLaws.{entry_found, entry_again}
+use Rattle.cml_journal.proofs.EntryLemmas.{entry_found, entry_again}
 use Rattle.cml_journal.proofs.reading.read_entry.Goals as goal
 
 pub returns-clause-found : goal.returns-clause-found

@@ -1,6 +1,6 @@
 use Rattle.std.proofs.Common.{lit<}
 use Rattle.std.proofs.lemmas.Str.Pattern.{split_parts}
-use Rattle.cml_journal.proofs.Cutting.{cut_is}
+use Rattle.cml_journal.proofs.CutWordsLemmas.{cut_is}
 use Rattle.cml_journal.proofs.words.cut.Goals as goal
 
 pub returns : goal.returns

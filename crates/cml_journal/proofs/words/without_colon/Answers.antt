@@ -1,6 +1,6 @@
 use Rattle.std.proofs.Common.{lit<}
 use Rattle.std.proofs.lemmas.Str.Pattern.{strip_suffix_char}
-use Rattle.cml_journal.proofs.Cutting.{without_colon_is}
+use Rattle.cml_journal.proofs.CutWordsLemmas.{without_colon_is}
 use Rattle.cml_journal.proofs.words.without_colon.Goals as goal
 
 pub returns : goal.returns

@@ -1,4 +1,4 @@
-use Rattle.cml_lanes.proofs.Reserving.{reserved_lasts, seats_served, lanes_served, feeds_served}
+use Rattle.cml_lanes.proofs.ReservedLemmas.{reserved_lasts, seats_served, lanes_served, feeds_served}
 use Rattle.cml_lanes.proofs.laws.reserved_lasts_on_a_floor.Goals as goal
 
 pub returns-clause-lasts : goal.returns-clause-lasts

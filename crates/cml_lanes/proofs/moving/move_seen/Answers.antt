@@ -1,5 +1,5 @@
 use Rattle.std.proofs.Common.{refl, sym}
-use Rattle.cml_lanes.proofs.Moves.{keeps_moved, moves_more, on_none}
+use Rattle.cml_lanes.proofs.MovesLemmas.{keeps_moved, moves_more, on_none}
 use Rattle.cml_lanes.proofs.moving.move_seen.Goals as goal
 
 pub move_next-refusal-requires-clause-kept : goal.move_next-refusal-requires-clause-kept

@@ -1,7 +1,7 @@
 use Rattle.std.proofs.Common.{rules, sym, refl}
-use Rattle.cml_lanes.proofs.Feeding.{still_owed}
-use Rattle.cml_lanes.proofs.Moves.{on_none}
-use Rattle.cml_lanes.proofs.Pumps.{none_pumped, keeps_pumped, pumps_more}
+use Rattle.cml_lanes.proofs.FeedEntriesLemmas.{still_owed}
+use Rattle.cml_lanes.proofs.MovesLemmas.{on_none}
+use Rattle.cml_lanes.proofs.PumpsLemmas.{none_pumped, keeps_pumped, pumps_more}
 use Rattle.cml_lanes.proofs.pumping.pump_free.Goals as goal
 
 pub pump_next-refusal-requires-clause-kept : goal.pump_next-refusal-requires-clause-kept

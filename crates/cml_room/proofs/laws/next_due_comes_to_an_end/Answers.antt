@@ -1,4 +1,4 @@
-use Rattle.cml_room.proofs.InTurn.{at_most_each}
+use Rattle.cml_room.proofs.InTurnLemmas.{at_most_each}
 use Rattle.cml_room.proofs.laws.next_due_comes_to_an_end.Goals as goal
 
 pub returns : goal.returns

@@ -1,4 +1,4 @@
-use Rattle.cml_room.proofs.Running.{nobody_forgotten}
+use Rattle.cml_room.proofs.RunningLemmas.{nobody_forgotten}
 use Rattle.cml_room.proofs.laws.nobody_is_left_asleep.Goals as goal
 
 pub returns : goal.returns

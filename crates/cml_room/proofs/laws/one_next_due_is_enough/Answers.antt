@@ -1,4 +1,4 @@
-use Rattle.cml_room.proofs.Running.{all_would_wait}
+use Rattle.cml_room.proofs.RunningLemmas.{all_would_wait}
 use Rattle.cml_room.proofs.laws.one_next_due_is_enough.Goals as goal
 
 pub returns : goal.returns

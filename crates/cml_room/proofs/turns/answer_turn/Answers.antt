@@ -1,10 +1,10 @@
 use Rattle.std.proofs.Common.{sym, subst, ◌∙◌}
 use Rattle.cml_room.specs.Ending.{EndsTurn}
-use Rattle.cml_room.proofs.Ending.{all_watched, free_unless_waits}
-use Rattle.cml_room.proofs.Idling.{none_waits}
-use Rattle.cml_room.proofs.Parking.{none_freed, none_watched}
-use Rattle.cml_room.proofs.Rising.{nobody_few, nobody_risen}
-use Rattle.cml_room.proofs.Woken.{free_asked}
+use Rattle.cml_room.proofs.EndingLemmas.{all_watched, free_unless_waits}
+use Rattle.cml_room.proofs.IdlingLemmas.{none_waits}
+use Rattle.cml_room.proofs.ParkingLemmas.{none_freed, none_watched}
+use Rattle.cml_room.proofs.RisingLemmas.{nobody_few, nobody_risen}
+use Rattle.cml_room.proofs.WokenLemmas.{free_asked}
 use Rattle.cml_room.proofs.turns.answer_turn.Goals as goal
 
 pub returns-then-parked-eq0-clause-ends : goal.returns-then-parked-eq0-clause-ends

@@ -4,14 +4,14 @@ use Rattle.cml_room.specs.declared.state.State.TheVariants.{Parked}
 use Rattle.cml_room.specs.Places.{states_in}
 use Rattle.cml_room.specs.Rising.{RisesFew}
 use Rattle.cml_room.specs.Waking.{AreAt}
-use Rattle.cml_room.proofs.Ending.{freed_states, may_within, handed, ended, ended_at, none_told, free_unless_waits, free_same, waits_parked}
-use Rattle.cml_room.proofs.Rising.{handed_few, told_few}
-use Rattle.cml_room.proofs.Rousing.{none_roused, roused_states}
+use Rattle.cml_room.proofs.EndingLemmas.{freed_states, may_within, handed, ended, ended_at, none_told, free_unless_waits, free_same, waits_parked}
+use Rattle.cml_room.proofs.RisingLemmas.{handed_few, told_few}
+use Rattle.cml_room.proofs.RousingLemmas.{none_roused, roused_states}
 use Rattle.std.proofs.Common.{get_or}
 use Rattle.cml_room.specs.declared.place.Place.TheVariants.{Free}
 use Rattle.cml_room.specs.Seats.{freed}
-use Rattle.cml_room.proofs.Ending.{freed_here}
-use Rattle.cml_room.proofs.Woken.{asked_roused, free_asked, set_asked_within, freed_nothing}
+use Rattle.cml_room.proofs.EndingLemmas.{freed_here}
+use Rattle.cml_room.proofs.WokenLemmas.{asked_roused, free_asked, set_asked_within, freed_nothing}
 use Rattle.cml_room.proofs.turns.end_turn.Goals as goal
 
 pub set_free-requires : goal.set_free-requires

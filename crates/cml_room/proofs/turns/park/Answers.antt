@@ -1,13 +1,13 @@
 use Rattle.std.proofs.Common.{subst}
 use Rattle.cml_room.specs.Stalling.{IsStalled}
 use Rattle.cml_room.specs.Places.{states_in}
-use Rattle.cml_room.proofs.Ending.{parked_within}
-use Rattle.cml_room.proofs.Parking.{parked_then, unparked, unparked_states}
-use Rattle.cml_room.proofs.Rising.{freed_none}
+use Rattle.cml_room.proofs.EndingLemmas.{parked_within}
+use Rattle.cml_room.proofs.ParkingLemmas.{parked_then, unparked, unparked_states}
+use Rattle.cml_room.proofs.RisingLemmas.{freed_none}
 use Rattle.std.proofs.Common.{get_or}
 use Rattle.cml_room.specs.declared.place.Place.TheVariants as place
 use Rattle.cml_room.specs.Seats.{freed}
-use Rattle.cml_room.proofs.Woken.{asked_on, set_asked_within, freed_nothing}
+use Rattle.cml_room.proofs.WokenLemmas.{asked_on, set_asked_within, freed_nothing}
 use Rattle.cml_room.proofs.turns.park.Goals as goal
 
 pub set_free-requires : goal.set_free-requires

@@ -6,13 +6,13 @@ use Rattle.cml_room.specs.Places.{states_in, AreRoused}
 use Rattle.cml_room.specs.Rising.{OneEach, RisesFew}
 use Rattle.cml_room.specs.Stalling.{IsStalled}
 use Rattle.cml_room.specs.Waking.{AreAt}
-use Rattle.cml_room.proofs.Bringing.{was_placed}
-use Rattle.cml_room.proofs.Ending.{all_watched, settled, settled_rests, not_full}
-use Rattle.cml_room.proofs.Idling.{none_waits}
-use Rattle.cml_room.proofs.Parking.{none_watched}
-use Rattle.cml_room.proofs.Rising.{nobody_few, nobody_risen, told_few}
-use Rattle.cml_room.proofs.Rousing.{at_kept, roused_states}
-use Rattle.cml_room.proofs.Woken.{roused_keeps, same_keeps, keeps_on}
+use Rattle.cml_room.proofs.BringingLemmas.{was_placed}
+use Rattle.cml_room.proofs.EndingLemmas.{all_watched, settled, settled_rests, not_full}
+use Rattle.cml_room.proofs.IdlingLemmas.{none_waits}
+use Rattle.cml_room.proofs.ParkingLemmas.{none_watched}
+use Rattle.cml_room.proofs.RisingLemmas.{nobody_few, nobody_risen, told_few}
+use Rattle.cml_room.proofs.RousingLemmas.{at_kept, roused_states}
+use Rattle.cml_room.proofs.WokenLemmas.{roused_keeps, same_keeps, keeps_on}
 use Rattle.cml_room.proofs.turns.settle.Goals as goal
 use Rattle.cml_room.proofs.turns.settle.Goals.{then-is_full-via-then-is_full, then-is_full-via-else-is_full+then-is_stalled}
 

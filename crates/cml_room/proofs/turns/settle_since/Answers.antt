@@ -1,4 +1,4 @@
-use Rattle.cml_room.proofs.Bringing.{since_brings}
+use Rattle.cml_room.proofs.BringingLemmas.{since_brings}
 use Rattle.cml_room.proofs.turns.settle_since.Goals as goal
 
 pub settle-requires-clause-was : goal.settle-requires-clause-was

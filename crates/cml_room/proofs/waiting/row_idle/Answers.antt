@@ -6,8 +6,8 @@ use Rattle.cml_queues.specs.Queues.{queue_of}
 use Rattle.cml_room.specs.declared.place.Place.{Place}
 use Rattle.cml_room.specs.declared.state.State.TheVariants.{Parked}
 use Rattle.cml_room.specs.Places.{state_by, row_in, row_of}
-use Rattle.cml_room.proofs.Idling.{idle_state}
-use Rattle.cml_room.proofs.Walking.{walk_stops, walk_ends, walk_goes}
+use Rattle.cml_room.proofs.IdlingLemmas.{idle_state}
+use Rattle.cml_room.proofs.WalkingLemmas.{walk_stops, walk_ends, walk_goes}
 use Rattle.cml_room.proofs.waiting.row_idle.Goals as goal
 
 pub returns-in_default : goal.returns-in_default

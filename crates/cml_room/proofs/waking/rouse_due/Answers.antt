@@ -1,8 +1,8 @@
 use Rattle.std.proofs.Common.{Bool, slice_get, sym, ap, ◌∙◌}
 use Rattle.std.specs.Prelude.{⊤}
 use Rattle.cml_room.specs.Places.{place_due}
-use Rattle.cml_room.proofs.Noting.{roused_alike, roused_due}
-use Rattle.cml_room.proofs.Woken.{roused_keeps}
+use Rattle.cml_room.proofs.SleepersLemmas.{roused_alike, roused_due}
+use Rattle.cml_room.proofs.WokenLemmas.{roused_keeps}
 use Rattle.cml_room.proofs.waking.rouse_due.Goals as goal
 
 pub returns-then-all_due-clause-alike : goal.returns-then-all_due-clause-alike

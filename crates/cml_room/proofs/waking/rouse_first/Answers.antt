@@ -4,11 +4,11 @@ use Rattle.cml_queues.specs.Queues.{queue_of, is_in}
 use Rattle.cml_room.specs.declared.place.Place.TheVariants.{Free}
 use Rattle.cml_room.specs.Places.{row_of, roused, AreRoused}
 use Rattle.cml_room.specs.Seats.{SeatsShown}
-use Rattle.cml_room.proofs.Listing.{in_row}
-use Rattle.cml_room.proofs.Walking.{walk_begins, walk_ends, walk_stops, walk_goes}
+use Rattle.cml_room.proofs.ListingLemmas.{in_row}
+use Rattle.cml_room.proofs.WalkingLemmas.{walk_begins, walk_ends, walk_stops, walk_goes}
 use Rattle.cml_room.specs.Rising.{OneEach}
-use Rattle.cml_room.proofs.Rising.{none_each, set_each}
-use Rattle.cml_room.proofs.Rousing.{none_roused, one_roused, set_roused_mate}
+use Rattle.cml_room.proofs.RisingLemmas.{none_each, set_each}
+use Rattle.cml_room.proofs.RousingLemmas.{none_roused, one_roused, set_roused_mate}
 use Rattle.cml_room.proofs.waking.rouse_first.Goals as goal
 
 pub loop-init : goal.loop-init

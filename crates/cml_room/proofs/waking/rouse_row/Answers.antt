@@ -5,8 +5,8 @@ use Rattle.cml_room.specs.declared.place.Place.{Place}
 use Rattle.cml_room.specs.declared.place.Place.TheVariants.{Waiting}
 use Rattle.cml_room.specs.declared.place.Waiter.{Waiter}
 use Rattle.cml_room.specs.Places.{row_of, is_noted}
-use Rattle.cml_room.proofs.Walking.{Walked, walk_begins, walk_ends, walk_stops, walk_goes, walk_kept}
-use Rattle.cml_room.proofs.Rousing.{none_roused, roused_twice, still_noted, not_in_row}
+use Rattle.cml_room.proofs.WalkingLemmas.{Walked, walk_begins, walk_ends, walk_stops, walk_goes, walk_kept}
+use Rattle.cml_room.proofs.RousingLemmas.{none_roused, roused_twice, still_noted, not_in_row}
 use Rattle.cml_room.proofs.waking.rouse_row.Goals as goal
 
 pub loop-init : goal.loop-init

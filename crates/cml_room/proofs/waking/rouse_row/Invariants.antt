@@ -4,7 +4,7 @@ use Rattle.cml_queues.specs.Queues.{queue_of}
 use Rattle.cml_room.specs.declared.place.Place.TheVariants.{Waiting}
 use Rattle.cml_room.specs.declared.place.Waiter.{Waiter}
 use Rattle.cml_room.specs.Places.{row_of, is_noted, AreRoused}
-use Rattle.cml_room.proofs.Walking.{Walked}
+use Rattle.cml_room.proofs.WalkingLemmas.{Walked}
 use Rattle.cml_room.proofs.waking.rouse_row.Given as goal
 
 abbrev pub invariant-loop : goal.invariant-loop

@@ -7,10 +7,10 @@ use Rattle.cml_room.specs.declared.place.Place.TheVariants.{Waiting}
 use Rattle.cml_room.specs.declared.place.Waiter.{Waiter}
 use Rattle.cml_room.specs.News.{helps, Helps, IsOf}
 use Rattle.cml_room.specs.Places.{AreRoused}
-use Rattle.cml_room.proofs.Hearing.{AreTold, message_told, multicast_told, closed_told, told_news, news_of, ports_are_of_channels}
-use Rattle.cml_room.proofs.Reaching.{message_helps, multicast_helps, closed_helps}
-use Rattle.cml_room.proofs.Rising.{roused_where, for_one}
-use Rattle.cml_room.proofs.Rousing.{at_kept}
+use Rattle.cml_room.proofs.HearingLemmas.{AreTold, message_told, multicast_told, closed_told, told_news, news_of, ports_are_of_channels}
+use Rattle.cml_room.proofs.NewsLemmas.{message_helps, multicast_helps, closed_helps}
+use Rattle.cml_room.proofs.RisingLemmas.{roused_where, for_one}
+use Rattle.cml_room.proofs.RousingLemmas.{at_kept}
 use Rattle.cml_room.proofs.waking.tell.Goals as goal
 
 -- who was roused for such news has them

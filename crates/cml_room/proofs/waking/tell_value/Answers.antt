@@ -8,10 +8,10 @@ use Rattle.cml_room.specs.declared.news.News.TheVariants.{Value}
 use Rattle.cml_room.specs.declared.place.Waiter.{Waiter}
 use Rattle.cml_room.specs.News.{helps}
 use Rattle.cml_room.specs.Places.{AreRoused}
-use Rattle.cml_room.proofs.Hearing.{ports_are_of_channels, value_told, values_told}
-use Rattle.cml_room.proofs.Reaching.{value_helps, want_helps}
-use Rattle.cml_room.proofs.Rising.{roused_where, twice_each}
-use Rattle.cml_room.proofs.Rousing.{roused_so, roused_twice, at_kept}
+use Rattle.cml_room.proofs.HearingLemmas.{ports_are_of_channels, value_told, values_told}
+use Rattle.cml_room.proofs.NewsLemmas.{value_helps, want_helps}
+use Rattle.cml_room.proofs.RisingLemmas.{roused_where, twice_each}
+use Rattle.cml_room.proofs.RousingLemmas.{roused_so, roused_twice, at_kept}
 use Rattle.cml_room.proofs.waking.tell_value.Goals as goal
 
 pub returns-then-eq-clause-roused : goal.returns-then-eq-clause-roused

@@ -1,4 +1,4 @@
-use Rattle.cml_threads.proofs.Lasting.{calls_floor}
+use Rattle.cml_threads.proofs.ReservedLemmas.{calls_floor}
 use Rattle.cml_threads.proofs.laws.halls_call_their_floor.Goals as goal
 
 pub returns : goal.returns

@@ -1,4 +1,4 @@
-use Rattle.cml_room.proofs.Running.{nobody_forgotten}
+use Rattle.cml_room.proofs.RunningLemmas.{nobody_forgotten}
 use Rattle.cml_threads.specs.Hosting.{room_of}
 use Rattle.cml_threads.proofs.laws.nobody_is_left_asleep_in_a_hall.Goals as goal
 

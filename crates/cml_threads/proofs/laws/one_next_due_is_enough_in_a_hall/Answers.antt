@@ -1,5 +1,5 @@
 use Rattle.cml_threads.specs.Hosting.{room_of}
-use Rattle.cml_room.proofs.Running.{all_would_wait}
+use Rattle.cml_room.proofs.RunningLemmas.{all_would_wait}
 use Rattle.cml_threads.proofs.laws.one_next_due_is_enough_in_a_hall.Goals as goal
 
 pub returns : goal.returns

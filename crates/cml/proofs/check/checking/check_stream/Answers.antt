@@ -1,4 +1,4 @@
-use Rattle.cml.proofs.Telling.{verdict_in_front}
+use Rattle.cml.proofs.EndingsLemmas.{verdict_in_front}
 use Rattle.cml.proofs.check.checking.check_stream.Goals as goal
 
 pub returns-in-Err : goal.returns-in-Err

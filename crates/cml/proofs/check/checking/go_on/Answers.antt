@@ -1,4 +1,4 @@
-use Rattle.cml.proofs.Telling.{ends_as_stopped}
+use Rattle.cml.proofs.EndingsLemmas.{ends_as_stopped}
 use Rattle.cml.proofs.check.checking.go_on.Goals as goal
 
 pub returns-in-Err-clause-ended : goal.returns-in-Err-clause-ended

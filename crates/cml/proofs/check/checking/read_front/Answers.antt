@@ -5,7 +5,7 @@ use Rattle.std.proofs.KnownBytes.{Consumes-trans}
 use Rattle.std.proofs.lemmas.Result.{err_from_is_err_and, IfErr-weaker}
 use Rattle.cml.specs.declared.check.ending.Ending.TheVariants.{BehindCut}
 use Rattle.cml.specs.Checking.{EndsInFront, is_behind_cut}
-use Rattle.cml.proofs.Telling.{cut_in_front, read_on_from, silent_in_front}
+use Rattle.cml.proofs.EndingsLemmas.{cut_in_front, read_on_from, silent_in_front}
 use Rattle.cml.proofs.check.checking.read_front.Goals as goal
 
 pub returns-in_err-read_more-clause-ended : goal.returns-in_err-read_more-clause-ended

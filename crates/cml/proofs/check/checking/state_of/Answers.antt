@@ -3,7 +3,7 @@ use Rattle.std.proofs.lemmas.Result.{IfOk-weaker}
 use Rattle.cml_board.specs.Shown.{Shown}
 use Rattle.cml.specs.Checking.{IsStateOf}
 use Rattle.cml.specs.Lines.{state_lines}
-use Rattle.cml.proofs.Telling.{state_restored}
+use Rattle.cml.proofs.EndingsLemmas.{state_restored}
 use Rattle.cml.proofs.check.checking.state_of.Goals as goal
 
 pub returns-in-Some : goal.returns-in-Some

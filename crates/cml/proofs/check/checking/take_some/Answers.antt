@@ -1,6 +1,6 @@
 use Rattle.std.proofs.Common.{[]}
 use Rattle.std.proofs.KnownBytes.{Consumes-kept, Consumes-nil}
-use Rattle.cml_journal.proofs.CheckLaws.{goes_nowhere}
+use Rattle.cml_journal.proofs.CheckLemmas.{goes_nowhere}
 use Rattle.cml.proofs.check.checking.take_some.Goals as goal
 
 pub returns-in-None-clause-taken : goal.returns-in-None-clause-taken

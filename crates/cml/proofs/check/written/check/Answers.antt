@@ -1,4 +1,4 @@
-use Rattle.cml.proofs.Telling.{verdict_unwritten}
+use Rattle.cml.proofs.EndingsLemmas.{verdict_unwritten}
 use Rattle.cml.proofs.check.written.check.Goals as goal
 
 pub returns-in-Err-clause-verdict : goal.returns-in-Err-clause-verdict

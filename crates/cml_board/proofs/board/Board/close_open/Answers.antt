@@ -4,10 +4,10 @@ use Rattle.cml_board.specs.declared.entry.Reply.TheVariants.{Done}
 use Rattle.cml_calls.specs.Kinds.{is_port}
 use Rattle.cml_board.specs.Holdings.{seen_all, open_port}
 use Rattle.cml_board.specs.Shown.{Shown}
-use Rattle.cml_board.proofs.Noting.{keeps_at, keeps_call, inside, adds_entry}
-use Rattle.cml_board.proofs.Answering.{fits_by, answer_shut}
-use Rattle.cml_board.proofs.Sources.{open_port_told}
-use Rattle.cml_board.proofs.Stepping.{step_closed, has_port}
+use Rattle.cml_board.proofs.NotingLemmas.{keeps_at, keeps_call, inside, adds_entry}
+use Rattle.cml_board.proofs.AnsweringLemmas.{fits_by, answer_shut}
+use Rattle.cml_board.proofs.SourcesLemmas.{open_port_told}
+use Rattle.cml_board.proofs.SteppingLemmas.{step_closed, has_port}
 use Rattle.cml_board.proofs.board.Board.close_open.Goals as goal
 
 pub close_port-requires : goal.close_port-requires

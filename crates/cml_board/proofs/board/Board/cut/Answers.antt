@@ -2,7 +2,7 @@ use Rattle.std.proofs.Common.{◌≡◌, ◌++◌, ap, sym, subst, ◌∙◌}
 use Rattle.cml_board.specs.History.{Lawful}
 use Rattle.cml_board.specs.Base.{base_of}
 use Rattle.cml_board.specs.Shown.{Shown}
-use Rattle.cml_board.proofs.Renewing.{next_told}
+use Rattle.cml_board.proofs.RenewingLemmas.{next_told}
 use Rattle.cml_board.proofs.board.Board.cut.Goals as goal
 
 pub returns-clause-base : goal.returns-clause-base

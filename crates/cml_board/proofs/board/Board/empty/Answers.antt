@@ -5,10 +5,10 @@ use Rattle.cml_board.specs.Parts.{asked_call}
 use Rattle.cml_board.specs.Held.{held}
 use Rattle.cml_board.specs.Holdings.{seen_all, HasVariable}
 use Rattle.cml_board.specs.Shown.{Shown}
-use Rattle.cml_board.proofs.Noting.{keeps_at, keeps_call, inside, adds_entry}
-use Rattle.cml_board.proofs.Holding.{look_variable, answer_read, variable_stands, was_held}
-use Rattle.cml_board.proofs.Leaving.{taken_sets}
-use Rattle.cml_board.proofs.Setting.{step_set}
+use Rattle.cml_board.proofs.NotingLemmas.{keeps_at, keeps_call, inside, adds_entry}
+use Rattle.cml_board.proofs.HoldingLemmas.{look_variable, answer_read, variable_stands, was_held}
+use Rattle.cml_board.proofs.LeavingLemmas.{taken_sets}
+use Rattle.cml_board.proofs.SettingLemmas.{step_set}
 use Rattle.cml_board.proofs.board.Board.empty.Goals as goal
 
 pub share_held-requires-clause-stands : goal.share_held-requires-clause-stands

@@ -3,10 +3,10 @@ use Rattle.cml_board.specs.declared.call.Call.TheVariants.{Put}
 use Rattle.cml_board.specs.declared.entry.Reply.TheVariants.{Done}
 use Rattle.cml_board.specs.Holdings.{seen_all, HasVariable, SetsHeld}
 use Rattle.cml_board.specs.Shown.{Shown}
-use Rattle.cml_board.proofs.Noting.{keeps_at, keeps_call, inside}
-use Rattle.cml_board.proofs.Holding.{put_variable, answer_filled, variable_stands}
-use Rattle.cml_board.proofs.Leaving.{filled_sets}
-use Rattle.cml_board.proofs.Setting.{step_set}
+use Rattle.cml_board.proofs.NotingLemmas.{keeps_at, keeps_call, inside}
+use Rattle.cml_board.proofs.HoldingLemmas.{put_variable, answer_filled, variable_stands}
+use Rattle.cml_board.proofs.LeavingLemmas.{filled_sets}
+use Rattle.cml_board.proofs.SettingLemmas.{step_set}
 use Rattle.cml_board.proofs.board.Board.fill_empty.Goals as goal
 
 pub hold_at-none-requires : goal.hold_at-none-requires

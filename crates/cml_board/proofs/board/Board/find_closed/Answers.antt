@@ -2,9 +2,9 @@ use Rattle.std.proofs.Common.{refl, arith, reverse, ◌++◌}
 use Rattle.cml_board.specs.declared.entry.Reply.TheVariants.{Closed}
 use Rattle.cml_board.specs.Parts.{asked_call}
 use Rattle.cml_board.specs.Holdings.{seen_all}
-use Rattle.cml_board.proofs.Noting.{keeps_call, adds_entry}
-use Rattle.cml_board.proofs.Answering.{answer_closed}
-use Rattle.cml_board.proofs.Stepping.{step_asking}
+use Rattle.cml_board.proofs.NotingLemmas.{keeps_call, adds_entry}
+use Rattle.cml_board.proofs.AnsweringLemmas.{answer_closed}
+use Rattle.cml_board.proofs.SteppingLemmas.{step_asking}
 use Rattle.cml_board.proofs.board.Board.find_closed.Goals as goal
 
 pub invariant_of-self-2 : goal.invariant_of-self-2

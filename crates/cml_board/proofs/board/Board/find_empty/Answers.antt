@@ -2,10 +2,10 @@ use Rattle.std.proofs.Common.{refl, arith, reverse, ◌++◌}
 use Rattle.cml_board.specs.declared.entry.Reply.TheVariants.{Nothing}
 use Rattle.cml_board.specs.Parts.{asked_call}
 use Rattle.cml_board.specs.Holdings.{seen_all}
-use Rattle.cml_board.proofs.Noting.{keeps_call, adds_entry}
-use Rattle.cml_board.proofs.Holding.{answer_empty}
-use Rattle.cml_board.proofs.Leaving.{empty_spares, empty_leaves}
-use Rattle.cml_board.proofs.Setting.{step_spared}
+use Rattle.cml_board.proofs.NotingLemmas.{keeps_call, adds_entry}
+use Rattle.cml_board.proofs.HoldingLemmas.{answer_empty}
+use Rattle.cml_board.proofs.LeavingLemmas.{empty_spares, empty_leaves}
+use Rattle.cml_board.proofs.SettingLemmas.{step_spared}
 use Rattle.cml_board.proofs.board.Board.find_empty.Goals as goal
 
 pub invariant_of-self-2 : goal.invariant_of-self-2

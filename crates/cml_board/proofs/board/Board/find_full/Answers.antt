@@ -2,10 +2,10 @@ use Rattle.std.proofs.Common.{refl, ap, reverse, ◌++◌}
 use Rattle.cml_board.specs.declared.call.Call.TheVariants as call
 use Rattle.cml_board.specs.declared.entry.Reply.TheVariants.{Put}
 use Rattle.cml_board.specs.Holdings.{seen_all}
-use Rattle.cml_board.proofs.Noting.{keeps_call}
-use Rattle.cml_board.proofs.Holding.{answer_full}
-use Rattle.cml_board.proofs.Leaving.{full_spares}
-use Rattle.cml_board.proofs.Setting.{step_spared}
+use Rattle.cml_board.proofs.NotingLemmas.{keeps_call}
+use Rattle.cml_board.proofs.HoldingLemmas.{answer_full}
+use Rattle.cml_board.proofs.LeavingLemmas.{full_spares}
+use Rattle.cml_board.proofs.SettingLemmas.{step_spared}
 use Rattle.cml_board.proofs.board.Board.find_full.Goals as goal
 
 pub invariant_of-self-2 : goal.invariant_of-self-2

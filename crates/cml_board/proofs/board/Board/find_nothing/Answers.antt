@@ -3,9 +3,9 @@ use Rattle.cml_board.specs.declared.call.Call.TheVariants.{Poll}
 use Rattle.cml_board.specs.declared.entry.Reply.TheVariants.{Nothing}
 use Rattle.cml_calls.specs.declared.table.Ask.TheVariants as ask
 use Rattle.cml_board.specs.Holdings.{seen_all}
-use Rattle.cml_board.proofs.Noting.{keeps_call}
-use Rattle.cml_board.proofs.Answering.{answer_nothing, fits_taking}
-use Rattle.cml_board.proofs.Stepping.{step_nothing}
+use Rattle.cml_board.proofs.NotingLemmas.{keeps_call}
+use Rattle.cml_board.proofs.AnsweringLemmas.{answer_nothing, fits_taking}
+use Rattle.cml_board.proofs.SteppingLemmas.{step_nothing}
 use Rattle.cml_board.proofs.board.Board.find_nothing.Goals as goal
 
 pub invariant_of-self-2 : goal.invariant_of-self-2

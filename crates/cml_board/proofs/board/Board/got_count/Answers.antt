@@ -1,4 +1,4 @@
-use Rattle.cml_board.proofs.Counting.{mailbox_open, mailbox_got, port_reads, port_past, port_got, reading_open}
+use Rattle.cml_board.proofs.CountsLemmas.{mailbox_open, mailbox_got, port_reads, port_past, port_got, reading_open}
 use Rattle.cml_board.proofs.board.Board.got_count.Goals as goal
 
 pub place-requires : goal.place-requires

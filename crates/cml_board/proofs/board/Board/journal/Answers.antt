@@ -1,5 +1,5 @@
-use Rattle.cml_board.proofs.Noting.{keeps_at}
-use Rattle.cml_board.proofs.Sound.{is_sound}
+use Rattle.cml_board.proofs.NotingLemmas.{keeps_at}
+use Rattle.cml_board.proofs.SoundLemmas.{is_sound}
 use Rattle.cml_board.proofs.board.Board.journal.Goals as goal
 
 pub returns-clause-sound : goal.returns-clause-sound

@@ -5,8 +5,8 @@ use Rattle.cml_board.specs.Calls.{making_call}
 use Rattle.cml_board.specs.Holdings.{map_log, seen_all}
 use Rattle.cml_board.specs.Shown.{Shown}
 use Rattle.cml_board.specs.Making.{CanMake, HasSource}
-use Rattle.cml_board.proofs.Noting.{board_of, keeps_at, keeps_call, made_name, inside, adds_entry, keeps_same}
-use Rattle.cml_board.proofs.Making.{fits_made, answer_made, has_source, step_made}
+use Rattle.cml_board.proofs.NotingLemmas.{board_of, keeps_at, keeps_call, made_name, inside, adds_entry, keeps_same}
+use Rattle.cml_board.proofs.MakingLemmas.{fits_made, answer_made, has_source, step_made}
 use Rattle.cml_board.proofs.board.Board.make.Goals as goal
 
 pub invariant_of-self-in_err-add_made : goal.invariant_of-self-in_err-add_made

@@ -1,5 +1,5 @@
-use Rattle.cml_board.proofs.Noting.{keeps_at}
-use Rattle.cml_board.proofs.Finding.{found_object}
+use Rattle.cml_board.proofs.NotingLemmas.{keeps_at}
+use Rattle.cml_board.proofs.FindingLemmas.{found_object}
 use Rattle.cml_board.proofs.board.Board.object.Goals as goal
 
 pub returns : goal.returns

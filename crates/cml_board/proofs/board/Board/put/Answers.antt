@@ -4,12 +4,12 @@ use Rattle.cml_board.specs.declared.entry.Reply.TheVariants.{Done}
 use Rattle.cml_board.specs.Parts.{given_call}
 use Rattle.cml_board.specs.Holdings.{seen_all, HasRoomAt, HasLog}
 use Rattle.cml_board.specs.Shown.{Shown}
-use Rattle.cml_board.proofs.Noting.{keeps_at, keeps_call, keeps_same, as_before, inside, adds_entry}
-use Rattle.cml_board.proofs.Answering.{answer_put}
-use Rattle.cml_board.proofs.Sources.{put_stands}
-use Rattle.cml_board.proofs.Looking.{has_room}
-use Rattle.cml_board.proofs.Stepping.{step_put}
-use Rattle.cml_board.proofs.Sparing.{filling_takes}
+use Rattle.cml_board.proofs.NotingLemmas.{keeps_at, keeps_call, keeps_same, as_before, inside, adds_entry}
+use Rattle.cml_board.proofs.AnsweringLemmas.{answer_put}
+use Rattle.cml_board.proofs.SourcesLemmas.{put_stands}
+use Rattle.cml_board.proofs.LookingLemmas.{has_room}
+use Rattle.cml_board.proofs.SteppingLemmas.{step_put}
+use Rattle.cml_board.proofs.SparingLemmas.{filling_takes}
 use Rattle.cml_board.proofs.board.Board.put.Goals as goal
 
 pub invariant_of-self-in_default : goal.invariant_of-self-in_default

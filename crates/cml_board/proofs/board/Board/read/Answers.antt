@@ -2,11 +2,11 @@ use Rattle.std.proofs.Common.{refl, sym, ap, ◌∙◌, reverse, Some, arith, �
 use Rattle.cml_board.specs.declared.entry.Reply.TheVariants.{Got}
 use Rattle.cml_board.specs.Parts.{asked_call}
 use Rattle.cml_board.specs.Holdings.{seen_all}
-use Rattle.cml_board.proofs.Noting.{keeps_call, as_before, adds_entry, denied}
-use Rattle.cml_board.proofs.Holding.{look_variable, answer_read}
-use Rattle.cml_board.proofs.Leaving.{read_spares, read_leaves}
-use Rattle.cml_board.proofs.Setting.{step_spared}
-use Rattle.cml_board.proofs.Sparing.{no_room}
+use Rattle.cml_board.proofs.NotingLemmas.{keeps_call, as_before, adds_entry, denied}
+use Rattle.cml_board.proofs.HoldingLemmas.{look_variable, answer_read}
+use Rattle.cml_board.proofs.LeavingLemmas.{read_spares, read_leaves}
+use Rattle.cml_board.proofs.SettingLemmas.{step_spared}
+use Rattle.cml_board.proofs.SparingLemmas.{no_room}
 use Rattle.cml_board.proofs.board.Board.read.Goals as goal
 
 pub returns-in_err-reserve : goal.returns-in_err-reserve

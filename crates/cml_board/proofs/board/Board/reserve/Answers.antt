@@ -1,7 +1,7 @@
 use Rattle.std.proofs.Common.{refl, ap, arith}
 use Rattle.std.proofs.lemmas.Result.{on_ok_weaker, on_err_weaker}
 use Rattle.cml_board.specs.Shown.{Shown}
-use Rattle.cml_board.proofs.Noting.{keeps_same, as_before}
+use Rattle.cml_board.proofs.NotingLemmas.{keeps_same, as_before}
 use Rattle.cml_board.proofs.board.Board.reserve.Goals as goal
 
 pub invariant_of-self : goal.invariant_of-self

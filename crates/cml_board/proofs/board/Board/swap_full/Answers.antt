@@ -5,10 +5,10 @@ use Rattle.cml_board.specs.declared.entry.Reply.TheVariants.{Got}
 use Rattle.cml_board.specs.Held.{held}
 use Rattle.cml_board.specs.Holdings.{seen_all, HasVariable, SetsHeld}
 use Rattle.cml_board.specs.Shown.{Shown}
-use Rattle.cml_board.proofs.Noting.{keeps_at, keeps_call, inside, adds_entry}
-use Rattle.cml_board.proofs.Holding.{swap_variable, answer_swapped, variable_stands, was_held}
-use Rattle.cml_board.proofs.Leaving.{swapped_sets}
-use Rattle.cml_board.proofs.Setting.{step_set}
+use Rattle.cml_board.proofs.NotingLemmas.{keeps_at, keeps_call, inside, adds_entry}
+use Rattle.cml_board.proofs.HoldingLemmas.{swap_variable, answer_swapped, variable_stands, was_held}
+use Rattle.cml_board.proofs.LeavingLemmas.{swapped_sets}
+use Rattle.cml_board.proofs.SettingLemmas.{step_set}
 use Rattle.cml_board.proofs.board.Board.swap_full.Goals as goal
 
 pub hold_at-requires : goal.hold_at-requires

@@ -5,11 +5,11 @@ use Rattle.cml_board.specs.History.{owed}
 use Rattle.cml_board.specs.Holdings.{HasOwed, seen_all}
 use Rattle.cml_board.specs.Standing.{ReadsAt}
 use Rattle.cml_board.specs.Shown.{Shown}
-use Rattle.cml_board.proofs.Noting.{keeps_call, as_before, inside, adds_entry, unchanged, denied}
-use Rattle.cml_board.proofs.Answering.{answer_taken, some_owed, fits_taking}
-use Rattle.cml_board.proofs.Looking.{reads_owed, first_owed}
-use Rattle.cml_board.proofs.Stepping.{step_taken}
-use Rattle.cml_board.proofs.Sparing.{no_room, answer_takes}
+use Rattle.cml_board.proofs.NotingLemmas.{keeps_call, as_before, inside, adds_entry, unchanged, denied}
+use Rattle.cml_board.proofs.AnsweringLemmas.{answer_taken, some_owed, fits_taking}
+use Rattle.cml_board.proofs.LookingLemmas.{reads_owed, first_owed}
+use Rattle.cml_board.proofs.SteppingLemmas.{step_taken}
+use Rattle.cml_board.proofs.SparingLemmas.{no_room, answer_takes}
 use Rattle.cml_board.proofs.board.Board.take.Goals as goal
 
 pub returns-in_err-message : goal.returns-in_err-message

@@ -1,6 +1,6 @@
 use Rattle.std.proofs.Common.{◌≡◌, sym, subst}
 use Rattle.cml_board.specs.Shown.{Shown}
-use Rattle.cml_board.proofs.Limiting.{keeps_limit}
+use Rattle.cml_board.proofs.LimitingLemmas.{keeps_limit}
 use Rattle.cml_board.proofs.board.Board.with_limit.Goals as goal
 
 pub invariant_of-self : goal.invariant_of-self

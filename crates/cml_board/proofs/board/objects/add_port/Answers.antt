@@ -2,7 +2,7 @@ use Rattle.std.proofs.Common.{◌<◌, length, ap, subst, ◌∙◌, arith}
 use Rattle.cml_log.specs.Log.{next_of}
 use Rattle.cml_board.specs.Holdings.{seen_all, AddsPort}
 use Rattle.cml_board.proofs.ListLemmas.{on_err_given}
-use Rattle.cml_board.proofs.Placing.{seen_kept, adds_port, log_within}
+use Rattle.cml_board.proofs.PlacingLemmas.{seen_kept, adds_port, log_within}
 use Rattle.cml_board.proofs.board.objects.add_port.Goals as goal
 
 pub returns-in_err-key-clause-err : goal.returns-in_err-key-clause-err

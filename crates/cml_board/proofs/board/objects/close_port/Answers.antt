@@ -1,4 +1,4 @@
-use Rattle.cml_board.proofs.Placing.{closes_port, log_within}
+use Rattle.cml_board.proofs.PlacingLemmas.{closes_port, log_within}
 use Rattle.cml_board.proofs.board.objects.close_port.Goals as goal
 
 pub returns : goal.returns

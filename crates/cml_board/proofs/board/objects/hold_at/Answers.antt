@@ -1,4 +1,4 @@
-use Rattle.cml_board.proofs.Placing.{sets_held, variable_within}
+use Rattle.cml_board.proofs.PlacingLemmas.{sets_held, variable_within}
 use Rattle.cml_board.proofs.board.objects.hold_at.Goals as goal
 
 pub returns : goal.returns

@@ -1,5 +1,5 @@
 -- `add_all` opens the traces and closes them with the journal's entries among them.
-use Rattle.cml_board.proofs.Traces.{List, [], ◌∷◌, ◌++◌, ◌≡◌, refl, reverse, raw, ‵, ◌⊛◌, ◌$◌, ◌∵◌, !, qed, by, keep, move, split, fsplit, fsplit3, join, fjoin, fjoin3, feq_i, use0, use1, id⊢, emp, ftrue, fsep, flft, Fml, fact, fact_i, SProp, Val, vptr, vunit, a_type, named, inst_fn, owns, types_at, enter, alloc_all, pass_all, free_all, look_at, sets, of_opd, unit_lit, returns, nothing, opens, closes, tables, proved, leaves, RattleType, param, layouts, yes, Stays, stay_ref, stay_dropped, plain, RefOf, Goes-ref, Goes-dropped, walk_of, mut_vals, mut_Tells, shr_vals, shr_Tells}
+use Rattle.cml_board.proofs.TracesLemmas.{List, [], ◌∷◌, ◌++◌, ◌≡◌, refl, reverse, raw, ‵, ◌⊛◌, ◌$◌, ◌∵◌, !, qed, by, keep, move, split, fsplit, fsplit3, join, fjoin, fjoin3, feq_i, use0, use1, id⊢, emp, ftrue, fsep, flft, Fml, fact, fact_i, SProp, Val, vptr, vunit, a_type, named, inst_fn, owns, types_at, enter, alloc_all, pass_all, free_all, look_at, sets, of_opd, unit_lit, returns, nothing, opens, closes, tables, proved, leaves, RattleType, param, layouts, yes, Stays, stay_ref, stay_dropped, plain, RefOf, Goes-ref, Goes-dropped, walk_of, mut_vals, mut_Tells, shr_vals, shr_Tells}
 use Rattle.std.specs.contracts.alloc.Global.{the_row as Global}
 use Rattle.std.specs.contracts.impls.GlobalAllocator.TheImpl.{ghosts}
 use Rattle.std.specs.contracts.vec.Vec.{the_row as Vec}

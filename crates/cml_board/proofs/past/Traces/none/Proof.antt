@@ -1,5 +1,5 @@
 -- `none` makes a value of no bytes, which tells of no entry.
-use Rattle.cml_board.proofs.Traces.{[], ◌∷◌, ◌≡◌, refl, raw, ‵, ◌⊛◌, ◌$◌, ◌∵◌, !, qed, by, keep, split, fjoin, use0, emp, ftrue, flft, fact, fact_i, a_type, inst_fn, enter, alloc_all, pass_all, free_all, look_at, get, sets, agg, no_more, and_then, returns, nothing, tables, proved, leaves, RattleType, param, layouts, mark, Marked, mark_made}
+use Rattle.cml_board.proofs.TracesLemmas.{[], ◌∷◌, ◌≡◌, refl, raw, ‵, ◌⊛◌, ◌$◌, ◌∵◌, !, qed, by, keep, split, fjoin, use0, emp, ftrue, flft, fact, fact_i, a_type, inst_fn, enter, alloc_all, pass_all, free_all, look_at, get, sets, agg, no_more, and_then, returns, nothing, tables, proved, leaves, RattleType, param, layouts, mark, Marked, mark_made}
 use Rattle.cml_board.specs.contracts.past.Traces.{the_row}
 use Rattle.cml_board.specs.contracts.past.Traces.none as f
 use Rattle.cml_board.proofs.past.Traces.none.Statement.{statement}

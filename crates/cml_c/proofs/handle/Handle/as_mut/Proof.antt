@@ -1,5 +1,5 @@
 -- `as_mut` lends what lies there, and the handle follows it.
-use Rattle.cml_log.proofs.Steps.{List, [], ◌∷◌, ◌≡◌, refl, sym, raw, ‵, ◌⊛◌, some, later, ◌$◌, ◌∵◌, !, at_ret, qed, by, keep, move, split, split3, join, group, fsplit, fsplit3, fjoin, fpack, pick, await, use0, use1, rewrite, done, id⊢, ent, sep, sem, emp, ftrue, fsep, flft, Fml, GName, Logic, full_share, fact, fact_i, SProp, Val, vptr, named, bare, owns, types_at, enter, alloc_all, pass_all, free_all, look_at, get, through, sets, sets_last, of_opd, addr, fld, stop, sub, whole, first, blocks, exec, env, tail, returns, nothing, opens, tables, proved, leaves, no, Stays, stay_dropped, mut_ref_to, plain, Goes-spent_ref, walk_of, mem, cell_at, lone, mut_vals, mut_Tells, MutRef, Ptr, block_ptr, lies_at}
+use Rattle.cml_log.proofs.WalksLemmas.{List, [], ◌∷◌, ◌≡◌, refl, sym, raw, ‵, ◌⊛◌, some, later, ◌$◌, ◌∵◌, !, at_ret, qed, by, keep, move, split, split3, join, group, fsplit, fsplit3, fjoin, fpack, pick, await, use0, use1, rewrite, done, id⊢, ent, sep, sem, emp, ftrue, fsep, flft, Fml, GName, Logic, full_share, fact, fact_i, SProp, Val, vptr, named, bare, owns, types_at, enter, alloc_all, pass_all, free_all, look_at, get, through, sets, sets_last, of_opd, addr, fld, stop, sub, whole, first, blocks, exec, env, tail, returns, nothing, opens, tables, proved, leaves, no, Stays, stay_dropped, mut_ref_to, plain, Goes-spent_ref, walk_of, mem, cell_at, lone, mut_vals, mut_Tells, MutRef, Ptr, block_ptr, lies_at}
 use Prim.Native.Nat.{ℕ}
 use seplogic.Ra.Ura.{Ura}
 use types.Part.{look_in}
@@ -13,7 +13,7 @@ use Rattle.std_alloc.proofs.BoxSteps.Form as box
 use Rattle.std_alloc.proofs.BoxSteps.Steps.{box_out, box_in}
 use Rattle.cml_c.specs.contracts.handle.Handle.{the_row}
 use Rattle.cml_c.specs.Lending.{with_kept}
-use Rattle.cml_c.proofs.HandleBox.{Room, E, Boxed, boxed}
+use Rattle.cml_c.proofs.HandleBoxLemmas.{Room, E, Boxed, boxed}
 use Rattle.cml_c.specs.contracts.handle.Handle.as_mut as f
 use Rattle.cml_c.proofs.handle.Handle.as_mut.Statement.{statement}
 use Rattle.cml_c.proofs.handle.Handle.as_mut.Code as code

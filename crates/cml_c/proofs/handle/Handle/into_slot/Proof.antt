@@ -1,10 +1,10 @@
 -- `into_slot` moves two fields, and what the handle owns goes with them.
-use Rattle.cml_log.proofs.Steps.{List, [], ◌∷◌, ◌++◌, ◌≡◌, refl, sym, subst, Some, raw, ‵, ◌⊛◌, ◌$◌, ◌∵◌, !, qed, by, keep, move, split, fsplit, fjoin, use0, use1, suffices, ent, id⊢, emp, ftrue, fact, fact_i, SProp, WpFn, Val, owns, types_at, enter, alloc_all, pass_all, free_all, look_at, get, get_in, sets, of_opd, fld, stop, sub, whole, agg, no_more, and_then, returns, nothing, tables, proved_at, leaves, yes, Stays, stay_dropped, plain, Goes-dropped, walk_of, block_ptr}
+use Rattle.cml_log.proofs.WalksLemmas.{List, [], ◌∷◌, ◌++◌, ◌≡◌, refl, sym, subst, Some, raw, ‵, ◌⊛◌, ◌$◌, ◌∵◌, !, qed, by, keep, move, split, fsplit, fjoin, use0, use1, suffices, ent, id⊢, emp, ftrue, fact, fact_i, SProp, WpFn, Val, owns, types_at, enter, alloc_all, pass_all, free_all, look_at, get, get_in, sets, of_opd, fld, stop, sub, whole, agg, no_more, and_then, returns, nothing, tables, proved_at, leaves, yes, Stays, stay_dropped, plain, Goes-dropped, walk_of, block_ptr}
 use Rattle.std_alloc.proofs.BoxSteps.Form as box
 use Rattle.std_alloc.proofs.BoxSteps.Steps.{box_out, box_in}
 use Rattle.cml_c.specs.contracts.handle.Handle.{the_row}
 use Rattle.cml_c.specs.contracts.handle.Slot.{the_row as Slot}
-use Rattle.cml_c.proofs.HandleBox.{E, Boxed, boxed}
+use Rattle.cml_c.proofs.HandleBoxLemmas.{E, Boxed, boxed}
 use Rattle.cml_c.specs.contracts.handle.Handle.into_slot as f
 use Rattle.cml_c.proofs.handle.Handle.into_slot.Statement.{statement}
 use Rattle.cml_c.proofs.handle.Handle.into_slot.Code as code

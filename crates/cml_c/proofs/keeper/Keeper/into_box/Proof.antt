@@ -1,13 +1,13 @@
 -- `into_box` says again what lies there.
-use Rattle.cml_log.proofs.Steps.{List, [], ◌∷◌, ◌++◌, ◌≡◌, refl, sym, ap, subst, raw, ‵, ◌⊛◌, some, later, at_ret, ◌$◌, ◌∵◌, !, qed, by, keep, move, drop, split, split3, join, fsplit, fjoin, pick, use0, use1, await, rewrite, feq_i, suffices, ent, id⊢, emp, ftrue, flft, fact, fact_i, SProp, WpFn, Val, vptr, owns, types_at, enter, alloc_all, pass_all, free_all, look_at, get, get_in, sets, lands_last, of_opd, fld, stop, sub, whole, no_more, and_then, first, blocks, exec, env, tail, returns, nothing, only, tables, proved_at, leaves, layout, yes, Stays, stay_dropped, plain, Goes-dropped, walk_of, Good, block_ptr, full_share, triple_of, Lasts, lasts, calls_at_last, fm, ◌⊑◌}
+use Rattle.cml_log.proofs.WalksLemmas.{List, [], ◌∷◌, ◌++◌, ◌≡◌, refl, sym, ap, subst, raw, ‵, ◌⊛◌, some, later, at_ret, ◌$◌, ◌∵◌, !, qed, by, keep, move, drop, split, split3, join, fsplit, fjoin, pick, use0, use1, await, rewrite, feq_i, suffices, ent, id⊢, emp, ftrue, flft, fact, fact_i, SProp, WpFn, Val, vptr, owns, types_at, enter, alloc_all, pass_all, free_all, look_at, get, get_in, sets, lands_last, of_opd, fld, stop, sub, whole, no_more, and_then, first, blocks, exec, env, tail, returns, nothing, only, tables, proved_at, leaves, layout, yes, Stays, stay_dropped, plain, Goes-dropped, walk_of, Good, block_ptr, full_share, triple_of, Lasts, lasts, calls_at_last, fm, ◌⊑◌}
 use contract.BorrowLft.{⊑_static}
 use Rattle.std_alloc.proofs.BoxSteps.Form as box
 use Rattle.std_alloc.proofs.BoxSteps.Steps.{box_out, box_in}
 use Rattle.std_alloc.specs.contracts.boxed.Box.from_raw as callee
 use Rattle.std_alloc.proofs.boxed.Box.from_raw.Met.{met}
-use Rattle.cml_log.proofs.HeapBox.{Passed, passed_laws, allocates_met, drops_met}
+use Rattle.cml_log.proofs.HeapBoxLemmas.{Passed, passed_laws, allocates_met, drops_met}
 use Rattle.cml_c.proofs.Destruct++none.drop.Code as dropping
-use Rattle.cml_c.proofs.KeeperBox.{E, Boxed, boxed, Given, given_laws}
+use Rattle.cml_c.proofs.KeeperBoxLemmas.{E, Boxed, boxed, Given, given_laws}
 use Rattle.cml_c.specs.contracts.keeper.Keeper.{the_row}
 use Rattle.cml_c.specs.contracts.keeper.Keeper.into_box as f
 use Rattle.cml_c.proofs.keeper.Keeper.into_box.Statement.{statement}

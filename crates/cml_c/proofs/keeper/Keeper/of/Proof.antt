@@ -1,12 +1,12 @@
 -- `of` forgets what kind of value lies there, which the handle's type says.
-use Rattle.cml_log.proofs.Steps.{List, [], ◌∷◌, ◌++◌, ◌≡◌, refl, sym, subst, raw, ‵, ◌⊛◌, ◌$◌, ◌∵◌, !, qed, by, keep, move, split, fsplit, fjoin, use0, use1, suffices, ent, id⊢, emp, ftrue, fact, fact_i, SProp, WpFn, Val, owns, types_at, enter, alloc_all, pass_all, free_all, look_at, get, get_in, sets, of_opd, fld, stop, sub, whole, agg, no_more, and_then, returns, nothing, tables, proved_at, leaves, yes, Stays, stay_dropped, plain, Goes-dropped, walk_of, block_ptr}
+use Rattle.cml_log.proofs.WalksLemmas.{List, [], ◌∷◌, ◌++◌, ◌≡◌, refl, sym, subst, raw, ‵, ◌⊛◌, ◌$◌, ◌∵◌, !, qed, by, keep, move, split, fsplit, fjoin, use0, use1, suffices, ent, id⊢, emp, ftrue, fact, fact_i, SProp, WpFn, Val, owns, types_at, enter, alloc_all, pass_all, free_all, look_at, get, get_in, sets, of_opd, fld, stop, sub, whole, agg, no_more, and_then, returns, nothing, tables, proved_at, leaves, yes, Stays, stay_dropped, plain, Goes-dropped, walk_of, block_ptr}
 use Rattle.std.specs.contracts.alloc.Global.{the_row as Heap}
 use Rattle.std.specs.contracts.impls.GlobalAllocator.TheImpl.{ghosts}
 use Rattle.std_alloc.proofs.BoxSteps.Form as box
 use Rattle.std_alloc.proofs.BoxSteps.Steps.{box_out, box_in}
 use Rattle.cml_c.specs.contracts.keeper.Keeper.{the_row}
 use Rattle.cml_c.specs.contracts.raw.Loose.{the_row as Loose}
-use Rattle.cml_c.proofs.KeeperBox.{Room, E, Boxed, boxed}
+use Rattle.cml_c.proofs.KeeperBoxLemmas.{Room, E, Boxed, boxed}
 use Rattle.cml_c.specs.contracts.keeper.Keeper.of as f
 use Rattle.cml_c.proofs.keeper.Keeper.of.Statement.{statement}
 use Rattle.cml_c.proofs.keeper.Keeper.of.Code as code

@@ -1,5 +1,5 @@
 -- `of` takes the box apart.
-use Rattle.cml_log.proofs.Steps.{List, [], ◌∷◌, ◌++◌, ◌≡◌, refl, sym, ap, ◌∙◌, subst, raw, ‵, ◌⊛◌, some, later, ◌$◌, ◌∵◌, !, qed, by, keep, move, drop, split, split3, join, fsplit, fjoin, fpick, pick, use0, use1, await, rewrite, feq_l, suffices, ent, id⊢, emp, never, fst∗, ftrue, fsep, flft, fact, fact_i, sem, bare, SProp, WpFn, Val, vstruct, of_list, a_type, dcons, dnil, inst_fn, owns, types_at, enter, alloc_all, pass_all, free_all, look_at, get, get_in, sets, lands_as, of_opd, fld, stop, sub, whole, agg, no_more, and_then, returns, nothing, only, heard, tables, proved_at, leaves, RattleType, RawPtr, Tuple, param, layout, bounded, no, Stays, stay_dropped, plain, Goes-blank, walk_of, Ptr, block_ptr, null_ptr, ptr_val, in_a_block, handle_tells, box_owns, triple_of, calls_at, fm}
+use Rattle.cml_log.proofs.WalksLemmas.{List, [], ◌∷◌, ◌++◌, ◌≡◌, refl, sym, ap, ◌∙◌, subst, raw, ‵, ◌⊛◌, some, later, ◌$◌, ◌∵◌, !, qed, by, keep, move, drop, split, split3, join, fsplit, fjoin, fpick, pick, use0, use1, await, rewrite, feq_l, suffices, ent, id⊢, emp, never, fst∗, ftrue, fsep, flft, fact, fact_i, sem, bare, SProp, WpFn, Val, vstruct, of_list, a_type, dcons, dnil, inst_fn, owns, types_at, enter, alloc_all, pass_all, free_all, look_at, get, get_in, sets, lands_as, of_opd, fld, stop, sub, whole, agg, no_more, and_then, returns, nothing, only, heard, tables, proved_at, leaves, RattleType, RawPtr, Tuple, param, layout, bounded, no, Stays, stay_dropped, plain, Goes-blank, walk_of, Ptr, block_ptr, null_ptr, ptr_val, in_a_block, handle_tells, box_owns, triple_of, calls_at, fm}
 use Rattle.std_alloc.proofs.BoxSteps.Form as box
 use Rattle.std_alloc.proofs.BoxSteps.Steps.{box_out, box_in}
 use Rattle.std_alloc.specs.contracts.boxed.Box.into_raw_with_allocator as callee

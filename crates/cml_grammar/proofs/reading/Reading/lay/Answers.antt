@@ -6,7 +6,7 @@ use Rattle.cml_grammar.specs.Forms.{lane}
 use Rattle.cml_grammar.specs.Faults.{after_words}
 use Rattle.cml_grammar.specs.Meaning.{scope_of}
 use Rattle.cml_grammar.proofs.ReadingLemmas.{ReadFrom, kept_suits}
-use Rattle.cml_grammar.proofs.LaneLemmas.{laid_closes, laid_scopes}
+use Rattle.cml_grammar.proofs.DeclaredLaneLemmas.{laid_closes, laid_scopes}
 use Rattle.cml_grammar.proofs.reading.Reading.lay.Goals.{After-lane_by-lane}
 use Rattle.cml_grammar.proofs.reading.Reading.lay.Goals as goal
 

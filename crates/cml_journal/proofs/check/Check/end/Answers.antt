@@ -1,5 +1,5 @@
 use Rattle.std.proofs.Common.{rules}
-use Rattle.cml_journal.proofs.CheckLaws.{whole_journal}
+use Rattle.cml_journal.proofs.CheckLemmas.{whole_journal}
 use Rattle.cml_journal.proofs.check.Check.end.Goals as goal
 
 pub returns-in-Some-clause-whole : goal.returns-in-Some-clause-whole

@@ -1,5 +1,5 @@
 use Rattle.std.proofs.Common.{rules, slice_get, refl, None}
-use Rattle.cml_journal.proofs.CheckLaws.{nothing_so_far}
+use Rattle.cml_journal.proofs.CheckLemmas.{nothing_so_far}
 use Rattle.cml_journal.proofs.check.Check.new.Goals as goal
 
 pub returns : goal.returns

@@ -1,6 +1,6 @@
 use Rattle.std.proofs.Common.{slice_get, rules}
 use Rattle.cml_journal.specs.Checks.{Progress}
-use Rattle.cml_journal.proofs.CheckLaws.{anew, nothing_so_far}
+use Rattle.cml_journal.proofs.CheckLemmas.{anew, nothing_so_far}
 use Rattle.cml_journal.proofs.check.Check.restore.Goals as goal
 
 pub returns-clause-anew : goal.returns-clause-anew

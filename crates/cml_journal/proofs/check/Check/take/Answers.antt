@@ -1,4 +1,4 @@
-use Rattle.cml_journal.proofs.CheckLaws.{stops_as_told}
+use Rattle.cml_journal.proofs.CheckLemmas.{stops_as_told}
 use Rattle.cml_journal.proofs.check.Check.take.Goals as goal
 
 pub returns-in-Err-clause-stopped : goal.returns-in-Err-clause-stopped

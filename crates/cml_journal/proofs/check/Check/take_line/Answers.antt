@@ -2,7 +2,7 @@ use Rattle.std.proofs.Common.{◌≡◌, ℕ, ◌+◌, ◌%◌, ◌^◌, [], Opt
 use Rattle.cml_board.specs.declared.entry.Entry.{Entry}
 use Rattle.std.proofs.lemmas.Result.{err_from_is_err_and}
 use Rattle.cml_journal.specs.Checks.{Progress}
-use Rattle.cml_journal.proofs.CheckLaws.{goes_past_line, goes_past_entry_to, halts_at_fault, halts_at_entry, lists_found}
+use Rattle.cml_journal.proofs.CheckLemmas.{goes_past_line, goes_past_entry_to, halts_at_fault, halts_at_entry, lists_found}
 use Rattle.cml_journal.proofs.check.Check.take_line.Goals as goal
 
 pub returns-in-Err-clause-halted : goal.returns-in-Err-clause-halted

@@ -1,6 +1,6 @@
 use Rattle.std.proofs.Common.{◌++◌, ℕ, List, sym, ap, ◌∙◌, append_assoc}
 use Rattle.std.proofs.lemmas.Result.{err_from_is_err_and}
-use Rattle.cml_journal.proofs.CheckLaws.{goes_on, halts_later}
+use Rattle.cml_journal.proofs.CheckLemmas.{goes_on, halts_later}
 use Rattle.cml_journal.proofs.check.Check.take_lines.Goals as goal
 
 pub returns-in_err-rest-clause-halted : goal.returns-in_err-rest-clause-halted

@@ -3,7 +3,7 @@ use Rattle.cml_board.proofs.ListLemmas.{on_ok}
 use Rattle.cml_board.specs.declared.call.Name.{Name}
 use Rattle.cml_lanes.specs.Slots.{SlotsShown}
 use Rattle.cml_lanes.specs.Barring.{is_feeds_port}
-use Rattle.cml_lanes.proofs.FeedPlaces.{add_ports}
+use Rattle.cml_lanes.proofs.FeedPlacesLemmas.{add_ports}
 use Rattle.cml_lanes.proofs.feed_slots.FeedSlots.add.Goals as goal
 
 pub invariant_of-self : goal.invariant_of-self

@@ -1,7 +1,7 @@
 use Rattle.std.proofs.Common.{ap, ◌∙◌}
 use Rattle.cml_lanes.specs.Slots.{SlotsShown}
 use Rattle.cml_lanes.specs.Barring.{is_barred}
-use Rattle.cml_lanes.proofs.Ports.{none_barred}
+use Rattle.cml_lanes.proofs.PortsLemmas.{none_barred}
 use Rattle.cml_lanes.proofs.feed_slots.FeedSlots.bars.Goals as goal
 
 pub returns-then-is_empty : goal.returns-then-is_empty

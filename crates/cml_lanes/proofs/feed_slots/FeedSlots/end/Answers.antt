@@ -1,6 +1,6 @@
 use Rattle.std.proofs.Common.{ap}
 use Rattle.cml_lanes.specs.Slots.{SlotsShown}
-use Rattle.cml_lanes.proofs.FeedPlaces.{end_ports, end_given}
+use Rattle.cml_lanes.proofs.FeedPlacesLemmas.{end_ports, end_given}
 use Rattle.cml_lanes.proofs.feed_slots.FeedSlots.end.Goals as goal
 
 pub invariant_of-self : goal.invariant_of-self

@@ -1,4 +1,4 @@
-use Rattle.cml_lanes.proofs.Restoring.{closed_ports}
+use Rattle.cml_lanes.proofs.RestoringLemmas.{closed_ports}
 use Rattle.cml_lanes.proofs.feed_slots.FeedSlots.of_closed.Goals as goal
 
 pub invariant_of-result : goal.invariant_of-result

@@ -1,8 +1,8 @@
 use Rattle.std.proofs.Common.{ap, sym, ◌∙◌}
 use Rattle.cml_lanes.specs.Floor.{FloorShown}
-use Rattle.cml_lanes.proofs.Lanes.{applied_keeps}
-use Rattle.cml_lanes.proofs.KeptFeeds.{applied_keeps_feeds}
-use Rattle.cml_lanes.proofs.Rings.{same_rings}
+use Rattle.cml_lanes.proofs.KeptLanesLemmas.{applied_keeps}
+use Rattle.cml_lanes.proofs.KeptFeedsLemmas.{applied_keeps_feeds}
+use Rattle.cml_lanes.proofs.EachRingLemmas.{same_rings}
 use Rattle.cml_lanes.proofs.floor.Floor.apply.Goals as goal
 
 pub invariant_of-self : goal.invariant_of-self

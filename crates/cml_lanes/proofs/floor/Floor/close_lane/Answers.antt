@@ -1,5 +1,5 @@
 use Rattle.std.proofs.Common.{ap, is_some}
-use Rattle.cml_lanes.proofs.OneLane.{until_none, empties_off, all_stands}
+use Rattle.cml_lanes.proofs.OneLaneLemmas.{until_none, empties_off, all_stands}
 use Rattle.cml_lanes.proofs.floor.Floor.close_lane.Goals as goal
 
 pub returns-clause-closes : goal.returns-clause-closes

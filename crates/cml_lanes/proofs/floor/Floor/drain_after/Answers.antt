@@ -1,7 +1,7 @@
 use Rattle.std.proofs.Common.{slice_get, sym, ap, ◌∙◌}
 use Rattle.cml_lanes.specs.Floor.{FloorShown, is_open_lane, stays}
 use Rattle.cml_lanes.specs.Slots.{DrainsUntil}
-use Rattle.cml_lanes.proofs.OneLane.{floor_drained, on_lane, drained_rings, gives_all}
+use Rattle.cml_lanes.proofs.OneLaneLemmas.{floor_drained, on_lane, drained_rings, gives_all}
 use Rattle.cml_lanes.proofs.floor.Floor.drain_after.Goals as goal
 
 pub drain_after-requires-clause-opened : goal.drain_after-requires-clause-opened

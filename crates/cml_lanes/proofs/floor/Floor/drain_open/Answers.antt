@@ -1,7 +1,7 @@
 use Rattle.std.proofs.Common.{ap, ◌∙◌}
 use Rattle.cml_lanes.specs.Floor.{FloorShown, is_open_lane, stays}
 use Rattle.cml_lanes.specs.Slots.{DrainsUntil}
-use Rattle.cml_lanes.proofs.OneLane.{floor_drained, on_lane, drained_rings}
+use Rattle.cml_lanes.proofs.OneLaneLemmas.{floor_drained, on_lane, drained_rings}
 use Rattle.cml_lanes.proofs.floor.Floor.drain_open.Goals as goal
 
 pub drain-requires-clause-opened : goal.drain-requires-clause-opened

@@ -1,5 +1,5 @@
 use Rattle.std.proofs.Common.{refl, ap, is_some}
-use Rattle.cml_lanes.proofs.OneLane.{until_none, empties_off}
+use Rattle.cml_lanes.proofs.OneLaneLemmas.{until_none, empties_off}
 use Rattle.cml_lanes.proofs.floor.Floor.drop_lane.Goals as goal
 
 pub returns-in_default-clause-drops : goal.returns-in_default-clause-drops

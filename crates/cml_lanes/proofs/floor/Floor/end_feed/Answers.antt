@@ -1,5 +1,5 @@
 use Rattle.std.proofs.Common.{sym, ◌∙◌}
-use Rattle.cml_lanes.proofs.OneFeed.{open_feed_slot, its_own_port, ends_feed, end_keeps, end_rings}
+use Rattle.cml_lanes.proofs.OneFeedLemmas.{open_feed_slot, its_own_port, ends_feed, end_keeps, end_rings}
 use Rattle.cml_lanes.proofs.floor.Floor.end_feed.Goals as goal
 
 pub end-requires-clause-own : goal.end-requires-clause-own

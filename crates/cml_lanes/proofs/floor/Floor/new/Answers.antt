@@ -1,4 +1,4 @@
-use Rattle.cml_lanes.proofs.KeptFeeds.{begins}
+use Rattle.cml_lanes.proofs.KeptFeedsLemmas.{begins}
 use Rattle.cml_lanes.proofs.floor.Floor.new.Goals as goal
 
 pub invariant_of-result : goal.invariant_of-result

@@ -1,7 +1,7 @@
 use Rattle.std.proofs.Common.{rules, ap, ◌∙◌}
 use Rattle.cml_lanes.specs.Sides.{FeedSide}
 use Rattle.cml_lanes.specs.Barring.{is_feeds_port}
-use Rattle.cml_lanes.proofs.FeedOpens.{own_new_port, feed_opened_keeps, feed_opened_rings}
+use Rattle.cml_lanes.proofs.FeedOpensLemmas.{own_new_port, feed_opened_keeps, feed_opened_rings}
 use Rattle.cml_lanes.proofs.floor.Floor.open_feed.Goals as goal
 
 pub add-requires-clause-own : goal.add-requires-clause-own

@@ -1,6 +1,6 @@
 use Rattle.cml_lanes.specs.Floor.{stays}
 use Rattle.cml_lanes.specs.Slots.{PumpsUntil}
-use Rattle.cml_lanes.proofs.OneFeed.{open_feed_slot, floor_pumped, on_feed, pumped_rings}
+use Rattle.cml_lanes.proofs.OneFeedLemmas.{open_feed_slot, floor_pumped, on_feed, pumped_rings}
 use Rattle.cml_lanes.proofs.floor.Floor.pump_open.Goals as goal
 
 pub pump-requires-clause-opened : goal.pump-requires-clause-opened

@@ -1,4 +1,4 @@
-use Rattle.cml_lanes.proofs.Restoring.{restored_keeps}
+use Rattle.cml_lanes.proofs.RestoringLemmas.{restored_keeps}
 use Rattle.cml_lanes.proofs.floor.Floor.restore.Goals as goal
 
 pub invariant_of-result : goal.invariant_of-result

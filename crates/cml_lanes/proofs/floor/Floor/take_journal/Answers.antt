@@ -1,6 +1,6 @@
 use Rattle.std.proofs.Common.{ap}
 use Rattle.cml_lanes.specs.Floor.{FloorShown}
-use Rattle.cml_lanes.proofs.Rings.{same_rings}
+use Rattle.cml_lanes.proofs.EachRingLemmas.{same_rings}
 use Rattle.cml_lanes.proofs.floor.Floor.take_journal.Goals as goal
 
 pub returns-clause-rings : goal.returns-clause-rings

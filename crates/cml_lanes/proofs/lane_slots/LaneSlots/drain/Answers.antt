@@ -1,4 +1,4 @@
-use Rattle.cml_lanes.proofs.Places.{slot_here, side_here, on_place, as_many_placed}
+use Rattle.cml_lanes.proofs.OneSlotLemmas.{slot_here, side_here, on_place, as_many_placed}
 use Rattle.cml_lanes.proofs.lane_slots.LaneSlots.drain.Goals as goal
 
 pub drain_slot-requires : goal.drain_slot-requires

@@ -1,6 +1,6 @@
 -- `fits` compares the size, which is its own cap where it is small.
 use Rattle.std.proofs.Common.{ℕ, ◌^◌, ◌<◌, Bool, true, ltb, ltb-true, lit<, arith}
-use Rattle.cml_log.proofs.Steps.{List, [], ◌∷◌, ◌≡◌, refl, raw, ‵, ◌⊛◌, ◌$◌, ◌∵◌, !, qed, by, keep, split, use0, feq_i, emp, ftrue, fact, fact_i, SProp, Val, a_type, inst_fn, enter, alloc_all, pass_all, free_all, look_at, sets, returns, nothing, tables, proved, leaves, layout, layouts, walk_of, w64}
+use Rattle.cml_log.proofs.WalksLemmas.{List, [], ◌∷◌, ◌≡◌, refl, raw, ‵, ◌⊛◌, ◌$◌, ◌∵◌, !, qed, by, keep, split, use0, feq_i, emp, ftrue, fact, fact_i, SProp, Val, a_type, inst_fn, enter, alloc_all, pass_all, free_all, look_at, sets, returns, nothing, tables, proved, leaves, layout, layouts, walk_of, w64}
 use mir.Val.{vbool, vint}
 use base.Logic.{via, guard_i}
 use prog.Memory.{size, capped}

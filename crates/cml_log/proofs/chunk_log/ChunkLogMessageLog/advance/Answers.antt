@@ -3,7 +3,7 @@ use Rattle.cml_log.specs.Log.{IsOpen, owed_items, place_of, trimmed, with_place}
 use Rattle.cml_log.specs.Chain.{LiesAt, count_at, end_of, is_idle, with_count}
 use Rattle.cml_log.specs.ChunkLog.{IsTrim, log_of}
 use Rattle.cml_log.proofs.LogLemmas.{place_of-owed}
-use Rattle.cml_log.proofs.HeldLemmas.{chunk_of-within, entered, IsTidy-shown, place_shown, lies-recounted}
+use Rattle.cml_log.proofs.CursorsLemmas.{chunk_of-within, entered, IsTidy-shown, place_shown, lies-recounted}
 use Rattle.cml_log.proofs.ChunkLogLemmas.{before_end, room_next, moved_trim, moved_log, next_after, stood_trim, stood_log, gone_trim, gone_log}
 use Rattle.cml_log.proofs.chunk_log.ChunkLogMessageLog.advance.Goals as goal
 

@@ -2,7 +2,7 @@ use Rattle.std.proofs.Common.{◌≡◌, ◌+◌, ◌≤◌, count_by, is_some, 
 use Rattle.cml_log.specs.Log.{place_of, Opens}
 use Rattle.cml_log.specs.ChunkLog.{cursor_at, log_of}
 use Rattle.cml_log.proofs.StandingLemmas.{standing-le}
-use Rattle.cml_log.proofs.HeldLemmas.{place_shown}
+use Rattle.cml_log.proofs.CursorsLemmas.{place_shown}
 use Rattle.cml_log.proofs.ChunkLogLemmas.{opened_trim, opened_log}
 use Rattle.cml_log.proofs.chunk_log.ChunkLogMessageLog.copy_cursor.Goals as goal
 

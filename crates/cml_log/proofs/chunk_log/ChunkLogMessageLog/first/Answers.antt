@@ -1,6 +1,6 @@
 use Rattle.std.proofs.Common.{sym, ap, ◌∙◌}
 use Rattle.cml_log.specs.Log.{chunk_start}
-use Rattle.cml_log.proofs.HeldLemmas.{chunk_of-within, trim_first}
+use Rattle.cml_log.proofs.CursorsLemmas.{chunk_of-within, trim_first}
 use Rattle.cml_log.proofs.chunk_log.ChunkLogMessageLog.first.Goals as goal
 
 pub returns-clause-starts_chunk : goal.returns-clause-starts_chunk

@@ -1,5 +1,5 @@
-use Rattle.cml_queues.proofs.Rows.{linked, shown_is}
-use Rattle.cml_queues.proofs.Shown.{adds}
+use Rattle.cml_queues.proofs.RowsLemmas.{linked, shown_is}
+use Rattle.cml_queues.proofs.ShownLemmas.{adds}
 use Rattle.cml_queues.proofs.queues.Queues.add.Goals as goal
 
 pub invariant_of-self-2 : goal.invariant_of-self-2

@@ -1,5 +1,5 @@
 use Rattle.std.proofs.Common.{arith}
-use Rattle.cml_queues.proofs.Shown.{short_row}
+use Rattle.cml_queues.proofs.ShownLemmas.{short_row}
 use Rattle.cml_queues.proofs.queues.Queues.bound.Goals as goal
 
 pub returns-clause-enough : goal.returns-clause-enough

@@ -2,7 +2,7 @@ use Rattle.std.proofs.Common.{◌≡◌, List, [], subst, sym}
 use Rattle.cml_queues.specs.declared.links.Link.{Link}
 use Rattle.cml_queues.specs.Queues.{queue_of}
 use Rattle.cml_queues.specs.Links.{shown_by}
-use Rattle.cml_queues.proofs.Shown.{new_linked, all_empty}
+use Rattle.cml_queues.proofs.ShownLemmas.{new_linked, all_empty}
 use Rattle.cml_queues.proofs.queues.Queues.new.Goals as goal
 
 pub invariant_of-result : goal.invariant_of-result

@@ -1,5 +1,5 @@
-use Rattle.cml_queues.proofs.Rows.{linked}
-use Rattle.cml_queues.proofs.Shown.{append_last, pushes, here_is, others_are}
+use Rattle.cml_queues.proofs.RowsLemmas.{linked}
+use Rattle.cml_queues.proofs.ShownLemmas.{append_last, pushes, here_is, others_are}
 use Rattle.cml_queues.proofs.queues.Queues.push.Goals as goal
 
 pub append-requires-clause-last : goal.append-requires-clause-last

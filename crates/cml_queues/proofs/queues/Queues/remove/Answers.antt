@@ -1,9 +1,9 @@
 use Rattle.std.proofs.Common.{◌<◌, ℕ, List, length, subst, sym, ap, ◌∙◌}
 use Rattle.cml_queues.specs.declared.links.Link.{Link}
 use Rattle.cml_queues.specs.Queues.{has}
-use Rattle.cml_queues.proofs.Changes.{parted, still}
-use Rattle.cml_queues.proofs.Rows.{linked}
-use Rattle.cml_queues.proofs.Shown.{is_row, left_nowhere, member_within, removes, unlink_previous, here_is, others_are}
+use Rattle.cml_queues.proofs.ChangesLemmas.{parted, still}
+use Rattle.cml_queues.proofs.RowsLemmas.{linked}
+use Rattle.cml_queues.proofs.ShownLemmas.{is_row, left_nowhere, member_within, removes, unlink_previous, here_is, others_are}
 use Rattle.cml_queues.proofs.queues.Queues.remove.Goals as goal
 
 pub unlink-requires-clause-number : goal.unlink-requires-clause-number

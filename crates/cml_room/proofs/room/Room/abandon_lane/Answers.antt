@@ -1,6 +1,6 @@
 use Rattle.std.proofs.Common.{None}
-use Rattle.cml_room.proofs.Bringing.{abandoned_follows}
-use Rattle.cml_room.proofs.Frames.{stirs_none}
+use Rattle.cml_room.proofs.BringingLemmas.{abandoned_follows}
+use Rattle.cml_room.proofs.FramesLemmas.{stirs_none}
 use Rattle.cml_room.proofs.room.Room.abandon_lane.Goals as goal
 
 pub settle-requires-clause-was : goal.settle-requires-clause-was

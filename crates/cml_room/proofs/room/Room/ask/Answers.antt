@@ -2,8 +2,8 @@ use Rattle.std.proofs.Common.{rules}
 use Rattle.cml_room.specs.Room.{MayAsk}
 use Rattle.std.specs.Prelude.{⊤}
 use Rattle.cml_room.specs.Rising.{news_by}
-use Rattle.cml_room.proofs.Frames.{turns_heard}
-use Rattle.cml_room.proofs.Turning.{may_ask}
+use Rattle.cml_room.proofs.FramesLemmas.{turns_heard}
+use Rattle.cml_room.proofs.TurningLemmas.{may_ask}
 use Rattle.cml_room.proofs.room.Room.ask.Goals as goal
 
 pub returns-clause-asks : goal.returns-clause-asks

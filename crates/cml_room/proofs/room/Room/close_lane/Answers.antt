@@ -1,9 +1,9 @@
 use Rattle.std.proofs.Common.{subst}
 use Rattle.cml_lanes.specs.Lanes.{Closes}
 use Rattle.cml_room.specs.Room.{RoomShown, floor_of}
-use Rattle.cml_lanes.proofs.Deeds.{closes}
-use Rattle.cml_room.proofs.Bringing.{was_watched_at}
-use Rattle.cml_room.proofs.Frames.{stirs_few}
+use Rattle.cml_lanes.proofs.DeedsLemmas.{closes}
+use Rattle.cml_room.proofs.BringingLemmas.{was_watched_at}
+use Rattle.cml_room.proofs.FramesLemmas.{stirs_few}
 use Rattle.cml_room.proofs.room.Room.close_lane.Goals as goal
 
 pub settle_since-requires : goal.settle_since-requires

@@ -2,8 +2,8 @@ use Rattle.std.proofs.Common.{◌≡◌, ◌++◌, reverse, subst}
 use Rattle.cml_board.specs.Shown.{Shown}
 use Rattle.cml_lanes.specs.Floor.{KeepsRings}
 use Rattle.cml_room.specs.Room.{RoomShown, floor_of}
-use Rattle.cml_room.proofs.Unmoved.{cuts_watched}
-use Rattle.cml_room.proofs.Frames.{keeps}
+use Rattle.cml_room.proofs.UnmovedLemmas.{cuts_watched}
+use Rattle.cml_room.proofs.FramesLemmas.{keeps}
 use Rattle.cml_room.proofs.room.Room.cut.Goals as goal
 
 pub invariant_of-self : goal.invariant_of-self

@@ -1,6 +1,6 @@
-use Rattle.cml_lanes.proofs.Deeds.{drains}
-use Rattle.cml_room.proofs.Bringing.{was_watched_at}
-use Rattle.cml_room.proofs.Frames.{stirs_few}
+use Rattle.cml_lanes.proofs.DeedsLemmas.{drains}
+use Rattle.cml_room.proofs.BringingLemmas.{was_watched_at}
+use Rattle.cml_room.proofs.FramesLemmas.{stirs_few}
 use Rattle.cml_room.proofs.room.Room.drain.Goals as goal
 
 pub settle_since-requires : goal.settle_since-requires

@@ -1,5 +1,5 @@
-use Rattle.cml_room.proofs.Unmoved.{ended_watched}
-use Rattle.cml_room.proofs.Frames.{keeps}
+use Rattle.cml_room.proofs.UnmovedLemmas.{ended_watched}
+use Rattle.cml_room.proofs.FramesLemmas.{keeps}
 use Rattle.cml_room.proofs.room.Room.end_feed.Goals as goal
 
 pub invariant_of-self : goal.invariant_of-self

@@ -10,12 +10,12 @@ use Rattle.cml_room.specs.Room.{RoomShown, MayAsk, with_state}
 use Rattle.cml_room.specs.Running.{IsMade, KeepsWoken, Other}
 use Rattle.cml_room.specs.Seats.{SeatsShown, free_in}
 use Rattle.cml_room.specs.Waking.{IsWatched}
-use Rattle.cml_room.proofs.Frames.{with_seats}
-use Rattle.cml_room.proofs.Idling.{none_waits}
-use Rattle.cml_room.proofs.Noting.{left_watched, free_place}
-use Rattle.cml_room.proofs.Parking.{none_watched}
-use Rattle.cml_room.proofs.Rising.{left_none, none_due}
-use Rattle.cml_room.proofs.Woken.{set_keeps}
+use Rattle.cml_room.proofs.FramesLemmas.{with_seats}
+use Rattle.cml_room.proofs.IdlingLemmas.{none_waits}
+use Rattle.cml_room.proofs.SleepersLemmas.{left_watched, free_place}
+use Rattle.cml_room.proofs.ParkingLemmas.{none_watched}
+use Rattle.cml_room.proofs.RisingLemmas.{left_none, none_due}
+use Rattle.cml_room.proofs.WokenLemmas.{set_keeps}
 use Rattle.cml_room.proofs.room.Room.leave.Goals as goal
 
 -- a free seat has left: that it was free, that none became due, and who counts as woken

@@ -1,11 +1,11 @@
 use Rattle.std.proofs.Common.{false, refl, subst, ◌∙◌}
 use Rattle.cml_room.specs.Places.{notices_in}
 use Rattle.cml_room.specs.Room.{RoomShown}
-use Rattle.cml_room.proofs.Noting.{wakes_alike, alike_watched, next_given, next_all, next_same}
+use Rattle.cml_room.proofs.SleepersLemmas.{wakes_alike, alike_watched, next_given, next_all, next_same}
 use Rattle.cml_room.specs.Places.{states_in}
 use Rattle.cml_room.specs.Running.{GivesNext}
-use Rattle.cml_room.proofs.Turning.{room_of}
-use Rattle.cml_room.proofs.Woken.{gives_next, wakes_only}
+use Rattle.cml_room.proofs.TurningLemmas.{room_of}
+use Rattle.cml_room.proofs.WokenLemmas.{gives_next, wakes_only}
 use Rattle.cml_room.proofs.room.Room.next_due.Goals as goal
 
 pub invariant_of-self : goal.invariant_of-self

@@ -1,5 +1,5 @@
-use Rattle.cml_room.proofs.Quiet.{opened_follows}
-use Rattle.cml_room.proofs.Frames.{stirs_none}
+use Rattle.cml_room.proofs.QuietLemmas.{opened_follows}
+use Rattle.cml_room.proofs.FramesLemmas.{stirs_none}
 use Rattle.cml_room.proofs.room.Room.open_feed.Goals as goal
 
 pub settle-requires-clause-was : goal.settle-requires-clause-was

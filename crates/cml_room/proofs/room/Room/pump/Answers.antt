@@ -1,5 +1,5 @@
-use Rattle.cml_room.proofs.Quiet.{pumped_follows}
-use Rattle.cml_room.proofs.Frames.{stirs_none}
+use Rattle.cml_room.proofs.QuietLemmas.{pumped_follows}
+use Rattle.cml_room.proofs.FramesLemmas.{stirs_none}
 use Rattle.cml_room.proofs.room.Room.pump.Goals as goal
 
 pub settle-requires-clause-was : goal.settle-requires-clause-was

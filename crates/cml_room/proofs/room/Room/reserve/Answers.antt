@@ -1,5 +1,5 @@
-use Rattle.cml_room.proofs.Unmoved.{reserved_watched}
-use Rattle.cml_room.proofs.Frames.{keeps}
+use Rattle.cml_room.proofs.UnmovedLemmas.{reserved_watched}
+use Rattle.cml_room.proofs.FramesLemmas.{keeps}
 use Rattle.cml_room.proofs.room.Room.reserve.Goals as goal
 
 pub invariant_of-self : goal.invariant_of-self

@@ -1,8 +1,8 @@
 use Rattle.std.proofs.Common.{ap, ◌∙◌, replicate}
 use Rattle.cml_board.specs.declared.restored.Makers.{Makers}
 use Rattle.cml_room.specs.declared.place.Place.TheVariants as place
-use Rattle.cml_room.proofs.Restoring.{watched_left, states_left, none_due}
-use Rattle.cml_room.proofs.Woken.{left_quiet}
+use Rattle.cml_room.proofs.RestoringLemmas.{watched_left, states_left, none_due}
+use Rattle.cml_room.proofs.WokenLemmas.{left_quiet}
 use Rattle.cml_room.proofs.room.Room.restore.Goals as goal
 
 pub invariant_of-result : goal.invariant_of-result

@@ -1,8 +1,8 @@
 use Rattle.std.proofs.Common.{reverse, subst}
 use Rattle.cml_lanes.specs.Floor.{KeepsRings}
 use Rattle.cml_room.specs.Room.{RoomShown, floor_of}
-use Rattle.cml_room.proofs.Unmoved.{taken_watched}
-use Rattle.cml_room.proofs.Frames.{keeps}
+use Rattle.cml_room.proofs.UnmovedLemmas.{taken_watched}
+use Rattle.cml_room.proofs.FramesLemmas.{keeps}
 use Rattle.cml_room.proofs.room.Room.take_journal.Goals as goal
 
 pub invariant_of-self : goal.invariant_of-self

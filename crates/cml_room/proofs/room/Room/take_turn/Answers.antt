@@ -5,12 +5,12 @@ use Rattle.cml_room.specs.Places.{states_in, notices_in}
 use Rattle.cml_room.specs.Frames.{Turns}
 use Rattle.cml_room.specs.Running.{AskOf}
 use Rattle.cml_room.specs.Room.{RoomShown}
-use Rattle.cml_room.proofs.Turning.{answered_asks, parked_asks, stalled_asks, refused_asks, answered_reaches, waiting_reaches, room_of}
-use Rattle.cml_room.proofs.Unmoved.{room_kept}
-use Rattle.cml_room.proofs.Bringing.{placed_on}
-use Rattle.cml_room.proofs.Frames.{turns}
-use Rattle.cml_room.proofs.Rising.{nobody_few}
-use Rattle.cml_room.proofs.Calling.{answered_brings, refused_before, before_follows, before_watched, call_would, may_turn, may_wait, waits_wants, may_brings, answered_news}
+use Rattle.cml_room.proofs.TurningLemmas.{answered_asks, parked_asks, stalled_asks, refused_asks, answered_reaches, waiting_reaches, room_of}
+use Rattle.cml_room.proofs.UnmovedLemmas.{room_kept}
+use Rattle.cml_room.proofs.BringingLemmas.{placed_on}
+use Rattle.cml_room.proofs.FramesLemmas.{turns}
+use Rattle.cml_room.proofs.RisingLemmas.{nobody_few}
+use Rattle.cml_room.proofs.CallingLemmas.{answered_brings, refused_before, before_follows, before_watched, call_would, may_turn, may_wait, waits_wants, may_brings, answered_news}
 use Rattle.cml_room.proofs.room.Room.take_turn.Goals as goal
 
 pub answer_turn-requires : goal.answer_turn-requires

@@ -1,6 +1,6 @@
 use Rattle.std.proofs.Common.{None, refl, rules}
-use Rattle.cml_room.proofs.Following.{same_follows}
-use Rattle.cml_room.proofs.Frames.{turns}
+use Rattle.cml_room.proofs.RingNewsLemmas.{same_follows}
+use Rattle.cml_room.proofs.FramesLemmas.{turns}
 use Rattle.cml_room.proofs.room.Room.withdraw.Goals as goal
 
 pub end_turn-requires : goal.end_turn-requires

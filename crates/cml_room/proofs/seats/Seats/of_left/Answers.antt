@@ -1,5 +1,5 @@
 use Rattle.std.proofs.Common.{◌∙◌, arith}
-use Rattle.cml_room.proofs.Restoring.{one_more_left, length_more}
+use Rattle.cml_room.proofs.RestoringLemmas.{one_more_left, length_more}
 use Rattle.cml_room.proofs.seats.Seats.of_left.Goals as goal
 
 pub loop-number-preserved : goal.loop-number-preserved

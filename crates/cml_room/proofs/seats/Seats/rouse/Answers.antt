@@ -2,7 +2,7 @@ use Rattle.std.proofs.Common.{◌<◌, length, refl, sym, ap, subst}
 use Rattle.cml_room.specs.declared.place.Place.TheVariants as place
 use Rattle.cml_room.specs.Places.{noted_as, row_in, noted_in}
 use Rattle.cml_room.specs.Seats.{SeatsShown}
-use Rattle.cml_room.proofs.Listing.{listed_same, listed_push, seen_at, kept_set}
+use Rattle.cml_room.proofs.ListingLemmas.{listed_same, listed_push, seen_at, kept_set}
 use Rattle.cml_room.proofs.seats.Seats.rouse.Goals as goal
 
 pub invariant_of-self : goal.invariant_of-self

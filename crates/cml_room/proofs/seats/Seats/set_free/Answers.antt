@@ -4,7 +4,7 @@ use Rattle.cml_room.specs.Places.{noted_as, row_in, noted_in, quieted}
 use Rattle.cml_room.specs.Seats.{SeatsShown}
 use Rattle.std.specs.Prelude.{◌==◌}
 use Rattle.std.proofs.lemmas.List.{length-set, set-set}
-use Rattle.cml_room.proofs.Listing.{set_here, quieted_nothing, freed_waiter, listed_same, listed_remove, seen_at, kept_set, kept_within, one_waits}
+use Rattle.cml_room.proofs.ListingLemmas.{set_here, quieted_nothing, freed_waiter, listed_same, listed_remove, seen_at, kept_set, kept_within, one_waits}
 use Rattle.cml_room.proofs.seats.Seats.set_free.Goals as goal
 
 pub overflow_add-self : goal.overflow_add-self

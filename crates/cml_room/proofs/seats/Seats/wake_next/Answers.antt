@@ -8,7 +8,7 @@ use Rattle.cml_room.specs.declared.place.Place.TheVariants as place
 use Rattle.cml_room.specs.Places.{noted_as, row_in, noted_in, notice_in, AreListed}
 use Rattle.cml_queues.specs.Queues.{queue_of, is_in}
 use Rattle.cml_room.specs.Seats.{SeatsShown, WakesNext}
-use Rattle.cml_room.proofs.Listing.{listed_same, listed_push, listed_remove, has_at, unwoken_waits, not_due, seen_at, kept_set}
+use Rattle.cml_room.proofs.ListingLemmas.{listed_same, listed_push, listed_remove, has_at, unwoken_waits, not_due, seen_at, kept_set}
 use Rattle.cml_room.proofs.seats.Seats.wake_next.Goals.{In_ok-number, In-Waiting}
 use Rattle.cml_room.proofs.seats.Seats.wake_next.Goals as goal
 

@@ -8,7 +8,7 @@ use Rattle.cml_script.proofs.ListLemmas.{read_at, mapped_at}
 use Rattle.cml_script.proofs.LineLemmas.{all_at}
 use Rattle.cml_script.proofs.ObjectLemmas.{target_declared}
 use Rattle.cml_script.proofs.StallingLemmas.{one_more}
-use Rattle.cml_script.proofs.LaneLemmas.{order_at, order_of}
+use Rattle.cml_script.proofs.MovedLemmas.{order_at, order_of}
 use Rattle.cml_script.proofs.running.lanes.are_in_order.Goals as goal
 
 pub is_in_order-requires : goal.is_in_order-requires

@@ -3,7 +3,7 @@ use Rattle.std.proofs.lemmas.Bool.{false≢true}
 use Rattle.cml_script.specs.Lanes.{AreOnLines}
 use Rattle.cml_script.proofs.ListLemmas.{read_at}
 use Rattle.cml_script.proofs.JournalLemmas.{before_more}
-use Rattle.cml_script.proofs.LaneLemmas.{on_line_at}
+use Rattle.cml_script.proofs.MovedLemmas.{on_line_at}
 use Rattle.cml_script.proofs.running.lanes.are_on_lines.Goals as goal
 
 pub loop-entry-preserved : goal.loop-entry-preserved

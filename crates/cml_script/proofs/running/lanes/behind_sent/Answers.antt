@@ -1,6 +1,6 @@
 use Rattle.std.proofs.Common.{arith}
 use Rattle.std.proofs.lemmas.Option.{slice_get_within}
-use Rattle.cml_script.proofs.LaneLemmas.{sent_if, none_sent}
+use Rattle.cml_script.proofs.MovedLemmas.{sent_if, none_sent}
 use Rattle.cml_script.proofs.running.lanes.behind_sent.Goals as goal
 
 pub has_call-requires-clause-i : goal.has_call-requires-clause-i

@@ -10,7 +10,7 @@ use Rattle.cml_script.specs.Schedule.{call_on}
 use Rattle.cml_script.specs.Lanes.{call_to}
 use Rattle.cml_script.proofs.ListLemmas.{mapped_at}
 use Rattle.cml_script.proofs.LineLemmas.{all_at}
-use Rattle.cml_script.proofs.LaneLemmas.{call_is}
+use Rattle.cml_script.proofs.MovedLemmas.{call_is}
 use Rattle.cml_script.proofs.running.lanes.has_call.Goals as goal
 
 pub returns : goal.returns

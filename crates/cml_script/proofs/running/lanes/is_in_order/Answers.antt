@@ -1,7 +1,7 @@
 use Rattle.std.proofs.Common.{refl}
 use Rattle.std.proofs.lemmas.Bool.{false≢true}
 use Rattle.cml_script.proofs.ListLemmas.{read_at}
-use Rattle.cml_script.proofs.LaneLemmas.{so_far_more, so_far_all, moved_astray}
+use Rattle.cml_script.proofs.MovedLemmas.{so_far_more, so_far_all, moved_astray}
 use Rattle.cml_script.proofs.running.lanes.is_in_order.Goals as goal
 
 pub loop-entry-preserved : goal.loop-entry-preserved

@@ -1,5 +1,5 @@
 use Rattle.std.proofs.Common.{◌≤◌, length}
-use Rattle.cml_script.proofs.LaneLemmas.{IsSoFar}
+use Rattle.cml_script.proofs.MovedLemmas.{IsSoFar}
 use Rattle.cml_script.proofs.running.lanes.is_in_order.Given as goal
 
 abbrev pub invariant-loop-entry : goal.invariant-loop-entry

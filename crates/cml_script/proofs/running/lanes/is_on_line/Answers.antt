@@ -5,7 +5,7 @@ use Rattle.cml_script.specs.Lanes.{is_moved_on, is_moved_to}
 use Rattle.cml_script.proofs.ListLemmas.{read_at, mapped_at}
 use Rattle.cml_script.proofs.LineLemmas.{all_at}
 use Rattle.cml_script.proofs.ObjectLemmas.{target_declared}
-use Rattle.cml_script.proofs.LaneLemmas.{moved_on_is, any_at, none_more}
+use Rattle.cml_script.proofs.MovedLemmas.{moved_on_is, any_at, none_more}
 use Rattle.cml_script.proofs.running.lanes.is_on_line.Goals as goal
 
 pub number-requires : goal.number-requires

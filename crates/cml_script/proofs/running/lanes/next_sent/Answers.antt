@@ -5,7 +5,7 @@ use Rattle.cml_grammar.specs.declared.script.Step.{Step}
 use Rattle.cml_grammar.specs.Reading.{source_of}
 use Rattle.cml_script.specs.Lanes.{is_laid_to}
 use Rattle.cml_script.proofs.LineLemmas.{stands}
-use Rattle.cml_script.proofs.LaneLemmas.{sends_here, sends_past}
+use Rattle.cml_script.proofs.MovedLemmas.{sends_here, sends_past}
 use Rattle.cml_script.proofs.running.lanes.next_sent.Goals as goal
 
 pub loop-i-preserved : goal.loop-i-preserved

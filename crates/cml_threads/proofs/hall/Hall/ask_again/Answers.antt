@@ -1,5 +1,5 @@
 use Rattle.cml_room.specs.Room.{MayAskAgain}
-use Rattle.cml_threads.proofs.Tallying.{told_asks, told_turns}
+use Rattle.cml_threads.proofs.TallyingLemmas.{told_asks, told_turns}
 use Rattle.cml_threads.proofs.hall.Hall.ask_again.Goals as goal
 
 pub returns-clause-asks : goal.returns-clause-asks

@@ -1,6 +1,6 @@
-use Rattle.cml_lanes.proofs.Deeds.{opens_feed}
+use Rattle.cml_lanes.proofs.DeedsLemmas.{opens_feed}
 use Rattle.cml_room.specs.Room as room
-use Rattle.cml_threads.proofs.Counting.{was_counted}
+use Rattle.cml_threads.proofs.AddedEntriesLemmas.{was_counted}
 use Rattle.cml_threads.proofs.hall.Hall.open_feed.Goals as goal
 
 pub count_since-requires : goal.count_since-requires

@@ -3,7 +3,7 @@ use Rattle.cml_board.specs.History.{entries_in, rings_in}
 use Rattle.cml_board.specs.Makers.{seats_of}
 use Rattle.cml_board.specs.Shown.{Shown}
 use Rattle.cml_threads.specs.Seating.{share_at}
-use Rattle.cml_threads.proofs.Restoring.{rings_within, all_rings}
+use Rattle.cml_threads.proofs.RestoringLemmas.{rings_within, all_rings}
 use Rattle.cml_threads.proofs.hall.Hall.restore.Goals as goal
 
 pub overflow_sub-entries : goal.overflow_sub-entries

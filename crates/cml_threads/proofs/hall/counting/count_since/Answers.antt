@@ -1,5 +1,5 @@
 use Rattle.std.proofs.Common.{arith}
-use Rattle.cml_threads.proofs.Counting.{grown_since, counted_since}
+use Rattle.cml_threads.proofs.AddedEntriesLemmas.{grown_since, counted_since}
 use Rattle.cml_threads.proofs.hall.counting.count_since.Goals as goal
 
 pub overflow_sub-count_entries : goal.overflow_sub-count_entries

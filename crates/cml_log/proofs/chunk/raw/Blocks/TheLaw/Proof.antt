@@ -11,7 +11,7 @@ use denote.Struct.Lending.{of_Lends}
 use Rattle.core.specs.contracts.marker.PhantomData as marker
 use Rattle.cml_log.specs.contracts.chunk.raw.Blocks as S
 use Rattle.cml_log.proofs.chunk.raw.Blocks.TheLaw.Statement.{statement}
-use Rattle.cml_log.proofs.Sharing.{lent_laws, Lends-all}
+use Rattle.cml_log.proofs.SharingLemmas.{lent_laws, Lends-all}
 
 pub shares : (R : RattleType) (L : Laws R) → statement R L
 shares R L =

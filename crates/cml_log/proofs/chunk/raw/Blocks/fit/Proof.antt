@@ -1,8 +1,8 @@
 -- `fit` reads off the blocks that a content fits in memory.
 use Rattle.std.proofs.Common.{ℕ, ◌^◌, ◌<◌}
 use prog.Memory.{size}
-use Rattle.cml_log.proofs.Steps.{List, [], ◌∷◌, refl, raw, ‵, ◌⊛◌, ◌$◌, ◌∵◌, !, qed, by, keep, move, drop, split, fsplit, fjoin, feq_i, use0, use1, emp, ftrue, fsep, flft, Fml, fact, fact_i, SProp, Val, vptr, vunit, a_type, named, inst_fn, owns, types_at, enter, alloc_all, pass_all, free_all, look_at, sets, of_opd, unit_lit, returns, nothing, heard, unhide, tables, proved, leaves, RattleType, param, layout, layouts, yes, Stays, stay_dropped, plain, RefOf, Goes-dropped, walk_of, shr_vals, shr_Tells}
-use Rattle.cml_log.proofs.BlockMemory.{fits_seen}
+use Rattle.cml_log.proofs.WalksLemmas.{List, [], ◌∷◌, refl, raw, ‵, ◌⊛◌, ◌$◌, ◌∵◌, !, qed, by, keep, move, drop, split, fsplit, fjoin, feq_i, use0, use1, emp, ftrue, fsep, flft, Fml, fact, fact_i, SProp, Val, vptr, vunit, a_type, named, inst_fn, owns, types_at, enter, alloc_all, pass_all, free_all, look_at, sets, of_opd, unit_lit, returns, nothing, heard, unhide, tables, proved, leaves, RattleType, param, layout, layouts, yes, Stays, stay_dropped, plain, RefOf, Goes-dropped, walk_of, shr_vals, shr_Tells}
+use Rattle.cml_log.proofs.BlockMemoryLemmas.{fits_seen}
 use Rattle.cml_log.specs.contracts.chunk.raw.Blocks.{the_row}
 use Rattle.cml_log.specs.contracts.chunk.raw.Blocks.fit as f
 use Rattle.cml_log.proofs.chunk.raw.Blocks.fit.Statement.{statement}

@@ -1,6 +1,6 @@
 -- `get` lends one content for as long as the blocks are lent.
-use Rattle.cml_log.proofs.Steps.{List, [], ◌∷◌, ◌≡◌, refl, Option, Some, None, slice_index_or, raw, ‵, ◌⊛◌, ◌$◌, ◌∵◌, !, at_ret, qed, by, keep, move, drop, split, fsplit, fjoin, feq_i, use0, use1, rewrite, emp, ftrue, fsep, fat, flft, Fml, full_share, fact, fact_i, SProp, Val, vptr, a_type, named, inst_fn, owns, types_at, enter, alloc_all, pass_all, free_all, look_at, get, get_in, through, sets, sets_last, take_at, give_at, of_opd, addr, fld, stop, sub, whole, first, blocks, exec, env, tail, returns, nothing, heard, hide, unhide, tables, proved, leaves, RattleType, param, layout, layouts, yes, Stays, stay_dropped, plain, RefOf, Goes-dropped, walk_of, shr_vals, shr_Tells, in_block_says, Ptr, InBlock, block_of, count_of, at_block, IsKept, block_at, block_lent}
-use Rattle.cml_log.proofs.BlockMemory.{block_seen}
+use Rattle.cml_log.proofs.WalksLemmas.{List, [], ◌∷◌, ◌≡◌, refl, Option, Some, None, slice_index_or, raw, ‵, ◌⊛◌, ◌$◌, ◌∵◌, !, at_ret, qed, by, keep, move, drop, split, fsplit, fjoin, feq_i, use0, use1, rewrite, emp, ftrue, fsep, fat, flft, Fml, full_share, fact, fact_i, SProp, Val, vptr, a_type, named, inst_fn, owns, types_at, enter, alloc_all, pass_all, free_all, look_at, get, get_in, through, sets, sets_last, take_at, give_at, of_opd, addr, fld, stop, sub, whole, first, blocks, exec, env, tail, returns, nothing, heard, hide, unhide, tables, proved, leaves, RattleType, param, layout, layouts, yes, Stays, stay_dropped, plain, RefOf, Goes-dropped, walk_of, shr_vals, shr_Tells, in_block_says, Ptr, InBlock, block_of, count_of, at_block, IsKept, block_at, block_lent}
+use Rattle.cml_log.proofs.BlockMemoryLemmas.{block_seen}
 use Rattle.cml_log.proofs.chunk.raw.Address.TheLaws as address_laws
 use Rattle.cml_log.specs.contracts.chunk.raw.Address.{the_row as Address}
 use Rattle.cml_log.specs.contracts.chunk.raw.Blocks.{the_row}

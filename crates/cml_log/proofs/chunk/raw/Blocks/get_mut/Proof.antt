@@ -1,12 +1,12 @@
 -- `get_mut` lends one content, and the blocks follow it.
-use Rattle.cml_log.proofs.Steps.{List, [], ◌∷◌, ◌≡◌, refl, sym, Option, Some, None, slice_index_or, slice_set, raw, ‵, ◌⊛◌, some, later, ◌$◌, ◌∵◌, !, at_ret, qed, by, keep, move, split, split3, join, group, fsplit, fsplit3, fjoin, fpack, pick, await, use0, use1, use2, rewrite, done, id⊢, ent, sep, sem, emp, never, ftrue, fsep, fat, flft, Fml, GName, Logic, full_share, fact, fact_i, SProp, Val, vptr, a_type, named, bare, inst_fn, owns, types_at, enter, alloc_all, pass_all, free_all, look_at, get, get_in, through, sets, sets_last, take_at, give_at, of_opd, addr, fld, stop, sub, whole, first, blocks, exec, env, tail, returns, nothing, heard, opens, tables, proved, leaves, RattleType, param, layout, layouts, yes, no, Stays, stay_dropped, plain, mut_ref_to, Goes-dropped, Goes-spent_ref, walk_of, mem, cell_at, lone, mut_vals, mut_Tells, MutRef, Ptr, block_ptr, in_a_block, lies_at, token, IsKept, block_at, block_owns, blocks_own}
+use Rattle.cml_log.proofs.WalksLemmas.{List, [], ◌∷◌, ◌≡◌, refl, sym, Option, Some, None, slice_index_or, slice_set, raw, ‵, ◌⊛◌, some, later, ◌$◌, ◌∵◌, !, at_ret, qed, by, keep, move, split, split3, join, group, fsplit, fsplit3, fjoin, fpack, pick, await, use0, use1, use2, rewrite, done, id⊢, ent, sep, sem, emp, never, ftrue, fsep, fat, flft, Fml, GName, Logic, full_share, fact, fact_i, SProp, Val, vptr, a_type, named, bare, inst_fn, owns, types_at, enter, alloc_all, pass_all, free_all, look_at, get, get_in, through, sets, sets_last, take_at, give_at, of_opd, addr, fld, stop, sub, whole, first, blocks, exec, env, tail, returns, nothing, heard, opens, tables, proved, leaves, RattleType, param, layout, layouts, yes, no, Stays, stay_dropped, plain, mut_ref_to, Goes-dropped, Goes-spent_ref, walk_of, mem, cell_at, lone, mut_vals, mut_Tells, MutRef, Ptr, block_ptr, in_a_block, lies_at, token, IsKept, block_at, block_owns, blocks_own}
 use Prim.Native.Nat.{ℕ}
 use seplogic.Ra.Ura.{Ura}
 use denote.Memory.{part_of}
 use denote.Follow.{follows, lends_Part}
 use Rattle.cml_log.specs.Lends.{with_content}
-use Rattle.cml_log.proofs.BlockMemory.{block_cut, block_glue}
-use Rattle.cml_log.proofs.BlockValues.{Marking}
+use Rattle.cml_log.proofs.BlockMemoryLemmas.{block_cut, block_glue}
+use Rattle.cml_log.proofs.BlockValuesLemmas.{Marking}
 use Rattle.cml_log.proofs.chunk.raw.Address.TheLaws as address_laws
 use Rattle.cml_log.specs.contracts.chunk.raw.Address.{the_row as Address}
 use Rattle.cml_log.specs.contracts.chunk.raw.Blocks.{the_row}

@@ -1,8 +1,8 @@
 -- `new` makes a value of no bytes, which owns no block, and the fact that a content fits in memory.
 use Rattle.std.proofs.Common.{ℕ, ◌^◌, ◌<◌}
 use prog.Memory.{size}
-use Rattle.cml_log.proofs.Steps.{[], ◌∷◌, ◌≡◌, refl, heard, flt_i, layout, raw, ‵, ◌⊛◌, ◌$◌, ◌∵◌, !, qed, by, keep, split, fjoin, use0, emp, ftrue, flft, fact, fact_i, a_type, inst_fn, enter, alloc_all, pass_all, free_all, look_at, get, sets, agg, no_more, and_then, returns, nothing, tables, proved, leaves, RattleType, param, layouts}
-use Rattle.cml_log.proofs.BlockValues.{mark, Marking, marking_made}
+use Rattle.cml_log.proofs.WalksLemmas.{[], ◌∷◌, ◌≡◌, refl, heard, flt_i, layout, raw, ‵, ◌⊛◌, ◌$◌, ◌∵◌, !, qed, by, keep, split, fjoin, use0, emp, ftrue, flft, fact, fact_i, a_type, inst_fn, enter, alloc_all, pass_all, free_all, look_at, get, sets, agg, no_more, and_then, returns, nothing, tables, proved, leaves, RattleType, param, layouts}
+use Rattle.cml_log.proofs.BlockValuesLemmas.{mark, Marking, marking_made}
 use Rattle.cml_log.specs.contracts.chunk.raw.Blocks.{the_row}
 use Rattle.cml_log.specs.contracts.chunk.raw.Blocks.new as f
 use Rattle.cml_log.proofs.chunk.raw.Blocks.new.Statement.{statement}

@@ -1,11 +1,11 @@
 -- `put` adds the right to the blocks.
-use Rattle.cml_log.proofs.Steps.{List, [], ◌∷◌, ◌++◌, ◌≡◌, refl, length, Some, raw, ‵, ◌⊛◌, ◌$◌, ◌∵◌, !, qed, by, keep, move, split, join, fsplit, fsplit3, fjoin, fjoin3, feq_i, use0, use2, emp, ftrue, fsep, flft, Fml, fact, fact_i, SProp, Val, vptr, vint, w64, a_type, named, inst_fn, owns, types_at, enter, alloc_all, pass_all, free_all, look_at, get, get_in, sets, of_opd, fld, stop, sub, whole, agg, no_more, and_then, returns, nothing, opens, closes, tables, proved, leaves, RattleType, param, param_laws, layouts, yes, no, Stays, stay_ref, stay_dropped, plain, Goes-ref, Goes-dropped, walk_of, mut_vals, mut_Tells, uint_vals, uint_Tells, ptr_val, Ptr-Good, word, word-Good, blocks_own}
+use Rattle.cml_log.proofs.WalksLemmas.{List, [], ◌∷◌, ◌++◌, ◌≡◌, refl, length, Some, raw, ‵, ◌⊛◌, ◌$◌, ◌∵◌, !, qed, by, keep, move, split, join, fsplit, fsplit3, fjoin, fjoin3, feq_i, use0, use2, emp, ftrue, fsep, flft, Fml, fact, fact_i, SProp, Val, vptr, vint, w64, a_type, named, inst_fn, owns, types_at, enter, alloc_all, pass_all, free_all, look_at, get, get_in, sets, of_opd, fld, stop, sub, whole, agg, no_more, and_then, returns, nothing, opens, closes, tables, proved, leaves, RattleType, param, param_laws, layouts, yes, no, Stays, stay_ref, stay_dropped, plain, Goes-ref, Goes-dropped, walk_of, mut_vals, mut_Tells, uint_vals, uint_Tells, ptr_val, Ptr-Good, word, word-Good, blocks_own}
 use denote.Builtin.{u64}
 use mir.Syntax.{ty_ptr}
 use mir.Val.{has_ty}
 use Rattle.std_alloc.proofs.ResultValues.{and_tt}
-use Rattle.cml_log.proofs.BlockMemory.{block_push}
-use Rattle.cml_log.proofs.BlockValues.{both, address_made}
+use Rattle.cml_log.proofs.BlockMemoryLemmas.{block_push}
+use Rattle.cml_log.proofs.BlockValuesLemmas.{both, address_made}
 use Rattle.cml_log.proofs.chunk.raw.Right.TheLaws as right_laws
 use Rattle.cml_log.specs.contracts.chunk.raw.Address.{the_row as Address}
 use Rattle.cml_log.specs.contracts.chunk.raw.Blocks.{the_row}

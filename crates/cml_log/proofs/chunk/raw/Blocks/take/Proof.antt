@@ -1,7 +1,7 @@
 -- `take` cuts the right out of the blocks.
-use Rattle.cml_log.proofs.Steps.{List, [], ◌∷◌, ◌≡◌, refl, Option, Some, None, slice_index_or, slice_set, raw, ‵, ◌⊛◌, ◌$◌, ◌∵◌, !, qed, by, keep, move, split, join, fsplit, fsplit3, fjoin, fjoin3, feq_i, use0, use1, rewrite, emp, ftrue, fsep, flft, Fml, fact, fact_i, SProp, Val, vptr, a_type, named, inst_fn, owns, types_at, enter, alloc_all, pass_all, free_all, look_at, get, get_in, sets, of_opd, fld, stop, sub, whole, agg, no_more, and_then, returns, nothing, heard, opens, closes, tables, proved, leaves, RattleType, param, layouts, yes, Stays, stay_ref, stay_dropped, plain, Goes-ref, Goes-dropped, walk_of, mut_vals, mut_Tells, Ptr, Ptr-Good, word, word-Good, IsKept, block_at, block_owns, blocks_own}
-use Rattle.cml_log.proofs.BlockMemory.{block_cut}
-use Rattle.cml_log.proofs.BlockValues.{Pointing, pointing_made}
+use Rattle.cml_log.proofs.WalksLemmas.{List, [], ◌∷◌, ◌≡◌, refl, Option, Some, None, slice_index_or, slice_set, raw, ‵, ◌⊛◌, ◌$◌, ◌∵◌, !, qed, by, keep, move, split, join, fsplit, fsplit3, fjoin, fjoin3, feq_i, use0, use1, rewrite, emp, ftrue, fsep, flft, Fml, fact, fact_i, SProp, Val, vptr, a_type, named, inst_fn, owns, types_at, enter, alloc_all, pass_all, free_all, look_at, get, get_in, sets, of_opd, fld, stop, sub, whole, agg, no_more, and_then, returns, nothing, heard, opens, closes, tables, proved, leaves, RattleType, param, layouts, yes, Stays, stay_ref, stay_dropped, plain, Goes-ref, Goes-dropped, walk_of, mut_vals, mut_Tells, Ptr, Ptr-Good, word, word-Good, IsKept, block_at, block_owns, blocks_own}
+use Rattle.cml_log.proofs.BlockMemoryLemmas.{block_cut}
+use Rattle.cml_log.proofs.BlockValuesLemmas.{Pointing, pointing_made}
 use Rattle.cml_log.proofs.chunk.raw.Address.TheLaws as address_laws
 use Rattle.cml_log.specs.contracts.chunk.raw.Address.{the_row as Address}
 use Rattle.cml_log.specs.contracts.chunk.raw.Blocks.{the_row}

@@ -1,6 +1,6 @@
 -- `zero` makes a value of no bytes.
-use Rattle.cml_log.proofs.Steps.{[], ◌∷◌, refl, raw, ‵, ◌$◌, ◌∵◌, !, qed, by, keep, fjoin, use0, emp, ftrue, fact, fact_i, enter, alloc_all, pass_all, free_all, look_at, get, sets, agg, no_more, and_then, returns, nothing, tables, proved, leaves, ◌≡◌}
-use Rattle.cml_log.proofs.BlockValues.{mark, count_made, Counting}
+use Rattle.cml_log.proofs.WalksLemmas.{[], ◌∷◌, refl, raw, ‵, ◌$◌, ◌∵◌, !, qed, by, keep, fjoin, use0, emp, ftrue, fact, fact_i, enter, alloc_all, pass_all, free_all, look_at, get, sets, agg, no_more, and_then, returns, nothing, tables, proved, leaves, ◌≡◌}
+use Rattle.cml_log.proofs.BlockValuesLemmas.{mark, count_made, Counting}
 use denote.Triple.Entry.{on_entry}
 use Rattle.cml_log.specs.declared.chunk.raw.Counter.{Counter}
 use Rattle.cml_log.specs.contracts.chunk.raw.Counter.zero as f

@@ -1,12 +1,12 @@
 -- `into_box` puts the allocator's handle beside the right.
-use Rattle.cml_log.proofs.Steps.{List, [], ◌∷◌, ◌++◌, ◌≡◌, refl, sym, ap, ◌∙◌, subst, raw, ‵, ◌⊛◌, some, later, at_ret, ◌$◌, ◌∵◌, !, qed, by, keep, move, drop, split, split3, join, fsplit, fjoin, pick, use0, use1, await, rewrite, feq_i, suffices, ent, id⊢, emp, never, fst∗, ftrue, flft, fact, fact_i, sem, bare, SProp, WpFn, Val, vptr, a_type, inst_fn, owns, types_at, enter, alloc_all, pass_all, free_all, look_at, get, get_in, sets, lands_last, of_opd, fld, stop, sub, whole, no_more, and_then, first, blocks, exec, env, tail, returns, nothing, only, tables, proved_at, leaves, RattleType, param, param_laws, layout, layouts, yes, no, Stays, stay_dropped, plain, Goes-blank, Goes-dropped, walk_of, Good, Ptr, block_ptr, null_ptr, in_a_block, handle_tells, word, full_share, token, right_owns, triple_of, Lasts, lasts, calls_at_last, fm, ◌⊑◌}
+use Rattle.cml_log.proofs.WalksLemmas.{List, [], ◌∷◌, ◌++◌, ◌≡◌, refl, sym, ap, ◌∙◌, subst, raw, ‵, ◌⊛◌, some, later, at_ret, ◌$◌, ◌∵◌, !, qed, by, keep, move, drop, split, split3, join, fsplit, fjoin, pick, use0, use1, await, rewrite, feq_i, suffices, ent, id⊢, emp, never, fst∗, ftrue, flft, fact, fact_i, sem, bare, SProp, WpFn, Val, vptr, a_type, inst_fn, owns, types_at, enter, alloc_all, pass_all, free_all, look_at, get, get_in, sets, lands_last, of_opd, fld, stop, sub, whole, no_more, and_then, first, blocks, exec, env, tail, returns, nothing, only, tables, proved_at, leaves, RattleType, param, param_laws, layout, layouts, yes, no, Stays, stay_dropped, plain, Goes-blank, Goes-dropped, walk_of, Good, Ptr, block_ptr, null_ptr, in_a_block, handle_tells, word, full_share, token, right_owns, triple_of, Lasts, lasts, calls_at_last, fm, ◌⊑◌}
 use contract.BorrowLft.{⊑_static}
 use Rattle.std_alloc.proofs.BoxSteps.Form as box
 use Rattle.std_alloc.proofs.BoxSteps.Steps.{box_out, box_in}
 use Rattle.std_alloc.specs.contracts.boxed.Box.from_raw as callee
 use Rattle.std_alloc.proofs.boxed.Box.from_raw.Met.{met}
 use Rattle.cml_log.proofs.Destruct++none.drop.Code as dropping
-use Rattle.cml_log.proofs.HeapBox.{Heap, Passed, passed_laws, on_heap, allocates_met, drops_met}
+use Rattle.cml_log.proofs.HeapBoxLemmas.{Heap, Passed, passed_laws, on_heap, allocates_met, drops_met}
 use Rattle.cml_log.proofs.chunk.raw.Right.TheLaws as right_laws
 use Rattle.cml_log.specs.contracts.chunk.raw.Right.{the_row}
 use Rattle.cml_log.specs.contracts.chunk.raw.Right.into_box as f

@@ -1,14 +1,14 @@
 -- `of` keeps where the content lies, and forgets the allocator's handle, which has no bytes.
-use Rattle.cml_log.proofs.Steps.{List, [], ◌∷◌, ◌++◌, ◌≡◌, refl, sym, ap, ◌∙◌, subst, raw, ‵, ◌⊛◌, some, later, ◌$◌, ◌∵◌, !, qed, by, keep, move, drop, split, join, fsplit, fjoin, pick, use0, use1, await, feq_l, suffices, ent, id⊢, emp, never, fst∗, ftrue, flft, fact, fact_i, sem, bare, SProp, WpFn, Val, a_type, dcons, dnil, inst_fn, owns, types_at, enter, alloc_all, pass_all, free_all, look_at, get, sets, lands_as, of_opd, agg, no_more, and_then, returns, nothing, only, tables, proved_at, leaves, RattleType, RawPtr, param, layout, bounded, no, Stays, stay_dropped, plain, Goes-blank, walk_of, Ptr, block_ptr, null_ptr, ptr_val, in_a_block, word, full_share, token, right_owns, triple_of, Lasts, lasts, calls_at, fm, ◌⊑◌}
+use Rattle.cml_log.proofs.WalksLemmas.{List, [], ◌∷◌, ◌++◌, ◌≡◌, refl, sym, ap, ◌∙◌, subst, raw, ‵, ◌⊛◌, some, later, ◌$◌, ◌∵◌, !, qed, by, keep, move, drop, split, join, fsplit, fjoin, pick, use0, use1, await, feq_l, suffices, ent, id⊢, emp, never, fst∗, ftrue, flft, fact, fact_i, sem, bare, SProp, WpFn, Val, a_type, dcons, dnil, inst_fn, owns, types_at, enter, alloc_all, pass_all, free_all, look_at, get, sets, lands_as, of_opd, agg, no_more, and_then, returns, nothing, only, tables, proved_at, leaves, RattleType, RawPtr, param, layout, bounded, no, Stays, stay_dropped, plain, Goes-blank, walk_of, Ptr, block_ptr, null_ptr, ptr_val, in_a_block, word, full_share, token, right_owns, triple_of, Lasts, lasts, calls_at, fm, ◌⊑◌}
 use contract.BorrowLft.{⊑_static}
 use Rattle.std_alloc.proofs.BoxSteps.Form as box
 use Rattle.std_alloc.proofs.BoxSteps.Steps.{box_out, box_in}
 use Rattle.std_alloc.specs.contracts.boxed.Box as boxes
 use Rattle.std_alloc.specs.contracts.boxed.Box.into_raw as callee
 use Rattle.std_alloc.proofs.boxed.Box.into_raw.Met.{met}
-use Rattle.cml_log.proofs.BlockValues.{Pointing, pointing_made}
+use Rattle.cml_log.proofs.BlockValuesLemmas.{Pointing, pointing_made}
 use Rattle.cml_log.proofs.Destruct++none.drop.Code as dropping
-use Rattle.cml_log.proofs.HeapBox.{Heap, Passed, passed_laws, on_heap, allocates_met, drops_met}
+use Rattle.cml_log.proofs.HeapBoxLemmas.{Heap, Passed, passed_laws, on_heap, allocates_met, drops_met}
 use Rattle.cml_log.specs.contracts.chunk.raw.Right.{the_row}
 use Rattle.cml_log.specs.contracts.chunk.raw.Right.of as f
 use Rattle.cml_log.proofs.chunk.raw.Right.of.Statement.{statement}

@@ -1,5 +1,5 @@
 use Rattle.std.proofs.Common.{rules, ◌≡◌, length}
-use Rattle.cml_lanes.proofs.Deeds.{drains}
+use Rattle.cml_lanes.proofs.DeedsLemmas.{drains}
 use Rattle.cml_tests.proofs.FloorLemmas.{unasked}
 use Rattle.cml_tests.proofs.scripts.caller.rings.drain.Goals as goal
 

@@ -1,5 +1,5 @@
 use Rattle.std.proofs.Common.{rules, ◌≡◌, length}
-use Rattle.cml_lanes.proofs.Deeds.{closes_counted}
+use Rattle.cml_lanes.proofs.DeedsLemmas.{closes_counted}
 use Rattle.cml_tests.proofs.FloorLemmas.{unasked}
 use Rattle.cml_tests.proofs.scripts.caller.rings.finish.Goals as goal
 

@@ -1,5 +1,5 @@
 use Rattle.std.proofs.Common.{rules, ◌≡◌, length}
-use Rattle.cml_lanes.proofs.Deeds.{pumps}
+use Rattle.cml_lanes.proofs.DeedsLemmas.{pumps}
 use Rattle.cml_tests.proofs.FloorLemmas.{unasked}
 use Rattle.cml_tests.proofs.scripts.caller.rings.pump.Goals as goal
 

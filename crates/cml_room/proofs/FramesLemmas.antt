@@ -1,0 +1,98 @@
+-- What a call leaves of the seats, said of the room.
+use Rattle.std.proofs.Common.{◌≡◌, ℕ, Bool, List, slice_get, Option, Some, None, refl, sym, ap, subst, ◌∙◌}
+use Rattle.cml_board.specs.declared.call.Call.{Call}
+use Rattle.cml_board.specs.declared.outcome.Outcome.{Outcome}
+use Rattle.cml_board.specs.declared.outcome.Outcome.TheVariants.{Answered, WouldWait, Refused}
+use Rattle.cml_board.specs.declared.outcome.Refusal.TheVariants.{Gone, Busy, NoSuch, WrongKind, JournalFull, Stalled, NoMemory, Unseen}
+use Rattle.cml_board.specs.Outcome.{HasRoom}
+use Rattle.cml_lanes.specs.Floor.{FloorShown}
+use Rattle.cml_room.specs.declared.news.News.{News}
+use Rattle.cml_room.specs.declared.place.Place.{Place}
+use Rattle.cml_room.specs.declared.state.State.TheVariants as state
+use Rattle.cml_room.specs.Asking.{Asks}
+use Rattle.cml_room.specs.Frames.{KeepsSeats, Settles, Stirs, Turns}
+use Rattle.cml_room.specs.Places.{states_in, notices_in}
+use Rattle.cml_room.specs.Rising.{RisesFew, MakesFewByOne, MakesNoneDue}
+use Rattle.cml_room.specs.Room.{RoomShown}
+use Rattle.cml_room.specs.Running.{AskOf, Other, IsMade, HasAsked, asked_by, was_woken}
+use Rattle.cml_room.specs.Seats.{SeatsShown}
+use Rattle.cml_room.specs.Stalling.{IsStalled}
+use Rattle.cml_room.proofs.RisingLemmas.{few_due, few_of, none_by, none_same}
+use Rattle.cml_room.proofs.TurningLemmas.{room_of}
+
+module _ {M : Type 0} where
+  -- nothing of the seats is changed
+  pub keeps : (room : RoomShown M) (floor floor' : FloorShown M) (places : List Place) (all : Bool) → room_of floor (states_in places) (notices_in places) all ≡ room
+      → KeepsSeats room (room_of floor' (states_in places) (notices_in places) all)
+  keeps room floor floor' places all view = record {
+    seats = ap (λ (r : RoomShown M). r.seats) view;
+    step = λ seat. ap (λ (r : RoomShown M). was_woken r.notices seat) view;
+    notices = ap (λ (r : RoomShown M). r.notices) view;
+    alarm = ap (λ (r : RoomShown M). r.all_due) view;
+  }
+
+  -- the room with these seats
+  abbrev pub with_seats : FloorShown M → SeatsShown → RoomShown M
+  with_seats floor seats = room_of floor (states_in seats.places) (notices_in seats.places) seats.all_due
+
+  -- a call of no seat
+  stirs : (Few : RoomShown M → RoomShown M → Type 0) (room : RoomShown M) (floor floor' : FloorShown M) (olds lates : SeatsShown) (news : Option News)
+      → with_seats floor olds ≡ room → Settles news floor' olds lates → Few room (with_seats floor' lates) → Stirs Few room (with_seats floor' lates)
+  stirs Few room floor floor' olds lates news view settles few = record {
+    seats = settles.states ∙ ap (λ (r : RoomShown M). r.seats) view;
+    step = λ seat. settles.woken seat ∙ ap (λ (r : RoomShown M). was_woken r.notices seat) view;
+    few = few;
+    alarm = λ has moves.
+        settles.alarm has (λ stalled. moves (subst (IsStalled floor') (sym settles.states) stalled)) ∙ ap (λ (r : RoomShown M). r.all_due) view;
+  }
+
+  pub stirs_few : (room : RoomShown M) (floor floor' : FloorShown M) (olds lates : SeatsShown) → with_seats floor olds ≡ room
+      → (news : Option News) × Settles news floor' olds lates → Stirs MakesFewByOne room (with_seats floor' lates)
+  stirs_few room floor floor' olds lates view told = stirs MakesFewByOne room floor floor' olds lates told.0 view told.1 (
+    told.0,
+    few_due room floor floor' olds.places lates.places olds.all_due lates.all_due (λ on. ⊥) told.0 view told.1.few,
+  )
+
+  pub stirs_none : (room : RoomShown M) (floor floor' : FloorShown M) (olds lates : SeatsShown) → with_seats floor olds ≡ room
+      → Settles None floor' olds lates → Stirs MakesNoneDue room (with_seats floor' lates)
+  stirs_none room floor floor' olds lates view settles =
+      stirs MakesNoneDue room floor floor' olds lates None view settles
+      (none_by room (with_seats floor' lates) (few_due room floor floor' olds.places lates.places olds.all_due lates.all_due (λ on. ⊥) None view settles.few))
+
+  -- a seat's turn
+  pub turns : (room : RoomShown M) (floor floor' : FloorShown M) (olds lates : List Place) (all all' : Bool) (number : ℕ) (news : Option News)
+      → room_of floor (states_in olds) (notices_in olds) all ≡ room → HasAsked number (notices_in olds) (notices_in lates)
+      → RisesFew floor'.board.history news (λ on. slice_get (states_in olds) number ≡ Some (state.Parked on)) olds lates
+      → (HasRoom floor'.board → all' ≡ all) → Turns number (AskOf number) news room (room_of floor' (states_in lates) (notices_in lates) all')
+  turns room floor floor' olds lates all all' number news view asked few alarm = record {
+    step = subst (λ (r : RoomShown M). HasAsked number r.notices (notices_in lates)) view asked;
+    few = few_of room floor floor' olds lates all all' number news view few;
+    alarm = λ has. alarm has ∙ ap (λ (r : RoomShown M). r.all_due) view;
+  }
+
+  -- a call that fails with `Gone` changes nothing
+  pub turns_not : (room : RoomShown M) (number : ℕ) (news : Option News) → Turns number Other news room room
+  turns_not room number news = record {
+    step = λ seat. refl;
+    few = record { why = λ k on due. absurd (none_same room k on due); one = λ single j k on first second. absurd (none_same room j on first) };
+    alarm = λ has. refl;
+  }
+
+  -- any other that may be made is a step by which the seat asks
+  step_heard : (chunk : ℕ) (sure : Bool) (may : Type 0) (old new : RoomShown M) (number : ℕ) (call : Call M) (told : Outcome M)
+      → Asks chunk sure may old new number call told → IsMade (AskOf number) old new → IsMade (asked_by number told) old new
+  step_heard chunk sure may old new number call (Answered answer) asks asked = asked
+  step_heard chunk sure may old new number call (WouldWait back) asks asked = asked
+  step_heard chunk sure may old new number call (Refused Gone back) asks asked = λ seat. ap (λ (r : RoomShown M). was_woken r.notices seat) asks.2
+  step_heard chunk sure may old new number call (Refused Busy back) asks asked = asked
+  step_heard chunk sure may old new number call (Refused NoSuch back) asks asked = asked
+  step_heard chunk sure may old new number call (Refused WrongKind back) asks asked = asked
+  step_heard chunk sure may old new number call (Refused JournalFull back) asks asked = asked
+  step_heard chunk sure may old new number call (Refused Stalled back) asks asked = asked
+  step_heard chunk sure may old new number call (Refused NoMemory back) asks asked = asked
+  step_heard chunk sure may old new number call (Refused Unseen back) asks asked = asked
+
+  pub turns_heard : (chunk : ℕ) (sure : Bool) (may : Type 0) (old new : RoomShown M) (number : ℕ) (call : Call M) (told : Outcome M) (news : Option News)
+      → Asks chunk sure may old new number call told → Turns number (AskOf number) news old new → Turns number (asked_by number told) news old new
+  turns_heard chunk sure may old new number call told news asks made =
+      record { step = step_heard chunk sure may old new number call told asks made.step; few = made.few; alarm = made.alarm }
