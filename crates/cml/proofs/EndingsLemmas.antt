@@ -3,24 +3,18 @@ use Rattle.std.proofs.Common.{◌≡◌, inl, inr, ℕ, ◌+◌, ◌<◌, ◌≤
 use Rattle.std.proofs.lemmas.List.{append-nil, take_all, take_at, take-append-drop}
 use Rattle.std.proofs.KnownBytes.{Consumes-nil, Consumes-trans}
 use Rattle.std.specs.Io.KnownBytes.{Appends, Consumes, IsAtEnd}
-use Rattle.cml_journal.specs.declared.stop.Stop.{Stop}
+use Rattle.cml_journal.specs.Prelude.{Stop, line_of, State, Read, Progress, IsSoFar, Goes, StopsIn, ShowsUnlawful, IsLawfulJournal}
+use Rattle.cml_journal.specs.Prelude.{IsRestored, number_of, bytes_text, message_of_word}
 use Rattle.cml_journal.specs.declared.stop.Stop.TheVariants as stop
-use Rattle.cml_board.specs.declared.entry.Entry.{Entry}
-use Rattle.cml_board.specs.declared.expected.Expected.{Expected}
-use Rattle.cml_board.specs.Checking.{expected_of}
-use Rattle.cml_board.specs.Makers.{RestoredShown}
-use Rattle.cml_journal.specs.Lines.{line_of}
-use Rattle.cml_journal.specs.Feeding.{State, Read}
-use Rattle.cml_journal.specs.Checks.{Progress, IsSoFar, Goes, StopsIn, ShowsUnlawful, IsLawfulJournal, IsRestored}
+use Rattle.cml_board.specs.Prelude.{Entry, Expected, expected_of, RestoredShown}
 use Rattle.std.specs.Fmt.{decimal}
 use Rattle.std.specs.Global.{Global}
 use Rattle.std.specs.Prelude.{String, string_bytes}
 use Rattle.cml.specs.declared.check.ending.Ending.{Ending}
 use Rattle.cml.specs.declared.check.ending.Ending.TheVariants.{Lawful as lawful, Unlawful, Fault, Torn, BehindCut, ReadFault, WriteFault, NoMemory}
-use Rattle.cml_journal.specs.Numbers.{number_of}
-use Rattle.cml_journal.specs.Escapes.{bytes_text, message_of_word}
-use Rattle.cml.specs.Lines.{Writes, answer_text, lines_for, object_line, object_lines, state_lines, told_state}
-use Rattle.cml.specs.Checking.{IsSilent, IsRead, IsFront, GivesCut, EndsInFront, is_behind_cut, IsVerdict, TellsAs, ConcludesAs, ConcludesBy, is_of_bytes, Tells, EndsAs, EndsIn, IsEarly, IsHeardOut, IsStateOf, IsToldLawful, IsToldUnlawful, Concludes}
+use Rattle.cml.specs.Prelude.{Writes, answer_text, lines_for, object_line, object_lines, state_lines, told_state, IsSilent, IsRead, IsFront}
+use Rattle.cml.specs.Prelude.{GivesCut, EndsInFront, is_behind_cut, IsVerdict, TellsAs, ConcludesAs, ConcludesBy, is_of_bytes, Tells}
+use Rattle.cml.specs.Prelude.{EndsAs, EndsIn, IsEarly, IsHeardOut, IsStateOf, IsToldLawful, IsToldUnlawful, Concludes}
 
 -- a front that is all
 short_front : (front : List ℕ) → length front ≤ 15 → front ≡ take 15 (front ++ [])

@@ -1,20 +1,13 @@
 -- What a check tells of the bytes of a journal.
 use Rattle.std.specs.Prelude.{◌≡◌, ◌⊎◌, ℕ, ◌<◌, ◌≤◌, Bool, true, false, ◌||◌, nat_eq, codes, string_bytes, List, ◌++◌, take, length, reverse, String, Option, Some, None, Result, Ok, Err, ⊤}
 use Rattle.std.specs.Io.KnownBytes.{Consumes, IsAtEnd}
-use Rattle.cml_board.specs.declared.entry.Entry.{Entry}
-use Rattle.cml_board.specs.History.{Lawful}
-use Rattle.cml_journal.specs.declared.stop.Stop.{Stop}
+use Rattle.cml_board.specs.Prelude.{Entry, Lawful, Expected, expected_of}
+use Rattle.cml_journal.specs.Prelude.{Stop, State, waiting_at, end_of, reading, Progress, IsSoFar, IsUnlawfulJournal, IsFaultyJournal}
+use Rattle.cml_journal.specs.Prelude.{IsLawfulJournal, number_of, bytes_text, message_of_word, line_of}
 use Rattle.cml_journal.specs.declared.stop.Stop.TheVariants as stop
-use Rattle.cml_journal.specs.Feeding.{State, waiting_at, end_of, reading}
-use Rattle.cml_journal.specs.Checks.{Progress, IsSoFar, IsUnlawfulJournal, IsFaultyJournal, IsLawfulJournal}
 use Rattle.std.specs.List.{starts_with}
-use Rattle.cml_journal.specs.Numbers.{number_of}
-use Rattle.cml_journal.specs.Escapes.{bytes_text, message_of_word}
-use Rattle.cml_journal.specs.Lines.{line_of}
 use Rattle.std.specs.Fmt.{decimal}
 use Rattle.std.specs.Global.{Global}
-use Rattle.cml_board.specs.declared.expected.Expected.{Expected}
-use Rattle.cml_board.specs.Checking.{expected_of}
 use Rattle.cml.specs.Lines.{answer_text, told_state}
 use Rattle.cml.specs.declared.check.ending.Ending.{Ending}
 use Rattle.cml.specs.declared.check.ending.Ending.TheVariants.{Lawful as lawful, Unlawful, Fault, Torn, BehindCut, ReadFault, WriteFault, NoMemory}

@@ -2,8 +2,9 @@
 ghost use Rattle.std.specs.Prelude.{◌≡◌, ◌⊎◌, ◌≤◌, ◌^◌, ℕ, Bool, IfOk, IfErr, IfSome, IsErrAnd, MatchResult, Some, codes, false, map};
 ghost use Rattle.clap.specs.Words.{app_of, found_of, FailsBy, kind_of, new_app, one_text, rule_of, subcommand_of, with_rule, subcommand_rows_of, with_subcommand};
 ghost use Rattle.clap.specs.declared.builder.command.Command.TheViews.{out-Command as fields_of};
-ghost use Rattle.cml_shell.specs.Statuses.{error_status};
-ghost use Rattle.cml.specs.CommandLine.{usage, faults_of, form_if, limit_of, limit_rule, flag_rule, performing, checking, AsksFor, AsksHelp, Finds, FindsFlag, FindsLimit, HasOrder, Reads};
+ghost use Rattle.cml_shell.specs.Prelude.{error_status};
+ghost use Rattle.cml.specs.Prelude.{usage, faults_of, form_if, limit_of, limit_rule, flag_rule, performing, checking, AsksFor, AsksHelp};
+ghost use Rattle.cml.specs.Prelude.{Finds, FindsFlag, FindsLimit, HasOrder, Reads};
 
 use crate::asked::Order;
 use clap::error::ErrorKind;

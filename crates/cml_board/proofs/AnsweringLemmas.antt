@@ -2,22 +2,13 @@
 use Rattle.std.proofs.Common.{◌≡◌, ◌≢◌, true, false, Bool, List, [], ◌∷◌, slice_get, Option, Some, None, IsTrue, IsSome, IfSome, refl, ◌∙◌}
 use Rattle.std.specs.Option.{option_map_or}
 use Rattle.std.proofs.lemmas.Bool.{false≢true}
-use Rattle.cml_board.specs.declared.call.Name.{Name}
-use Rattle.cml_calls.specs.declared.kind.Kind.{Kind}
-use Rattle.cml_board.specs.declared.call.Call.{Call}
+use Rattle.cml_board.specs.Prelude.{Name, Call, Entry, given_call, asked_call, adds, takes_next, asks_port, object_in, takes, Fits, kind_of}
+use Rattle.cml_board.specs.Prelude.{is_open, owed, answer, new_name, is_a}
+use Rattle.cml_calls.specs.Prelude.{Kind, Ask, Give, is_receiver}
 use Rattle.cml_board.specs.declared.call.Call.TheVariants.{CopyPort, ClosePort, Recv, Poll}
 use Rattle.cml_board.specs.declared.entry.Reply.TheVariants.{Done, Got, Nothing, Closed}
-use Rattle.cml_board.specs.declared.entry.Entry.{Entry}
-use Rattle.cml_calls.specs.declared.table.Ask.{Ask}
 use Rattle.cml_calls.specs.declared.table.Ask.TheVariants as ask
-use Rattle.cml_calls.specs.declared.table.Give.{Give}
 use Rattle.cml_calls.specs.declared.table.Give.TheVariants as give
-use Rattle.cml_board.specs.Parts.{given_call, asked_call}
-use Rattle.cml_board.specs.Calls.{adds, takes_next, asks_port}
-use Rattle.cml_calls.specs.Kinds.{is_receiver}
-use Rattle.cml_board.specs.Objects.{object_in, takes}
-use Rattle.cml_board.specs.History.{Fits, kind_of, is_open, owed, answer, new_name}
-use Rattle.cml_board.specs.Counts.{is_a}
 
 module _ {M : Type 0} where
   pub answer_put : (h : List (Entry M)) (gives : Give) (name : Name) (message : M) → adds gives ≡ true → answer h (given_call gives name message) ≡ Some Done

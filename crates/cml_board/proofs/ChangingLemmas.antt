@@ -3,14 +3,11 @@ use Rattle.std.proofs.Common.{◌≡◌, ◌≢◌, inl, inr, ℕ, ◌+◌, List
 use Rattle.std.proofs.lemmas.Bool.{cases_eq}
 use Rattle.std.proofs.lemmas.List.{length_push}
 use Rattle.std.proofs.lemmas.Option.{none-some, same_Some}
-use Rattle.cml_log.specs.Log.{Log, IsOpen, place_at, place_of}
-use Rattle.cml_log.specs.Holds.{Holds}
+use Rattle.cml_log.specs.Prelude.{Log, IsOpen, place_at, place_of, Holds}
 use Rattle.cml_log.proofs.LogLemmas.{place_of-at, IsOpen-at, place_at-with_place_same, place_at-with_place_other}
 use Rattle.cml_log.proofs.HoldsLemmas.{Holds-close}
-use Rattle.cml_board.specs.declared.object.Object.{Object}
-use Rattle.cml_board.specs.Facts.{Facts, place_by}
-use Rattle.cml_board.specs.Holdings.{log_at, cursor_at, advanced, shut}
-use Rattle.cml_board.specs.Keeps.{Agrees, Shows}
+use Rattle.cml_board.specs.Prelude.{Object, Facts, place_by, log_at, cursor_at, advanced, shut, Agrees}
+use Rattle.cml_board.specs.Keeps.{Shows}
 use Rattle.cml_board.proofs.LogsLemmas.{same_source, same_key, log_at_past, cursor_at_past}
 
 module _ {M : Type 0} where

@@ -3,15 +3,11 @@ use Rattle.std.proofs.Common.{◌≡◌, ℕ, Bool, true, false, not, cond, ◌&
 use Rattle.std.specs.Option.{option_map}
 use Rattle.std.proofs.lemmas.Option.{none-some, same_Some}
 use Rattle.std.proofs.lemmas.Bool.{eqb-true, false≢true, true≢false}
-use Rattle.cml_calls.specs.declared.kind.Kind.{Kind}
+use Rattle.cml_calls.specs.Prelude.{Kind, is_port}
 use Rattle.cml_calls.specs.declared.kind.Kind.TheVariants as kind
-use Rattle.cml_board.specs.declared.call.Call.{Call}
+use Rattle.cml_board.specs.Prelude.{Call, Reply, Entry, Origin, kind_by, Lawful, Fits, made, begun_by, if_made, origin_of, kind_of, is_open}
+use Rattle.cml_board.specs.Prelude.{closes, is_done}
 use Rattle.cml_board.specs.declared.call.Call.TheVariants.{ClosePort}
-use Rattle.cml_board.specs.declared.entry.Reply.{Reply}
-use Rattle.cml_board.specs.declared.entry.Entry.{Entry}
-use Rattle.cml_board.specs.Origins.{Origin, kind_by}
-use Rattle.cml_calls.specs.Kinds.{is_port}
-use Rattle.cml_board.specs.History.{Lawful, Fits, made, begun_by, if_made, origin_of, kind_of, is_open, closes, is_done}
 use Rattle.cml_board.proofs.ListLemmas.{slice_get-append_some}
 
 -- a kind that takes a close is a port's

@@ -3,14 +3,8 @@ use Rattle.std.proofs.Common.{◌≡◌, ℕ, ◌<◌, ◌≤◌, List, length, 
 use Rattle.std.specs.Borrow.{Bor}
 use Rattle.std.proofs.lemmas.List.{length-map}
 use Rattle.std.proofs.lemmas.Option.{slice_get_past}
-use Rattle.cml_log.specs.Log.{Log}
-use Rattle.cml_board.specs.declared.entry.Entry.{Entry}
-use Rattle.cml_board.specs.declared.object.Object.{Object}
-use Rattle.cml_board.specs.History.{origin_of, made}
-use Rattle.cml_board.specs.Holdings.{map_log, seen_all}
-use Rattle.cml_board.specs.Shown.{Shown}
-use Rattle.cml_board.specs.Keeps.{Keeps, shown}
-use Rattle.cml_board.specs.Standing.{Stands}
+use Rattle.cml_log.specs.Prelude.{Log}
+use Rattle.cml_board.specs.Prelude.{Entry, Object, origin_of, made, map_log, seen_all, Shown, Keeps, shown, Stands}
 use Rattle.cml_board.proofs.PlacingLemmas.{seen_read}
 use Rattle.cml_board.proofs.LookingLemmas.{stands_at}
 

@@ -2,31 +2,16 @@
 use Rattle.std.proofs.Common.{◌≡◌, ◌≢◌, ℕ, true, false, List, slice_get, Option, Some, None, is_some, cond, IsTrue, IsSome, IfSome, refl, sym, ap, subst, ◌∙◌}
 use Rattle.std.specs.Option.{option_map, option_map_or, option_and_then}
 use Rattle.std.proofs.lemmas.Bool.{false≢true}
-use Rattle.cml_log.specs.Log.{Log}
-use Rattle.cml_board.specs.declared.call.Name.{Name}
-use Rattle.cml_calls.specs.declared.kind.Kind.{Kind}
+use Rattle.cml_log.specs.Prelude.{Log}
+use Rattle.cml_board.specs.Prelude.{Name, Entry, Form, Object, kind_by, asked_call, variable_call, reads_variable, held, Fits, kind_of}
+use Rattle.cml_board.specs.Prelude.{answer, new_name, is_a, facts_of, held_in, HasVariable, SetsHeld, Shown, KeepsVariables, Agrees, Keeps}
+use Rattle.cml_calls.specs.Prelude.{Kind, Ask, is_variable, is_mvar, asked}
 use Rattle.cml_calls.specs.declared.kind.Kind.TheVariants as kind
 use Rattle.cml_board.specs.declared.call.Call.TheVariants as call
-use Rattle.cml_calls.specs.declared.table.Ask.{Ask}
 use Rattle.cml_calls.specs.declared.table.Ask.TheVariants as ask
 use Rattle.cml_board.specs.declared.entry.Reply.TheVariants.{Done, Got, Nothing, Put}
-use Rattle.cml_board.specs.declared.entry.Entry.{Entry}
-use Rattle.cml_board.specs.declared.object.Form.{Form}
 use Rattle.cml_board.specs.declared.object.Form.TheVariants.{Once, Mutable}
-use Rattle.cml_board.specs.declared.object.Object.{Object}
 use Rattle.cml_board.specs.declared.object.Object.TheVariants.{Mailbox, Channel, Port, Variable}
-use Rattle.cml_board.specs.Origins.{kind_by}
-use Rattle.cml_calls.specs.Kinds.{is_variable, is_mvar}
-use Rattle.cml_calls.specs.Table.{asked}
-use Rattle.cml_board.specs.Parts.{asked_call}
-use Rattle.cml_board.specs.Calls.{variable_call, reads_variable}
-use Rattle.cml_board.specs.Held.{held}
-use Rattle.cml_board.specs.History.{Fits, kind_of, answer, new_name}
-use Rattle.cml_board.specs.Counts.{is_a}
-use Rattle.cml_board.specs.Facts.{facts_of}
-use Rattle.cml_board.specs.Holdings.{held_in, HasVariable, SetsHeld}
-use Rattle.cml_board.specs.Shown.{Shown, KeepsVariables}
-use Rattle.cml_board.specs.Keeps.{Agrees, Keeps}
 use Rattle.cml_board.proofs.LookingLemmas.{none_made}
 
 variable_kind : (k : Option Kind) → IsSome k → IfSome k (λ kind. IsTrue (is_variable kind)) → option_map_or is_variable k false ≡ true

@@ -3,20 +3,14 @@ use Rattle.std.proofs.Common.{◌≡◌, inl, inr, ℕ, zero, suc, ◌*◌, ◌/
 use Rattle.std.specs.Option.{option_map}
 use Rattle.std.proofs.lemmas.Bool.{cases_eq, cases_Bool, false≢true, eq-eqb, eqb-true, and_parts, and_from, cond-true, cond-false}
 use Rattle.std.proofs.lemmas.Option.{none-some, same_Some, some_pair_parts, option_and_then_some, slice_get_within}
-use Rattle.cml_log.specs.Log.{Log, least}
+use Rattle.cml_log.specs.Prelude.{Log, least}
 use Rattle.cml_log.proofs.LeastLemmas.{least-le_end, least-le_place, least-ge}
-use Rattle.cml_board.specs.declared.entry.Entry.{Entry}
-use Rattle.cml_board.specs.declared.object.Object.{Object}
+use Rattle.cml_board.specs.Prelude.{Entry, Object, Reading, Origin, mailbox, port, made, origin_of, is_open, sent, place, Facts, facts_of}
+use Rattle.cml_board.specs.Prelude.{key_in, cursor_in, log_at, cursor_at, Shown, KeepsLogs, Agrees, AgreesReading, Keeps, reads_by, reads}
+use Rattle.cml_board.specs.Prelude.{least_of, least_place, kept_from}
 use Rattle.cml_board.specs.declared.object.Object.TheVariants.{Mailbox, Channel, Port, Variable}
-use Rattle.cml_board.specs.declared.object.Reading.{Reading}
 use Rattle.cml_board.specs.declared.object.Reading.TheVariants.{Open, Closed}
-use Rattle.cml_board.specs.Origins.{Origin, mailbox, port}
-use Rattle.cml_board.specs.History.{made, origin_of, is_open, sent, place}
-use Rattle.cml_board.specs.Facts.{Facts, facts_of}
-use Rattle.cml_board.specs.Holdings.{key_in, cursor_in, log_at, cursor_at}
-use Rattle.cml_board.specs.Shown.{Shown, KeepsLogs}
-use Rattle.cml_board.specs.Keeps.{Agrees, AgreesReading, Shows, Keeps}
-use Rattle.cml_board.specs.Kept.{reads_by, reads, least_of, least_place, kept_from}
+use Rattle.cml_board.specs.Keeps.{Shows}
 use Rattle.cml_board.proofs.ChangingLemmas.{cursor_place}
 use Rattle.cml_board.proofs.StandingLemmas.{cursor_of_mailbox, cursor_of_port}
 use Rattle.cml_board.proofs.SourcesLemmas.{source_stands}

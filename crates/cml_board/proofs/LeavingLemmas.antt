@@ -2,21 +2,12 @@
 use Rattle.std.proofs.Common.{◌≡◌, ◌≢◌, ℕ, true, false, cond, List, [], ◌∷◌, ◌++◌, length, slice_get, Option, Some, None, unwrap_or, refl, sym, ap, ◌∙◌}
 use Rattle.std.proofs.lemmas.Bool.{eq-eqb, ne_eqb, false≢true}
 use Rattle.std.proofs.lemmas.List.{append-nil}
-use Rattle.cml_board.specs.declared.call.Name.{Name}
-use Rattle.cml_board.specs.declared.call.Call.{Call}
+use Rattle.cml_board.specs.Prelude.{Name, Call, Who, Reply, Entry, Origin, asked_call, reads_variable, empties, only_at, left_by, held}
+use Rattle.cml_board.specs.Prelude.{made, if_made, begun_by, origin_of, sent_by, got_by, closes, facts_of}
 use Rattle.cml_board.specs.declared.call.Call.TheVariants as call
-use Rattle.cml_calls.specs.declared.table.Ask.{Ask}
+use Rattle.cml_calls.specs.Prelude.{Ask}
 use Rattle.cml_calls.specs.declared.table.Ask.TheVariants as ask
-use Rattle.cml_board.specs.declared.entry.Who.{Who}
-use Rattle.cml_board.specs.declared.entry.Reply.{Reply}
 use Rattle.cml_board.specs.declared.entry.Reply.TheVariants.{Done, Got, Nothing, Put}
-use Rattle.cml_board.specs.declared.entry.Entry.{Entry}
-use Rattle.cml_board.specs.Origins.{Origin}
-use Rattle.cml_board.specs.Parts.{asked_call}
-use Rattle.cml_board.specs.Calls.{reads_variable, empties}
-use Rattle.cml_board.specs.Held.{only_at, left_by, held}
-use Rattle.cml_board.specs.History.{made, if_made, begun_by, origin_of, sent_by, got_by, closes}
-use Rattle.cml_board.specs.Facts.{facts_of}
 use Rattle.cml_board.proofs.UnmadeLemmas.{facts_equal, none_at}
 use Rattle.cml_board.proofs.TellingLemmas.{noted, stays_open, none_sent, none_got, same_facts}
 

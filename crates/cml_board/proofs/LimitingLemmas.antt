@@ -1,9 +1,7 @@
 -- A board whose journal was cut keeps all that it keeps under another limit.
 use Rattle.std.proofs.Common.{◌≡◌, ℕ, ◌+◌, ◌≤◌, ◌^◌, ap, arith}
 use Rattle.std.proofs.Math.Nat.{min-le_right, le-min}
-use Rattle.cml_board.specs.History.{entries_in}
-use Rattle.cml_board.specs.Shown.{Shown}
-use Rattle.cml_board.specs.Keeps.{Keeps}
+use Rattle.cml_board.specs.Prelude.{entries_in, Shown, Keeps}
 
 module _ {M : Type 0} where
   abbrev pub with_limit : Shown M → ℕ → Shown M

@@ -4,19 +4,11 @@ use Rattle.std.proofs.lemmas.Bool.{false≢true}
 use Rattle.std.proofs.lemmas.List.{reverse-append}
 use Rattle.std.proofs.lemmas.Option.{none-some}
 use Rattle.std.specs.declared.alloc.AllocError.{AllocError}
-use Rattle.cml_log.specs.Log.{Log}
-use Rattle.cml_board.specs.declared.call.Call.{Call}
-use Rattle.cml_board.specs.declared.entry.Who.{Who}
-use Rattle.cml_board.specs.declared.entry.Reply.{Reply}
+use Rattle.cml_log.specs.Prelude.{Log}
+use Rattle.cml_board.specs.Prelude.{Call, Who, Reply, Entry, Object, Lawful, Fits, made, answer, new_name, facts_of, Shown, Keeps, HasRoom}
+use Rattle.cml_board.specs.Prelude.{Performs, AddsEntry, IsAsBefore, IsSpared}
 use Rattle.cml_board.specs.declared.entry.Reply.TheVariants.{Made}
-use Rattle.cml_board.specs.declared.entry.Entry.{Entry}
-use Rattle.cml_board.specs.declared.object.Object.{Object}
-use Rattle.cml_board.specs.History.{Lawful, Fits, made, answer, new_name}
-use Rattle.cml_board.specs.Facts.{facts_of}
-use Rattle.cml_board.specs.Shown.{Shown}
-use Rattle.cml_board.specs.Keeps.{Shows, Keeps}
-use Rattle.cml_board.specs.Outcome.{HasRoom, Performs, AddsEntry, IsAsBefore}
-use Rattle.cml_board.specs.Sparing.{IsSpared}
+use Rattle.cml_board.specs.Keeps.{Shows}
 
 module _ {M : Type 0} where
   reverse_noted : (past journal later : List (Entry M)) (entry : Entry M) → later ≡ journal ++ entry ∷ [] → reverse later ++ past ≡ entry ∷ (reverse journal ++ past)

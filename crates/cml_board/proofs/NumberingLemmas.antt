@@ -1,12 +1,9 @@
 -- The makers of a history with one entry more.
 use Rattle.std.proofs.Common.{◌≡◌, ◌≤◌, ◌+◌, ℕ, List, [], ◌∷◌, length, arith, ap, ◌∙◌}
 use Rattle.std.specs.Prelude.{max}
-use Rattle.cml_board.specs.declared.entry.Entry.{Entry}
-use Rattle.cml_board.specs.declared.entry.Who.{Who}
+use Rattle.cml_board.specs.Prelude.{Entry, Who, Makers, ring_by, rings_in, AreMakers, capped, behind_seat, behind_lane, behind_feed}
+use Rattle.cml_board.specs.Prelude.{seats_of, lanes_of, feeds_of}
 use Rattle.cml_board.specs.declared.entry.Who.TheVariants.{Seat, Lane, Feed}
-use Rattle.cml_board.specs.declared.restored.Makers.{Makers}
-use Rattle.cml_board.specs.History.{ring_by, rings_in}
-use Rattle.cml_board.specs.Makers.{AreMakers, capped, behind_seat, behind_lane, behind_feed, seats_of, lanes_of, feeds_of}
 
 capped_max : (one two : ℕ) → max (capped one) (capped two) ≡ capped (max one two)
 capped_max one two = omega arith

@@ -1,17 +1,12 @@
 -- A call is taken apart and put together again, and what is said of its parts is said of it.
 use Rattle.std.proofs.Common.{◌≡◌, refl, subst}
-use Rattle.cml_calls.specs.declared.table.Make.{Make}
+use Rattle.cml_calls.specs.Prelude.{Make, Give, Ask}
 use Rattle.cml_calls.specs.declared.table.Make.TheVariants as make
-use Rattle.cml_calls.specs.declared.table.Give.{Give}
 use Rattle.cml_calls.specs.declared.table.Give.TheVariants as give
-use Rattle.cml_calls.specs.declared.table.Ask.{Ask}
 use Rattle.cml_calls.specs.declared.table.Ask.TheVariants as ask
-use Rattle.cml_board.specs.declared.call.Name.{Name}
-use Rattle.cml_board.specs.declared.call.Call.{Call}
+use Rattle.cml_board.specs.Prelude.{Name, Call, Parts, parts_of, made_call, given_call, asked_call, call_of}
 use Rattle.cml_board.specs.declared.call.Call.TheVariants as call
-use Rattle.cml_board.specs.declared.parts.Parts.{Parts}
 use Rattle.cml_board.specs.declared.parts.Parts.TheVariants as parts
-use Rattle.cml_board.specs.Parts.{parts_of, made_call, given_call, asked_call, call_of}
 
 module _ {M : Type 0} where
   pub made_parts : (m : Make) → parts_of {M = M} (made_call m) ≡ parts.Make m

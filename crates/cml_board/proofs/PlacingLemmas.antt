@@ -3,12 +3,11 @@ use Rattle.std.proofs.Common.{◌≡◌, ℕ, zero, suc, ◌-◌, ◌<◌, List,
 use Rattle.std.specs.Option.{option_and_then}
 use Rattle.std.proofs.lemmas.List.{length-map, map-append, map-set}
 use Rattle.std.proofs.lemmas.Option.{same_Some, none-some, slice_get_within}
-use Rattle.cml_log.specs.Log.{Log, place_of}
-use Rattle.cml_board.specs.declared.object.Object.{Object}
+use Rattle.cml_log.specs.Prelude.{Log, place_of}
+use Rattle.cml_board.specs.Prelude.{Object, Name, map_log, seen_all, log_in, held_in, with_held, log_at, on_log, shut, HasLog, HasVariable}
+use Rattle.cml_board.specs.Prelude.{OpensIn, OpensAt, AddsPort, ClosesPort, SetsHeld, open_port, closed_port}
 use Rattle.cml_board.specs.declared.object.Object.TheVariants.{Mailbox, Channel, Port, Variable}
 use Rattle.cml_board.specs.declared.object.Reading.TheVariants.{Open, Closed}
-use Rattle.cml_board.specs.declared.call.Name.{Name}
-use Rattle.cml_board.specs.Holdings.{map_log, seen_all, log_in, held_in, with_held, log_at, on_log, shut, HasLog, HasVariable, OpensIn, OpensAt, AddsPort, ClosesPort, SetsHeld, open_port, closed_port}
 
 module _ {M A B : Type 0} where
   pub seen_set : (log : A → B) (f : B → B) (xs : List (Object M A)) (i : ℕ) (x y : Object M A) → i < length xs → x ≡ get_or xs i x

@@ -3,13 +3,10 @@ use Rattle.std.proofs.Common.{◌≡◌, ℕ, zero, suc, ◌<◌, ◌≤◌, inl
 use Rattle.std.proofs.lemmas.Bool.{eqb-true, cases_lt}
 use Rattle.std.proofs.lemmas.List.{append-nil, append_assoc, drop_at}
 use Rattle.std.proofs.lemmas.Option.{same_Some, none-some}
-use Rattle.cml_board.specs.declared.call.Call.{Call}
+use Rattle.cml_board.specs.Prelude.{Call, Reply, Entry, source_by, start_by, Lawful, answer, made, if_made, begun_by, origin_of, is_open}
+use Rattle.cml_board.specs.Prelude.{sent, sent_by, got, got_by, message_in, due, owed, received, where_open}
 use Rattle.cml_board.specs.declared.call.Call.TheVariants.{Send, Cast, Recv, Poll}
-use Rattle.cml_board.specs.declared.entry.Reply.{Reply}
 use Rattle.cml_board.specs.declared.entry.Reply.TheVariants.{Got, Nothing, Closed}
-use Rattle.cml_board.specs.declared.entry.Entry.{Entry}
-use Rattle.cml_board.specs.Origins.{source_by, start_by}
-use Rattle.cml_board.specs.History.{Lawful, answer, made, if_made, begun_by, origin_of, is_open, sent, sent_by, got, got_by, message_in, due, owed, received, where_open}
 use Rattle.cml_board.proofs.UnmadeLemmas.{untold, unmade_got}
 
 -- an item of a list stays at its place when more items follow

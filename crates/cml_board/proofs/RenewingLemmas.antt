@@ -2,17 +2,12 @@
 use Rattle.std.proofs.Common.{◌≡◌, ℕ, Bool, true, false, cond, List, ◌++◌, length, Option, Some, None, is_some, unwrap_or, IsTrue, IsSome, IfSome, refl, ap, ◌∙◌}
 use Rattle.std.specs.Option.{option_map_or}
 use Rattle.std.proofs.lemmas.Bool.{false≢true}
-use Rattle.cml_board.specs.declared.call.Name.{Name}
-use Rattle.cml_calls.specs.declared.kind.Kind.{Kind}
-use Rattle.cml_board.specs.declared.call.Call.{Call}
+use Rattle.cml_board.specs.Prelude.{Name, Call, Reply, Entry, Lawful, Fits, answer, kind_of, is_open, owed, received, given, new_name}
+use Rattle.cml_board.specs.Prelude.{where_open, base_of, name_since, where_open_since, owed_since, answer_since, next_base}
+use Rattle.cml_calls.specs.Prelude.{Kind, is_receiver}
 use Rattle.cml_board.specs.declared.call.Call.TheVariants.{NewMailbox, NewChannel, NewPort, CopyPort, ClosePort, NewIVar, NewMVar, MVarInit, Send, Cast, Recv, Poll, Put, Get, GetPoll, Take, TakePoll, Swap}
-use Rattle.cml_board.specs.declared.entry.Reply.{Reply}
 use Rattle.cml_board.specs.declared.entry.Reply.TheVariants.{Done, Made, Nothing, Closed}
 use Rattle.cml_board.specs.declared.entry.Reply.TheVariants as reply
-use Rattle.cml_board.specs.declared.entry.Entry.{Entry}
-use Rattle.cml_calls.specs.Kinds.{is_receiver}
-use Rattle.cml_board.specs.History.{Lawful, Fits, answer, kind_of, is_open, owed, received, given, new_name, where_open}
-use Rattle.cml_board.specs.Base.{base_of, name_since, where_open_since, owed_since, answer_since, next_base}
 use Rattle.cml_board.proofs.SplittingLemmas.{entries_split, rings_split}
 use Rattle.cml_board.proofs.ResumingLemmas.{count_told, open_told, held_told, made_told, place_told}
 use Rattle.cml_board.proofs.TrailingLemmas.{messages_told}

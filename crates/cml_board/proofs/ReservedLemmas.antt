@@ -1,14 +1,9 @@
 -- What was reserved lasts over a run of calls.
 use Rattle.std.proofs.Common.{◌≡◌, ℕ, ◌+◌, ◌<◌, ◌≤◌, ◌||◌, Bool, true, false, not, List, [], ◌∷◌, ap, arith}
-use Rattle.cml_board.specs.declared.call.Call.{Call}
-use Rattle.cml_board.specs.declared.entry.Who.{Who}
+use Rattle.cml_board.specs.Prelude.{Call, Who, Outcome, Shown, makes_object, fills_chunk, shares, Applies, Refuses, Step, Runs, answered_by}
+use Rattle.cml_board.specs.Prelude.{answered_count}
 use Rattle.cml_board.specs.declared.outcome.Refusal.TheVariants.{NoMemory}
-use Rattle.cml_board.specs.declared.outcome.Outcome.{Outcome}
 use Rattle.cml_board.specs.declared.outcome.Outcome.TheVariants.{Answered, WouldWait, Refused}
-use Rattle.cml_board.specs.Shown.{Shown}
-use Rattle.cml_board.specs.Sparing.{makes_object, fills_chunk, shares}
-use Rattle.cml_board.specs.Outcome.{Applies, Refuses}
-use Rattle.cml_board.specs.Running.{Step, Runs, answered_by, answered_count}
 
 module _ {M : Type 0} where
   -- by one call

@@ -2,13 +2,10 @@
 use Rattle.std.proofs.Common.{◌≡◌, ℕ, zero, suc, ◌+◌, ◌<◌, inl, inr, true, List, [], ◌∷◌, ◌++◌, length, slice_get, Option, Some, is_some, unwrap_or, refl, sym, ap, ◌∙◌, arith}
 use Rattle.std.proofs.lemmas.Bool.{cases_lt, cond-true, cond-false}
 use Rattle.std.proofs.lemmas.Option.{slice_get_past}
-use Rattle.cml_board.specs.declared.call.Call.{Call}
+use Rattle.cml_board.specs.Prelude.{Call, Entry, Origin, port, start_by, copy_of, left_by, held, Lawful, made, if_made, begun_by, origin_of}
+use Rattle.cml_board.specs.Prelude.{is_open, sent, got, place, base_of, copy_at, count_since, held_since, stood_at, place_from, begun_since}
+use Rattle.cml_board.specs.Prelude.{made_since, origin_since, place_since, open_since}
 use Rattle.cml_board.specs.declared.call.Call.TheVariants.{NewPort, CopyPort}
-use Rattle.cml_board.specs.declared.entry.Entry.{Entry}
-use Rattle.cml_board.specs.Origins.{Origin, port, start_by, copy_of}
-use Rattle.cml_board.specs.Held.{left_by, held}
-use Rattle.cml_board.specs.History.{Lawful, made, if_made, begun_by, origin_of, is_open, sent, got, place}
-use Rattle.cml_board.specs.Base.{base_of, copy_at, count_since, held_since, stood_at, place_from, begun_since, made_since, origin_since, place_since, open_since}
 use Rattle.cml_board.proofs.UnmadeLemmas.{unmade_got}
 use Rattle.cml_board.proofs.SplittingLemmas.{lawful_past, length-sent_split, length-got_split, open_split, origin_split}
 

@@ -4,25 +4,14 @@ use Rattle.std.specs.Option.{option_and_then}
 use Rattle.std.proofs.lemmas.Bool.{cases_eq}
 use Rattle.std.proofs.lemmas.List.{length_push, length-set}
 use Rattle.std.proofs.lemmas.Option.{none-some, same_Some}
-use Rattle.cml_log.specs.Log.{Log}
-use Rattle.cml_log.specs.Holds.{Holds}
-use Rattle.cml_board.specs.declared.call.Name.{Name}
-use Rattle.cml_board.specs.declared.call.Call.{Call}
+use Rattle.cml_log.specs.Prelude.{Log, Holds}
+use Rattle.cml_board.specs.Prelude.{Name, Call, Who, Reply, Entry, Form, Object, variable_call, Lawful, made, left_by, Facts, facts_of}
+use Rattle.cml_board.specs.Prelude.{new_facts, place_by, log_in, cursor_in, log_at, cursor_at, SetsHeld, Agrees, begun_as}
 use Rattle.cml_board.specs.declared.call.Call.TheVariants.{MVarInit}
-use Rattle.cml_board.specs.declared.entry.Who.{Who}
-use Rattle.cml_board.specs.declared.entry.Reply.{Reply}
 use Rattle.cml_board.specs.declared.entry.Reply.TheVariants.{Made}
-use Rattle.cml_board.specs.declared.entry.Entry.{Entry}
-use Rattle.cml_board.specs.declared.object.Form.{Form}
 use Rattle.cml_board.specs.declared.object.Form.TheVariants.{Mutable}
-use Rattle.cml_board.specs.declared.object.Object.{Object}
 use Rattle.cml_board.specs.declared.object.Object.TheVariants.{Variable}
-use Rattle.cml_board.specs.Calls.{variable_call}
-use Rattle.cml_board.specs.History.{Lawful, made}
-use Rattle.cml_board.specs.Held.{left_by}
-use Rattle.cml_board.specs.Facts.{Facts, facts_of, new_facts, place_by}
-use Rattle.cml_board.specs.Holdings.{log_in, cursor_in, log_at, cursor_at, SetsHeld}
-use Rattle.cml_board.specs.Keeps.{Agrees, Shows, begun_as}
+use Rattle.cml_board.specs.Keeps.{Shows}
 use Rattle.cml_board.proofs.ListLemmas.{slice_get-set_same, slice_get-set_other}
 use Rattle.cml_board.proofs.LogsLemmas.{log_at-set_other, log_at-set_same, cursor_at-set_other, cursor_at-set_same, log_at-pushed, log_at-pushed_other, cursor_at-pushed, cursor_at-pushed_other}
 use Rattle.cml_board.proofs.AgreeingLemmas.{told, Agrees_pushed}

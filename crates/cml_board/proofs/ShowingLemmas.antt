@@ -4,17 +4,14 @@ use Rattle.std.specs.Option.{option_and_then}
 use Rattle.std.proofs.lemmas.Bool.{cases_eq}
 use Rattle.std.proofs.lemmas.List.{length_push, length-set}
 use Rattle.std.proofs.lemmas.Option.{none-some, same_Some}
-use Rattle.cml_log.specs.Log.{Log, empty_log, place_at, place_of, Opens}
-use Rattle.cml_log.specs.Holds.{Holds}
+use Rattle.cml_log.specs.Prelude.{Log, empty_log, place_at, place_of, Opens, Holds}
 use Rattle.cml_log.proofs.LogLemmas.{place_at-with_place_other}
 use Rattle.cml_log.proofs.HoldsLemmas.{Holds-empty, Holds-push, Holds-advance, Holds-open_cursor}
-use Rattle.cml_board.specs.declared.object.Object.{Object}
+use Rattle.cml_board.specs.Prelude.{Object, mailbox, channel, port, Facts, place_by, new_facts, log_in, cursor_in, log_at, cursor_at}
+use Rattle.cml_board.specs.Prelude.{on_log, pushed, advanced, shut, HasLog, HasOwed, OpensAt, Agrees}
 use Rattle.cml_board.specs.declared.object.Object.TheVariants.{Mailbox, Channel, Port}
 use Rattle.cml_board.specs.declared.object.Reading.TheVariants.{Open, Closed}
-use Rattle.cml_board.specs.Origins.{mailbox, channel, port}
-use Rattle.cml_board.specs.Facts.{Facts, place_by, new_facts}
-use Rattle.cml_board.specs.Holdings.{log_in, cursor_in, log_at, cursor_at, on_log, pushed, advanced, shut, HasLog, HasOwed, OpensAt}
-use Rattle.cml_board.specs.Keeps.{Agrees, Shows}
+use Rattle.cml_board.specs.Keeps.{Shows}
 use Rattle.cml_board.proofs.ListLemmas.{slice_get-set_same, slice_get-set_other}
 use Rattle.cml_board.proofs.LogsLemmas.{same_source, length-on_log, get-on_log_other, log_at-on_log_other, log_at-on_log_same, cursor_at-on_log, log_at-pushed_other, cursor_at-pushed_other, log_at-pushed, cursor_at-pushed, log_at-set_other, log_at-set_same, cursor_at-set_other, cursor_at-set_same}
 use Rattle.cml_board.proofs.AgreeingLemmas.{Agrees-on_log, Agrees-sent, Agrees-got, told, Agrees_told, Agrees_pushed}

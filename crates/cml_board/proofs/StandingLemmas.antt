@@ -2,18 +2,15 @@
 use Rattle.std.proofs.Common.{◌≡◌, ◌≢◌, ℕ, zero, suc, ◌<◌, ◌≤◌, true, List, [], ◌∷◌, length, drop, slice_get, Option, Some, refl, sym, ap, subst, ◌∙◌, arith}
 use Rattle.std.specs.Option.{option_and_then}
 use Rattle.std.proofs.lemmas.Bool.{false≢true}
-use Rattle.cml_log.specs.Log.{Log, next_of, IsOpen, place_of, owed_items}
+use Rattle.cml_log.specs.Prelude.{Log, next_of, IsOpen, place_of, owed_items}
 use Rattle.cml_log.proofs.LogLemmas.{place_of-at, IsOpen-at}
 use Rattle.cml_log.proofs.HoldsLemmas.{Holds-next, Holds-owed, Holds-first_le_place}
-use Rattle.cml_board.specs.declared.object.Object.{Object}
+use Rattle.cml_board.specs.Prelude.{Object, Reading, Origin, mailbox, channel, port, Facts, place_by, log_in, cursor_in, log_at, cursor_at}
+use Rattle.cml_board.specs.Prelude.{HasLog, HasCursor, HasOwed, Agrees, AgreesReading}
 use Rattle.cml_board.specs.declared.object.Object.TheVariants.{Mailbox, Channel, Port, Variable}
 use Rattle.cml_board.specs.declared.object.Form.TheVariants.{Once, Mutable}
-use Rattle.cml_board.specs.declared.object.Reading.{Reading}
 use Rattle.cml_board.specs.declared.object.Reading.TheVariants.{Open, Closed}
-use Rattle.cml_board.specs.Origins.{Origin, mailbox, channel, port}
-use Rattle.cml_board.specs.Facts.{Facts, place_by}
-use Rattle.cml_board.specs.Holdings.{log_in, cursor_in, log_at, cursor_at, HasLog, HasCursor, HasOwed}
-use Rattle.cml_board.specs.Keeps.{Agrees, AgreesReading, Shows}
+use Rattle.cml_board.specs.Keeps.{Shows}
 use Rattle.cml_board.proofs.ChangingLemmas.{cursor_place}
 
 -- each place of a list has an element

@@ -3,15 +3,9 @@ use Rattle.std.proofs.Common.{◌≡◌, ℕ, List, [], ◌∷◌, Bool, true, f
 use Rattle.std.specs.Prelude.{unwrap_or, is_some}
 use Rattle.std.specs.Option.{option_map}
 use Rattle.std.proofs.lemmas.Option.{same_Some, none-some}
-use Rattle.cml_board.specs.declared.call.Call.{Call}
+use Rattle.cml_board.specs.Prelude.{Call, Entry, Reply, Lawful, answer, is_open, owed, held, row_of, may_have}
 use Rattle.cml_board.specs.declared.call.Call.TheVariants as call
-use Rattle.cml_board.specs.declared.entry.Entry.{Entry}
-use Rattle.cml_board.specs.declared.entry.Reply.{Reply}
 use Rattle.cml_board.specs.declared.entry.Reply.TheVariants as reply
-use Rattle.cml_board.specs.History.{Lawful, answer, is_open, owed}
-use Rattle.cml_board.specs.Held.{held}
-use Rattle.cml_board.specs.Objects.{row_of}
-use Rattle.cml_board.specs.Replies.{may_have}
 
 module _ {M : Type 0} (c : Call M) (r : Reply M) where
   just : (x : Reply M) → may_have (row_of c) x ≡ true → Some x ≡ Some r → may_have (row_of c) r ≡ true

@@ -2,23 +2,14 @@
 use Rattle.std.proofs.Common.{◌≡◌, ◌≢◌, ℕ, ◌+◌, Bool, true, false, not, ◌&&◌, cond, eqb, List, [], ◌∷◌, ◌++◌, length, slice_get, Option, None, unwrap_or, refl, sym, ap, ◌∙◌, arith}
 use Rattle.std.proofs.lemmas.Bool.{false≢true, eq-eqb, ne_eqb}
 use Rattle.std.proofs.lemmas.List.{append-nil, length_push}
-use Rattle.cml_board.specs.declared.call.Name.{Name}
-use Rattle.cml_board.specs.declared.call.Call.{Call}
+use Rattle.cml_board.specs.Prelude.{Name, Call, Who, Reply, Entry, Origin, given_call, asked_call, adds, takes_next, asks_port, left_by}
+use Rattle.cml_board.specs.Prelude.{held, Lawful, made, begun_by, origin_of, sent, sent_by, got, got_by, is_open, closes, facts_of}
+use Rattle.cml_board.specs.Prelude.{new_facts}
 use Rattle.cml_board.specs.declared.call.Call.TheVariants.{ClosePort, Poll}
-use Rattle.cml_calls.specs.declared.table.Ask.{Ask}
+use Rattle.cml_calls.specs.Prelude.{Ask, Give}
 use Rattle.cml_calls.specs.declared.table.Ask.TheVariants as ask
-use Rattle.cml_calls.specs.declared.table.Give.{Give}
 use Rattle.cml_calls.specs.declared.table.Give.TheVariants as give
-use Rattle.cml_board.specs.declared.entry.Who.{Who}
-use Rattle.cml_board.specs.declared.entry.Reply.{Reply}
 use Rattle.cml_board.specs.declared.entry.Reply.TheVariants.{Done, Made, Got, Nothing, Closed}
-use Rattle.cml_board.specs.declared.entry.Entry.{Entry}
-use Rattle.cml_board.specs.Origins.{Origin}
-use Rattle.cml_board.specs.Parts.{given_call, asked_call}
-use Rattle.cml_board.specs.Calls.{adds, takes_next, asks_port}
-use Rattle.cml_board.specs.Held.{left_by, held}
-use Rattle.cml_board.specs.History.{Lawful, made, begun_by, origin_of, sent, sent_by, got, got_by, is_open, closes}
-use Rattle.cml_board.specs.Facts.{facts_of, new_facts}
 use Rattle.cml_board.proofs.LogsLemmas.{slice_get_pushed_other}
 use Rattle.cml_board.proofs.ListLemmas.{slice_get_pushed}
 use Rattle.cml_board.proofs.UnmadeLemmas.{facts_equal, unmade}

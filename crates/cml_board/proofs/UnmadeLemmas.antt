@@ -4,16 +4,11 @@ use Rattle.std.proofs.lemmas.Bool.{false≢true, ne_eqb}
 use Rattle.std.proofs.lemmas.List.{length-append, length_push}
 use Rattle.std.proofs.lemmas.Option.{slice_get_past, same_Some}
 use Rattle.std.specs.Option.{option_map}
-use Rattle.cml_board.specs.declared.call.Name.{Name}
-use Rattle.cml_board.specs.declared.call.Call.{Call}
+use Rattle.cml_board.specs.Prelude.{Name, Call, Reply, Entry, kind_by, mvar, only_at, left_by, held, Lawful, IsMade, made, if_made}
+use Rattle.cml_board.specs.Prelude.{begun_by, answer, kind_of, sent, sent_by, got, got_by, message_in, is_open, is_done, closes, Facts}
+use Rattle.cml_board.specs.Prelude.{facts_of}
 use Rattle.cml_board.specs.declared.call.Call.TheVariants.{ClosePort, MVarInit, Send, Cast, Recv, Poll, Put, Take, TakePoll, Swap}
-use Rattle.cml_board.specs.declared.entry.Reply.{Reply}
 use Rattle.cml_board.specs.declared.entry.Reply.TheVariants.{Done, Made, Got}
-use Rattle.cml_board.specs.declared.entry.Entry.{Entry}
-use Rattle.cml_board.specs.Origins.{kind_by, mvar}
-use Rattle.cml_board.specs.Held.{only_at, left_by, held}
-use Rattle.cml_board.specs.History.{Lawful, IsMade, made, if_made, begun_by, answer, kind_of, sent, sent_by, got, got_by, message_in, is_open, is_done, closes}
-use Rattle.cml_board.specs.Facts.{Facts, facts_of}
 
 -- nothing is left at another name
 pub none_at : {X : Type 0} (name : Name) (k : ℕ) (x : X) → eqb name.0 k ≡ false → only_at name k x ≡ None

@@ -1,9 +1,7 @@
 -- A call taken apart, and put together again.
-use Rattle.cml_calls.specs.declared.table.Make.{Make}
+use Rattle.cml_calls.specs.Prelude.{Make, Give, Ask}
 use Rattle.cml_calls.specs.declared.table.Make.TheVariants as make
-use Rattle.cml_calls.specs.declared.table.Give.{Give}
 use Rattle.cml_calls.specs.declared.table.Give.TheVariants as give
-use Rattle.cml_calls.specs.declared.table.Ask.{Ask}
 use Rattle.cml_calls.specs.declared.table.Ask.TheVariants as ask
 use Rattle.cml_board.specs.declared.call.Name.{Name}
 use Rattle.cml_board.specs.declared.call.Call.{Call}

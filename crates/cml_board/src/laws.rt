@@ -1,20 +1,9 @@
 //! What follows from the definitions.
 ghost use Rattle.std.specs.Prelude.{◌≡◌, ℕ, ◌+◌, ◌<◌, ◌≤◌, ◌||◌, ◌↔◌, Some, None, Bool, true, false, not, List, reverse, slice_get};
-ghost use Rattle.cml_board.specs.declared.entry.Entry.{Entry};
-ghost use Rattle.cml_board.specs.declared.call.Call.{Call};
-ghost use Rattle.cml_board.specs.declared.want.Want.{Want};
-ghost use Rattle.cml_board.specs.History.{Lawful, Fits, answer};
-ghost use Rattle.cml_board.specs.Waiting.{want_in, Waits};
+ghost use Rattle.cml_board.specs.Prelude.{Entry, Call, Want, Lawful, Fits, answer, want_in, Waits, IsLawfulEverywhere, Parts, parts_of};
+ghost use Rattle.cml_board.specs.Prelude.{call_of, row_of, may_have, Shown, makes_object, fills_chunk, shares, Refuses, Step, Runs};
+ghost use Rattle.cml_board.specs.Prelude.{answered_count};
 ghost use Rattle.cml_board.specs.declared.outcome.Refusal.TheVariants.{NoMemory};
-ghost use Rattle.cml_board.specs.Positions.{IsLawfulEverywhere};
-ghost use Rattle.cml_board.specs.declared.parts.Parts.{Parts};
-ghost use Rattle.cml_board.specs.Parts.{parts_of, call_of};
-ghost use Rattle.cml_board.specs.Objects.{row_of};
-ghost use Rattle.cml_board.specs.Replies.{may_have};
-ghost use Rattle.cml_board.specs.Shown.{Shown};
-ghost use Rattle.cml_board.specs.Sparing.{makes_object, fills_chunk, shares};
-ghost use Rattle.cml_board.specs.Outcome.{Refuses};
-ghost use Rattle.cml_board.specs.Running.{Step, Runs, answered_count};
 
 /// Shows when a journal is a lawful history: exactly if at every position the call fits the entries before it, and its
 /// reply is the answer there and not a wait.

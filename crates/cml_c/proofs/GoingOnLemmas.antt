@@ -3,18 +3,12 @@ use Rattle.std.proofs.Common.{◌≡◌, ℕ, List, Option, Some, None, refl, sy
 use Rattle.std.specs.Prelude.{Box}
 use Rattle.std.specs.declared.alloc.Global.{Global}
 use Rattle.std_alloc.specs.Box.{with_value}
-use Rattle.cml_board.specs.Makers.{RestoredShown}
-use Rattle.cml_journal.specs.declared.stop.Halt.{Halt}
-use Rattle.cml_journal.specs.Checks.{Progress, IsSoFar, IsRestored}
+use Rattle.cml_board.specs.Prelude.{RestoredShown}
+use Rattle.cml_journal.specs.Prelude.{Halt, Progress, IsSoFar, IsRestored}
 use Rattle.cml_c.specs.declared.code.Code.TheVariants.{Unlawful}
-use Rattle.cml_c.specs.declared.handle.Slot.{Slot}
-use Rattle.cml_c.specs.declared.kept.Kept.{Kept}
-use Rattle.cml_c.specs.declared.kept.Resource.{Resource}
-use Rattle.cml_c.specs.declared.kept.Stocked.{Stocked}
+use Rattle.cml_c.specs.Prelude.{Slot, Kept, Resource, Stocked, number, IsLimit, Writes, IsRoomOn, OpensOn, RestoresBy, left_stopped}
+use Rattle.cml_c.specs.Prelude.{told_stopped}
 use Rattle.cml_c.specs.declared.kept.Resource.TheVariants.{Room, Reading, Spent}
-use Rattle.cml_c.specs.Codes.{number}
-use Rattle.cml_c.specs.Opening.{IsLimit, Writes}
-use Rattle.cml_c.specs.Restoring.{IsRoomOn, OpensOn, RestoresBy, left_stopped, told_stopped}
 
 -- a handle to a room on this board is written
 pub opens_on : {M : Type 0} (wrap : Resource M → Kept) (restored : RestoredShown M) (from to : Slot) (told : ℕ) (kept : Kept) (room : Box (Stocked M) Global)

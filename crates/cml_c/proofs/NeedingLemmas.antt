@@ -5,23 +5,14 @@ use Rattle.std.specs.Option.{option_map, option_map_or}
 use Rattle.std.proofs.lemmas.Bool.{false≢true, cases_lt}
 use Rattle.std.proofs.lemmas.Option.{same_Some, none-some}
 use Rattle.cml_board.proofs.SuitingLemmas.{answer_suits}
-use Rattle.cml_board.specs.Counts.{only_if}
-use Rattle.cml_board.specs.Held.{held}
-use Rattle.cml_board.specs.History.{Fits, answer, is_open, kind_of, owed, received, given}
-use Rattle.cml_board.specs.declared.call.Call.{Call}
+use Rattle.cml_board.specs.Prelude.{only_if, held, Fits, answer, is_open, kind_of, owed, received, given, Call, Entry, Reply, Outcome}
 use Rattle.cml_board.specs.declared.call.Call.TheVariants.{Recv, Poll, Get, GetPoll, Take, TakePoll, Swap}
-use Rattle.cml_board.specs.declared.entry.Entry.{Entry}
-use Rattle.cml_board.specs.declared.entry.Reply.{Reply}
 use Rattle.cml_board.specs.declared.entry.Reply.TheVariants.{Got, Nothing, Closed}
-use Rattle.cml_board.specs.declared.outcome.Outcome.{Outcome}
 use Rattle.cml_board.specs.declared.outcome.Outcome.TheVariants as outcome
-use Rattle.cml_calls.specs.Kinds.{is_receiver, is_variable, is_mvar}
-use Rattle.cml_calls.specs.declared.kind.Kind.{Kind}
+use Rattle.cml_calls.specs.Prelude.{is_receiver, is_variable, is_mvar, Kind}
 use Rattle.cml_calls.specs.declared.kind.Kind.TheVariants.{Mailbox, Channel, Port, IVar, MVar}
-use Rattle.cml_room.specs.Asking.{Asks}
-use Rattle.cml_room.specs.Room.{RoomShown}
-use Rattle.cml_c.specs.Asking.{MayMake, chunk}
-use Rattle.cml_c.specs.Blocks.{MayBeLong, IsGiven, NeedsBlock, IsOwed, HoldsLong, IsThere, IsShortReply, GivesShort}
+use Rattle.cml_room.specs.Prelude.{Asks, RoomShown}
+use Rattle.cml_c.specs.Prelude.{MayMake, chunk, MayBeLong, IsGiven, NeedsBlock, IsOwed, HoldsLong, IsThere, IsShortReply, GivesShort}
 
 abbrev Message : Type 0
 Message = List ℕ

@@ -1,9 +1,8 @@
 -- A reading that stops in the bytes that it takes.
 use Rattle.std.proofs.Common.{◌≡◌, ◌++◌, ℕ, List, Option, Some, sym, ap, subst, ◌∙◌}
-use Rattle.cml_journal.specs.declared.stop.Halt.{Halt}
-use Rattle.cml_journal.specs.Checks.{Progress, HaltsIn}
-use Rattle.cml_c.specs.Codes.{number}
-use Rattle.cml_c.specs.ReadJournals.{Takes, IsReadTo, told_halt, told_so_far}
+use Rattle.cml_journal.specs.Prelude.{Halt, Progress, HaltsIn}
+use Rattle.cml_c.specs.Prelude.{number, IsReadTo, told_halt, told_so_far}
+use Rattle.cml_c.specs.ReadJournals.{Takes}
 
 pub stops_in : {M : Type 0} (version : ℕ) (meaning : List ℕ → Option M) (bytes : List ℕ) (code : ℕ) (old new : Progress M) (halted : Halt)
     → code ≡ number (told_halt halted) → new.halt ≡ Some halted → HaltsIn version meaning old bytes new halted

@@ -1,18 +1,12 @@
 -- What the check of a journal returns to C.
 use Rattle.std.specs.Prelude.{ℕ, ◌==◌, if◌then◌else◌, ◌≡◌, ◌+◌, ◌<◌, ◌≤◌, ◌^◌, ◌⊎◌, List, [], ◌∷◌, length, drop, slice_get, Option, Some, None, Result, Ok, Err, ⊤}
 use Rattle.std.specs.Option.{option_map, option_or}
-use Rattle.cml_calls.specs.Table.{filled, make_at, give_at, ask_at}
-use Rattle.cml_board.specs.Objects.{message_of}
-use Rattle.cml_board.specs.Parts.{made_call, given_call, asked_call}
-use Rattle.cml_board.specs.declared.call.Call.{Call}
+use Rattle.cml_calls.specs.Prelude.{filled, make_at, give_at, ask_at}
+use Rattle.cml_board.specs.Prelude.{message_of, made_call, given_call, asked_call, Call, Name, Entry, Reply, Who, Feeds, Pauses, count_of}
+use Rattle.cml_board.specs.Prelude.{verdict_of}
 use Rattle.cml_board.specs.declared.call.Call.TheVariants as call
-use Rattle.cml_board.specs.declared.call.Name.{Name}
-use Rattle.cml_board.specs.declared.entry.Entry.{Entry}
-use Rattle.cml_board.specs.declared.entry.Reply.{Reply}
 use Rattle.cml_board.specs.declared.entry.Reply.TheVariants as reply
-use Rattle.cml_board.specs.declared.entry.Who.{Who}
 use Rattle.cml_board.specs.declared.entry.Who.TheVariants as who
-use Rattle.cml_board.specs.Checking.{Feeds, Pauses, count_of, verdict_of}
 use Rattle.cml_c.specs.declared.checked_entries.Parts.{Parts}
 use Rattle.cml_c.specs.declared.code.Code.{Code}
 use Rattle.cml_c.specs.declared.code.Code.TheVariants.{Done, NoSuch, NoMemory, OutOfBounds, Unlawful}

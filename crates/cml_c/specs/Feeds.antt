@@ -1,13 +1,8 @@
 -- What the calls on feeds return to C.
 use Rattle.std.specs.Prelude.{ℕ, ◌≡◌, ◌<◌, ◌⊎◌, [], ◌∷◌, ◌++◌, length, List, Option, Result, Bool}
-use Rattle.cml_board.specs.declared.call.Name.{Name}
-use Rattle.cml_board.specs.declared.outcome.Refusal.{Refusal}
-use Rattle.cml_lanes.specs.Ends.{FeedShown, Ended}
-use Rattle.cml_lanes.specs.Floor.{KeepsRings, SameFeedRing}
-use Rattle.cml_lanes.specs.Feeds.{OpensAFeed, Ends}
-use Rattle.cml_room.specs.Room.{RoomShown, floor_of}
-use Rattle.cml_room.specs.Frames.{KeepsSeats, Stirs}
-use Rattle.cml_room.specs.Rising.{MakesNoneDue}
+use Rattle.cml_board.specs.Prelude.{Name, Refusal}
+use Rattle.cml_lanes.specs.Prelude.{FeedShown, Ended, KeepsRings, SameFeedRing, OpensAFeed, Ends}
+use Rattle.cml_room.specs.Prelude.{RoomShown, floor_of, KeepsSeats, Stirs, MakesNoneDue}
 use Rattle.cml_c.specs.declared.code.Code.{Code}
 use Rattle.cml_c.specs.declared.code.Code.TheVariants.{Done, Nothing, NoMemory}
 use Rattle.cml_c.specs.declared.handle.Slot.{Slot}

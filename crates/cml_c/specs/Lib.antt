@@ -20,3 +20,4 @@ pub mod Checkers
 pub mod Texts
 pub mod ReadJournals
 pub mod Restoring
+pub mod Prelude

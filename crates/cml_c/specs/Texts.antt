@@ -1,9 +1,8 @@
 -- What C gets of a journal as text.
 use Rattle.std.specs.Prelude.{ℕ, ◌≡◌, ◌+◌, ◌<◌, ◌≤◌, ◌^◌, ◌⊎◌, List, length}
 use Rattle.std.specs.Fmt.{decimal}
-use Rattle.cml_board.specs.declared.entry.Entry.{Entry}
-use Rattle.cml_journal.specs.Escapes.{bytes_text}
-use Rattle.cml_journal.specs.Streams.{text_of, piece_lines}
+use Rattle.cml_board.specs.Prelude.{Entry}
+use Rattle.cml_journal.specs.Prelude.{bytes_text, text_of, piece_lines}
 use Rattle.cml_c.specs.declared.code.Code.TheVariants.{Done, NoMemory, OutOfBounds}
 use Rattle.cml_c.specs.declared.kept.Kept.{Kept}
 use Rattle.cml_c.specs.declared.kept.Kept.TheVariants.{Numbers, Bytes}

@@ -1,11 +1,8 @@
 //! A seat's call, and the code of what becomes of it.
 ghost use Rattle.std.specs.Prelude.{◌≡◌, false};
-ghost use Rattle.cml_room.specs.Asking.{Asks};
-ghost use Rattle.cml_room.specs.Frames.{Turns};
-ghost use Rattle.cml_room.specs.Rising.{news_by};
-ghost use Rattle.cml_room.specs.Running.{asked_by};
-ghost use Rattle.cml_c.specs.Codes.{number};
-ghost use Rattle.cml_c.specs.Asking.{Calls, CallsPlain, MayMake, chunk, told_outcome, named_outcome, written_outcome, told_reply};
+ghost use Rattle.cml_room.specs.Prelude.{Asks, Turns, news_by, asked_by};
+ghost use Rattle.cml_c.specs.Prelude.{number, Calls, CallsPlain, MayMake, chunk, named_outcome, written_outcome, told_reply};
+ghost use Rattle.cml_c.specs.Asking.{told_outcome};
 
 use crate::code::Code;
 use crate::handle::Handle;

@@ -1,7 +1,6 @@
 //! Which of the waiting seats are due.
 ghost use Rattle.std.specs.Prelude.{◌≡◌, ⊤};
-ghost use Rattle.cml_c.specs.Due.{GivesNext, TellsDue};
-ghost use Rattle.cml_c.specs.Handles.{OnEither, OnRoom};
+ghost use Rattle.cml_c.specs.Prelude.{GivesNext, TellsDue, OnEither, OnRoom};
 
 use crate::code::Code;
 use crate::handle::Handle;

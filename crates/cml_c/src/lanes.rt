@@ -1,13 +1,12 @@
 //! Lanes, on which a thread sends without the room's lock.
 ghost use Rattle.std.specs.Prelude.{◌≡◌, ⊤};
-ghost use Rattle.cml_lanes.specs.Lanes.{Drains, Abandons};
-ghost use Rattle.cml_room.specs.Frames.{Stirs};
-ghost use Rattle.cml_room.specs.Rising.{MakesFewByOne, MakesNoneDue};
-ghost use Rattle.cml_c.specs.Codes.{number, told_outcome, written_count};
-ghost use Rattle.cml_c.specs.Asking.{chunk};
-ghost use Rattle.cml_c.specs.Floors.{Does, Counts};
-ghost use Rattle.cml_c.specs.Handles.{OnEither, OnEitherKept, OnNumbers, OnBytes, OnBoth, OnRoom};
-ghost use Rattle.cml_c.specs.Lanes.{OpensLane, Sends, SendsBytes, SendsCopied, Finishes, Closes, ClosesLane, ClosesEnd, DropsLane, told_sent, told_dropped, written_dropped};
+ghost use Rattle.cml_lanes.specs.Prelude.{Drains, Abandons};
+ghost use Rattle.cml_room.specs.Prelude.{Stirs, MakesFewByOne, MakesNoneDue};
+ghost use Rattle.cml_c.specs.Codes.{told_outcome};
+ghost use Rattle.cml_c.specs.Prelude.{number, written_count, chunk, Does, Counts, OnEither, OnEitherKept, OnNumbers, OnBytes, OnBoth};
+ghost use Rattle.cml_c.specs.Prelude.{OnRoom, OpensLane, Sends, SendsCopied, Finishes, Closes, ClosesLane, ClosesEnd, DropsLane, told_sent};
+ghost use Rattle.cml_c.specs.Prelude.{told_dropped, written_dropped};
+ghost use Rattle.cml_c.specs.Lanes.{SendsBytes};
 
 use crate::code::Code;
 use crate::handle::{Handle, Slot};

@@ -4,11 +4,9 @@ use Rattle.std.specs.List.{filter_map, cons_option}
 use Rattle.std.specs.Option.{option_to_list}
 use Rattle.std.proofs.lemmas.List.{append-nil, append_assoc}
 use Rattle.std.proofs.lemmas.Option.{same_Some, none-some, slice_get-get_or}
-use Rattle.cml_chart.specs.Lines.{Thing}
-use Rattle.cml_chart.specs.Shown.{texts}
+use Rattle.cml_chart.specs.Prelude.{Thing, texts, strange_thing}
 use denote.Ref.{Bor}
 use Rattle.cml_chart.specs.Plan.{Made}
-use Rattle.cml_chart.specs.Following.{strange_thing}
 
 dropped : {X : Type 0} (xs : List X) (k : ℕ) (x : X) → slice_get xs k ≡ Some x → drop k xs ≡ x ∷ drop (k + 1) xs
 dropped [] k x found = absurd (none-some x found)

@@ -1,10 +1,9 @@
 -- One line more of a text, whether it fits or not.
 use Rattle.std.proofs.Common.{◌≡◌, ℕ, ◌+◌, ◌⊎◌, inl, inr, List, ◌∷◌, Ok, Err, sym, ap, ◌∙◌}
-use Rattle.cml_grammar.specs.Words.{parts_of}
+use Rattle.cml_grammar.specs.Prelude.{parts_of}
 use Rattle.cml_grammar.proofs.LinesLemmas.{some_part}
-use Rattle.cml_chart.specs.declared.report.faults.What.{What}
+use Rattle.cml_chart.specs.Prelude.{What, SoFar, Told, told_by, told_from, with_text, wrong_at}
 use Rattle.cml_chart.specs.declared.report.faults.What.TheVariants.{Memory}
-use Rattle.cml_chart.specs.Reading.{SoFar, Told, told_by, told_from, with_text, wrong_at}
 
 -- what a text is, by its first line
 by_line : (read : SoFar) (k : ℕ) (text line rest : List ℕ) → parts_of text ≡ line ∷ parts_of rest → told_from read k (parts_of text) ≡ told_by (λ later. told_from later (k + 1) (parts_of rest)) k (with_text read line)

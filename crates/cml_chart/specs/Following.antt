@@ -3,8 +3,7 @@ use Rattle.std.specs.Prelude.{ℕ, suc, ◌≡◌, ◌+◌, Bool, false, ◌&&�
 use Rattle.std.specs.Option.{option_map_or}
 use Rattle.std.specs.Str.{bytes_eq}
 use Rattle.std.specs.Str.Parse.{digits_value}
-use Rattle.cml_grammar.specs.Names.{is_number}
-use Rattle.cml_grammar.specs.Script.{Lines}
+use Rattle.cml_grammar.specs.Prelude.{is_number, Lines}
 use Rattle.cml_chart.specs.declared.report.faults.What.TheVariants.{OtherScript}
 use Rattle.cml_chart.specs.declared.report.faults.Fault.{Fault}
 use Rattle.cml_chart.specs.declared.report.Report.{Report}

@@ -9,3 +9,4 @@ pub mod Following
 pub mod CommandLine
 pub mod Drawing
 pub mod Endings
+pub mod Prelude

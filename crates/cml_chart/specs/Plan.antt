@@ -3,14 +3,9 @@ use Rattle.std.specs.Prelude.{ℕ, ◌≡◌, Bool, true, false, not, ◌&&◌, 
 use Rattle.std.specs.List.{join_with_byte}
 use Rattle.std.specs.Option.{option_map, option_map_or, option_and_then}
 use Rattle.std.specs.Str.{bytes_eq}
-use Rattle.cml_grammar.specs.declared.forms.Action.{Action}
+use Rattle.cml_grammar.specs.Prelude.{Action, verb_of, Named, SourceLine, Lines, names_of as given_by, action_of, seat_of_step, capacity_of}
 use Rattle.cml_grammar.specs.declared.forms.Action.TheVariants.{Give, Ask}
-use Rattle.cml_grammar.specs.Forms.{verb_of}
-use Rattle.cml_grammar.specs.declared.names.Named.{Named}
 use Rattle.cml_grammar.specs.declared.names.Named.TheVariants as called
-use Rattle.cml_grammar.specs.Script.{SourceLine, Lines}
-use Rattle.cml_grammar.specs.Meaning.{names_of as given_by, action_of, seat_of_step}
-use Rattle.cml_grammar.specs.Rings.{capacity_of}
 use Rattle.cml_chart.specs.Lines.{Words, makes_port}
 use Rattle.cml_chart.specs.Shown.{texts}
 use Rattle.cml_chart.specs.declared.plan.Made.{Made as ReadMade}

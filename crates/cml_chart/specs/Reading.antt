@@ -2,7 +2,7 @@
 use Rattle.std.specs.Prelude.{ℕ, ◌+◌, ◌≡◌, ◌⊎◌, ◌||◌, not, ◌==◌, nat_lt, List, [], ◌∷◌, ◌++◌, length, Option, Some, None, is_some, Result, Ok, Err, if◌then◌else◌}
 use Rattle.std.specs.Option.{option_map_or}
 use Rattle.std.specs.List.{list_any}
-use Rattle.cml_grammar.specs.Words.{parts_of, is_bad_byte}
+use Rattle.cml_grammar.specs.Prelude.{parts_of, is_bad_byte}
 use Rattle.cml_chart.specs.declared.report.faults.What.{What}
 use Rattle.cml_chart.specs.declared.report.faults.What.TheVariants.{NoLineEnd, BadBytes, NoReportLine, OutOfPlace, NoEndLine, TooLong, Memory}
 use Rattle.cml_chart.specs.declared.report.faults.Fault.{Fault}

@@ -5,21 +5,12 @@ use Rattle.std.proofs.Common.{false}
 use Rattle.std.specs.Global.{Global}
 use Rattle.std.specs.String.{string_eq}
 use Rattle.indexmap.specs.IndexMap.{insert_entry}
-use Rattle.cml_grammar.specs.declared.names.Named.{Named}
+use Rattle.cml_grammar.specs.Prelude.{Named, Declares, Verb, Declaration, Lane, Step, words_of, is_given, declaration, step}
+use Rattle.cml_grammar.specs.Prelude.{declared_places, step_places, fresh_word, owner_of, named_by, Ends, after_words, given_as, Lines}
+use Rattle.cml_grammar.specs.Prelude.{scope_of, names_of, makes_by, action_by, view_of, texts_of, UsesWell, IsMadeWell, IsReadSoFar}
+use Rattle.cml_grammar.specs.Prelude.{threads_by}
 use Rattle.cml_grammar.specs.declared.names.Named.TheVariants as called
 use Rattle.cml_grammar.specs.declared.names.Users.TheVariants as users
-use Rattle.cml_grammar.specs.declared.forms.Declares.{Declares}
-use Rattle.cml_grammar.specs.declared.forms.Verb.{Verb}
-use Rattle.cml_grammar.specs.declared.script.Declaration.{Declaration}
-use Rattle.cml_grammar.specs.declared.script.Lane.{Lane}
-use Rattle.cml_grammar.specs.declared.script.Step.{Step}
-use Rattle.cml_grammar.specs.Words.{words_of}
-use Rattle.cml_grammar.specs.Names.{is_given}
-use Rattle.cml_grammar.specs.Forms.{declaration, step, declared_places, step_places, fresh_word, owner_of, named_by}
-use Rattle.cml_grammar.specs.Faults.{Ends, after_words, given_as}
-use Rattle.cml_grammar.specs.Script.{Lines}
-use Rattle.cml_grammar.specs.Meaning.{scope_of, names_of, makes_by, action_by}
-use Rattle.cml_grammar.specs.Reading.{view_of, texts_of, UsesWell, IsMadeWell, IsReadSoFar, threads_by}
 use Rattle.cml_grammar.proofs.NameLemmas.{Names, inserted_texts}
 use Rattle.cml_grammar.proofs.TableLemmas.{fresh_suits}
 use Rattle.cml_grammar.proofs.ReadingLemmas.{ReadFrom, kept_suits}

@@ -11,17 +11,8 @@ use Rattle.std.proofs.lemmas.List.{map-append}
 use Rattle.std.proofs.lemmas.List.Elements.{All-push}
 use Rattle.indexmap.specs.IndexMap.{IndexMap, insert_entry}
 use Rattle.indexmap.proofs.CallerLemmas.{insert_entry-new}
-use Rattle.cml_grammar.specs.declared.names.Named.{Named}
-use Rattle.cml_grammar.specs.declared.script.Declaration.{Declaration}
-use Rattle.cml_grammar.specs.declared.script.Lane.{Lane}
-use Rattle.cml_grammar.specs.declared.script.Step.{Step}
-use Rattle.cml_grammar.specs.Words.{words_of}
-use Rattle.cml_grammar.specs.Forms.{lane}
-use Rattle.cml_grammar.specs.Faults.{Ends, after_words, are_same}
-use Rattle.cml_grammar.specs.Script.{Lines}
-use Rattle.cml_grammar.specs.Meaning.{scope_of, names_of}
-use Rattle.cml_grammar.specs.Rings.{lane_by, lane_of}
-use Rattle.cml_grammar.specs.Reading.{view_of, texts_of, ReadsLane, capacities_of, IsReadSoFar}
+use Rattle.cml_grammar.specs.Prelude.{Named, Declaration, Lane, Step, words_of, lane, Ends, after_words, are_same, Lines, scope_of}
+use Rattle.cml_grammar.specs.Prelude.{names_of, lane_by, lane_of, view_of, texts_of, ReadsLane, capacities_of, IsReadSoFar}
 use Rattle.cml_grammar.proofs.FormLemmas.{line_by}
 use Rattle.cml_grammar.proofs.GrowingLemmas.{ends_said, ends_kept}
 use Rattle.cml_grammar.proofs.SuitingLemmas.{said_well}

@@ -6,31 +6,18 @@ use Rattle.std.specs.Str.Parse.{digits_value}
 use Rattle.std.proofs.lemmas.List.Elements.{All-head, All-tail, All-weaker}
 use Rattle.std.proofs.lemmas.List.Sums.{sum_by-append}
 use Rattle.std.proofs.lemmas.Option.{none-some}
-use Rattle.cml_calls.specs.declared.shape.Takers.{Takers}
-use Rattle.cml_calls.specs.declared.table.Ask.{Ask}
-use Rattle.cml_calls.specs.Table.{given, asked, names_one}
-use Rattle.cml_grammar.specs.declared.forms.Declares.{Declares}
+use Rattle.cml_calls.specs.Prelude.{Takers, Ask, given, asked, names_one}
+use Rattle.cml_grammar.specs.Prelude.{Declares, Makes, Verb, Action, Place, Declaration, Lane, Step, words_of, Given, is_called}
+use Rattle.cml_grammar.specs.Prelude.{position_of, named, seat_in, seat_of, thread_count, declares_of, verb_of, is_poll, asked_place}
+use Rattle.cml_grammar.specs.Prelude.{step_places, fresh_word, IsSuitedAt, Ends, ends_by, are_same, SourceLine, ends_of, all_ends, feed_by}
+use Rattle.cml_grammar.specs.Prelude.{makes_by, makes_of, asked_by, action_by, action_of, seat_of_step, Laid, lane_by, lane_of, capacity_of}
+use Rattle.cml_grammar.specs.Prelude.{source_of, IsMailboxAt, IsChannelAt, IsTargetAt, IsSeat, GivesAt, GivesNames, IsMadeWell}
+use Rattle.cml_grammar.specs.Prelude.{ReadsDeclaration, ReadsLane, ReadsStep, UsesWell, capacities_of, used_by, gives_name}
 use Rattle.cml_grammar.specs.declared.forms.Declares.TheVariants as declares
-use Rattle.cml_grammar.specs.declared.forms.Makes.{Makes}
 use Rattle.cml_grammar.specs.declared.forms.Makes.TheVariants as makes
-use Rattle.cml_grammar.specs.declared.forms.Verb.{Verb}
 use Rattle.cml_grammar.specs.declared.forms.Verb.TheVariants as verb
-use Rattle.cml_grammar.specs.declared.forms.Action.{Action}
 use Rattle.cml_grammar.specs.declared.forms.Action.TheVariants as action
-use Rattle.cml_grammar.specs.declared.forms.Place.{Place}
 use Rattle.cml_grammar.specs.declared.forms.Place.TheVariants.{Fresh, Object, Polled}
-use Rattle.cml_grammar.specs.declared.script.Declaration.{Declaration}
-use Rattle.cml_grammar.specs.declared.script.Lane.{Lane}
-use Rattle.cml_grammar.specs.declared.script.Step.{Step}
-use Rattle.cml_grammar.specs.Words.{words_of}
-use Rattle.cml_grammar.specs.Names.{Given, is_called, position_of, named, seat_in, seat_of, thread_count}
-use Rattle.cml_grammar.specs.Forms.{declares_of, verb_of, is_poll, asked_place, step_places, fresh_word}
-use Rattle.cml_grammar.specs.Suiting.{IsSuitedAt}
-use Rattle.cml_grammar.specs.Faults.{Ends, ends_by, are_same}
-use Rattle.cml_grammar.specs.Script.{SourceLine}
-use Rattle.cml_grammar.specs.Meaning.{ends_of, all_ends, feed_by, makes_by, makes_of, asked_by, action_by, action_of, seat_of_step}
-use Rattle.cml_grammar.specs.Rings.{Laid, lane_by, lane_of, capacity_of}
-use Rattle.cml_grammar.specs.Reading.{source_of, IsMailboxAt, IsChannelAt, IsTargetAt, IsSeat, GivesAt, GivesNames, IsMadeWell, ReadsDeclaration, ReadsLane, ReadsStep, UsesWell, capacities_of, used_by, gives_name}
 use Rattle.cml_grammar.proofs.ListLemmas.{position-append, mapped_some, slice_get-append}
 
 -- what is found once is found again

@@ -11,33 +11,22 @@ use Rattle.std.proofs.lemmas.List.{append-nil, length-append, length-map, map-ap
 use Rattle.std.proofs.lemmas.List.Sums.{sum_by_push}
 use Rattle.std.proofs.lemmas.List.Elements.{All-nil, All-push, All-weaker}
 use Rattle.std.proofs.lemmas.Option.{none-some, same_Some, slice_get_within, option_and_then_some}
-use Rattle.cml_calls.specs.declared.shape.Takers.{Takers}
-use Rattle.cml_calls.specs.Table.{asked}
-use Rattle.cml_grammar.specs.declared.names.Named.{Named}
+use Rattle.cml_calls.specs.Prelude.{Takers, asked}
+use Rattle.cml_grammar.specs.Prelude.{Named, Users, Declares, Verb, Action, Makes, Declaration, FeedMaking, Lane, Step, words_of, Given}
+use Rattle.cml_grammar.specs.Prelude.{thread_count, seat_in, seat_of, named, position_of, declaration, step, declared_places, fresh_word}
+use Rattle.cml_grammar.specs.Prelude.{owner_of, named_by, is_poll, step_places, is_used, is_others, Scope, Ends, fault_in_words}
+use Rattle.cml_grammar.specs.Prelude.{after_words, gives, given_as, is_step, declares_thread, any_word, is_not_yours, SourceLine, scope_of}
+use Rattle.cml_grammar.specs.Prelude.{names_of, feed_by, makes_by, makes_of, action_by, action_of, seat_of_step, source_of, view_of}
+use Rattle.cml_grammar.specs.Prelude.{texts_of, IsSeatedWithin, IsSeat, GivesAt, Gives, GivesNames, IsMadeWell, ReadsDeclaration, ReadsLane}
+use Rattle.cml_grammar.specs.Prelude.{ReadsStep, UsesWell, UsesEarlier, MayUse, IsYours, used_by, IsReadSoFar, threads_by, with_words}
+use Rattle.cml_grammar.specs.Prelude.{declared_word, asked_word, is_giving, names_before, NamesAreGiven}
 use Rattle.cml_grammar.specs.declared.names.Named.TheVariants as called
-use Rattle.cml_grammar.specs.declared.names.Users.{Users}
 use Rattle.cml_grammar.specs.declared.names.Users.TheVariants as users
-use Rattle.cml_grammar.specs.declared.forms.Declares.{Declares}
 use Rattle.cml_grammar.specs.declared.forms.Declares.TheVariants as declares
-use Rattle.cml_grammar.specs.declared.forms.Verb.{Verb}
 use Rattle.cml_grammar.specs.declared.forms.Verb.TheVariants as verb
-use Rattle.cml_grammar.specs.declared.forms.Action.{Action}
 use Rattle.cml_grammar.specs.declared.forms.Action.TheVariants as action
 use Rattle.cml_grammar.specs.declared.forms.Place.TheVariants.{Object, Polled}
-use Rattle.cml_grammar.specs.declared.forms.Makes.{Makes}
 use Rattle.cml_grammar.specs.declared.forms.Makes.TheVariants as makes
-use Rattle.cml_grammar.specs.declared.script.Declaration.{Declaration}
-use Rattle.cml_grammar.specs.declared.forms.FeedMaking.{FeedMaking}
-use Rattle.cml_grammar.specs.declared.script.Lane.{Lane}
-use Rattle.cml_grammar.specs.declared.script.Step.{Step}
-use Rattle.cml_grammar.specs.Words.{words_of}
-use Rattle.cml_grammar.specs.Names.{Given, thread_count, seat_in, seat_of, named, position_of}
-use Rattle.cml_grammar.specs.Forms.{declaration, step, declared_places, fresh_word, owner_of, named_by, is_poll, step_places, is_used, is_others}
-use Rattle.cml_grammar.specs.Faults.{Scope, Ends, fault_in_words, after_words, gives, given_as, is_step, declares_thread, any_word, is_not_yours}
-use Rattle.cml_grammar.specs.Script.{SourceLine}
-use Rattle.cml_grammar.specs.Meaning.{scope_of, names_of, feed_by, makes_by, makes_of, action_by, action_of, seat_of_step}
-use Rattle.cml_grammar.specs.Reading.{source_of, view_of, texts_of, IsSeatedWithin, IsSeat, GivesAt, Gives, GivesNames, IsMadeWell, ReadsDeclaration, ReadsLane, ReadsStep, UsesWell, UsesEarlier, MayUse, IsYours, used_by, IsReadSoFar, threads_by, with_words}
-use Rattle.cml_grammar.specs.Giving.{declared_word, asked_word, is_giving, names_before, NamesAreGiven}
 use Rattle.cml_grammar.proofs.ListLemmas.{mapped_some, slice_get-push, each-push}
 use Rattle.cml_grammar.proofs.GrowingLemmas.{GivesAt-append, IsMadeWell-append, ReadsDeclaration-append, GivesNames-append, ReadsStep-append, Asks, step_asks, ReadsLane-append, ends_kept, ends_same}
 use Rattle.cml_grammar.proofs.FormLemmas.{IsLine, line_by}

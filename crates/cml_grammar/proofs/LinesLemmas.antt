@@ -3,14 +3,11 @@ use Rattle.std.proofs.Common.{◌≡◌, ℕ, suc, ◌+◌, ◌<◌, ◌≤◌, 
 use Rattle.std.specs.Option.{option_map_or}
 use Rattle.std.specs.List.{onto_first}
 use Rattle.std.proofs.lemmas.List.{append-nil, append_assoc}
-use Rattle.cml_grammar.specs.declared.fault.What.{What}
+use Rattle.cml_grammar.specs.Prelude.{What, parts_of, words_of, form_of, Scope, start, version_of, says, fault_in, after, at_line, fault_at}
+use Rattle.cml_grammar.specs.Prelude.{fault_from, is_declaration, is_lane, is_step, IsWhat, SourceLine, Lines, source, with_line, Says}
+use Rattle.cml_grammar.specs.Prelude.{scope_of, names_of, with_next, with_words}
 use Rattle.cml_grammar.specs.declared.fault.What.TheVariants.{Memory}
-use Rattle.cml_grammar.specs.Words.{parts_of, words_of}
-use Rattle.cml_grammar.specs.Forms.{Form, form_of}
-use Rattle.cml_grammar.specs.Faults.{Scope, start, version_of, says, fault_in, after, at_line, fault_at, fault_from, is_declaration, is_lane, is_step, IsWhat}
-use Rattle.cml_grammar.specs.Script.{SourceLine, Lines, source, with_line, Says}
-use Rattle.cml_grammar.specs.Meaning.{scope_of, names_of}
-use Rattle.cml_grammar.specs.Reading.{with_next, with_words}
+use Rattle.cml_grammar.specs.Forms.{Form}
 
 -- the parts say the declarations, the lanes and the steps of these lines
 abbrev pub SaysThese : Scope → ℕ → List (List ℕ) → Lines → Type 0

@@ -1,22 +1,16 @@
 -- What the words of a line mean where each suits its place.
 use Rattle.std.proofs.Common.{◌≡◌, ℕ, ◌==◌, true, false, if◌then◌else◌, List, [], ◌∷◌, map, length, slice_get, Option, Some, refl, sym, ap, ◌∙◌, subst, Bor, inl, inr, true≢false, arith}
-use Rattle.cml_messages.specs.Text.{is_text}
+use Rattle.cml_messages.specs.Prelude.{is_text}
 use Rattle.std.specs.Option.{option_map}
 use Rattle.std.specs.List.{find, zip}
 use Rattle.std.proofs.lemmas.Bool.{ne_eqb}
 use Rattle.cml_calls.specs.declared.shape.Takers.TheVariants.{Channels}
-use Rattle.cml_grammar.specs.declared.names.Named.{Named}
+use Rattle.cml_grammar.specs.Prelude.{Named, Verb, Place, Given, declared_places, step_places, suits, is_fresh, fresh_word, makes_by}
+use Rattle.cml_grammar.specs.Prelude.{IsChannelAt, IsTargetAt, IsSuitedAt, AllSuit}
 use Rattle.cml_grammar.specs.declared.names.Named.TheVariants as called
 use Rattle.cml_grammar.specs.declared.forms.Declares.TheVariants as declares
 use Rattle.cml_grammar.specs.declared.forms.Makes.TheVariants as makes
-use Rattle.cml_grammar.specs.declared.forms.Verb.{Verb}
-use Rattle.cml_grammar.specs.declared.forms.Place.{Place}
 use Rattle.cml_grammar.specs.declared.forms.Place.TheVariants.{Fresh, Object, Target, Message}
-use Rattle.cml_grammar.specs.Names.{Given}
-use Rattle.cml_grammar.specs.Forms.{declared_places, step_places, suits, is_fresh, fresh_word}
-use Rattle.cml_grammar.specs.Meaning.{makes_by}
-use Rattle.cml_grammar.specs.Reading.{IsChannelAt, IsTargetAt}
-use Rattle.cml_grammar.specs.Suiting.{IsSuitedAt, AllSuit}
 
 abbrev pub Words : Type 0
 Words = List (Bor (List ℕ))

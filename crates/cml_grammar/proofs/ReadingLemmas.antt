@@ -5,21 +5,13 @@ use Rattle.std.specs.Result.{OnOk}
 use Rattle.std.proofs.Math.Bool.{or-false}
 use Rattle.std.proofs.lemmas.Bool.{not-false, eqb-true, true≢false}
 use Rattle.std.proofs.lemmas.List.{append-nil, append_assoc, map-append}
-use Rattle.cml_grammar.specs.declared.forms.Declares.{Declares}
-use Rattle.cml_grammar.specs.declared.forms.Verb.{Verb}
-use Rattle.cml_grammar.specs.declared.script.Declaration.{Declaration}
-use Rattle.cml_grammar.specs.declared.script.Lane.{Lane}
-use Rattle.cml_grammar.specs.declared.script.Line.{Line}
-use Rattle.cml_grammar.specs.declared.script.Step.{Step}
+use Rattle.cml_grammar.specs.Prelude.{Declares, Verb, Declaration, Lane, Line, Step, words_of, has_empty_word, Given, unknown, declaration}
+use Rattle.cml_grammar.specs.Prelude.{lane, no_step, step, form_of, places_of, rest_of, Scope, Ends, start, first_of, tests_of_form}
+use Rattle.cml_grammar.specs.Prelude.{fault_in_words, gives, lays, after_words, is_declaration, is_lane, is_step, SourceLine, Lines, source}
+use Rattle.cml_grammar.specs.Prelude.{with_line, scope_after, scope_of, names_of, ends_of, all_ends, source_of, view_of, with_words}
+use Rattle.cml_grammar.specs.Prelude.{AllSuit}
 use Rattle.cml_grammar.specs.declared.fault.What.TheVariants.{BadWords}
-use Rattle.cml_grammar.specs.Words.{words_of, has_empty_word}
-use Rattle.cml_grammar.specs.Names.{Given}
-use Rattle.cml_grammar.specs.Forms.{Form, unknown, declaration, lane, no_step, step, form_of, places_of, rest_of}
-use Rattle.cml_grammar.specs.Faults.{Scope, Ends, start, first_of, tests_of_form, fault_in_words, gives, lays, after_words, is_declaration, is_lane, is_step}
-use Rattle.cml_grammar.specs.Script.{SourceLine, Lines, source, with_line}
-use Rattle.cml_grammar.specs.Meaning.{scope_after, scope_of, names_of, ends_of, all_ends}
-use Rattle.cml_grammar.specs.Reading.{source_of, view_of, with_words}
-use Rattle.cml_grammar.specs.Suiting.{AllSuit}
+use Rattle.cml_grammar.specs.Forms.{Form}
 use Rattle.cml_grammar.proofs.TableLemmas.{Passes, words_pass, all_suit-passes}
 use Rattle.cml_grammar.proofs.FormLemmas.{line_by}
 

@@ -5,21 +5,12 @@ use Rattle.std.specs.List.{find}
 use Rattle.std.specs.Option.{option_map, option_map_or, IfSome}
 use Rattle.std.proofs.lemmas.List.Elements.{All-head, All-tail}
 use Rattle.std.proofs.lemmas.Option.{none-some, same_Some, option_and_then_some}
-use Rattle.cml_grammar.specs.declared.forms.Declares.{Declares}
+use Rattle.cml_grammar.specs.Prelude.{Declares, Makes, Declaration, Lane, words_of, Given, is_capacity, position_of, seat_of, is_given}
+use Rattle.cml_grammar.specs.Prelude.{declares_of, declared_places, lane_places, Ends, are_same, SourceLine, feed_by, makes_by, makes_of}
+use Rattle.cml_grammar.specs.Prelude.{is_feed, declares_feed, makes_feed, source_of, IsCapacity, ReadsDeclaration, ReadsLane, capacities_of}
+use Rattle.cml_grammar.specs.Prelude.{AllSuit}
 use Rattle.cml_grammar.specs.declared.forms.Declares.TheVariants as declares
-use Rattle.cml_grammar.specs.declared.forms.Makes.{Makes}
 use Rattle.cml_grammar.specs.declared.forms.Makes.TheVariants as makes
-use Rattle.cml_grammar.specs.declared.script.Declaration.{Declaration}
-use Rattle.cml_grammar.specs.declared.script.Lane.{Lane}
-use Rattle.cml_grammar.specs.Words.{words_of}
-use Rattle.cml_grammar.specs.Names.{Given, is_capacity, position_of, seat_of, is_given}
-use Rattle.cml_grammar.specs.Forms.{declares_of, declared_places, lane_places}
-use Rattle.cml_grammar.specs.Faults.{Ends, are_same}
-use Rattle.cml_grammar.specs.Script.{SourceLine}
-use Rattle.cml_grammar.specs.Meaning.{feed_by, makes_by, makes_of}
-use Rattle.cml_grammar.specs.Rings.{is_feed, declares_feed, makes_feed}
-use Rattle.cml_grammar.specs.Reading.{source_of, IsCapacity, ReadsDeclaration, ReadsLane, capacities_of}
-use Rattle.cml_grammar.specs.Suiting.{AllSuit}
 use Rattle.cml_grammar.proofs.ListLemmas.{mapped_some}
 use Rattle.cml_grammar.proofs.MeaningLemmas.{Words, bytes}
 use Rattle.cml_grammar.proofs.SeatLemmas.{used_seat}

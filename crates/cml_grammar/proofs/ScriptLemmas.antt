@@ -4,15 +4,12 @@ use Rattle.std.specs.Option.{option_map_or}
 use Rattle.std.proofs.lemmas.Option.{none-some}
 use Rattle.std.proofs.lemmas.Bool.{ne_eqb, eqb-false, le-ltb, ltb-false}
 use Rattle.cml_grammar.specs.declared.fault.What.TheVariants.{Memory, NoLineEnd, BadHeader, TooLong}
-use Rattle.cml_grammar.specs.declared.fault.Fault.{Fault}
+use Rattle.cml_grammar.specs.Prelude.{Fault, parts_of, words_of, form_of, Scope, start, version_of, says, fault_in, after, at_line}
+use Rattle.cml_grammar.specs.Prelude.{fault_at_end, fault_from, fault_of, is_declaration, is_lane, is_step, IsFaultOf, SourceLine, Lines}
+use Rattle.cml_grammar.specs.Prelude.{source, with_line, Says, IsScript, scope_of, ScriptsHaveNoFault, TextsAreOneScript}
+use Rattle.cml_grammar.specs.Prelude.{FaultlessTextsAreScripts}
 use Rattle.std.proofs.lemmas.List.Splits.{length-slice_split}
 use Rattle.std.proofs.lemmas.List.Sums.{count_by-le-length}
-use Rattle.cml_grammar.specs.Words.{parts_of, words_of}
-use Rattle.cml_grammar.specs.Forms.{form_of}
-use Rattle.cml_grammar.specs.Faults.{Scope, start, version_of, says, fault_in, after, at_line, fault_at_end, fault_from, fault_of, is_declaration, is_lane, is_step, IsFaultOf}
-use Rattle.cml_grammar.specs.Script.{SourceLine, Lines, source, with_line, Says, IsScript}
-use Rattle.cml_grammar.specs.Meaning.{scope_of}
-use Rattle.cml_grammar.specs.Laws.{ScriptsHaveNoFault, TextsAreOneScript, FaultlessTextsAreScripts}
 use Rattle.cml_grammar.proofs.LinesLemmas.{SaysThese, in_front, no_lines, behind-nothing, parts-some, ReadsOn}
 
 not_some : {A B : Type 0} (o : Option A) (f : A → B) (later : Option B) → option_map_or (λ a. Some (f a)) o later ≡ None → (o ≡ None) × (later ≡ None)

@@ -4,28 +4,17 @@ use Rattle.std.specs.Option.{option_map}
 use Rattle.std.specs.Str.Parse.{digits_value}
 use Rattle.std.proofs.lemmas.Bool.{ne_eqb, and_parts, leb-true}
 use Rattle.std.proofs.lemmas.Option.{same_Some, slice_get_within}
-use Rattle.cml_calls.specs.declared.shape.Takers.{Takers}
+use Rattle.cml_calls.specs.Prelude.{Takers, Ask, given, asked, names_one}
 use Rattle.cml_calls.specs.declared.shape.Takers.TheVariants.{Channels}
-use Rattle.cml_calls.specs.declared.table.Ask.{Ask}
-use Rattle.cml_calls.specs.Table.{given, asked, names_one}
-use Rattle.cml_grammar.specs.declared.forms.Declares.{Declares}
+use Rattle.cml_grammar.specs.Prelude.{Declares, Makes, FeedMaking, Verb, Place, Action, Given, is_capacity, position_of, seat_of}
+use Rattle.cml_grammar.specs.Prelude.{thread_count, Ends, declared_places, lane_places, is_poll, step_places, fresh_word, makes_by}
+use Rattle.cml_grammar.specs.Prelude.{asked_by, action_by, Laid, lane_by, IsTargetAt, UsesWell, IsSeat, IsCapacity, IsMadeWell}
+use Rattle.cml_grammar.specs.Prelude.{IsSeatedWithin, IsUsed, Suits, AllSuit}
 use Rattle.cml_grammar.specs.declared.forms.Declares.TheVariants as declares
-use Rattle.cml_grammar.specs.declared.forms.Makes.{Makes}
 use Rattle.cml_grammar.specs.declared.forms.Makes.TheVariants as makes
-use Rattle.cml_grammar.specs.declared.forms.FeedMaking.{FeedMaking}
-use Rattle.cml_grammar.specs.declared.forms.Verb.{Verb}
 use Rattle.cml_grammar.specs.declared.forms.Verb.TheVariants as verb
-use Rattle.cml_grammar.specs.declared.forms.Place.{Place}
 use Rattle.cml_grammar.specs.declared.forms.Place.TheVariants.{Fresh, Object, Polled, Message}
-use Rattle.cml_grammar.specs.declared.forms.Action.{Action}
 use Rattle.cml_grammar.specs.declared.forms.Action.TheVariants as action
-use Rattle.cml_grammar.specs.Names.{Given, is_capacity, position_of, seat_of, thread_count}
-use Rattle.cml_grammar.specs.Faults.{Ends}
-use Rattle.cml_grammar.specs.Forms.{declared_places, lane_places, is_poll, step_places, fresh_word}
-use Rattle.cml_grammar.specs.Meaning.{makes_by, asked_by, action_by}
-use Rattle.cml_grammar.specs.Rings.{Laid, lane_by}
-use Rattle.cml_grammar.specs.Reading.{IsTargetAt, UsesWell, IsSeat, IsCapacity, IsMadeWell, IsSeatedWithin}
-use Rattle.cml_grammar.specs.Suiting.{IsUsed, Suits, AllSuit}
 use Rattle.cml_grammar.proofs.MeaningLemmas.{channel_at, target_at}
 use Rattle.cml_grammar.proofs.GrowingLemmas.{both_same}
 use Rattle.cml_grammar.proofs.SeatLemmas.{used_seat, seated_from}

@@ -3,15 +3,11 @@ use Rattle.std.proofs.Common.{◌≡◌, ℕ, suc, ◌<◌, Bool, true, false, n
 use Rattle.std.specs.Prelude.{codes}
 use Rattle.std.specs.List.{list_any, zip}
 use Rattle.std.proofs.lemmas.Bool.{or_parts, eq-eqb, not-false}
-use Rattle.cml_grammar.specs.declared.fault.What.{What}
-use Rattle.cml_grammar.specs.declared.forms.Place.{Place}
+use Rattle.cml_grammar.specs.Prelude.{What, Place, parts_of, words_of, is_bad_byte, form_of, places_of, rest_of, Scope, start, says}
+use Rattle.cml_grammar.specs.Prelude.{is_bad_header, fault_in_words, fault_in, after, after_words, is_bad_number, is_bad_text, SourceLine}
+use Rattle.cml_grammar.specs.Prelude.{Says, NumbersAreTexts}
 use Rattle.cml_grammar.specs.declared.forms.Place.TheVariants.{Message, Capacity}
 use Rattle.cml_grammar.specs.declared.fault.What.TheVariants.{BadBytes, BadHeader}
-use Rattle.cml_grammar.specs.Words.{parts_of, words_of, is_bad_byte}
-use Rattle.cml_grammar.specs.Forms.{form_of, places_of, rest_of}
-use Rattle.cml_grammar.specs.Faults.{Scope, start, says, is_bad_header, fault_in_words, fault_in, after, after_words, is_bad_number, is_bad_text}
-use Rattle.cml_grammar.specs.Script.{SourceLine, Says}
-use Rattle.cml_grammar.specs.Laws.{NumbersAreTexts}
 use Rattle.cml_grammar.proofs.NameLemmas.{number_word_is_text}
 use Rattle.cml_grammar.proofs.LinesLemmas.{parts-some}
 use Rattle.cml_grammar.proofs.TableLemmas.{not_first, words_pass}

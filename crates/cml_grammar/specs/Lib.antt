@@ -12,3 +12,4 @@ pub mod Shown
 pub mod Flaws
 pub mod Suiting
 pub mod Laws
+pub mod Prelude

@@ -2,14 +2,10 @@
 ghost use Rattle.std.specs.Prelude.{◌≡◌, ◌+◌, ◌^◌, ◌<◌, [], ◌∷◌, length, map, Some, true, is_some, All, IfOk};
 ghost use Rattle.std.specs.Option.{option_map};
 ghost use Rattle.std.specs.Str.Parse.{digits_value};
-ghost use Rattle.cml_messages.specs.Text.{is_text};
-ghost use Rattle.cml_grammar.specs.Names.{is_capacity, is_given, position_of, seat_of, thread_count};
-ghost use Rattle.cml_grammar.specs.Forms.{declared_places, lane_places, step_places, fresh_word, owner_of, named_by};
-ghost use Rattle.cml_grammar.specs.Faults.{ends_by};
-ghost use Rattle.cml_grammar.specs.Meaning.{feed_by, makes_by, action_by};
-ghost use Rattle.cml_grammar.specs.Rings.{lane_by};
-ghost use Rattle.cml_grammar.specs.Reading.{texts_of, UsesWell, IsMadeWell, IsSeatedWithin, threads_by};
-ghost use Rattle.cml_grammar.specs.Suiting.{AllSuit};
+ghost use Rattle.cml_messages.specs.Prelude.{is_text};
+ghost use Rattle.cml_grammar.specs.Prelude.{is_capacity, is_given, position_of, seat_of, thread_count, declared_places, lane_places};
+ghost use Rattle.cml_grammar.specs.Prelude.{step_places, fresh_word, owner_of, named_by, ends_by, feed_by, makes_by, action_by, lane_by};
+ghost use Rattle.cml_grammar.specs.Prelude.{texts_of, UsesWell, IsMadeWell, IsSeatedWithin, threads_by, AllSuit};
 
 use crate::forms::{Action, Declares, FeedMaking, Makes, Verb, fresh_word};
 use crate::names::{Named, Users, capacity_in, position_of, seat_of};

@@ -1,14 +1,10 @@
 -- A poll of numbers takes no memory but an entry's.
 use Rattle.std.proofs.Common.{◌≡◌, ℕ, ◌<◌, Bool, true, false, List, [], ◌∷◌, Some, unwrap_or, Result, Err, refl, subst, if◌then◌else◌}
 use Rattle.std.specs.Result.{IsErrAnd}
-use Rattle.cml_board.specs.declared.call.Name.{Name}
+use Rattle.cml_board.specs.Prelude.{Name, is_open, owed, received, Shown, tells_name, Refuses}
 use Rattle.cml_board.specs.declared.call.Call.TheVariants.{Poll}
 use Rattle.cml_board.specs.declared.entry.Reply.TheVariants.{Nothing, Closed}
 use Rattle.cml_board.specs.declared.outcome.Refusal.TheVariants.{NoMemory}
-use Rattle.cml_board.specs.History.{is_open, owed, received}
-use Rattle.cml_board.specs.Shown.{Shown}
-use Rattle.cml_board.specs.Sparing.{tells_name}
-use Rattle.cml_board.specs.Outcome.{Refuses}
 
 makes_none : (opened : Bool) (messages : List ℕ) → tells_name (if opened then Some (unwrap_or (received messages) Nothing) else Some Closed) ≡ false
 makes_none true [] = refl

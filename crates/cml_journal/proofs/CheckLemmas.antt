@@ -4,24 +4,15 @@ use Rattle.std.specs.Option.{option_to_list}
 use Rattle.std.proofs.lemmas.Bool.{and_parts}
 use Rattle.std.proofs.lemmas.List.{append-nil, reverse-append, length-reverse}
 use Rattle.std.proofs.lemmas.Option.{none-some, same_Some}
-use Rattle.cml_board.specs.declared.entry.Entry.{Entry}
-use Rattle.cml_board.specs.declared.expected.Expected.{Expected}
-use Rattle.cml_board.specs.History.{Lawful, no_entries}
-use Rattle.cml_board.specs.Makers.{RestoredShown}
-use Rattle.cml_board.specs.Positions.{before}
-use Rattle.cml_board.specs.Checking.{Expects, Found, RestoresWith, IsExpected, IsFirstUnlawful, IsLawfulNext, Pauses, StopsAt, Feeds, count_of, followed_by}
-use Rattle.cml_journal.specs.declared.fault.What.{What}
-use Rattle.cml_journal.specs.declared.fault.Unread.{Unread}
+use Rattle.cml_board.specs.Prelude.{Entry, Expected, Lawful, no_entries, RestoredShown, before, Expects, Found, RestoresWith, IsExpected}
+use Rattle.cml_board.specs.Prelude.{IsFirstUnlawful, IsLawfulNext, Pauses, StopsAt, Feeds, count_of, followed_by}
+use Rattle.cml_journal.specs.Prelude.{What, Unread, Halt, Stop, line_of, HasFault, Meets, State, waiting_at, end_of, behind, reading}
+use Rattle.cml_journal.specs.Prelude.{Progress, IsSoFar, Goes, HaltsIn, StopsIn, MayHaltAt, HaltTells, IsTold, IsLawfulJournal, IsRestored}
+use Rattle.cml_journal.specs.Prelude.{IsUnlawfulJournal, ShowsUnlawful, ShowsFault, ShowsFront, halt_of, line_of_last}
 use Rattle.cml_journal.specs.declared.fault.Unread.TheVariants as unread
-use Rattle.cml_journal.specs.declared.stop.Halt.{Halt}
 use Rattle.cml_journal.specs.declared.stop.Halt.TheVariants as halt
-use Rattle.cml_journal.specs.declared.stop.Stop.{Stop}
 use Rattle.cml_journal.specs.declared.stop.Stop.TheVariants as stop
 use Rattle.std.specs.Prelude.{string_bytes}
-use Rattle.cml_journal.specs.Lines.{line_of}
-use Rattle.cml_journal.specs.Faults.{HasFault, Meets}
-use Rattle.cml_journal.specs.Feeding.{State, waiting_at, end_of, behind, reading}
-use Rattle.cml_journal.specs.Checks.{Progress, IsSoFar, Goes, HaltsIn, StopsIn, MayHaltAt, HaltTells, IsTold, IsLawfulJournal, IsRestored, IsUnlawfulJournal, ShowsUnlawful, ShowsFault, ShowsFront, halt_of, line_of_last}
 use Rattle.cml_journal.proofs.FeedLemmas.{on, placed, reading-append}
 use Rattle.cml_journal.proofs.PositionLemmas.{ends_behind_last, entries_are_counted}
 

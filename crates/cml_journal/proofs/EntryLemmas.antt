@@ -4,20 +4,11 @@ use Rattle.std.specs.Prelude.{codes, IfOk}
 use Rattle.std.specs.Fmt.{decimal}
 use Rattle.std.specs.Str.{bytes_eq}
 use Rattle.std.proofs.lemmas.Option.{none-some}
-use Rattle.cml_board.specs.declared.call.Name.{Name}
-use Rattle.cml_board.specs.declared.call.Call.{Call}
-use Rattle.cml_board.specs.declared.entry.Entry.{Entry}
-use Rattle.cml_board.specs.declared.entry.Who.{Who}
-use Rattle.cml_board.specs.declared.entry.Reply.{Reply}
+use Rattle.cml_board.specs.Prelude.{Name, Call, Entry, Who, Reply, row_of, may_have}
 use Rattle.cml_board.specs.declared.entry.Reply.TheVariants.{Done, Made, Got, Nothing, Put, Closed}
-use Rattle.cml_board.specs.Objects.{row_of}
-use Rattle.cml_journal.specs.declared.fault.What.{What}
+use Rattle.cml_journal.specs.Prelude.{What, Unread, IsWritten, who_text, call_text, reply_text, line_of, ReplyFits, HasLine, ◌>>=◌, ok_or}
+use Rattle.cml_journal.specs.Prelude.{Gives, cut, name_in, who_at, call_at, made_known, told_by, told_in, reply_in, entry_in}
 use Rattle.cml_journal.specs.declared.fault.What.TheVariants.{UnknownWord, BadMessage, WrongReply}
-use Rattle.cml_journal.specs.declared.fault.Unread.{Unread}
-use Rattle.cml_journal.specs.Written.{IsWritten}
-use Rattle.cml_board.specs.Replies.{may_have}
-use Rattle.cml_journal.specs.Lines.{who_text, call_text, reply_text, line_of, ReplyFits, HasLine}
-use Rattle.cml_journal.specs.Reading.{◌>>=◌, ok_or, Gives, cut, name_in, who_at, call_at, made_known, told_by, told_in, reply_in, entry_in}
 use Rattle.cml_journal.proofs.CutWordsLemmas.{cut_again, cut_none, cut_takes, printed_no_space}
 use Rattle.cml_journal.proofs.WordLemmas.{bind_ok, ok_is, some_from_ok, chosen, same_bytes, name_takes, name_again, who_takes, who_again}
 use Rattle.cml_journal.proofs.CallLemmas.{call_takes, call_again}

@@ -3,14 +3,11 @@ use Rattle.std.proofs.Common.{◌≡◌, ℕ, ◌+◌, ◌<◌, ◌≤◌, Bool,
 use Rattle.std.specs.Option.{option_to_list}
 use Rattle.std.proofs.lemmas.Bool.{or_parts, leb-true, le-leb, ltb-true, lt-ltb, false_from_ne_true, cases_lt}
 use Rattle.std.proofs.lemmas.List.{append-nil}
-use Rattle.cml_board.specs.declared.entry.Entry.{Entry}
-use Rattle.cml_journal.specs.declared.fault.What.{What}
+use Rattle.cml_board.specs.Prelude.{Entry}
+use Rattle.cml_journal.specs.Prelude.{What, Unread, ◌>>=◌, Fails, HasFault, Meets, State, held, held_all, most, turned, no_entry, byte_read}
+use Rattle.cml_journal.specs.Prelude.{Read, behind, reading, has_line_end}
 use Rattle.cml_journal.specs.declared.fault.What.TheVariants.{TooLong}
-use Rattle.cml_journal.specs.declared.fault.Unread.{Unread}
 use Rattle.cml_journal.specs.declared.fault.Unread.TheVariants as unread
-use Rattle.cml_journal.specs.Reading.{◌>>=◌, Fails}
-use Rattle.cml_journal.specs.Faults.{HasFault, Meets}
-use Rattle.cml_journal.specs.Feeding.{State, held, held_all, most, turned, no_entry, byte_read, Read, behind, reading, has_line_end}
 
 -- a state with entries before it, and one alone
 abbrev pub placed : {M : Type 0} → State → List (Entry M) → Read M

@@ -8,19 +8,15 @@ use Rattle.std.proofs.lemmas.Bool.{eqb-true}
 use Rattle.std.proofs.lemmas.List.{append-nil, nil_from_length}
 use Rattle.std.proofs.lemmas.List.Concat.{flat_map-append}
 use Rattle.std.proofs.lemmas.Option.{none-some}
-use Rattle.cml_board.specs.declared.entry.Entry.{Entry}
-use Rattle.cml_grammar.specs.Words.{is_bad_byte}
-use Rattle.cml_journal.specs.declared.fault.What.{What}
+use Rattle.cml_board.specs.Prelude.{Entry}
+use Rattle.cml_grammar.specs.Prelude.{is_bad_byte}
+use Rattle.cml_journal.specs.Prelude.{What, Stage, number_of, IsWritten, line_of, ◌>>=◌, cut, entry_in, numbered_line, with_line_end}
+use Rattle.cml_journal.specs.Prelude.{text_of, from_lines, piece_lines, stream_lines, State, fresh, end_by, end_of, numbered, headed, begun}
+use Rattle.cml_journal.specs.Prelude.{entered, ended_by, inside, from_by, behind_header, line_step, line_read, most, held, turned, no_entry}
+use Rattle.cml_journal.specs.Prelude.{byte_read, behind, reading}
 use Rattle.cml_journal.specs.declared.fault.What.TheVariants.{BadNumber, BadBytes, NoHeader, Gap, WrongEnd, TooMany, TooLong}
-use Rattle.cml_journal.specs.declared.reader.Stage.{Stage}
 use Rattle.cml_journal.specs.declared.reader.Stage.TheVariants.{Waiting, Headed, Inside}
-use Rattle.cml_journal.specs.Numbers.{number_of}
 use Rattle.cml_journal.specs.NumberLaws.{number_only}
-use Rattle.cml_journal.specs.Written.{IsWritten}
-use Rattle.cml_journal.specs.Lines.{line_of}
-use Rattle.cml_journal.specs.Reading.{◌>>=◌, cut, entry_in}
-use Rattle.cml_journal.specs.Streams.{numbered_line, with_line_end, text_of, from_lines, piece_lines, stream_lines}
-use Rattle.cml_journal.specs.Feeding.{State, fresh, end_by, end_of, numbered, headed, begun, entered, ended_by, inside, from_by, behind_header, line_step, line_read, most, held, turned, no_entry, byte_read, behind, reading}
 use Rattle.cml_journal.proofs.CutWordsLemmas.{cut_takes}
 use Rattle.cml_journal.proofs.WordLemmas.{bind_ok, ok_is, chosen, same_bytes}
 use Rattle.cml_journal.proofs.EntryLemmas.{entry_takes}

@@ -10,3 +10,4 @@ pub mod Streams
 pub mod Feeding
 pub mod Faults
 pub mod Checks
+pub mod Prelude

@@ -1,15 +1,9 @@
 -- The line of an entry, for messages that are written by `text`.
 use Rattle.std.specs.Prelude.{◌≡◌, ℕ, ◌<◌, ◌^◌, Bool, true, List, [], ◌∷◌, ◌++◌, Option, Some, None, IfSome, codes}
 use Rattle.std.specs.Fmt.{decimal}
-use Rattle.cml_board.specs.declared.call.Name.{Name}
-use Rattle.cml_board.specs.declared.call.Call.{Call}
-use Rattle.cml_board.specs.declared.entry.Entry.{Entry}
-use Rattle.cml_board.specs.declared.entry.Who.{Who}
+use Rattle.cml_board.specs.Prelude.{Name, Call, Entry, Who, Reply, object_in, message_of, row_of, may_have}
 use Rattle.cml_board.specs.declared.entry.Who.TheVariants.{Seat, Lane, Feed}
-use Rattle.cml_board.specs.declared.entry.Reply.{Reply}
 use Rattle.cml_board.specs.declared.entry.Reply.TheVariants.{Done, Made, Got, Nothing, Put, Closed}
-use Rattle.cml_board.specs.Objects.{object_in, message_of, row_of}
-use Rattle.cml_board.specs.Replies.{may_have}
 
 abbrev pub who_word : Who → List ℕ
 who_word (Seat number) = codes "seat"

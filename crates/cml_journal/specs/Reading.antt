@@ -2,25 +2,16 @@
 use Rattle.std.specs.Prelude.{◌≡◌, ℕ, ◌==◌, Bool, true, false, List, [], ◌∷◌, Option, Some, None, Result, Ok, Err, if◌then◌else◌, codes}
 use Rattle.std.specs.Option.{option_map}
 use Rattle.std.specs.Str.{bytes_eq}
-use Rattle.cml_calls.specs.declared.table.Give.{Give}
-use Rattle.cml_calls.specs.declared.table.Ask.{Ask}
-use Rattle.cml_calls.specs.Table.{filled, make_of, give_of, ask_of}
-use Rattle.cml_board.specs.declared.call.Name.{Name}
-use Rattle.cml_board.specs.declared.call.Call.{Call}
+use Rattle.cml_calls.specs.Prelude.{Give, Ask, filled, make_of, give_of, ask_of}
+use Rattle.cml_board.specs.Prelude.{Name, Call, Entry, Who, Reply, row_of, made_call, given_call, asked_call, may_have}
 use Rattle.cml_board.specs.declared.call.Call.TheVariants.{MVarInit}
-use Rattle.cml_board.specs.declared.entry.Entry.{Entry}
-use Rattle.cml_board.specs.declared.entry.Who.{Who}
 use Rattle.cml_board.specs.declared.entry.Who.TheVariants.{Seat, Lane, Feed}
-use Rattle.cml_board.specs.declared.entry.Reply.{Reply}
 use Rattle.cml_board.specs.declared.entry.Reply.TheVariants.{Done, Made, Got, Nothing, Put, Closed}
-use Rattle.cml_board.specs.Objects.{row_of}
-use Rattle.cml_board.specs.Parts.{made_call, given_call, asked_call}
 use Rattle.cml_journal.specs.declared.fault.What.{What}
 use Rattle.cml_journal.specs.declared.fault.What.TheVariants.{Short, UnknownWord, NoColon, BadNumber, BadMessage, WrongReply}
 use Rattle.cml_journal.specs.declared.fault.Unread.{Unread}
 use Rattle.cml_journal.specs.declared.fault.Unread.TheVariants as unread
 use Rattle.cml_journal.specs.Numbers.{number_of}
-use Rattle.cml_board.specs.Replies.{may_have}
 
 infixl 10 ◌>>=◌
 abbrev pub ◌>>=◌ : {A B : Type 0} → Result A What → (A → Result B What) → Result B What

@@ -1,12 +1,9 @@
 //! Laws of the definitions, each the contract of a function that does nothing.
 ghost use Rattle.std.specs.Prelude.{◌≡◌, ℕ, ◌+◌, ◌^◌, ◌<◌, ◌∷◌, ◌++◌, List, Ok, Err, Some, length};
 ghost use Rattle.std.specs.List.{flat_map, AllByRecursion};
-ghost use Rattle.cml_board.specs.declared.entry.Entry.{Entry};
-ghost use Rattle.cml_journal.specs.Lines.{line_of, HasLine};
-ghost use Rattle.cml_journal.specs.Reading.{entry_in};
-ghost use Rattle.cml_journal.specs.Streams.{text_of, stream_lines};
-ghost use Rattle.cml_journal.specs.declared.fault.What.{What};
-ghost use Rattle.cml_journal.specs.Feeding.{State, fresh, end_of, behind, reading, IsReadable};
+ghost use Rattle.cml_board.specs.Prelude.{Entry};
+ghost use Rattle.cml_journal.specs.Prelude.{line_of, HasLine, entry_in, text_of, stream_lines, What, State, fresh, end_of, behind, reading};
+ghost use Rattle.cml_journal.specs.Prelude.{IsReadable};
 
 use crate::written::Written;
 

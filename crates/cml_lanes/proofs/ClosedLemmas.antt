@@ -3,23 +3,15 @@ use Rattle.std.proofs.Common.{◌≡◌, ◌≢◌, ℕ, zero, suc, ◌<◌, ◌
 use Rattle.std.proofs.lemmas.Bool.{true≢false}
 use Rattle.std.proofs.lemmas.List.{length_push}
 use Rattle.std.specs.Prelude.{⊤}
-use Rattle.cml_board.specs.declared.outcome.Refusal.{Refusal}
-use Rattle.cml_board.specs.declared.call.Call.{Call}
+use Rattle.cml_board.specs.Prelude.{Refusal, Call, Entry, Outcome, Shown, Applies}
 use Rattle.cml_board.specs.declared.call.Call.TheVariants.{NewPort}
-use Rattle.cml_board.specs.declared.entry.Entry.{Entry}
 use Rattle.cml_board.specs.declared.entry.Who.TheVariants.{Seat, Feed}
 use Rattle.cml_board.specs.declared.entry.Reply.TheVariants.{Made}
-use Rattle.cml_board.specs.declared.outcome.Outcome.{Outcome}
 use Rattle.cml_board.specs.declared.outcome.Outcome.TheVariants.{Answered, WouldWait, Refused}
-use Rattle.cml_board.specs.Shown.{Shown}
-use Rattle.cml_board.specs.Outcome.{Applies}
-use Rattle.cml_lanes.specs.Laned.{laned}
-use Rattle.cml_lanes.specs.Fed.{fed}
-use Rattle.cml_lanes.specs.Floor.{FloorShown, is_taken, is_open_lane, is_open_feed, OnPlace}
-use Rattle.cml_lanes.specs.Barring.{is_barred}
-use Rattle.cml_lanes.specs.Cutting.{CutsAFloor}
-use Rattle.cml_lanes.specs.Steps.{FloorCall, Apply, Reserve, OpenLane, Drain, CloseLane, CloseCounted, DropLane, AbandonLane, OpenFeed, Pump, EndFeed, Cut, TakeJournal, AppliesSeat, IsCalled, AreCalled}
-use Rattle.cml_lanes.specs.Deeds.{Deed, as_it_was, lane_drained, lane_gone, lane_opened, feed_pumped, feed_gone, feed_opened}
+use Rattle.cml_lanes.specs.Prelude.{laned, fed, FloorShown, is_taken, is_open_lane, is_open_feed, OnPlace, is_barred, CutsAFloor, FloorCall}
+use Rattle.cml_lanes.specs.Prelude.{Apply, Reserve, OpenLane, Drain, CloseLane, CloseCounted, DropLane, AbandonLane, OpenFeed, Pump}
+use Rattle.cml_lanes.specs.Prelude.{EndFeed, Cut, TakeJournal, AppliesSeat, IsCalled, AreCalled, Deed, as_it_was, lane_drained, lane_gone}
+use Rattle.cml_lanes.specs.Prelude.{lane_opened, feed_pumped, feed_gone, feed_opened}
 use Rattle.cml_lanes.proofs.SlotsLemmas.{same_length}
 use Rattle.cml_lanes.proofs.LaningLemmas.{laned_other, laned_apart}
 use Rattle.cml_lanes.proofs.FeedEntriesLemmas.{fed_other, fed_apart, laned_fed, fed_laned}

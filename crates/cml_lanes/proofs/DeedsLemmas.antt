@@ -1,19 +1,12 @@
 -- Each call on lanes or feeds has done one of the deeds to a floor.
 use Rattle.std.proofs.Common.{◌≡◌, ◌⊎◌, ℕ, inl, inr, Bool, true, false, Option, Some, None, Result, Ok, Err, subst, sym, ap}
 use Rattle.std.specs.Prelude.{⊤}
-use Rattle.cml_board.specs.declared.call.Name.{Name}
-use Rattle.cml_board.specs.declared.outcome.Refusal.{Refusal}
+use Rattle.cml_board.specs.Prelude.{Name, Refusal, IsAsBefore}
 use Rattle.cml_board.specs.declared.outcome.Refusal.TheVariants.{Unseen}
-use Rattle.cml_board.specs.Outcome.{IsAsBefore}
-use Rattle.cml_lanes.specs.Ends.{LaneShown, FeedShown, Ended}
-use Rattle.cml_lanes.specs.Sides.{LaneSide}
-use Rattle.cml_lanes.specs.Moving.{DrainsRing}
-use Rattle.cml_lanes.specs.Floor.{FloorShown, FindsNoLane, FindsNoFeed, GivesAll, stays, goes}
-use Rattle.cml_lanes.specs.Lanes.{OpensALane, EmptiesLane, HoldsUp, HoldsUpSome, DropsLane, Drains, Drops, Abandons, Closes, CountRefused, ClosesCounted}
-use Rattle.cml_lanes.specs.Feeds.{OpensAFeed, FillsFeed, Starves, Pumps, Ends}
-use Rattle.cml_lanes.specs.Reserving.{Reserves}
-use Rattle.cml_lanes.specs.Pumping.{PumpsRing}
-use Rattle.cml_lanes.specs.Deeds.{Deed, as_it_was, lane_drained, lane_gone, lane_opened, feed_pumped, feed_gone, feed_opened}
+use Rattle.cml_lanes.specs.Prelude.{LaneShown, FeedShown, Ended, LaneSide, DrainsRing, FloorShown, FindsNoLane, FindsNoFeed, GivesAll}
+use Rattle.cml_lanes.specs.Prelude.{stays, goes, OpensALane, EmptiesLane, HoldsUp, HoldsUpSome, DropsLane, Drains, Drops, Abandons, Closes}
+use Rattle.cml_lanes.specs.Prelude.{CountRefused, ClosesCounted, OpensAFeed, FillsFeed, Starves, Pumps, Ends, Reserves, PumpsRing, Deed}
+use Rattle.cml_lanes.specs.Prelude.{as_it_was, lane_drained, lane_gone, lane_opened, feed_pumped, feed_gone, feed_opened}
 use Rattle.cml_lanes.proofs.MovesLemmas.{until_drains, unchanged}
 use Rattle.cml_lanes.proofs.PumpsLemmas.{until_pumps}
 use Rattle.cml_lanes.proofs.OneSlotLemmas.{does_so}

@@ -1,20 +1,12 @@
 -- What a floor keeps of its lanes, while something is done to one of them.
 use Rattle.std.proofs.Common.{◌≡◌, ◌≢◌, ℕ, ◌≤◌, inl, inr, Bool, List, [], ◌∷◌, length, slice_get, slice_set, Option, Some, None, subst, refl, sym, ap, ◌∙◌, arith}
 use Rattle.std.proofs.lemmas.Option.{same_Some}
-use Rattle.cml_board.specs.declared.call.Call.{Call}
+use Rattle.cml_board.specs.Prelude.{Call, Entry, Outcome, kind_of, Shown, Applies}
 use Rattle.cml_board.specs.declared.entry.Who.TheVariants.{Seat}
-use Rattle.cml_board.specs.declared.entry.Entry.{Entry}
-use Rattle.cml_board.specs.declared.outcome.Outcome.{Outcome}
 use Rattle.cml_board.specs.declared.outcome.Outcome.TheVariants.{Answered, WouldWait, Refused}
-use Rattle.cml_board.specs.History.{kind_of}
-use Rattle.cml_board.specs.Shown.{Shown}
-use Rattle.cml_board.specs.Outcome.{Applies}
 use Rattle.cml_board.proofs.ClosingLemmas.{kind_kept}
 use Rattle.cml_board.proofs.ListLemmas.{slice_get-set_same, slice_get-set_other}
-use Rattle.cml_lanes.specs.Sides.{LaneSide, way_kind}
-use Rattle.cml_lanes.specs.Laned.{laned, is_lane}
-use Rattle.cml_lanes.specs.Moving.{KeepsLane, DrainsRing}
-use Rattle.cml_lanes.specs.Floor.{is_taken, KeepsLanes}
+use Rattle.cml_lanes.specs.Prelude.{LaneSide, way_kind, laned, is_lane, KeepsLane, DrainsRing, is_taken, KeepsLanes}
 use Rattle.cml_lanes.proofs.LaningLemmas.{laned_other, laned_apart, kind_more}
 use Rattle.cml_lanes.proofs.MovesLemmas.{keeps_moved}
 use Rattle.cml_lanes.proofs.SlotsLemmas.{this_or_other, taken_within, same_length, emptied}

@@ -2,20 +2,13 @@
 use Rattle.std.proofs.Common.{◌≡◌, ◌≢◌, ℕ, ◌≤◌, Bool, true, false, cond, List, [], ◌∷◌, ◌++◌, length, Some, IsSome, IfSome, IsTrue, subst, refl, sym, ap, ◌∙◌, arith, length-append, append_assoc}
 use Rattle.std.proofs.lemmas.Bool.{eq-eqb, ne_eqb}
 use Rattle.std.proofs.lemmas.List.{append-nil}
-use Rattle.cml_board.specs.declared.call.Name.{Name}
-use Rattle.cml_calls.specs.declared.kind.Kind.{Kind}
-use Rattle.cml_board.specs.declared.call.Call.{Call}
+use Rattle.cml_board.specs.Prelude.{Name, Call, Entry, takes, kind_of, answer, Fits, has_message}
+use Rattle.cml_calls.specs.Prelude.{Kind}
 use Rattle.cml_board.specs.declared.call.Call.TheVariants as call
 use Rattle.cml_board.specs.declared.entry.Reply.TheVariants.{Done}
-use Rattle.cml_board.specs.declared.entry.Entry.{Entry}
-use Rattle.cml_board.specs.Objects.{takes}
-use Rattle.cml_board.specs.History.{kind_of, answer, Fits}
-use Rattle.cml_board.specs.Sparing.{has_message}
 use Rattle.cml_board.proofs.ClosingLemmas.{kind_kept}
-use Rattle.cml_lanes.specs.declared.way.Way.{Way}
+use Rattle.cml_lanes.specs.Prelude.{Way, way_call, way_kind, is_lane, moved_by, laned, lane_entry, with_lane}
 use Rattle.cml_lanes.specs.declared.way.Way.TheVariants.{Send, Cast}
-use Rattle.cml_lanes.specs.Sides.{way_call, way_kind}
-use Rattle.cml_lanes.specs.Laned.{is_lane, moved_by, laned, lane_entry, with_lane}
 
 module _ {M : Type 0} where
   one_at_most : (b : Bool) (call : Call M) → length (cond b (moved_by call) []) ≤ 1

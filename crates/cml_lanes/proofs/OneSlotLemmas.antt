@@ -2,8 +2,7 @@
 use Rattle.std.proofs.Common.{◌≡◌, ℕ, true, List, get_or, slice_get, slice_set, Option, Some, is_some, count_by, IfSome, subst, sym, ap, ◌∙◌}
 use Rattle.std.proofs.lemmas.Option.{same_Some}
 use Rattle.cml_board.proofs.ListLemmas.{slice_get-set_same}
-use Rattle.cml_lanes.specs.Floor.{is_taken, stays, OnPlace}
-use Rattle.cml_lanes.specs.Slots.{OnSlot}
+use Rattle.cml_lanes.specs.Prelude.{is_taken, stays, OnPlace, OnSlot}
 use Rattle.cml_lanes.proofs.SlotsLemmas.{slot_at, taken_slot, set_places, as_many_taken}
 
 module _ {Side : Type 0} where

@@ -2,34 +2,17 @@
 use Rattle.std.proofs.Common.{◌≡◌, ℕ, ◌+◌, ◌<◌, ◌≤◌, Bool, true, false, List, [], ◌∷◌, length, slice_get, Some, refl, subst, ap, ◌∙◌, arith, not, Result, Ok, Err}
 use Rattle.std.specs.Prelude.{⊤}
 use Rattle.std.proofs.lemmas.Bool.{and_parts, false≢true}
-use Rattle.cml_board.specs.declared.call.Call.{Call}
+use Rattle.cml_board.specs.Prelude.{Call, Name, Entry, Who, Outcome, Refusal, entries_in, Shown, IsSpared, IsAsBefore, Applies}
 use Rattle.cml_board.specs.declared.call.Call.TheVariants.{Recv}
-use Rattle.cml_board.specs.declared.call.Name.{Name}
-use Rattle.cml_board.specs.declared.entry.Entry.{Entry}
-use Rattle.cml_board.specs.declared.entry.Who.{Who}
-use Rattle.cml_board.specs.declared.outcome.Outcome.{Outcome}
 use Rattle.cml_board.specs.declared.outcome.Outcome.TheVariants.{Answered, WouldWait, Refused}
-use Rattle.cml_board.specs.declared.outcome.Refusal.{Refusal}
 use Rattle.cml_board.specs.declared.outcome.Refusal.TheVariants.{NoMemory}
-use Rattle.cml_board.specs.History.{entries_in}
-use Rattle.cml_board.specs.Shown.{Shown}
-use Rattle.cml_board.specs.Sparing.{IsSpared}
-use Rattle.cml_board.specs.Outcome.{IsAsBefore, Applies}
 use Rattle.cml_board.proofs.ListLemmas.{slice_get-set_same}
-use Rattle.cml_lanes.specs.declared.way.Way.{Way}
-use Rattle.cml_lanes.specs.Sides.{LaneSide, FeedSide, way_call}
-use Rattle.cml_lanes.specs.Laned.{lane_entry, with_lane}
-use Rattle.cml_lanes.specs.Fed.{feed_entry, with_feed}
-use Rattle.cml_lanes.specs.Moving.{MovesOut}
-use Rattle.cml_lanes.specs.Pumping.{PumpsIn}
-use Rattle.cml_lanes.specs.Floor.{FloorShown}
-use Rattle.cml_lanes.specs.Barring.{is_barred}
-use Rattle.cml_lanes.specs.Lanes.{HoldsUp}
-use Rattle.cml_lanes.specs.Feeds.{Starves}
-use Rattle.cml_lanes.specs.Reserving.{added_since, TakesEntryAlone, LaneTakesEntryAlone, FeedTakesEntryAlone}
-use Rattle.cml_lanes.specs.Cutting.{CutsAFloor}
-use Rattle.cml_lanes.specs.Steps.{FloorCall, Apply, Reserve, OpenLane, Drain, CloseLane, CloseCounted, DropLane, AbandonLane, OpenFeed, Pump, EndFeed, Cut, TakeJournal, AppliesSeat, IsCalled, AreCalled, takes_journal, keeps_journal}
-use Rattle.cml_lanes.specs.Deeds.{Deed, as_it_was, lane_drained, lane_gone, lane_opened, feed_pumped, feed_gone, feed_opened}
+use Rattle.cml_lanes.specs.Prelude.{Way, LaneSide, FeedSide, way_call, lane_entry, with_lane, feed_entry, with_feed, MovesOut, PumpsIn}
+use Rattle.cml_lanes.specs.Prelude.{FloorShown, is_barred, HoldsUp, Starves, added_since, TakesEntryAlone, LaneTakesEntryAlone}
+use Rattle.cml_lanes.specs.Prelude.{FeedTakesEntryAlone, CutsAFloor, FloorCall, Apply, Reserve, OpenLane, Drain, CloseLane, CloseCounted}
+use Rattle.cml_lanes.specs.Prelude.{DropLane, AbandonLane, OpenFeed, Pump, EndFeed, Cut, TakeJournal, AppliesSeat, IsCalled, AreCalled}
+use Rattle.cml_lanes.specs.Prelude.{takes_journal, keeps_journal, Deed, as_it_was, lane_drained, lane_gone, lane_opened, feed_pumped}
+use Rattle.cml_lanes.specs.Prelude.{feed_gone, feed_opened}
 use Rattle.cml_lanes.proofs.DeedsLemmas.{still, reserves, opens_lane, drains, drops, abandons, closes, closes_counted, opens_feed, pumps, ends}
 
 module _ {M : Type 0} where

@@ -1,8 +1,7 @@
 -- What a cut does to a floor.
 use Rattle.std.specs.Prelude.{◌≡◌, ◌<◌, ◌⊎◌, Result, Ok, Err, ⊤, count_by, is_some}
-use Rattle.cml_board.specs.declared.outcome.Refusal.{Refusal}
+use Rattle.cml_board.specs.Prelude.{Refusal, Cuts}
 use Rattle.cml_board.specs.declared.outcome.Refusal.TheVariants.{Busy}
-use Rattle.cml_board.specs.Outcome.{Cuts}
 use Rattle.cml_lanes.specs.Floor.{FloorShown}
 
 module _ {M : Type 0} where

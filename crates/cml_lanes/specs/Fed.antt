@@ -1,12 +1,9 @@
 -- What feeds have taken out of a board, as its journal tells. A history is a list of entries, the newest first.
 use Rattle.std.specs.Prelude.{ℕ, ◌==◌, Bool, false, List, [], ◌∷◌, ◌++◌, if◌then◌else◌}
-use Rattle.cml_board.specs.declared.call.Name.{Name}
+use Rattle.cml_board.specs.Prelude.{Name, Who, Entry, message_in}
 use Rattle.cml_board.specs.declared.call.Call.TheVariants.{Recv}
-use Rattle.cml_board.specs.declared.entry.Who.{Who}
 use Rattle.cml_board.specs.declared.entry.Who.TheVariants.{Feed}
 use Rattle.cml_board.specs.declared.entry.Reply.TheVariants.{Got}
-use Rattle.cml_board.specs.declared.entry.Entry.{Entry}
-use Rattle.cml_board.specs.History.{message_in}
 
 -- the feed of this number made the call
 abbrev pub is_feed : Who → ℕ → Bool

@@ -1,13 +1,9 @@
 -- What the calls on feeds do to a floor.
 use Rattle.std.specs.Prelude.{ℕ, ◌≡◌, ◌<◌, ◌⊎◌, Bool, [], ◌∷◌, ◌++◌, length, slice_get, slice_set, Option, Some, None, Result, Ok, Err, IfSome}
-use Rattle.cml_board.specs.declared.call.Name.{Name}
+use Rattle.cml_board.specs.Prelude.{Name, Refusal, Fits, answer, Shown, HasRoom, AddsEntry, IsAsBefore, Refuses}
 use Rattle.cml_board.specs.declared.call.Call.TheVariants.{NewPort}
 use Rattle.cml_board.specs.declared.entry.Who.TheVariants.{Feed}
 use Rattle.cml_board.specs.declared.entry.Reply.TheVariants.{Made}
-use Rattle.cml_board.specs.declared.outcome.Refusal.{Refusal}
-use Rattle.cml_board.specs.History.{Fits, answer}
-use Rattle.cml_board.specs.Shown.{Shown}
-use Rattle.cml_board.specs.Outcome.{HasRoom, AddsEntry, IsAsBefore, Refuses}
 use Rattle.cml_lanes.specs.Ends.{FeedShown, Ended}
 use Rattle.cml_lanes.specs.Sides.{FeedSide}
 use Rattle.cml_lanes.specs.Fed.{fed}

@@ -1,10 +1,8 @@
 -- What the calls on lanes do to a floor.
 use Rattle.std.specs.Prelude.{ℕ, ◌≡◌, ◌≢◌, ◌<◌, ◌⊎◌, Bool, true, false, [], ◌∷◌, ◌++◌, length, slice_set, Option, Some, None, Result, Ok, Err, ⊤}
-use Rattle.cml_board.specs.declared.call.Name.{Name}
-use Rattle.cml_calls.specs.declared.kind.Kind.{Kind}
-use Rattle.cml_board.specs.declared.outcome.Refusal.{Refusal}
+use Rattle.cml_board.specs.Prelude.{Name, Refusal, kind_of}
+use Rattle.cml_calls.specs.Prelude.{Kind}
 use Rattle.cml_board.specs.declared.outcome.Refusal.TheVariants.{NoSuch, WrongKind, NoMemory, Unseen}
-use Rattle.cml_board.specs.History.{kind_of}
 use Rattle.cml_lanes.specs.declared.way.Way.{Way}
 use Rattle.cml_lanes.specs.Ends.{LaneShown, Ended}
 use Rattle.cml_lanes.specs.Laned.{laned}

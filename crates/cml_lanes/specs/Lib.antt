@@ -14,3 +14,4 @@ pub mod Deeds
 pub mod Reserving
 pub mod Cutting
 pub mod Steps
+pub mod Prelude

@@ -1,12 +1,8 @@
 -- How messages go out of a lane's ring into the journal.
 use Rattle.std.specs.Prelude.{ℕ, ◌≡◌, ◌+◌, ◌<◌, ◌≤◌, Bool, List, [], ◌++◌, length, slice_get, Some, ⊤}
 use mathlib.Core.List.{IsPrefix}
-use Rattle.cml_board.specs.declared.outcome.Refusal.{Refusal}
+use Rattle.cml_board.specs.Prelude.{Refusal, Entry, kind_of, Shown, IsAsBefore, Refuses}
 use Rattle.cml_board.specs.declared.outcome.Refusal.TheVariants.{JournalFull, NoMemory}
-use Rattle.cml_board.specs.declared.entry.Entry.{Entry}
-use Rattle.cml_board.specs.History.{kind_of}
-use Rattle.cml_board.specs.Shown.{Shown}
-use Rattle.cml_board.specs.Outcome.{IsAsBefore, Refuses}
 use Rattle.cml_lanes.specs.Sides.{LaneSide, way_call, way_kind}
 use Rattle.cml_lanes.specs.Laned.{laned, with_lane}
 

@@ -1,9 +1,5 @@
 ghost use Rattle.std.specs.Prelude.{◌≡◌, ◌<◌, ◌-◌, ◌^◌, ◌∷◌, ◌++◌, [], true, false, length, slice_get, slice_set, replicate, Some, None, is_some, count_by, IsSome, IfSome, IfOk, OnOk};
-ghost use Rattle.cml_lanes.specs.Sides.{FeedSide};
-ghost use Rattle.cml_lanes.specs.Floor.{is_taken, stays, OnPlace};
-ghost use Rattle.cml_lanes.specs.Pumping.{KeepsFeed};
-ghost use Rattle.cml_lanes.specs.Slots.{PumpsUntil};
-ghost use Rattle.cml_lanes.specs.Barring.{is_feeds_port, is_barred};
+ghost use Rattle.cml_lanes.specs.Prelude.{FeedSide, is_taken, stays, OnPlace, KeepsFeed, PumpsUntil, is_feeds_port, is_barred};
 
 use crate::feed::FeedEnd;
 use crate::inner_feed::InnerFeed;

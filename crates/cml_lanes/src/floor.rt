@@ -2,15 +2,9 @@ ghost use Rattle.std.specs.Prelude.{◌≡◌, ◌≤◌, true, false, [], ◌++
 ghost use Rattle.cml_board.specs.declared.entry.Who.TheVariants.{Seat};
 ghost use Rattle.cml_board.specs.declared.outcome.Outcome.TheVariants.{Refused};
 ghost use Rattle.cml_board.specs.declared.outcome.Refusal.TheVariants.{WrongKind};
-ghost use Rattle.cml_board.specs.History.{no_entries};
-ghost use Rattle.cml_board.specs.Makers.{lanes_of, feeds_of};
-ghost use Rattle.cml_board.specs.Outcome.{Applies};
-ghost use Rattle.cml_lanes.specs.Laned.{laned};
-ghost use Rattle.cml_lanes.specs.Floor.{is_open_lane, is_open_feed, stays, OnLane, KeepsLanes, KeepsFeeds, KeepsRings, IsOfRing, GivesAll};
-ghost use Rattle.cml_lanes.specs.Slots.{DrainsUntil};
-ghost use Rattle.cml_lanes.specs.Barring.{is_barred};
-ghost use Rattle.cml_lanes.specs.Reserving.{Reserves};
-ghost use Rattle.cml_lanes.specs.Cutting.{CutsAFloor, CutsFloor, NotCut, IsBusy};
+ghost use Rattle.cml_board.specs.Prelude.{no_entries, lanes_of, feeds_of, Applies};
+ghost use Rattle.cml_lanes.specs.Prelude.{laned, is_open_lane, is_open_feed, stays, OnLane, KeepsLanes, KeepsFeeds, KeepsRings, IsOfRing};
+ghost use Rattle.cml_lanes.specs.Prelude.{GivesAll, DrainsUntil, is_barred, Reserves, CutsAFloor, CutsFloor, NotCut, IsBusy};
 
 mod feeds;
 mod lanes;

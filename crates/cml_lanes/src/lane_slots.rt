@@ -1,8 +1,5 @@
 ghost use Rattle.std.specs.Prelude.{◌≡◌, ◌<◌, ◌-◌, ◌^◌, ◌∷◌, ◌++◌, [], true, length, slice_get, slice_set, replicate, Some, None, is_some, count_by, IfSome, IfOk, OnOk, OnErr};
-ghost use Rattle.cml_lanes.specs.Sides.{LaneSide};
-ghost use Rattle.cml_lanes.specs.Floor.{is_taken, stays, OnPlace};
-ghost use Rattle.cml_lanes.specs.Moving.{KeepsLane};
-ghost use Rattle.cml_lanes.specs.Slots.{DrainsUntil, LeavesAll};
+ghost use Rattle.cml_lanes.specs.Prelude.{LaneSide, is_taken, stays, OnPlace, KeepsLane, DrainsUntil, LeavesAll};
 
 use crate::inner_lane::InnerLane;
 use crate::lane::LaneEnd;

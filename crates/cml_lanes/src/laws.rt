@@ -1,15 +1,11 @@
 //! Laws of runs of calls on a floor.
 ghost use Rattle.std.specs.Prelude.{◌≡◌, ℕ, ◌+◌, ◌<◌, ◌≤◌, Bool, true, false, List, length};
-ghost use Rattle.cml_board.specs.declared.call.Call.{Call};
+ghost use Rattle.cml_board.specs.Prelude.{Call};
 ghost use Rattle.cml_board.specs.declared.outcome.Outcome.TheVariants.{Refused};
 ghost use Rattle.cml_board.specs.declared.outcome.Refusal.TheVariants.{NoMemory};
-ghost use Rattle.cml_lanes.specs.Laned.{laned};
-ghost use Rattle.cml_lanes.specs.Fed.{fed};
-ghost use Rattle.cml_lanes.specs.Floor.{FloorShown, is_open_lane, is_open_feed};
-ghost use Rattle.cml_lanes.specs.Lanes.{HoldsUp};
-ghost use Rattle.cml_lanes.specs.Feeds.{Starves};
-ghost use Rattle.cml_lanes.specs.Reserving.{added_since, TakesEntryAlone, LaneTakesEntryAlone, FeedTakesEntryAlone};
-ghost use Rattle.cml_lanes.specs.Steps.{FloorCall, AppliesSeat, AreCalled, keeps_journal};
+ghost use Rattle.cml_lanes.specs.Prelude.{laned, fed, FloorShown, is_open_lane, is_open_feed, HoldsUp, Starves, added_since};
+ghost use Rattle.cml_lanes.specs.Prelude.{TakesEntryAlone, LaneTakesEntryAlone, FeedTakesEntryAlone, FloorCall, AppliesSeat, AreCalled};
+ghost use Rattle.cml_lanes.specs.Prelude.{keeps_journal};
 
 /// Shows that a closed lane stays closed, whatever is called on its floor, and its number gets no more entries.
 pub fn closed_lanes_get_no_entry<M>()

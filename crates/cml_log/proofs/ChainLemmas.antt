@@ -7,12 +7,9 @@ use Rattle.std.proofs.lemmas.Bool.{cases_eq, cases_lt}
 use Rattle.std.proofs.lemmas.Nat.{div-mul-add, div-add-mod'}
 use Rattle.std.proofs.lemmas.List.{get_or_past, get_or_append_left, length-set, length-append, length-drop, take_all, set-append_left, map-set, map-append}
 use denote.RawPtr.{Ptr}
-use Rattle.cml_log.specs.declared.chunk.raw.Address.{Address}
-use Rattle.cml_log.specs.declared.chunk.Chunk.{Chunk}
-use Rattle.cml_log.specs.Blocks.{block_at, IsKept}
-use Rattle.cml_log.specs.Contents.{row_of, cell_of, row_at, link_at, items_of, Rewrites, with_row, with_link, with_cursors}
-use Rattle.cml_log.specs.Chain.{Chunks, cell_at, count_of, count_at, LiesAt, end_of, passed, with_count, Pushed}
-use Rattle.cml_log.specs.Linked.{IsLinked, IsChain}
+use Rattle.cml_log.specs.Prelude.{Address, Chunk, block_at, IsKept, row_of, cell_of, row_at, link_at, items_of, Rewrites, with_row}
+use Rattle.cml_log.specs.Prelude.{with_link, with_cursors, Chunks, cell_at, count_of, count_at, LiesAt, end_of, passed, with_count, Pushed}
+use Rattle.cml_log.specs.Prelude.{IsLinked, IsChain}
 use Rattle.cml_log.proofs.BlockLemmas.{lies_where_kept, block_at-here, block_at-other, items_of-same}
 use Rattle.cml_log.proofs.LinkedLemmas.{product-next, IsLinked-recounted, items_of-written, IsLinked-written, items_of-joined, IsLinked-joined, items_of-without, IsLinked-without}
 

@@ -5,11 +5,7 @@ use Rattle.std.proofs.lemmas.List.{get_or_past, length-set, length-append, lengt
 use Rattle.std.proofs.Math.Nat.{mul-add, mul-one, mul-zero, mul-le-mul_left}
 use Rattle.std.proofs.Math.Seq.{get_or-append_seam}
 use denote.RawPtr.{Ptr}
-use Rattle.cml_log.specs.declared.chunk.raw.Address.{Address}
-use Rattle.cml_log.specs.declared.chunk.Chunk.{Chunk}
-use Rattle.cml_log.specs.Blocks.{block_at, IsKept}
-use Rattle.cml_log.specs.Contents.{row_of, link_of, row_at, link_at, items_of}
-use Rattle.cml_log.specs.Linked.{IsLinked}
+use Rattle.cml_log.specs.Prelude.{Address, Chunk, block_at, IsKept, row_of, link_of, row_at, link_at, items_of, IsLinked}
 use Rattle.cml_log.proofs.BlockLemmas.{within_found, block_at-here, block_at-other, same_everywhere, items_of-same, items_of-last, items_of-more, items_of-passed}
 
 -- a number of wholes, and one more, is at most a greater number of them

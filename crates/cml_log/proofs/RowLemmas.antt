@@ -2,7 +2,7 @@
 use Rattle.std.proofs.Common.{◌≡◌, ℕ, zero, suc, ◌<◌, List, [], ◌∷◌, ◌++◌, length, set, get_or, Option, Some, None, refl, sym, ap, ◌∙◌, subst, arith}
 use Rattle.std.specs.List.{slice_get}
 use Rattle.std.proofs.lemmas.List.{length-set}
-use Rattle.cml_log.specs.Row.{written, IsBlank, IsFilled, IsRow}
+use Rattle.cml_log.specs.Prelude.{written, IsBlank, IsFilled, IsRow}
 
 module _ {T : Type 0} where
   -- places of which each is none

@@ -2,8 +2,7 @@
 use Rattle.std.proofs.Common.{◌≡◌, ◌≢◌, ℕ, zero, suc, ◌+◌, ◌/◌, ◌<◌, ◌≤◌, ◌==◌, cond, Bool, true, false, List, [], ◌∷◌, set, count_by, is_some, Option, Some, None, refl, ap, arith}
 use Rattle.std.proofs.lemmas.Bool.{eqb-true, eq-eqb, ne_eqb}
 use Rattle.std.proofs.lemmas.List.Recursion.{is_count_by}
-use Rattle.cml_log.specs.declared.chunk_log.Cursor.{Cursor}
-use Rattle.cml_log.specs.ChunkLog.{cursor_at, weight, standing}
+use Rattle.cml_log.specs.Prelude.{Cursor, cursor_at, weight, standing}
 
 -- how many of these slots have a cursor
 abbrev open_count : List (Option Cursor) → ℕ

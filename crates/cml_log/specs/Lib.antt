@@ -8,3 +8,4 @@ pub mod Contents
 pub mod Chain
 pub mod Linked
 pub mod ChunkLog
+pub mod Prelude

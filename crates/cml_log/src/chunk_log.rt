@@ -1,7 +1,7 @@
 ghost use Rattle.std.specs.Prelude.{◌≡◌, ℕ, ◌+◌, ◌-◌, ◌%◌, ◌<◌, ◌≤◌, ◌↔◌, Some, None, IsTrue, OnOk, OnErr, IfOk, IfErr, length, slice_get, slice_set, option_copied};
 ghost use Rattle.std.proofs.Common.{rules};
 ghost use Rattle.slab.specs.Slab.{ContainsKey};
-ghost use Rattle.cml_log.specs.PlainLog.{chunk_of};
+ghost use Rattle.cml_log.specs.Prelude.{chunk_of};
 
 use crate::chain::Chain;
 use crate::chunk::Address;

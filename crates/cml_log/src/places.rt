@@ -2,7 +2,7 @@
 ghost use Rattle.std.specs.Prelude.{◌≡◌, ℕ, ◌+◌, ◌-◌, ◌*◌, ◌/◌, ◌%◌, ◌^◌, ◌<◌, ◌≤◌, ◌≢◌, Some, drop, slice_set, unwrap_or, OnOk, OnErr, IsOk};
 ghost use Rattle.std.specs.VecDeque.{deque_len, deque_capacity};
 ghost use Rattle.slab.specs.Slab.{get, ContainsKey};
-ghost use Rattle.cml_log.specs.Log.{least};
+ghost use Rattle.cml_log.specs.Prelude.{least};
 
 use slab::Slab;
 use std::alloc::AllocError;

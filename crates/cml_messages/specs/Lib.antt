@@ -1,3 +1,4 @@
 pub mod Sizes
 pub mod Place
 pub mod Text
+pub mod Prelude

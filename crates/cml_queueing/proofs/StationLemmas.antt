@@ -8,28 +8,18 @@ use Rattle.std.proofs.Math.Arith.{le_of_le-suc-ne}
 use Rattle.std.proofs.Math.Nat.{min-le_right}
 use Rattle.std.proofs.lemmas.List.{append-nil, take-append-le, length-reverse}
 use Rattle.std.proofs.Math.Seq.{take-append_seam, take-length}
-use Rattle.cml_log.specs.Log.{owed_items}
-use Rattle.cml_calls.specs.Kinds.{is_source, is_receiver}
-use Rattle.cml_calls.specs.declared.kind.Kind.{Kind}
+use Rattle.cml_log.specs.Prelude.{owed_items}
+use Rattle.cml_calls.specs.Prelude.{is_source, is_receiver, Kind}
 use Rattle.cml_calls.specs.declared.kind.Kind.TheVariants.{Mailbox}
-use Rattle.cml_board.specs.declared.call.Name.{Name}
-use Rattle.cml_board.specs.declared.call.Call.{Call}
+use Rattle.cml_board.specs.Prelude.{Name, Call, Who, Entry, Reply, Outcome, Origin, kind_by, made, kind_of, sent, sent_by, got, got_by}
+use Rattle.cml_board.specs.Prelude.{if_made, begun_by, no_entries, entries_in, sent_count, got_count, only_if, Answered as Shown_answer}
+use Rattle.cml_board.specs.Prelude.{Shown, KeepsMailboxes, full_at, Applies}
 use Rattle.cml_board.specs.declared.call.Call.TheVariants.{NewMailbox}
-use Rattle.cml_board.specs.declared.entry.Who.{Who}
 use Rattle.cml_board.specs.declared.entry.Who.TheVariants.{Seat}
-use Rattle.cml_board.specs.declared.entry.Entry.{Entry}
-use Rattle.cml_board.specs.declared.entry.Reply.{Reply}
 use Rattle.cml_board.specs.declared.entry.Reply.TheVariants.{Made}
-use Rattle.cml_board.specs.declared.outcome.Outcome.{Outcome}
 use Rattle.cml_board.specs.declared.outcome.Outcome.TheVariants.{Answered, WouldWait, Refused}
-use Rattle.cml_board.specs.Origins.{Origin, kind_by}
-use Rattle.cml_board.specs.History.{made, kind_of, sent, sent_by, got, got_by, if_made, begun_by, no_entries, entries_in}
-use Rattle.cml_board.specs.Counts.{sent_count, got_count, only_if}
-use Rattle.cml_board.specs.Answered.{Answered as Shown_answer}
 use Rattle.cml_board.proofs.ListLemmas.{slice_get-append_some}
-use Rattle.cml_board.specs.Shown.{Shown, KeepsMailboxes, full_at}
-use Rattle.cml_board.specs.Outcome.{Applies}
-use Rattle.cml_queueing.specs.Station.{numbers, IsServer, IsStation, ServesInOrder}
+use Rattle.cml_queueing.specs.Prelude.{numbers, IsServer, IsStation, ServesInOrder}
 
 -- the numbers
 

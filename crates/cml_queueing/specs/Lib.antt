@@ -2,3 +2,4 @@ pub mod Endings
 pub mod Station
 pub mod Course
 pub mod Demands
+pub mod Prelude

@@ -1,16 +1,11 @@
 -- What a station's history tells: which customers came into the line, and which were served, by whom.
 use Rattle.std.specs.Prelude.{ℕ, zero, suc, ◌≡◌, ◌≢◌, ◌≤◌, List, [], ◌∷◌, ◌++◌, length, Some, ⊤}
 use Rattle.cml_calls.specs.declared.kind.Kind.TheVariants.{Mailbox}
-use Rattle.cml_board.specs.declared.call.Call.{Call}
+use Rattle.cml_board.specs.Prelude.{Call, Who, Reply, Entry, Outcome, kind_of, sent, got, got_by}
 use Rattle.cml_board.specs.declared.call.Call.TheVariants.{Recv}
-use Rattle.cml_board.specs.declared.entry.Who.{Who}
 use Rattle.cml_board.specs.declared.entry.Who.TheVariants.{Seat}
-use Rattle.cml_board.specs.declared.entry.Reply.{Reply}
 use Rattle.cml_board.specs.declared.entry.Reply.TheVariants.{Got}
-use Rattle.cml_board.specs.declared.entry.Entry.{Entry}
-use Rattle.cml_board.specs.declared.outcome.Outcome.{Outcome}
 use Rattle.cml_board.specs.declared.outcome.Outcome.TheVariants.{Answered}
-use Rattle.cml_board.specs.History.{kind_of, sent, got, got_by}
 
 -- how many servers a station has, and all that was called there
 pub record Place : Type 0 where

@@ -1,6 +1,6 @@
 //! What the program's words ask for is done.
 ghost use Rattle.std.specs.Prelude.{◌≢◌, OnOk};
-ghost use Rattle.cml_queueing.specs.Course.{ServesAll};
+ghost use Rattle.cml_queueing.specs.Prelude.{ServesAll};
 
 use crate::asked::{Asked, Form};
 use crate::demand::Demand;

@@ -1,7 +1,6 @@
 //! The events of a run, in the order of simulated time.
 ghost use Rattle.std.specs.Prelude.{◌≡◌, ◌+◌, ◌<◌, ◌^◌, IfOk};
-ghost use Rattle.cml_queueing.specs.Station.{ServesInOrder};
-ghost use Rattle.cml_queueing.specs.Course.{KeepsDemand};
+ghost use Rattle.cml_queueing.specs.Prelude.{ServesInOrder, KeepsDemand};
 
 use crate::demand::Demand;
 use crate::ending::Ending;

@@ -3,10 +3,8 @@ use Rattle.std.proofs.Common.{◌≡◌, ◌≢◌, ℕ, zero, suc, ◌<◌, tru
 use Rattle.std.proofs.lemmas.Option.{same_Some, slice_get_within}
 use Rattle.std.proofs.lemmas.Bool.{true≢false, or_from, or_left, or_right, cases_eq}
 use Rattle.std.proofs.lemmas.List.{length-set}
-use Rattle.cml_queues.specs.declared.links.Link.{Link}
-use Rattle.cml_queues.specs.declared.links.Ends.{Ends}
-use Rattle.cml_queues.specs.Queues.{has}
-use Rattle.cml_queues.specs.Links.{next_in, previous_in, head_or, last_or, link_of, IsQueue, row_of, AreQueues, AreLinked, queue_from, appended, ends_appended, joined, ends_joined}
+use Rattle.cml_queues.specs.Prelude.{Link, Ends, has, next_in, previous_in, head_or, last_or, link_of, IsQueue, row_of, AreQueues}
+use Rattle.cml_queues.specs.Prelude.{AreLinked, queue_from, appended, ends_appended, joined, ends_joined}
 use Rattle.cml_queues.proofs.ChainsLemmas.{set_same, set_other, differs, has_head, has_tail, last_has, head_has, has_append, queue_is, queue_kept, chain_within}
 use Rattle.cml_queues.proofs.ChangesLemmas.{LeadWithin, not_true, if_some, only, length-appended, length-joined, appended_other, joined_other, appended_within, joined_within, queue_appended, queue_joined, link_is, still}
 

@@ -4,29 +4,18 @@ use Rattle.std.specs.Prelude.{◌==◌, ◌&&◌, ◌||◌}
 use Rattle.std.specs.Option.{option_map}
 use Rattle.std.proofs.lemmas.Option.{none-some, same_Some}
 use Rattle.std.proofs.lemmas.Bool.{true≢false, false≢true, eqb-true, eq-eqb, cases_lt}
-use Rattle.cml_board.specs.declared.call.Name.{Name}
-use Rattle.cml_calls.specs.declared.kind.Kind.{Kind}
+use Rattle.cml_board.specs.Prelude.{Name, Call, Reply, Entry, Want, Origin, mailbox, channel, port, ivar, mvar, kind_by, source_by, copy_of}
+use Rattle.cml_board.specs.Prelude.{takes, Lawful, Fits, made, if_made, begun_by, origin_of, kind_of, sent, got}
+use Rattle.cml_calls.specs.Prelude.{Kind, is_channel, is_variable}
 use Rattle.cml_calls.specs.declared.kind.Kind.TheVariants as kind
-use Rattle.cml_board.specs.declared.call.Call.{Call}
 use Rattle.cml_board.specs.declared.call.Call.TheVariants as call
-use Rattle.cml_board.specs.declared.entry.Reply.{Reply}
 use Rattle.cml_board.specs.declared.entry.Reply.TheVariants.{Made}
-use Rattle.cml_board.specs.declared.entry.Entry.{Entry}
-use Rattle.cml_board.specs.declared.want.Want.{Want}
 use Rattle.cml_board.specs.declared.want.Want.TheVariants.{Recv, Get, Take, Swap}
-use Rattle.cml_board.specs.Origins.{Origin, mailbox, channel, port, ivar, mvar, kind_by, source_by, copy_of}
-use Rattle.cml_calls.specs.Kinds.{is_channel, is_variable}
-use Rattle.cml_board.specs.Objects.{takes}
-use Rattle.cml_board.specs.History.{Lawful, Fits, made, if_made, begun_by, origin_of, kind_of, sent, got}
 use Rattle.cml_board.proofs.ClosingLemmas.{kind_kept}
 use Rattle.cml_board.proofs.ReceivedLemmas.{slice_get-append_within}
-use Rattle.cml_room.specs.declared.news.News.{News}
+use Rattle.cml_room.specs.Prelude.{News, Place, Waiter, object_of, source_of, helps, NoNews, IsOf, AreRoused, IsMate, IsQuiet, reaches}
+use Rattle.cml_room.specs.Prelude.{AreAt}
 use Rattle.cml_room.specs.declared.news.News.TheVariants.{Message, Multicast, Value, Closed}
-use Rattle.cml_room.specs.declared.place.Place.{Place}
-use Rattle.cml_room.specs.declared.place.Waiter.{Waiter}
-use Rattle.cml_room.specs.News.{object_of, source_of, helps, NoNews, IsOf}
-use Rattle.cml_room.specs.Places.{AreRoused, IsMate, IsQuiet}
-use Rattle.cml_room.specs.Waking.{reaches, AreAt}
 use Rattle.cml_room.proofs.RousingLemmas.{mate_on, quiet_before}
 
 -- an item behind the first list is in the second

@@ -2,28 +2,17 @@
 use Rattle.std.proofs.Common.{◌≡◌, ◌≢◌, ℕ, ◌⊎◌, inl, inr, Bool, false, List, get_or, slice_get, slice_set, Some, refl, sym, ap, subst, ◌∙◌}
 use Rattle.std.proofs.lemmas.Option.{same_Some, get_or_from_slice_get}
 use Rattle.std.proofs.lemmas.List.{map-set, set-get_or, set-set}
-use Rattle.cml_board.specs.declared.entry.Entry.{Entry}
-use Rattle.cml_board.specs.declared.want.Want.{Want}
-use Rattle.cml_board.specs.History.{Fits}
-use Rattle.cml_board.specs.Waiting.{wanting}
-use Rattle.cml_board.specs.Shown.{Shown}
+use Rattle.cml_board.specs.Prelude.{Entry, Want, Fits, wanting, Shown}
 use Rattle.cml_board.proofs.ListLemmas.{slice_get-set_same, slice_get-set_other}
-use Rattle.cml_lanes.specs.Floor.{FloorShown}
+use Rattle.cml_lanes.specs.Prelude.{FloorShown}
 use Rattle.cml_lanes.proofs.SlotsLemmas.{this_or_other}
 use Rattle.cml_room.specs.declared.notice.Notice.TheVariants.{Nothing}
-use Rattle.cml_room.specs.declared.place.Place.{Place}
+use Rattle.cml_room.specs.Prelude.{Place, Waiter, State, object_of, source_of, state_by, states_in, quieted, IsMate, IsQuiet, HasRisen}
+use Rattle.cml_room.specs.Prelude.{freed, WouldWait, AreAt, NoneForgotten, IsWatched, MayTurn}
 use Rattle.cml_room.specs.declared.place.Place.TheVariants.{Free, Waiting}
-use Rattle.cml_room.specs.declared.place.Waiter.{Waiter}
-use Rattle.cml_room.specs.declared.state.State.{State}
 use Rattle.cml_room.specs.declared.state.State.TheVariants as state
-use Rattle.cml_room.specs.News.{object_of, source_of}
-use Rattle.cml_room.specs.Places.{state_by, states_in, quieted, IsMate, IsQuiet}
-use Rattle.cml_room.specs.Rising.{HasRisen}
-use Rattle.cml_room.specs.Seats.{freed}
-use Rattle.cml_room.specs.Waking.{WouldWait, AreAt, NoneForgotten, IsWatched}
 use Rattle.cml_room.proofs.ListingLemmas.{set_here}
 use Rattle.cml_room.proofs.RisingLemmas.{set_none}
-use Rattle.cml_room.specs.Ending.{MayTurn}
 use Rattle.cml_room.proofs.EndingLemmas.{with_freed, parked_place, freed_at, freed_here, freed_states, freed_quiet, mate_stays, would_same, free_moves}
 
 -- the seat is free, or waits for this already

@@ -4,25 +4,18 @@ use Rattle.std.specs.Prelude.{⊤}
 use Rattle.std.specs.Option.{option_map}
 use Rattle.std.proofs.lemmas.Option.{none-some, same_Some, slice_get_past}
 use Rattle.std.proofs.lemmas.Bool.{false≢true, ne_eqb, eqb-true}
-use Rattle.cml_board.specs.declared.call.Name.{Name}
-use Rattle.cml_calls.specs.declared.kind.Kind.{Kind}
-use Rattle.cml_board.specs.declared.call.Call.{Call}
+use Rattle.cml_board.specs.Prelude.{Name, Call, Reply, Entry, Want, Origin, kind_by, source_by, start_by, takes, left_by, held, Fits, made}
+use Rattle.cml_board.specs.Prelude.{if_made, begun_by, origin_of, kind_of, sent, sent_by, got, got_by, closes, is_done, is_open, due, owed}
+use Rattle.cml_board.specs.Prelude.{received, given, answer, Waits}
+use Rattle.cml_calls.specs.Prelude.{Kind}
 use Rattle.cml_board.specs.declared.call.Call.TheVariants.{ClosePort, MVarInit, Send, Cast, Recv, Get, Put, Take, TakePoll, Swap}
-use Rattle.cml_board.specs.declared.entry.Reply.{Reply}
 use Rattle.cml_board.specs.declared.entry.Reply.TheVariants.{Done, Made, Got, Closed}
-use Rattle.cml_board.specs.declared.entry.Entry.{Entry}
-use Rattle.cml_board.specs.declared.want.Want.{Want}
 use Rattle.cml_board.specs.declared.want.Want.TheVariants as want
-use Rattle.cml_board.specs.Origins.{Origin, kind_by, source_by, start_by}
-use Rattle.cml_board.specs.Objects.{takes}
-use Rattle.cml_board.specs.Held.{left_by, held}
-use Rattle.cml_board.specs.History.{Fits, made, if_made, begun_by, origin_of, kind_of, sent, sent_by, got, got_by, closes, is_done, is_open, due, owed, received, given, answer}
-use Rattle.cml_board.specs.Waiting.{Waits}
 use Rattle.cml_board.proofs.ClosingLemmas.{kind_kept}
 use Rattle.cml_board.proofs.TellingLemmas.{stays_open, none_sent}
 use Rattle.cml_board.proofs.ReceivedLemmas.{slice_get-append_within}
 use Rattle.cml_board.proofs.UnmadeLemmas.{none_at}
-use Rattle.cml_room.specs.News.{news_in, source_of, NoNews}
+use Rattle.cml_room.specs.Prelude.{news_in, source_of, NoNews}
 
 module _ {M : Type 0} where
   -- a receive that waits is on what is open and owes nothing

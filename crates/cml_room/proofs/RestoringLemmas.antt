@@ -2,15 +2,10 @@
 use Rattle.std.proofs.Common.{◌≡◌, ℕ, zero, suc, ◌+◌, Bool, false, ◌&&◌, List, [], ◌∷◌, ◌++◌, length, replicate, slice_get, slice_set, Some, refl, sym, ap, subst, ◌∙◌, add-one, arith, length-append}
 use Rattle.std.proofs.lemmas.Option.{same_Some, none-some}
 use Rattle.std.proofs.lemmas.List.{length-replicate}
-use Rattle.cml_lanes.specs.Floor.{FloorShown}
-use Rattle.cml_room.specs.declared.place.Place.{Place}
+use Rattle.cml_lanes.specs.Prelude.{FloorShown}
+use Rattle.cml_room.specs.Prelude.{Place, Waiter, State, states_in, is_parked, IsWatched}
 use Rattle.cml_room.specs.declared.place.Place.TheVariants as place
-use Rattle.cml_room.specs.declared.place.Waiter.{Waiter}
-use Rattle.cml_room.specs.declared.state.State.{State}
 use Rattle.cml_room.specs.declared.state.State.TheVariants as state
-use Rattle.cml_room.specs.Places.{states_in}
-use Rattle.cml_room.specs.Room.{is_parked}
-use Rattle.cml_room.specs.Waking.{IsWatched}
 
 -- none of them waits
 none_waits : (count number : ℕ) (waiter : Waiter) → slice_get (replicate count place.Left) number ≡ Some (place.Waiting waiter) → ⊥

@@ -3,23 +3,16 @@ use Rattle.std.proofs.Common.{◌≡◌, ◌≢◌, ℕ, ◌⊎◌, inl, inr, Bo
 use Rattle.std.specs.Option.{option_map}
 use Rattle.std.proofs.lemmas.Option.{none-some, same_Some, slice_get-map}
 use Rattle.std.proofs.lemmas.Bool.{true≢false, false≢true}
-use Rattle.cml_board.specs.declared.entry.Entry.{Entry}
-use Rattle.cml_board.specs.declared.want.Want.{Want}
+use Rattle.cml_board.specs.Prelude.{Entry, Want}
 use Rattle.cml_board.proofs.ListLemmas.{slice_get-append_some, slice_get-set_other}
-use Rattle.cml_lanes.specs.Floor.{FloorShown}
+use Rattle.cml_lanes.specs.Prelude.{FloorShown}
 use Rattle.cml_lanes.proofs.SlotsLemmas.{this_or_other}
-use Rattle.cml_room.specs.declared.news.News.{News}
-use Rattle.cml_room.specs.declared.notice.Notice.{Notice}
+use Rattle.cml_room.specs.Prelude.{News, Notice, Place, Waiter, Helps, state_by, states_in, notice_by, notices_in, is_noted, AreRoused}
+use Rattle.cml_room.specs.Prelude.{HasRisen, OneEach, IsForOne, RisesFew, BecomesDue, WantOf, MakesFewDue, MakesNoneDue, RoomShown}
+use Rattle.cml_room.specs.Prelude.{has_notice, freed}
 use Rattle.cml_room.specs.declared.notice.Notice.TheVariants.{Nothing, Due, Woken}
-use Rattle.cml_room.specs.declared.place.Place.{Place}
 use Rattle.cml_room.specs.declared.place.Place.TheVariants.{Free, Waiting, Left}
-use Rattle.cml_room.specs.declared.place.Waiter.{Waiter}
 use Rattle.cml_room.specs.declared.state.State.TheVariants as state
-use Rattle.cml_room.specs.News.{Helps}
-use Rattle.cml_room.specs.Places.{state_by, states_in, notice_by, notices_in, is_noted, AreRoused}
-use Rattle.cml_room.specs.Rising.{HasRisen, OneEach, IsForOne, RisesFew, BecomesDue, WantOf, MakesFewDue, MakesNoneDue}
-use Rattle.cml_room.specs.Room.{RoomShown, has_notice}
-use Rattle.cml_room.specs.Seats.{freed}
 use Rattle.cml_room.proofs.EndingLemmas.{with_freed, freed_here, freed_from, parked_place}
 use Rattle.cml_room.proofs.ListingLemmas.{set_here}
 use Rattle.cml_room.proofs.RousingLemmas.{waits_on, free_kept, noted_or, not_noted}

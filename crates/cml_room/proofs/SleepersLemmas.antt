@@ -5,26 +5,16 @@ use Rattle.std.specs.Option.{option_map}
 use Rattle.std.proofs.lemmas.Option.{none-some, same_Some, slice_get-map, slice_get_past, get_or_from_slice_get}
 use Rattle.std.proofs.lemmas.Bool.{true≢false, false≢true}
 use Rattle.std.proofs.lemmas.List.{map-set, set-get_or}
-use Rattle.cml_board.specs.declared.entry.Entry.{Entry}
-use Rattle.cml_board.specs.declared.want.Want.{Want}
-use Rattle.cml_board.specs.History.{Fits}
-use Rattle.cml_board.specs.Waiting.{wanting}
+use Rattle.cml_board.specs.Prelude.{Entry, Want, Fits, wanting}
 use Rattle.cml_board.proofs.ListLemmas.{slice_get-set_same, slice_get-set_other, slice_get-append_some, pushed_cases, slice_get_pushed}
-use Rattle.cml_lanes.specs.Floor.{FloorShown}
+use Rattle.cml_lanes.specs.Prelude.{FloorShown}
 use Rattle.cml_lanes.proofs.SlotsLemmas.{this_or_other}
-use Rattle.cml_room.specs.declared.notice.Notice.{Notice}
+use Rattle.cml_room.specs.Prelude.{Notice, Place, Waiter, State, object_of, source_of, state_by, states_in, notice_by, notices_in, is_noted}
+use Rattle.cml_room.specs.Prelude.{place_due, AreAlike, AreRoused, IsMate, IsQuiet, free_in, WakesNext, IsStalled, is_parked, has_notice}
+use Rattle.cml_room.specs.Prelude.{is_due, SleepsRightly, WouldWait, AreAt, IsWatched}
 use Rattle.cml_room.specs.declared.notice.Notice.TheVariants.{Nothing, Due, Woken}
-use Rattle.cml_room.specs.declared.place.Place.{Place}
 use Rattle.cml_room.specs.declared.place.Place.TheVariants.{Free, Waiting, Left}
-use Rattle.cml_room.specs.declared.place.Waiter.{Waiter}
-use Rattle.cml_room.specs.declared.state.State.{State}
 use Rattle.cml_room.specs.declared.state.State.TheVariants as state
-use Rattle.cml_room.specs.News.{object_of, source_of}
-use Rattle.cml_room.specs.Places.{state_by, states_in, notice_by, notices_in, is_noted, place_due, AreAlike, AreRoused, IsMate, IsQuiet}
-use Rattle.cml_room.specs.Seats.{free_in, WakesNext}
-use Rattle.cml_room.specs.Stalling.{IsStalled}
-use Rattle.cml_room.specs.Room.{is_parked, has_notice, is_due, SleepsRightly}
-use Rattle.cml_room.specs.Waking.{WouldWait, AreAt, IsWatched}
 use Rattle.cml_room.proofs.IdlingLemmas.{idle_none, idle_at}
 use Rattle.cml_room.proofs.ListingLemmas.{set_here}
 use Rattle.cml_room.proofs.RousingLemmas.{waited, waits_on, woken_on, roused_to, free_kept, roused_states, noted_or, not_noted}

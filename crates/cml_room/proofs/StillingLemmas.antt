@@ -5,20 +5,12 @@ use Rattle.std.proofs.lemmas.Option.{slice_get-map, slice_get_within, get_or_fro
 use Rattle.std.proofs.lemmas.List.{length-map}
 use Rattle.std.proofs.lemmas.List.Sums.{sum_by-set}
 use Rattle.std.proofs.lemmas.Bool.{false≢true}
-use Rattle.cml_board.specs.declared.entry.Entry.{Entry}
-use Rattle.cml_board.specs.declared.want.Want.{Want}
-use Rattle.cml_board.specs.Waiting.{Waits}
-use Rattle.cml_board.specs.Shown.{Shown}
-use Rattle.cml_room.specs.declared.notice.Notice.{Notice}
+use Rattle.cml_board.specs.Prelude.{Entry, Want, Waits, Shown}
+use Rattle.cml_room.specs.Prelude.{Notice, Place, Waiter, state_by, states_in, is_noted, noted_as, free_by, free_in, IsIdle, AreIdle}
+use Rattle.cml_room.specs.Prelude.{NoneForgotten}
 use Rattle.cml_room.specs.declared.notice.Notice.TheVariants.{Nothing, Due, Woken}
-use Rattle.cml_room.specs.declared.place.Place.{Place}
 use Rattle.cml_room.specs.declared.place.Place.TheVariants.{Free, Waiting, Left}
-use Rattle.cml_room.specs.declared.place.Waiter.{Waiter}
 use Rattle.cml_room.specs.declared.state.State.TheVariants as state
-use Rattle.cml_room.specs.Places.{state_by, states_in, is_noted, noted_as}
-use Rattle.cml_room.specs.Seats.{free_by, free_in}
-use Rattle.cml_room.specs.Stalling.{IsIdle, AreIdle}
-use Rattle.cml_room.specs.Waking.{NoneForgotten}
 use Rattle.cml_room.proofs.IdlingLemmas.{all_idle}
 
 pub on_true : (A B : Type 0) (b : Bool) → MatchBool b A B → b ≡ true → A

@@ -1,24 +1,13 @@
 -- What becomes of the call of a seat that may make it.
 use Rattle.std.proofs.Common.{◌≡◌, ℕ, ◌⊎◌, inl, inr, Bool, true, false, List, slice_set, Some, refl, sym, ap, subst, ◌∙◌}
 use Rattle.std.specs.Prelude.{⊤}
-use Rattle.cml_board.specs.declared.call.Call.{Call}
-use Rattle.cml_board.specs.declared.answer.Answer.{Answer}
+use Rattle.cml_board.specs.Prelude.{Call, Answer, Outcome, Refusal, Want, want_in, Applies}
 use Rattle.cml_board.specs.declared.entry.Who.TheVariants.{Seat}
-use Rattle.cml_board.specs.declared.outcome.Outcome.{Outcome}
 use Rattle.cml_board.specs.declared.outcome.Outcome.TheVariants.{Answered, WouldWait, Refused}
-use Rattle.cml_board.specs.declared.outcome.Refusal.{Refusal}
 use Rattle.cml_board.specs.declared.outcome.Refusal.TheVariants.{Gone, Busy, NoSuch, WrongKind, JournalFull, Stalled, NoMemory, Unseen}
-use Rattle.cml_board.specs.declared.want.Want.{Want}
-use Rattle.cml_board.specs.Waiting.{want_in}
-use Rattle.cml_board.specs.Outcome.{Applies}
-use Rattle.cml_lanes.specs.Floor.{FloorShown}
-use Rattle.cml_lanes.specs.Barring.{is_barred}
-use Rattle.cml_room.specs.declared.notice.Notice.{Notice}
-use Rattle.cml_room.specs.declared.state.State.{State}
+use Rattle.cml_lanes.specs.Prelude.{FloorShown, is_barred}
+use Rattle.cml_room.specs.Prelude.{Notice, State, NoneOpen, AreIdle, IsStalled, RoomShown, floor_of, Moves, Reaches, IsBarred, Asks}
 use Rattle.cml_room.specs.declared.state.State.TheVariants.{Free, Parked}
-use Rattle.cml_room.specs.Stalling.{NoneOpen, AreIdle, IsStalled}
-use Rattle.cml_room.specs.Room.{RoomShown, floor_of, Moves}
-use Rattle.cml_room.specs.Asking.{Reaches, IsBarred, Asks}
 
 module _ {M : Type 0} where
   pub may_ask : (chunk : ℕ) (sure : Bool) (may : Type 0) (old new : RoomShown M) (number : ℕ) (call : Call M) (told : Outcome M)

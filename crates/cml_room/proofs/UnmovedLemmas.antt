@@ -2,25 +2,11 @@
 use Rattle.std.proofs.Common.{◌≡◌, ℕ, ◌+◌, ◌≤◌, ◌⊎◌, inl, inr, Bool, cond, List, [], ◌∷◌, ◌++◌, length, Option, Some, Result, Ok, Err, subst, sym, ap, ◌∙◌, arith, length-append}
 use Rattle.std.specs.Prelude.{⊤, min, is_some, count_by, MatchResult}
 use Rattle.std.proofs.lemmas.List.Sums.{sum_by-append}
-use Rattle.cml_board.specs.declared.entry.Entry.{Entry}
-use Rattle.cml_board.specs.declared.call.Name.{Name}
-use Rattle.cml_board.specs.declared.outcome.Refusal.{Refusal}
+use Rattle.cml_board.specs.Prelude.{Entry, Name, Refusal, entries_in, HasRoom, IsAsBefore, Shown, full_at, Waits}
 use Rattle.cml_board.specs.declared.outcome.Refusal.TheVariants.{NoSuch}
-use Rattle.cml_board.specs.History.{entries_in}
-use Rattle.cml_board.specs.Outcome.{HasRoom, IsAsBefore}
-use Rattle.cml_board.specs.Shown.{Shown, full_at}
-use Rattle.cml_lanes.specs.Ends.{LaneShown, Ended}
-use Rattle.cml_lanes.specs.Floor.{FloorShown, NoSuchOr, FindsNoFeed}
-use Rattle.cml_lanes.specs.Lanes.{OpensALane}
-use Rattle.cml_lanes.specs.Feeds.{Ends}
-use Rattle.cml_lanes.specs.Cutting.{CutsFloor, CutsAFloor, NotCut}
-use Rattle.cml_lanes.specs.Reserving.{Reserves, IsFloorAsBefore}
-use Rattle.cml_room.specs.declared.place.Place.{Place}
-use Rattle.cml_room.specs.declared.place.Waiter.{Waiter}
-use Rattle.cml_board.specs.Waiting.{Waits}
-use Rattle.cml_room.specs.Places.{states_in, IsMate}
-use Rattle.cml_room.specs.Stalling.{NoneOpen, AreIdle}
-use Rattle.cml_room.specs.Waking.{WouldWait, AreAt, IsWatched}
+use Rattle.cml_lanes.specs.Prelude.{LaneShown, Ended, FloorShown, NoSuchOr, FindsNoFeed, OpensALane, Ends, CutsFloor, CutsAFloor, NotCut}
+use Rattle.cml_lanes.specs.Prelude.{Reserves, IsFloorAsBefore}
+use Rattle.cml_room.specs.Prelude.{Place, Waiter, states_in, IsMate, NoneOpen, AreIdle, WouldWait, AreAt, IsWatched}
 
 -- what holds of both reasons holds of each refusal
 pub by_reason : {P : Type 0} (none : Type 0) (why : Refusal → Type 0) (refusal : Refusal) → (none → P) → (why refusal → P) → NoSuchOr none why refusal → P

@@ -2,7 +2,7 @@
 use Rattle.std.proofs.Common.{◌≡◌, ℕ, zero, suc, ◌+◌, ◌<◌, ◌≤◌, inl, inr, true, List, [], ◌∷◌, length, slice_get, Option, Some, None, sym, ap, subst, ◌∙◌, arith}
 use Rattle.std.proofs.lemmas.Option.{none-some, same_Some, slice_get_within}
 use Rattle.std.proofs.lemmas.Bool.{cases_lt}
-use Rattle.cml_queues.specs.Queues.{has}
+use Rattle.cml_queues.specs.Prelude.{has}
 use Rattle.cml_room.proofs.ListingLemmas.{at_has}
 
 -- so many members were seen, and this is the next

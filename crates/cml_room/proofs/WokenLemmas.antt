@@ -3,16 +3,12 @@ use Rattle.std.proofs.Common.{◌≡◌, ◌≢◌, ℕ, zero, suc, ◌<◌, inl
 use Rattle.std.specs.Option.{option_map}
 use Rattle.std.proofs.lemmas.Option.{slice_get-map, slice_get_past, slice_get-get_or}
 use Rattle.cml_board.proofs.ListLemmas.{slice_get-set_same, slice_get-set_other}
-use Rattle.cml_room.specs.declared.notice.Notice.{Notice}
+use Rattle.cml_room.specs.Prelude.{Notice, Place, Waiter, notice_by, notices_in, quieted, roused, roused_notice, AreRoused, RoomShown}
+use Rattle.cml_room.specs.Prelude.{floor_of, has_notice, is_due, freed, WakesNext, is_woken, woken_in, was_woken, KeepsWoken, HasAsked}
+use Rattle.cml_room.specs.Prelude.{GivesNext}
 use Rattle.cml_room.specs.declared.notice.Notice.TheVariants.{Nothing, Due, Woken}
-use Rattle.cml_room.specs.declared.place.Place.{Place}
 use Rattle.cml_room.specs.declared.place.Place.TheVariants.{Free, Waiting, Left}
-use Rattle.cml_room.specs.declared.place.Waiter.{Waiter}
-use Rattle.cml_room.specs.Places.{notice_by, notices_in, quieted, roused, roused_notice, AreRoused}
 use Rattle.cml_lanes.proofs.SlotsLemmas.{this_or_other}
-use Rattle.cml_room.specs.Room.{RoomShown, floor_of, has_notice, is_due}
-use Rattle.cml_room.specs.Seats.{freed, WakesNext}
-use Rattle.cml_room.specs.Running.{is_woken, woken_in, was_woken, KeepsWoken, HasAsked, GivesNext}
 use Rattle.cml_room.proofs.RousingLemmas.{roused_to, free_kept}
 use Rattle.cml_room.proofs.WalkingLemmas.{past_none}
 

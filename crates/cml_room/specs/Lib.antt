@@ -10,3 +10,4 @@ pub mod Running
 pub mod Frames
 pub mod InTurn
 pub mod Ending
+pub mod Prelude

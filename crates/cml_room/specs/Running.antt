@@ -2,11 +2,9 @@
 -- bit that the room keeps. What the bit means is shown over runs: a `next_due` returned the seat, and it has not asked since. It is
 -- not said that the thread of such a seat does ask, nor in which order `next_due` returns seats.
 use Rattle.std.specs.Prelude.{ℕ, ◌≡◌, ◌≢◌, ◌==◌, ◌&&◌, ◌||◌, ◌⊎◌, not, Bool, true, false, List, [], ◌∷◌, slice_get, Option, Some, None, IfSome, IfNone, Result, Ok, Err, ⊤}
-use Rattle.cml_board.specs.declared.outcome.Outcome.{Outcome}
+use Rattle.cml_board.specs.Prelude.{Outcome, Refusal, Want}
 use Rattle.cml_board.specs.declared.outcome.Outcome.TheVariants.{Refused}
-use Rattle.cml_board.specs.declared.outcome.Refusal.{Refusal}
 use Rattle.cml_board.specs.declared.outcome.Refusal.TheVariants.{Gone}
-use Rattle.cml_board.specs.declared.want.Want.{Want}
 use Rattle.cml_room.specs.declared.notice.Notice.{Notice}
 use Rattle.cml_room.specs.declared.notice.Notice.TheVariants.{Nothing, Woken}
 use Rattle.cml_room.specs.declared.state.State.TheVariants.{Parked}

@@ -1,8 +1,7 @@
 //! Laws of runs of a room's calls. Each call's contract says which step of a run it is: `IsMade` in `specs/Running.antt`.
 ghost use Rattle.std.specs.Prelude.{◌≡◌, ◌≤◌, ℕ, false, length, List, ◌∷◌, Option, Some, None};
-ghost use Rattle.cml_room.specs.InTurn.{GivesInTurn};
-ghost use Rattle.cml_room.specs.Room.{RoomShown, NoneDue, is_due};
-ghost use Rattle.cml_room.specs.Running.{RoomCall, NextDue, AreMade, HasAsked, NobodyForgotten, HaveAllAsked, AllWouldWait, is_returned, was_woken};
+ghost use Rattle.cml_room.specs.Prelude.{GivesInTurn, RoomShown, NoneDue, is_due, RoomCall, NextDue, AreMade, HasAsked, NobodyForgotten};
+ghost use Rattle.cml_room.specs.Prelude.{HaveAllAsked, AllWouldWait, is_returned, was_woken};
 
 use crate::room::Room;
 use cml_board::Message;

@@ -1,8 +1,6 @@
 ghost use Rattle.std.specs.Prelude.{◌≡◌, ◌∷◌, ◌<◌, ◌≤◌, List, Some, None};
-ghost use Rattle.cml_board.specs.declared.entry.Entry.{Entry};
-ghost use Rattle.cml_board.specs.History.{entries_in};
-ghost use Rattle.cml_room.specs.News.{news_in};
-ghost use Rattle.cml_room.specs.Waking.{HasEntries};
+ghost use Rattle.cml_board.specs.Prelude.{Entry, entries_in};
+ghost use Rattle.cml_room.specs.Prelude.{news_in, HasEntries};
 
 use cml_board::{Board, Call, Message, Name};
 use cml_lanes::Floor;

@@ -1,15 +1,9 @@
 ghost use Rattle.std.specs.Prelude.{◌≡◌, ◌≢◌, ◌⊎◌, ℕ, true, false, ◌^◌, ◌<◌, ◌≤◌, [], ◌∷◌, ◌++◌, length, replicate, Some, None, IfOk, IfErr, OnOk};
 ghost use Rattle.cml_board.specs.declared.outcome.Refusal.TheVariants.{Gone, NoMemory};
-ghost use Rattle.cml_board.specs.declared.want.Want.{Want};
-ghost use Rattle.cml_board.specs.History.{no_entries};
-ghost use Rattle.cml_board.specs.Makers.{seats_of, lanes_of, feeds_of};
-ghost use Rattle.cml_board.specs.Sound.{IsSound};
-ghost use Rattle.cml_lanes.specs.Floor.{KeepsLanes, KeepsFeeds};
-ghost use Rattle.cml_room.specs.Places.{states_in};
-ghost use Rattle.cml_room.specs.Rising.{MakesNoneDue};
-ghost use Rattle.cml_room.specs.Seats.{free_in, parked_in};
-ghost use Rattle.cml_room.specs.Room.{floor_of, is_due, state_of, MayAsk, AllSleepRightly, NoneDue, SleepsRightly, with_state};
-ghost use Rattle.cml_room.specs.Running.{Other, GivesNext, IsMade};
+ghost use Rattle.cml_board.specs.Prelude.{Want, no_entries, seats_of, lanes_of, feeds_of, IsSound};
+ghost use Rattle.cml_lanes.specs.Prelude.{KeepsLanes, KeepsFeeds};
+ghost use Rattle.cml_room.specs.Prelude.{states_in, MakesNoneDue, free_in, parked_in, floor_of, is_due, state_of, MayAsk, AllSleepRightly};
+ghost use Rattle.cml_room.specs.Prelude.{NoneDue, SleepsRightly, with_state, Other, GivesNext, IsMade};
 
 mod asking;
 mod feeds;

@@ -1,19 +1,10 @@
 //! The end of a seat's turn, and of the other calls.
 ghost use Rattle.std.specs.Prelude.{◌≡◌, ◌≢◌, ◌⊎◌, ℕ, Option, false, Some, None, IfSome, MatchBool, MatchOption, slice_get, slice_set};
-ghost use Rattle.cml_board.specs.declared.want.Want.{Want};
-ghost use Rattle.cml_board.specs.Outcome.{HasRoom};
-ghost use Rattle.cml_lanes.specs.Floor.{FloorShown};
-ghost use Rattle.cml_room.specs.declared.news.News.{News};
+ghost use Rattle.cml_board.specs.Prelude.{Want, HasRoom};
+ghost use Rattle.cml_lanes.specs.Prelude.{FloorShown};
+ghost use Rattle.cml_room.specs.Prelude.{News, Waiter, Settles, IsOf, states_in, notices_in, HasRisen, IsStalled, EndsTurn, MayEndTurn};
+ghost use Rattle.cml_room.specs.Prelude.{AreAt, Follows, IsWatched, NoneForgotten, WasWatched, WasWatchedAt, WouldWait, HasAsked};
 ghost use Rattle.cml_room.specs.declared.place.Place.TheVariants as place;
-ghost use Rattle.cml_room.specs.declared.place.Waiter.{Waiter};
-ghost use Rattle.cml_room.specs.Frames.{Settles};
-ghost use Rattle.cml_room.specs.News.{IsOf};
-ghost use Rattle.cml_room.specs.Places.{states_in, notices_in};
-ghost use Rattle.cml_room.specs.Rising.{HasRisen};
-ghost use Rattle.cml_room.specs.Stalling.{IsStalled};
-ghost use Rattle.cml_room.specs.Ending.{EndsTurn, MayEndTurn};
-ghost use Rattle.cml_room.specs.Waking.{AreAt, Follows, IsWatched, NoneForgotten, WasWatched, WasWatchedAt, WouldWait};
-ghost use Rattle.cml_room.specs.Running.{HasAsked};
 
 use crate::news::{News, latest_news};
 use crate::place::{Place, Waiter};

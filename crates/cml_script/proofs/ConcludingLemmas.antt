@@ -4,12 +4,9 @@ use Rattle.std.specs.Prelude.{◌↔◌, IsTrue, unwrap_or, is_none}
 use Rattle.std.specs.Option.{option_map}
 use Rattle.std.proofs.lemmas.Option.{same_Some, none-some}
 use Rattle.std.proofs.lemmas.Bool.{false≢true}
-use Rattle.cml_board.specs.declared.call.Name.{Name}
-use Rattle.cml_board.specs.Counts.{got_count}
-use Rattle.cml_grammar.specs.Script.{Lines}
-use Rattle.cml_script.specs.Schedule.{History, feed_at, declared_object}
-use Rattle.cml_script.specs.Report.{Tallied, taken_from, taken_by}
-use Rattle.cml_script.specs.Running.{IsTakenAt}
+use Rattle.cml_board.specs.Prelude.{Name, got_count}
+use Rattle.cml_grammar.specs.Prelude.{Lines}
+use Rattle.cml_script.specs.Prelude.{History, feed_at, declared_object, Tallied, taken_from, taken_by, IsTakenAt}
 
 pub named_object : (o : Option ℕ) (name : Name) → Some name ≡ option_map (λ n. record { 0 = n }) o → o ≡ Some name.0
 named_object None name is = absurd (none-some name (sym is))

@@ -5,32 +5,17 @@ use Rattle.std.specs.Result.{IsErrAnd}
 use Rattle.std.proofs.lemmas.Option.{IfSome_then, same_Some, none-some}
 use Rattle.std.proofs.lemmas.List.{take_all}
 use Rattle.std.proofs.lemmas.Bool.{lt-ltb}
-use Rattle.cml_board.specs.declared.call.Name.{Name}
-use Rattle.cml_board.specs.declared.call.Call.{Call}
+use Rattle.cml_board.specs.Prelude.{Name, Call, Who, Reply, Entry, Refusal}
 use Rattle.cml_board.specs.declared.call.Call.TheVariants as call
-use Rattle.cml_board.specs.declared.entry.Who.{Who}
 use Rattle.cml_board.specs.declared.entry.Who.TheVariants.{Seat, Feed}
-use Rattle.cml_board.specs.declared.entry.Reply.{Reply}
 use Rattle.cml_board.specs.declared.entry.Reply.TheVariants as reply
-use Rattle.cml_board.specs.declared.entry.Entry.{Entry}
-use Rattle.cml_board.specs.declared.outcome.Refusal.{Refusal}
-use Rattle.cml_grammar.specs.declared.forms.Makes.{Makes}
+use Rattle.cml_grammar.specs.Prelude.{Makes, FeedMaking, Declaration, Given, makes_feed, SourceLine, Lines, names_of, makes_of, source_of}
+use Rattle.cml_grammar.specs.Prelude.{ReadsDeclaration, IsMadeWell}
 use Rattle.cml_grammar.specs.declared.forms.Makes.TheVariants as makes
-use Rattle.cml_grammar.specs.declared.forms.FeedMaking.{FeedMaking}
-use Rattle.cml_grammar.specs.declared.script.Declaration.{Declaration}
-use Rattle.cml_grammar.specs.Names.{Given}
-use Rattle.cml_grammar.specs.Rings.{makes_feed}
-use Rattle.cml_grammar.specs.Script.{SourceLine, Lines}
-use Rattle.cml_grammar.specs.Meaning.{names_of, makes_of}
-use Rattle.cml_grammar.specs.Reading.{source_of, ReadsDeclaration, IsMadeWell}
-use Rattle.cml_script.specs.Counting.{one_if, how_many}
-use Rattle.cml_script.specs.Schedule.{History, declared_count, objects_of, number_of, maker, is_object, is_feed, makes_object, IsDeclaration}
-use Rattle.cml_script.specs.Audit.{IsOfCaller, IsOfScript}
-use Rattle.cml_script.specs.Plan.{IsKnown}
-use Rattle.cml_script.specs.Makes.{IsMadeOfDeclared}
-use Rattle.cml_script.specs.Stage.{Play, IsNext, IsNextObject, IsNextPort}
-use Rattle.cml_script.specs.Working.{Made, with_call, with_feed, is_of_feed, with_refused, BeginsAt, capacity_made, feed_capacity, AreOpened, Declares}
-use Rattle.cml_script.specs.Declaring.{HasCapacity, HasMade, making}
+use Rattle.cml_script.specs.Prelude.{one_if, how_many, History, declared_count, objects_of, number_of, maker, is_object, is_feed}
+use Rattle.cml_script.specs.Prelude.{makes_object, IsDeclaration, IsOfCaller, IsOfScript, IsKnown, IsMadeOfDeclared, Play, IsNext}
+use Rattle.cml_script.specs.Prelude.{IsNextObject, IsNextPort, Made, with_call, with_feed, is_of_feed, with_refused, BeginsAt}
+use Rattle.cml_script.specs.Prelude.{capacity_made, feed_capacity, AreOpened, Declares, HasCapacity, HasMade, making}
 use Rattle.cml_script.proofs.ListLemmas.{count_taken, filter_at, taken_all, told_more}
 use Rattle.cml_script.proofs.LineLemmas.{declaration_object, declaration_feed}
 use Rattle.cml_script.proofs.KindLemmas.{next_object}

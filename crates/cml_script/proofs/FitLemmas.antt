@@ -1,32 +1,17 @@
 -- Names of objects of a kind, and the calls that these take.
 use Rattle.std.proofs.Common.{◌≡◌, ℕ, true, List, Option, Some, refl, ap, ◌∙◌}
 use Rattle.std.proofs.lemmas.Option.{none-some}
-use Rattle.cml_calls.specs.declared.kind.Kind.{Kind}
+use Rattle.cml_calls.specs.Prelude.{Kind, Takers, Give, Ask, admits, is_receiver, Row, given, asked}
 use Rattle.cml_calls.specs.declared.kind.Kind.TheVariants as kind
-use Rattle.cml_calls.specs.declared.shape.Takers.{Takers}
-use Rattle.cml_calls.specs.declared.table.Give.{Give}
 use Rattle.cml_calls.specs.declared.table.Give.TheVariants as give
-use Rattle.cml_calls.specs.declared.table.Ask.{Ask}
 use Rattle.cml_calls.specs.declared.table.Ask.TheVariants as ask
-use Rattle.cml_calls.specs.Kinds.{admits, is_receiver}
-use Rattle.cml_calls.specs.Table.{Row, given, asked}
-use Rattle.cml_board.specs.declared.call.Name.{Name}
-use Rattle.cml_board.specs.declared.call.Call.{Call}
-use Rattle.cml_board.specs.Objects.{object_in, row_of, takes}
-use Rattle.cml_board.specs.Parts.{given_call}
-use Rattle.cml_board.specs.Waiting.{want_in}
-use Rattle.cml_board.specs.History.{Fits, kind_of}
-use Rattle.cml_grammar.specs.declared.forms.Action.{Action}
+use Rattle.cml_board.specs.Prelude.{Name, Call, object_in, row_of, takes, given_call, want_in, Fits, kind_of}
+use Rattle.cml_grammar.specs.Prelude.{Action, Named, Given, kind_of_named, kind_named, asked_place, IsMailboxAt, IsChannelAt, IsPortAt}
+use Rattle.cml_grammar.specs.Prelude.{IsFeedAt, UsesWell, used_by, IsSuitedAt}
 use Rattle.cml_grammar.specs.declared.forms.Action.TheVariants as action
 use Rattle.cml_grammar.specs.declared.forms.Place.TheVariants.{Object}
-use Rattle.cml_grammar.specs.declared.names.Named.{Named}
 use Rattle.cml_grammar.specs.declared.names.Named.TheVariants as called
-use Rattle.cml_grammar.specs.Names.{Given, kind_of_named, kind_named}
-use Rattle.cml_grammar.specs.Forms.{asked_place}
-use Rattle.cml_grammar.specs.Reading.{IsMailboxAt, IsChannelAt, IsPortAt, IsFeedAt, UsesWell, used_by}
-use Rattle.cml_grammar.specs.Suiting.{IsSuitedAt}
-use Rattle.cml_script.specs.Schedule.{History, call_on, call_of}
-use Rattle.cml_script.specs.Plan.{IsObjectAt}
+use Rattle.cml_script.specs.Prelude.{History, call_on, call_of, IsObjectAt}
 use Rattle.cml_grammar.proofs.ListLemmas.{mapped_some}
 use Rattle.cml_script.proofs.ListLemmas.{passing}
 

@@ -1,13 +1,10 @@
 -- Which ends are no hold of a gate.
 use Rattle.std.proofs.Common.{◌≡◌, Result, Ok, Err, sym, ◌∙◌}
 use Rattle.std.specs.Prelude.{◌≢◌, IfOk}
-use Rattle.cml_board.specs.declared.outcome.Refusal.{Refusal}
+use Rattle.cml_board.specs.Prelude.{Refusal}
 use Rattle.cml_board.specs.declared.outcome.Refusal.TheVariants as refusal
-use Rattle.cml_script.specs.declared.stop.Stop.{Stop}
+use Rattle.cml_script.specs.Prelude.{Stop, Played, Ending, IsUnheld, stop_of}
 use Rattle.cml_script.specs.declared.stop.Stop.TheVariants.{Held}
-use Rattle.cml_script.specs.declared.perform.Played.{Played}
-use Rattle.cml_script.specs.declared.ending.Ending.{Ending}
-use Rattle.cml_script.specs.Working.{IsUnheld, stop_of}
 
 -- no refusal is a hold
 pub stop_unheld : (r : Refusal) → IsUnheld (stop_of r)

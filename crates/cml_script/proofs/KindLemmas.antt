@@ -4,26 +4,19 @@ use Rattle.std.specs.Option.{option_map, option_map_or, option_and_then}
 use Rattle.std.proofs.lemmas.Option.{same_Some, none-some, slice_get_within}
 use Rattle.std.proofs.lemmas.List.{length_push, length-append}
 use Rattle.std.proofs.lemmas.Bool.{lt-ltb, cases_lt}
-use Rattle.cml_board.specs.declared.call.Call.{Call}
+use Rattle.cml_board.specs.Prelude.{Call, Entry, Origin, mailbox, channel, port, ivar, mvar, kind_by, Lawful, made, begun_by, if_made}
+use Rattle.cml_board.specs.Prelude.{new_name, kind_of, answer, sent}
 use Rattle.cml_board.specs.declared.call.Call.TheVariants as call
-use Rattle.cml_calls.specs.declared.kind.Kind.{Kind}
+use Rattle.cml_calls.specs.Prelude.{Kind}
 use Rattle.cml_calls.specs.declared.kind.Kind.TheVariants as kind
-use Rattle.cml_board.specs.declared.entry.Entry.{Entry}
-use Rattle.cml_board.specs.Origins.{Origin, mailbox, channel, port, ivar, mvar, kind_by}
-use Rattle.cml_board.specs.History.{Lawful, made, begun_by, if_made, new_name, kind_of, answer, sent}
 use Rattle.cml_board.proofs.ReceivedLemmas.{slice_get-append_within}
 use Rattle.cml_grammar.specs.declared.names.Named.TheVariants as called
-use Rattle.cml_grammar.specs.declared.forms.Makes.{Makes}
+use Rattle.cml_grammar.specs.Prelude.{Makes, SourceLine, Lines, names_of, makes_of, Declaration, source_of, ReadsDeclaration, IsMadeWell}
+use Rattle.cml_grammar.specs.Prelude.{IsChannelAt}
 use Rattle.cml_grammar.specs.declared.forms.Makes.TheVariants as makes
-use Rattle.cml_grammar.specs.Script.{SourceLine, Lines}
-use Rattle.cml_grammar.specs.Meaning.{names_of, makes_of}
-use Rattle.cml_grammar.specs.declared.script.Declaration.{Declaration}
-use Rattle.cml_grammar.specs.Reading.{source_of, ReadsDeclaration, IsMadeWell, IsChannelAt}
-use Rattle.cml_script.specs.Plan.{NamesObjects, kind_made, kind_declared}
-use Rattle.cml_script.specs.Stage.{Play, IsNextObject, IsNextPort, IsNext}
-use Rattle.cml_script.specs.Counting.{one_if, how_many}
-use Rattle.cml_script.specs.Audit.{IsOfScript, IsOfCaller}
-use Rattle.cml_script.specs.Schedule.{History, IsDeclaration, declared_count, objects_of, call_in, making_call, makes_object, is_object, declared_object}
+use Rattle.cml_script.specs.Prelude.{NamesObjects, kind_made, kind_declared, Play, IsNextObject, IsNextPort, IsNext, one_if, how_many}
+use Rattle.cml_script.specs.Prelude.{IsOfScript, IsOfCaller, History, IsDeclaration, declared_count, objects_of, call_in, making_call}
+use Rattle.cml_script.specs.Prelude.{makes_object, is_object, declared_object}
 use Rattle.cml_script.proofs.ListLemmas.{slice_get_pushed, filter_at, counted_mono, taken_all}
 
 -- what is made behind a list of objects, by a call that makes one

@@ -5,30 +5,21 @@ use Rattle.std.specs.Option.{option_and_then, option_map_or}
 use Rattle.std.specs.Bool.{then_some}
 use Rattle.std.proofs.lemmas.List.{length-map}
 use Rattle.std.proofs.lemmas.Bool.{and_parts, and_right, eqb-true, false≢true}
-use Rattle.cml_grammar.specs.declared.forms.Makes.{Makes}
+use Rattle.cml_grammar.specs.Prelude.{Makes, Named, names_of, makes_of, action_of, seat_of_step, Declaration, Step, Given, kind_named}
+use Rattle.cml_grammar.specs.Prelude.{thread_count, SourceLine, Lines, is_giving, makes_feed, source_of, ReadsDeclaration, ReadsStep, Gives}
+use Rattle.cml_grammar.specs.Prelude.{GivesAt, GivesNames, gives_name, Action}
 use Rattle.cml_grammar.specs.declared.forms.Makes.TheVariants as makes
-use Rattle.cml_grammar.specs.declared.names.Named.{Named}
 use Rattle.cml_grammar.specs.declared.names.Named.TheVariants as called
 use Rattle.cml_grammar.specs.declared.names.Users.TheVariants as users
-use Rattle.cml_calls.specs.declared.kind.Kind.{Kind}
+use Rattle.cml_calls.specs.Prelude.{Kind}
 use Rattle.cml_calls.specs.declared.table.Ask.TheVariants as ask
-use Rattle.cml_grammar.specs.Meaning.{names_of, makes_of, action_of, seat_of_step}
-use Rattle.cml_script.specs.Plan.{NamesObjects, HasSeats, AsksForPorts, IsObjectAt, kind_made}
+use Rattle.cml_script.specs.Prelude.{NamesObjects, HasSeats, AsksForPorts, IsObjectAt, kind_made, how_many, one_if, makes_object, is_object}
+use Rattle.cml_script.specs.Prelude.{is_feed, is_seated, is_called, is_apart, is_by_ring, route_of, route_of_line}
 use Rattle.std.proofs.lemmas.List.Elements.{All-get_or}
 use Rattle.std.proofs.lemmas.Option.{slice_get_within, get_or_from_slice_get, same_Some, some_pair_parts}
 use mir.Val.{bool_byte}
-use Rattle.cml_script.specs.Counting.{how_many, one_if}
-use Rattle.cml_grammar.specs.declared.script.Declaration.{Declaration}
-use Rattle.cml_grammar.specs.declared.script.Step.{Step}
-use Rattle.cml_grammar.specs.Names.{Given, kind_named, thread_count}
-use Rattle.cml_grammar.specs.Script.{SourceLine, Lines}
-use Rattle.cml_grammar.specs.Giving.{is_giving}
-use Rattle.cml_grammar.specs.Rings.{makes_feed}
-use Rattle.cml_grammar.specs.Reading.{source_of, ReadsDeclaration, ReadsStep, Gives, GivesAt, GivesNames, gives_name}
 use Rattle.cml_script.specs.declared.route.Route.TheVariants as route
-use Rattle.cml_grammar.specs.declared.forms.Action.{Action}
 use Rattle.cml_grammar.specs.declared.forms.Action.TheVariants as action
-use Rattle.cml_script.specs.Schedule.{makes_object, is_object, is_feed, is_seated, is_called, is_apart, is_by_ring, route_of, route_of_line}
 use Rattle.cml_script.proofs.ListLemmas.{count_taken, mapped_at, read_at}
 
 pub all_at : {X : Type 0} (P : X → Type 0) (xs : List X) (i : ℕ) (x : X) → All P xs → slice_get xs i ≡ Some x → P x

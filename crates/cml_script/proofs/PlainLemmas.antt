@@ -8,20 +8,16 @@ use Rattle.std.proofs.lemmas.Bool.{true≢false, false≢true, false_from_ne_tru
 use Rattle.cml_calls.specs.declared.table.Give.TheVariants as give
 use Rattle.cml_calls.specs.declared.table.Ask.TheVariants as ask
 use Rattle.cml_board.specs.declared.entry.Who.TheVariants.{Seat, Feed}
-use Rattle.cml_grammar.specs.declared.forms.Declares.{Declares}
+use Rattle.cml_grammar.specs.Prelude.{Declares, Action, Given, position_of, declares_of, SourceLine, Lines, names_of, makes_of, makes_by}
+use Rattle.cml_grammar.specs.Prelude.{action_of, seat_of_step, lesser, first_lane, first_feed, first_ring, declares_feed, makes_feed}
+use Rattle.cml_grammar.specs.Prelude.{is_feed as is_feed_word, capacity_of}
 use Rattle.cml_grammar.specs.declared.forms.Declares.TheVariants as declares
-use Rattle.cml_grammar.specs.declared.forms.Action.{Action}
 use Rattle.cml_grammar.specs.declared.forms.Action.TheVariants as action
-use Rattle.cml_grammar.specs.Names.{Given, position_of}
-use Rattle.cml_grammar.specs.Forms.{declares_of}
-use Rattle.cml_grammar.specs.Script.{SourceLine, Lines}
-use Rattle.cml_grammar.specs.Meaning.{names_of, makes_of, makes_by, action_of, seat_of_step}
-use Rattle.cml_grammar.specs.Rings.{lesser, first_lane, first_feed, first_ring, declares_feed, makes_feed, is_feed as is_feed_word, capacity_of}
 use Rattle.cml_script.specs.declared.route.Route.TheVariants as route
-use Rattle.cml_script.specs.Counting.{how_many}
+use Rattle.cml_script.specs.Prelude.{how_many, is_feed, is_seated, is_called, is_apart, is_by_ring, objects_of, is_object, maker, feed_at}
+use Rattle.cml_script.specs.Prelude.{feed_route, lane_route, route_of}
 use Rattle.cml_script.proofs.ListLemmas.{cases_Option, passing}
 use Rattle.cml_script.proofs.LineLemmas.{and_true}
-use Rattle.cml_script.specs.Schedule.{is_feed, is_seated, is_called, is_apart, is_by_ring, objects_of, is_object, maker, feed_at, feed_route, lane_route, route_of}
 
 -- neither of two is there where the lesser isn't
 neither : (one other : Option ℕ) → lesser one other ≡ None → (one ≡ None) × (other ≡ None)

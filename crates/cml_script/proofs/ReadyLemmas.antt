@@ -2,13 +2,10 @@
 use Rattle.std.proofs.Common.{◌≡◌, ◌≢◌, ℕ, ◌+◌, ◌<◌, ◌≤◌, min, length, take, slice_get, Option, Some, None, MatchOption, sym, ap, subst, ◌∙◌, arith, inl, inr, List}
 use Rattle.std.proofs.lemmas.Option.{same_Some, none-some, slice_get_within}
 use Rattle.std.proofs.lemmas.Bool.{cases_lt}
-use Rattle.cml_board.specs.declared.call.Call.{Call}
-use Rattle.cml_board.specs.History.{answer}
-use Rattle.cml_grammar.specs.Script.{Lines}
-use Rattle.cml_script.specs.Counting.{how_many}
-use Rattle.cml_script.specs.Schedule.{History, IsReady, NoneReady, is_called, performed, positions_from, step_call}
-use Rattle.cml_script.specs.Plan.{HasSeats}
-use Rattle.cml_script.specs.Stage.{earlier_of, IsReadyOf, NoneReadyOf, IsLeast, IsLeastBelow}
+use Rattle.cml_board.specs.Prelude.{Call, answer}
+use Rattle.cml_grammar.specs.Prelude.{Lines}
+use Rattle.cml_script.specs.Prelude.{how_many, History, IsReady, NoneReady, is_called, performed, positions_from, step_call, HasSeats}
+use Rattle.cml_script.specs.Prelude.{earlier_of, IsReadyOf, NoneReadyOf, IsLeast, IsLeastBelow}
 use Rattle.cml_script.proofs.LineLemmas.{called_seated}
 use Rattle.cml_script.proofs.QueueLemmas.{position_is, position_of_step}
 

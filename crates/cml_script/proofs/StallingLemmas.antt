@@ -5,21 +5,14 @@ use Rattle.std.specs.Option.{option_map_or, option_and_then}
 use Rattle.std.proofs.lemmas.Option.{same_Some, none-some, slice_get_within}
 use Rattle.std.proofs.lemmas.List.{length-map, length-take-le}
 use Rattle.std.proofs.lemmas.Bool.{cases_lt}
-use Rattle.cml_board.specs.declared.call.Call.{Call}
+use Rattle.cml_board.specs.Prelude.{Call, Fits, answer}
 use Rattle.cml_board.specs.declared.entry.Who.TheVariants.{Seat}
-use Rattle.cml_board.specs.History.{Fits, answer}
-use Rattle.cml_grammar.specs.declared.script.Step.{Step}
-use Rattle.cml_grammar.specs.Script.{SourceLine, Lines}
-use Rattle.cml_grammar.specs.Meaning.{names_of, seat_of_step}
-use Rattle.cml_grammar.specs.Reading.{source_of, ReadsStep}
+use Rattle.cml_grammar.specs.Prelude.{Step, SourceLine, Lines, names_of, seat_of_step, source_of, ReadsStep}
 use Rattle.cml_script.specs.declared.route.Route.TheVariants as route
-use Rattle.cml_script.specs.Counting.{one_if, how_many}
-use Rattle.cml_script.specs.Schedule.{History, declared_count, is_apart, is_by_ring, is_called, next_position, performed, positions_where, route_of_line, step_call}
-use Rattle.cml_script.specs.Report.{Tallied}
-use Rattle.cml_script.specs.Left.{is_by_lane, is_laid}
-use Rattle.cml_script.specs.Plan.{HasSeats, route_at}
-use Rattle.cml_script.specs.Stalling.{WaitsOrIsDone, is_before, is_passed, IsAllMoved, NobodyGoesOn}
-use Rattle.cml_script.specs.Trail.{Progress, next_call}
+use Rattle.cml_script.specs.Prelude.{one_if, how_many, History, declared_count, is_apart, is_by_ring, is_called, next_position, performed}
+use Rattle.cml_script.specs.Prelude.{positions_where, route_of_line, step_call, Tallied, is_laid, HasSeats, route_at, WaitsOrIsDone}
+use Rattle.cml_script.specs.Prelude.{is_before, is_passed, IsAllMoved, NobodyGoesOn, Progress, next_call}
+use Rattle.cml_script.specs.Left.{is_by_lane}
 use Rattle.cml_script.proofs.ListLemmas.{how_many-append, mapped_at, taken_more}
 use Rattle.cml_script.proofs.QueueLemmas.{position_is, positions_pushed}
 use Rattle.cml_script.proofs.LineLemmas.{all_at, called_seated}

@@ -2,10 +2,7 @@
 use Rattle.std.proofs.Common.{◌≡◌, ◌+◌, ◌<◌, ◌≤◌, List, [], ◌++◌, reverse, sym, ap, ◌∙◌, arith}
 use Rattle.std.proofs.Math.Nat.{min-le_left}
 use Rattle.std.proofs.lemmas.List.{append-nil, reverse-reverse}
-use Rattle.cml_board.specs.declared.entry.Entry.{Entry}
-use Rattle.cml_board.specs.History.{entries_in}
-use Rattle.cml_board.specs.Shown.{Shown, full_at}
-use Rattle.cml_board.specs.Outcome.{HasRoom}
+use Rattle.cml_board.specs.Prelude.{Entry, entries_in, Shown, full_at, HasRoom}
 
 module _ {M : Type 0} where
   -- its journal has all entries

@@ -5,31 +5,21 @@ use Rattle.std.specs.Option.{option_map, option_map_or, option_and_then}
 use Rattle.std.specs.declared.alloc.AllocError.{AllocError}
 use Rattle.std.proofs.lemmas.Option.{IfSome_then, slice_get_within}
 use Rattle.std.proofs.lemmas.Bool.{and_right, not_from_true, false≢true, eq-eqb}
-use Rattle.cml_board.specs.declared.call.Call.{Call}
+use Rattle.cml_board.specs.Prelude.{Call, Reply, Entry, Refusal}
 use Rattle.cml_board.specs.declared.call.Call.TheVariants as call
 use Rattle.cml_board.specs.declared.entry.Who.TheVariants.{Seat}
-use Rattle.cml_board.specs.declared.entry.Reply.{Reply}
 use Rattle.cml_board.specs.declared.entry.Reply.TheVariants as reply
-use Rattle.cml_board.specs.declared.entry.Entry.{Entry}
-use Rattle.cml_board.specs.declared.outcome.Refusal.{Refusal}
-use Rattle.cml_threads.specs.Telling.{suits}
-use Rattle.cml_grammar.specs.declared.script.Step.{Step}
-use Rattle.cml_grammar.specs.Script.{Lines}
-use Rattle.cml_grammar.specs.Meaning.{names_of}
-use Rattle.cml_grammar.specs.Reading.{source_of, ReadsStep, UsesEarlier, used_by}
-use Rattle.cml_script.specs.declared.stop.Stop.{Stop}
+use Rattle.cml_threads.specs.Prelude.{suits}
+use Rattle.cml_grammar.specs.Prelude.{Step, Lines, names_of, source_of, ReadsStep, UsesEarlier, used_by}
+use Rattle.cml_script.specs.Prelude.{Stop, Route, Course, one_if, History, declared_count, maker, performed, is_seat, is_called, is_by_ring}
+use Rattle.cml_script.specs.Prelude.{route_of_line, earlier, next_position, given_by, step_call, bound_by, binding_of, port_bound, Apart}
+use Rattle.cml_script.specs.Prelude.{goes_apart, earlier_apart, act_of_line, is_of_thread, IsKnown, HasSeats, AsksForPorts, route_at}
+use Rattle.cml_script.specs.Prelude.{AreBindings, with_binding, Made, with_call, with_apart, with_closed, waits, MayCall, BeginsAt}
+use Rattle.cml_script.specs.Prelude.{AreBySeat, AreByMakers, IsOpening, AreNextSteps, IsTurn, IsUnrefused, IsStop, Works, with_refused}
+use Rattle.cml_script.specs.Prelude.{stop_of, ending_with, closed_if, IsRefusedSo, AreSuiting, IsUnderWay, HasTaken}
 use Rattle.cml_script.specs.declared.binding.Binding.TheVariants as binding
-use Rattle.cml_script.specs.declared.route.Route.{Route}
 use Rattle.cml_script.specs.declared.route.Route.TheVariants as route
-use Rattle.cml_script.specs.declared.running.worker.Course.{Course}
-use Rattle.cml_script.specs.Counting.{one_if}
-use Rattle.cml_script.specs.Schedule.{History, declared_count, maker, performed, is_seat, is_called, is_by_ring, route_of_line, earlier, next_position, given_by, step_call, bound_by, binding_of, port_bound}
-use Rattle.cml_script.specs.Apart.{Apart, is_by_lane, goes_apart, earlier_apart, act_of_line}
-use Rattle.cml_script.specs.Report.{is_of_thread}
-use Rattle.cml_script.specs.Plan.{IsKnown, HasSeats, AsksForPorts, route_at}
-use Rattle.cml_script.specs.Bindings.{AreBindings, with_binding}
-use Rattle.cml_script.specs.Working.{Made, with_call, with_apart, with_closed, waits, MayCall, BeginsAt, AreBySeat, AreByMakers, IsOpening, AreNextSteps, IsTurn, IsUnrefused, IsStop, Works, with_refused, stop_of, ending_with}
-use Rattle.cml_script.specs.Course.{closed_if, IsRefusedSo, AreSuiting, IsUnderWay, HasTaken}
+use Rattle.cml_script.specs.Apart.{is_by_lane}
 use Rattle.cml_script.proofs.ListLemmas.{how_many-le, count_taken, taken_all, told_more}
 use Rattle.cml_script.proofs.GivingLemmas.{giver, next_at, none_other}
 use Rattle.cml_script.proofs.BindingLemmas.{AreSteps, asks_port, bound_more, maker_is_none, none_seated}

@@ -1,13 +1,9 @@
 -- The inside of `declare`: how it makes what one declaration says.
 use Rattle.std.specs.Prelude.{ℕ, ◌≡◌, Option, Some, ⊤, List}
 use Rattle.std.specs.Option.{option_map}
-use Rattle.cml_board.specs.declared.call.Name.{Name}
-use Rattle.cml_board.specs.declared.call.Call.{Call}
-use Rattle.cml_board.specs.declared.entry.Reply.{Reply}
-use Rattle.cml_grammar.specs.Script.{Lines}
-use Rattle.cml_grammar.specs.declared.forms.Makes.{Makes}
+use Rattle.cml_board.specs.Prelude.{Name, Call, Reply}
+use Rattle.cml_grammar.specs.Prelude.{Lines, Makes, IsCapacity}
 use Rattle.cml_grammar.specs.declared.forms.Makes.TheVariants as makes
-use Rattle.cml_grammar.specs.Reading.{IsCapacity}
 use Rattle.cml_script.specs.Schedule.{number_of, making_call}
 use Rattle.cml_script.specs.Working.{Made, with_call, with_feed}
 

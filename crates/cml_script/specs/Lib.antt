@@ -30,3 +30,4 @@ pub mod Endings
 pub mod Replay
 pub mod Running
 pub mod Laws
+pub mod Prelude

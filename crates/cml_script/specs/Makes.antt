@@ -1,8 +1,7 @@
 -- The inside of `declare`, `audit` and a report: what the declarations of a script make.
 use Rattle.std.specs.Prelude.{◌<◌, length, ⊤}
-use Rattle.cml_grammar.specs.declared.forms.Makes.{Makes}
+use Rattle.cml_grammar.specs.Prelude.{Makes, Lines}
 use Rattle.cml_grammar.specs.declared.forms.Makes.TheVariants as makes
-use Rattle.cml_grammar.specs.Script.{Lines}
 
 -- what is made is made of declared names
 abbrev pub IsMadeOfDeclared : Lines → Makes → Type 0

@@ -1,12 +1,8 @@
 -- What a replay reads and writes, by how it ends.
 use Rattle.std.specs.Prelude.{ℕ, ◌≡◌, ◌⊎◌, List, Option, Some, ⊤}
 use Rattle.std.specs.Io.KnownBytes.{Consumes, IsAtEnd, Appends, Keeps}
-use Rattle.cml_grammar.specs.Input.{IsReadUpTo}
-use Rattle.cml_grammar.specs.declared.fault.Fault.{Fault}
-use Rattle.cml_grammar.specs.Script.{Lines, IsScript}
+use Rattle.cml_grammar.specs.Prelude.{IsReadUpTo, Fault, Lines, IsScript, fault_of, at_line, first_ring}
 use Rattle.cml_grammar.specs.declared.fault.What.TheVariants.{NeedsRun}
-use Rattle.cml_grammar.specs.Faults.{fault_of, at_line}
-use Rattle.cml_grammar.specs.Rings.{first_ring}
 use Rattle.cml_script.specs.declared.form.Form.{Form}
 use Rattle.cml_script.specs.declared.form.Form.TheVariants.{Report, Journal}
 use Rattle.cml_script.specs.declared.stop.Stop.{Stop}

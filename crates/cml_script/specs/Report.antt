@@ -3,23 +3,13 @@ use Rattle.std.specs.Prelude.{ℕ, suc, ◌+◌, ◌-◌, ◌==◌, not, Bool, f
 use Rattle.std.specs.Option.{option_map_or, option_and_then}
 use Rattle.std.specs.List.{join_with_byte}
 use Rattle.std.specs.Fmt.{decimal}
-use Rattle.cml_board.specs.declared.call.Call.{Call}
+use Rattle.cml_board.specs.Prelude.{Call, Who, Reply, Entry, start_by, entries_in, origin_of, sent, got, owed, is_open, held, kept_from}
+use Rattle.cml_board.specs.Prelude.{kept_size}
 use Rattle.cml_board.specs.declared.call.Call.TheVariants as call
-use Rattle.cml_board.specs.declared.entry.Who.{Who}
 use Rattle.cml_board.specs.declared.entry.Who.TheVariants as who
-use Rattle.cml_board.specs.declared.entry.Reply.{Reply}
 use Rattle.cml_board.specs.declared.entry.Reply.TheVariants as reply
-use Rattle.cml_board.specs.declared.entry.Entry.{Entry}
-use Rattle.cml_board.specs.Origins.{start_by}
-use Rattle.cml_board.specs.History.{entries_in, origin_of, sent, got, owed, is_open}
-use Rattle.cml_board.specs.Held.{held}
-use Rattle.cml_board.specs.Kept.{kept_from, kept_size}
-use Rattle.cml_grammar.specs.declared.names.Named.{Named}
+use Rattle.cml_grammar.specs.Prelude.{Named, Given, SourceLine, Lines, names_of, declared_word}
 use Rattle.cml_grammar.specs.declared.names.Named.TheVariants.{Thread, Mailbox, Channel, Port, IVar, MVar, Feed}
-use Rattle.cml_grammar.specs.Names.{Given}
-use Rattle.cml_grammar.specs.Script.{SourceLine, Lines}
-use Rattle.cml_grammar.specs.Meaning.{names_of}
-use Rattle.cml_grammar.specs.Giving.{declared_word}
 use Rattle.cml_script.specs.Counting.{how_many}
 use Rattle.cml_script.specs.declared.stop.Stop.{Stop}
 use Rattle.cml_script.specs.declared.stop.Stop.TheVariants.{Done, Stalled, Full, Held}

@@ -1,10 +1,8 @@
 -- What a run reads and writes, by how it ends.
 use Rattle.std.specs.Prelude.{ℕ, ◌≡◌, ◌+◌, ◌<◌, ◌≤◌, ◌⊎◌, List, length, reverse, Option, Some, unwrap_or, ⊤}
 use Rattle.std.specs.Io.KnownBytes.{Appends, Keeps}
-use Rattle.cml_board.specs.History.{no_entries, entries_in, Lawful}
-use Rattle.cml_board.specs.Shown.{Shown}
-use Rattle.cml_board.specs.Counts.{got_count}
-use Rattle.cml_grammar.specs.Script.{Lines, IsScript}
+use Rattle.cml_board.specs.Prelude.{no_entries, entries_in, Lawful, Shown, got_count, IsFirstUnlawful}
+use Rattle.cml_grammar.specs.Prelude.{Lines, IsScript}
 use Rattle.cml_script.specs.declared.form.Form.{Form}
 use Rattle.cml_script.specs.declared.form.Form.TheVariants.{Report, Journal}
 use Rattle.cml_script.specs.declared.stop.Stop.{Stop}
@@ -19,7 +17,6 @@ use Rattle.cml_script.specs.Left.{HasLeft, IsAllDone}
 use Rattle.cml_script.specs.Stalling.{NobodyGoesOn}
 use Rattle.cml_script.specs.Lanes.{AreSentInOrder}
 use Rattle.cml_script.specs.Replay.{AreAll, IsFaulty}
-use Rattle.cml_board.specs.Checking.{IsFirstUnlawful}
 
 -- what is left if a run ends like this. If it is done, nothing is left. If it is stalled or held, at least one step is left; if
 -- stalled, no thread could go on. If it is full, the journal is at its limit, and something is left

@@ -3,21 +3,12 @@ use Rattle.std.specs.Prelude.{ℕ, ◌≡◌, ◌≢◌, ◌<◌, ◌≤◌, ◌
 use Rattle.std.specs.Option.{option_and_then}
 use Rattle.std.specs.Result.{result_err}
 use Rattle.std.specs.declared.alloc.AllocError.{AllocError}
-use Rattle.cml_board.specs.declared.call.Name.{Name}
-use Rattle.cml_board.specs.declared.call.Call.{Call}
+use Rattle.cml_board.specs.Prelude.{Name, Call, Who, Reply, Entry, Refusal, row_of, entries_in}
 use Rattle.cml_board.specs.declared.call.Call.TheVariants.{NewPort}
-use Rattle.cml_board.specs.declared.entry.Who.{Who}
 use Rattle.cml_board.specs.declared.entry.Who.TheVariants.{Seat, Lane, Feed}
-use Rattle.cml_board.specs.declared.entry.Reply.{Reply}
 use Rattle.cml_board.specs.declared.entry.Reply.TheVariants as reply
-use Rattle.cml_board.specs.declared.entry.Entry.{Entry}
-use Rattle.cml_board.specs.declared.outcome.Refusal.{Refusal}
 use Rattle.cml_board.specs.declared.outcome.Refusal.TheVariants.{JournalFull, NoMemory}
-use Rattle.cml_board.specs.Objects.{row_of}
-use Rattle.cml_board.specs.History.{entries_in}
-use Rattle.cml_grammar.specs.Script.{SourceLine, Lines}
-use Rattle.cml_grammar.specs.Meaning.{names_of, makes_of}
-use Rattle.cml_grammar.specs.declared.forms.Makes.{Makes}
+use Rattle.cml_grammar.specs.Prelude.{SourceLine, Lines, names_of, makes_of, Makes}
 use Rattle.cml_grammar.specs.declared.forms.Makes.TheVariants as makes
 use Rattle.cml_script.specs.declared.stop.Stop.{Stop}
 use Rattle.cml_script.specs.declared.stop.Stop.TheVariants.{Done, Stalled, Full, Held}

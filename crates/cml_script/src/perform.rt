@@ -1,9 +1,8 @@
 //! A whole script, performed and reported.
 ghost use Rattle.std.specs.Prelude.{◌≡◌, ◌≤◌, ◌^◌, None, IfOk, string_bytes};
-ghost use Rattle.cml_board.specs.History.{no_entries, entries_in};
-ghost use Rattle.cml_grammar.specs.Rings.{first_ring};
-ghost use Rattle.cml_script.specs.Schedule.{declared_count, Ends};
-ghost use Rattle.cml_script.specs.Play.{IsPlayed, IsPlayedAs};
+ghost use Rattle.cml_board.specs.Prelude.{no_entries, entries_in};
+ghost use Rattle.cml_grammar.specs.Prelude.{first_ring};
+ghost use Rattle.cml_script.specs.Prelude.{declared_count, Ends, IsPlayed, IsPlayedAs};
 
 use crate::form::Form;
 use crate::stage::Stage;

@@ -1,15 +1,10 @@
 //! What a report is about.
 ghost use Rattle.std.specs.Prelude.{◌≡◌, Some, None, reverse, MatchOption, IfSome};
-ghost use Rattle.cml_calls.specs.declared.kind.Kind.{Kind};
-ghost use Rattle.cml_board.specs.History.{no_entries, Lawful, kind_of};
-ghost use Rattle.cml_grammar.specs.Meaning.{names_of};
-ghost use Rattle.cml_script.specs.Counting.{how_many};
-ghost use Rattle.cml_script.specs.Schedule.{made_of};
-ghost use Rattle.cml_script.specs.Left.{is_lane, is_moved};
-ghost use Rattle.cml_script.specs.Report.{performed_count, unperformed, taken_by, is_of_thread, is_step_entry};
-ghost use Rattle.cml_script.specs.Plan.{IsObject, IsObjectAt};
-ghost use Rattle.cml_script.specs.Audit.{IsOfScript};
-ghost use Rattle.cml_script.specs.Trail.{history_of};
+ghost use Rattle.cml_calls.specs.Prelude.{Kind};
+ghost use Rattle.cml_board.specs.Prelude.{no_entries, Lawful, kind_of};
+ghost use Rattle.cml_grammar.specs.Prelude.{names_of};
+ghost use Rattle.cml_script.specs.Prelude.{how_many, made_of, is_lane, is_moved, performed_count, unperformed, taken_by, is_of_thread};
+ghost use Rattle.cml_script.specs.Prelude.{is_step_entry, IsObject, IsObjectAt, IsOfScript, history_of};
 
 use crate::plan::count_objects;
 use crate::tally::Tally;

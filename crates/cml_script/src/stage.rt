@@ -1,17 +1,12 @@
 //! A script under way on a board.
 ghost use Rattle.std.specs.Prelude.{◌≡◌, ◌≢◌, ◌↔◌, ℕ, ◌+◌, ◌-◌, ◌<◌, ◌≤◌, ◌^◌, List, [], ◌∷◌, length, slice_get, false, Some, None, IfOk, OnOk, OnErr, MatchOption, MatchBool, IsTrue, IfSome, IsSome};
-ghost use Rattle.cml_board.specs.History.{no_entries, entries_in, Fits, Lawful, kind_of};
-ghost use Rattle.cml_calls.specs.declared.kind.Kind.{Kind};
-ghost use Rattle.cml_board.specs.declared.entry.Reply.{Reply};
-ghost use Rattle.cml_board.specs.declared.entry.Entry.{Entry};
-ghost use Rattle.cml_grammar.specs.Meaning.{names_of};
-ghost use Rattle.cml_grammar.specs.Reading.{UsesWell, used_by};
-ghost use Rattle.cml_grammar.specs.Rings.{first_ring, makes_feed};
-ghost use Rattle.cml_script.specs.Schedule.{NoneReady, Follows, left, declared_count, makes_object, declared_object, object_of, made_of, next_position, call_of, step_call};
-ghost use Rattle.cml_script.specs.Report.{performed_count};
-ghost use Rattle.cml_script.specs.Counting.{one_if};
-ghost use Rattle.cml_script.specs.Plan.{IsObject, IsObjectAt};
-ghost use Rattle.cml_script.specs.Stage.{with_entry, IsNextObject, IsNext, IsNextStep, IsBound, WaitsIf, earlier_of, IsLeast, IsReadyOf, NoneReadyOf, IsStepAt};
+ghost use Rattle.cml_board.specs.Prelude.{no_entries, entries_in, Fits, Lawful, kind_of, Reply, Entry};
+ghost use Rattle.cml_calls.specs.Prelude.{Kind};
+ghost use Rattle.cml_grammar.specs.Prelude.{names_of, UsesWell, used_by, first_ring, makes_feed};
+ghost use Rattle.cml_script.specs.Prelude.{NoneReady, Follows, left, declared_count, makes_object, declared_object, object_of, made_of};
+ghost use Rattle.cml_script.specs.Prelude.{next_position, call_of, step_call, performed_count, one_if, IsObject, IsObjectAt, with_entry};
+ghost use Rattle.cml_script.specs.Prelude.{IsNextObject, IsNext, IsNextStep, IsBound, WaitsIf, earlier_of, IsLeast, IsReadyOf, NoneReadyOf};
+ghost use Rattle.cml_script.specs.Prelude.{IsStepAt};
 
 use crate::binding::{Binding, bind};
 use crate::calls::{call_on, used_by, would_wait};

@@ -1,16 +1,14 @@
 //! How far the threads of a script are in a journal.
 ghost use Rattle.std.specs.Prelude.{◌≡◌, ◌↔◌, ◌&&◌, ℕ, ◌+◌, ◌<◌, ◌≤◌, Some, None, length, filter, slice_get, IfOk, IfSome, IsTrue, MatchOption};
 ghost use Rattle.std.specs.Option.{option_map, option_and_then};
-ghost use Rattle.cml_board.specs.History.{entries_in};
-ghost use Rattle.cml_grammar.specs.Meaning.{names_of};
-ghost use Rattle.cml_script.specs.Schedule.{declared_count, declared_object, object_of, made_of, making_call, maker, next_position, objects_of, is_feed, feed_at, is_apart, is_by_ring, IsDeclaration};
-ghost use Rattle.cml_script.specs.Plan.{IsKnown, IsObject, route_at};
-ghost use Rattle.cml_script.specs.Audit.{IsOwn, IsOfCaller, IsOfLane, IsOfFeed, sent_to};
-ghost use Rattle.cml_script.specs.Makes.{IsMadeOfDeclared};
-ghost use Rattle.cml_script.specs.Report.{given_word};
-ghost use Rattle.cml_script.specs.Left.{is_by_lane, is_laid};
-ghost use Rattle.cml_script.specs.Stalling.{WaitsOrIsDone, is_passed, passed_count};
-ghost use Rattle.cml_script.specs.Trail.{history_of, with_next, next_text, IsThread, IsNoThread, AreSmallCounts, CountsOneMore, next_given, next_call, declared_call};
+ghost use Rattle.cml_board.specs.Prelude.{entries_in};
+ghost use Rattle.cml_grammar.specs.Prelude.{names_of};
+ghost use Rattle.cml_script.specs.Prelude.{declared_count, declared_object, object_of, made_of, making_call, maker, next_position};
+ghost use Rattle.cml_script.specs.Prelude.{objects_of, is_feed, feed_at, is_apart, is_by_ring, IsDeclaration, IsKnown, IsObject, route_at};
+ghost use Rattle.cml_script.specs.Prelude.{IsOwn, IsOfCaller, IsOfLane, IsOfFeed, sent_to, IsMadeOfDeclared, given_word, is_laid};
+ghost use Rattle.cml_script.specs.Prelude.{WaitsOrIsDone, is_passed, passed_count, history_of, with_next, next_text, IsThread, IsNoThread};
+ghost use Rattle.cml_script.specs.Prelude.{AreSmallCounts, CountsOneMore, next_given, next_call, declared_call};
+ghost use Rattle.cml_script.specs.Left.{is_by_lane};
 
 use crate::binding::{Binding, bind};
 use crate::calls::{is_call_on, used_by, would_wait};

@@ -1,12 +1,9 @@
 -- What came of a script, by how it ended.
 use Rattle.std.proofs.Common.{◌≡◌, ℕ, List, []}
-use Rattle.cml_script.specs.declared.ending.Ending.{Ending}
+use Rattle.cml_script.specs.Prelude.{Ending, Stop, ending_of_stop, IsPlayedText, EndsUnplayedText}
 use Rattle.cml_script.specs.declared.ending.Ending.TheVariants as ending
-use Rattle.cml_script.specs.declared.stop.Stop.{Stop}
 use Rattle.cml_script.specs.declared.stop.Stop.TheVariants as stop
-use Rattle.cml_script.specs.Endings.{ending_of_stop}
-use Rattle.cml_script.specs.Replay.{IsPlayedText, EndsUnplayedText}
-use Rattle.cml_script_c.specs.Replaying.{IsReplay}
+use Rattle.cml_script_c.specs.Prelude.{IsReplay}
 
 pub played : (limit : ℕ) (script report : List ℕ) (stopped : Stop) → IsPlayedText limit script stopped report → IsReplay limit script report (ending_of_stop stopped)
 played limit script report stop.Done is = is

@@ -1,10 +1,8 @@
 -- Which entries open a script's journal.
 use Rattle.std.proofs.Common.{◌≡◌, ℕ, ◌≤◌, [], ◌∷◌, length, MatchBool, subst, arith}
 use Rattle.std.proofs.lemmas.Bool.{lt-ltb}
-use Rattle.cml_grammar.specs.Script.{Lines}
-use Rattle.cml_script.specs.Schedule.{History, declared_count, IsDeclaration}
-use Rattle.cml_script.specs.Audit.{IsOfScript, IsOfCaller}
-use Rattle.cml_script.specs.Working.{AreByMakers}
+use Rattle.cml_grammar.specs.Prelude.{Lines}
+use Rattle.cml_script.specs.Prelude.{History, declared_count, IsDeclaration, IsOfScript, IsOfCaller, AreByMakers}
 
 -- the declared objects are an opening
 pub opens : (script : Lines) (history : History) → IsOfScript script history → length history ≤ declared_count script → AreByMakers script history

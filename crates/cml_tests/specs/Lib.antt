@@ -1,3 +1,4 @@
 pub mod Rings
 pub mod Telling
 pub mod Performed
+pub mod Prelude

@@ -1,11 +1,7 @@
 -- What a teller made.
 use Rattle.std.specs.Prelude.{ℕ, ◌≡◌, Bool, false, List, [], ◌++◌, reverse, Option, Some, None}
-use Rattle.cml_board.specs.declared.call.Name.{Name}
-use Rattle.cml_board.specs.declared.outcome.Refusal.{Refusal}
-use Rattle.cml_script.specs.Counting.{how_many}
-use Rattle.cml_script.specs.Schedule.{History}
-use Rattle.cml_script.specs.Apart.{Apart, by_lane, by_feed}
-use Rattle.cml_script.specs.Working.{Made, is_of_feed}
+use Rattle.cml_board.specs.Prelude.{Name, Refusal}
+use Rattle.cml_script.specs.Prelude.{how_many, History, Apart, by_lane, by_feed, Made, is_of_feed}
 
 -- a message that was sent by a lane with so much room, or a poll of the feed of this number
 abbrev pub went_so : Option (List ℕ) → Name → ℕ → Apart

@@ -1,18 +1,11 @@
 -- How many entries a call on lanes or feeds adds, and that all of them are of lanes and feeds.
 use Rattle.std.proofs.Common.{◌≡◌, ℕ, ◌+◌, ◌≤◌, List, [], ◌∷◌, length, ap, ◌∙◌, arith}
-use Rattle.cml_board.specs.declared.call.Name.{Name}
-use Rattle.cml_board.specs.declared.entry.Entry.{Entry}
-use Rattle.cml_board.specs.History.{entries_in, rings_in}
-use Rattle.cml_board.specs.Shown.{Shown}
-use Rattle.cml_lanes.specs.declared.way.Way.{Way}
-use Rattle.cml_lanes.specs.Laned.{lane_entry, with_lane}
-use Rattle.cml_lanes.specs.Fed.{feed_entry, with_feed}
-use Rattle.cml_lanes.specs.Floor.{FloorShown}
-use Rattle.cml_lanes.specs.Deeds.{Deed, as_it_was, lane_drained, lane_gone, lane_opened, feed_pumped, feed_gone, feed_opened}
+use Rattle.cml_board.specs.Prelude.{Name, Entry, entries_in, rings_in, Shown}
+use Rattle.cml_lanes.specs.Prelude.{Way, lane_entry, with_lane, feed_entry, with_feed, FloorShown, Deed, as_it_was, lane_drained, lane_gone}
+use Rattle.cml_lanes.specs.Prelude.{lane_opened, feed_pumped, feed_gone, feed_opened}
 use Rattle.cml_lanes.proofs.ReservedLemmas.{lane_entries, feed_entries}
-use Rattle.cml_room.specs.declared.state.State.{State}
-use Rattle.cml_room.specs.Room.{RoomShown, floor_of}
-use Rattle.cml_threads.specs.Hosting.{IsCounted, WasCounted}
+use Rattle.cml_room.specs.Prelude.{State, RoomShown, floor_of}
+use Rattle.cml_threads.specs.Prelude.{IsCounted, WasCounted}
 
 -- some entries were added, each of a lane or a feed
 record AddsRings {M : Type 0} (old new : Shown M) : Type 0 where

@@ -2,12 +2,9 @@
 use Rattle.std.proofs.Common.{◌≡◌, ℕ, zero, suc, ◌+◌, ◌<◌, ◌≤◌, ◌⊎◌, inl, inr, List, [], ◌∷◌, ◌++◌, length, slice_get, Some, refl, sym, ap, ◌∙◌, arith}
 use Rattle.std.proofs.lemmas.Option.{same_Some, none-some}
 use Rattle.std.proofs.lemmas.List.Sums.{sum_by-append, sum_by-cons}
-use Rattle.cml_board.specs.declared.entry.Who.{Who}
+use Rattle.cml_board.specs.Prelude.{Who, Entry, ring_by, entries_in, rings_in, behind_seat, seats_of}
 use Rattle.cml_board.specs.declared.entry.Who.TheVariants.{Seat, Lane, Feed}
-use Rattle.cml_board.specs.declared.entry.Entry.{Entry}
-use Rattle.cml_board.specs.History.{ring_by, entries_in, rings_in}
-use Rattle.cml_board.specs.Makers.{behind_seat, seats_of}
-use Rattle.cml_threads.specs.Seating.{Sitting, answers_in, share_at}
+use Rattle.cml_threads.specs.Prelude.{Sitting, answers_in, share_at}
 
 one_at_most : (who : Who) → ring_by who ≤ 1
 one_at_most (Seat number) = omega arith

@@ -1,16 +1,9 @@
 -- What becomes of a seat's call in a hall, by what became of it in the room.
 use Rattle.std.proofs.Common.{◌≡◌, ℕ, Bool, subst}
-use Rattle.cml_board.specs.declared.call.Call.{Call}
-use Rattle.cml_board.specs.declared.outcome.Outcome.{Outcome}
-use Rattle.cml_room.specs.Room.{RoomShown}
-use Rattle.cml_room.specs.Asking.{Asks}
-use Rattle.cml_room.specs.Frames.{Turns}
-use Rattle.cml_room.specs.Rising.{news_by}
-use Rattle.cml_room.specs.Running.{asked_by}
-use Rattle.cml_threads.specs.Seating.{Sitting}
-use Rattle.cml_threads.specs.Asking.{Tallies}
+use Rattle.cml_board.specs.Prelude.{Call, Outcome}
+use Rattle.cml_room.specs.Prelude.{RoomShown, Asks, Turns, news_by, asked_by}
+use Rattle.cml_threads.specs.Prelude.{Sitting, Tallies, Hosted, room_of}
 use Rattle.cml_threads.specs.Asking as hosted
-use Rattle.cml_threads.specs.Hosting.{Hosted, room_of}
 
 module _ {M : Type 0} where
   -- a hall of a room and a book

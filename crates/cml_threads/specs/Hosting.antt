@@ -1,13 +1,8 @@
 -- What a hall shows of itself, and what always holds of it.
 use Rattle.std.specs.Prelude.{ℕ, ◌≡◌, ◌+◌, ◌^◌, ◌<◌, Bool, List, length, Option}
-use Rattle.cml_board.specs.declared.call.Call.{Call}
-use Rattle.cml_board.specs.History.{entries_in, rings_in}
-use Rattle.cml_board.specs.Shown.{Shown}
-use Rattle.cml_lanes.specs.Sides.{LaneSide, FeedSide}
-use Rattle.cml_lanes.specs.Floor.{FloorShown}
-use Rattle.cml_lanes.specs.Deeds.{Deed}
-use Rattle.cml_room.specs.declared.notice.Notice.{Notice}
-use Rattle.cml_room.specs.declared.state.State.{State}
+use Rattle.cml_board.specs.Prelude.{Call, entries_in, rings_in, Shown}
+use Rattle.cml_lanes.specs.Prelude.{LaneSide, FeedSide, FloorShown, Deed}
+use Rattle.cml_room.specs.Prelude.{Notice, State}
 use Rattle.cml_room.specs.Room as room
 
 -- the board; by its number the floor's end of each lane and of each feed, of open ones alone; the state of each seat, by

@@ -5,3 +5,4 @@ pub mod Running
 pub mod Settling
 pub mod Telling
 pub mod Unparking
+pub mod Prelude

@@ -1,7 +1,6 @@
 -- What a settled hall shows.
 use Rattle.std.specs.Prelude.{ℕ, ◌≡◌, ◌+◌}
-use Rattle.cml_board.specs.History.{entries_in, rings_in}
-use Rattle.cml_board.specs.Shown.{Shown}
+use Rattle.cml_board.specs.Prelude.{entries_in, rings_in, Shown}
 
 -- the board; how many answers were counted for seats; and how many entries are of lanes and feeds
 pub record Final (M : Type 0) : Type 0 where

@@ -1,14 +1,7 @@
 -- What a call on a switchboard returns.
 use Rattle.std.specs.Prelude.{◌≡◌, Bool, true, Option, Some, Result, Ok, Err, ⊤}
-use Rattle.cml_board.specs.declared.want.Want.{Want}
-use Rattle.cml_board.specs.Waiting.{want_in}
-use Rattle.cml_board.specs.declared.call.Call.{Call}
-use Rattle.cml_board.specs.Objects.{row_of}
-use Rattle.cml_board.specs.Replies.{may_have}
-use Rattle.cml_board.specs.declared.entry.Reply.{Reply}
-use Rattle.cml_board.specs.declared.outcome.Refusal.{Refusal}
+use Rattle.cml_board.specs.Prelude.{Want, want_in, Call, row_of, may_have, Reply, Refusal, Outcome}
 use Rattle.cml_board.specs.declared.outcome.Refusal.TheVariants.{NoSuch, WrongKind, JournalFull, NoMemory, Busy, Stalled, Unseen}
-use Rattle.cml_board.specs.declared.outcome.Outcome.{Outcome}
 use Rattle.cml_board.specs.declared.outcome.Outcome.TheVariants as outcome
 use Rattle.cml_threads.specs.Seating.{Sitting, raised}
 

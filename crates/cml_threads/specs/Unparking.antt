@@ -1,8 +1,7 @@
 -- Whom a thread wakes when it unlocks a hall, and in which halls there is nobody to wake.
 use Rattle.std.specs.Prelude.{ℕ, ◌≡◌, List, All, Option}
-use Rattle.cml_room.specs.declared.state.State.{State}
+use Rattle.cml_room.specs.Prelude.{State, GivesNext}
 use Rattle.cml_room.specs.declared.state.State.TheVariants.{Left}
-use Rattle.cml_room.specs.Running.{GivesNext}
 use Rattle.cml_threads.specs.Hosting.{Hosted, room_of}
 
 -- `next_due` was called once on the hall as it was, and the thread of the seat that it returned was unparked; none, if it returned none

@@ -1,17 +1,9 @@
 ghost use Rattle.std.specs.Prelude.{◌≡◌, ◌≢◌, ◌^◌, ◌≤◌, [], ◌∷◌, ◌++◌, length, reverse, IfOk, IfErr, OnOk, MatchResult};
 ghost use Rattle.cml_board.specs.declared.outcome.Refusal.TheVariants.{Gone, NoMemory};
-ghost use Rattle.cml_board.specs.History.{no_entries, entries_in};
-ghost use Rattle.cml_board.specs.Sound.{IsSound};
-ghost use Rattle.cml_lanes.specs.Floor.{KeepsLanes, KeepsFeeds, KeepsRings};
-ghost use Rattle.cml_lanes.specs.Reserving.{Reserves};
-ghost use Rattle.cml_lanes.specs.Cutting.{CutsAFloor, CutsFloor, NotCut};
-ghost use Rattle.cml_room.specs.Frames.{KeepsSeats};
-ghost use Rattle.cml_room.specs.Rising.{MakesNoneDue};
-ghost use Rattle.cml_room.specs.Room.{AllSleepRightly, NoneDue};
-ghost use Rattle.cml_room.specs.Running.{Other, IsMade};
-ghost use Rattle.cml_room.specs.Seats.{free_in, parked_in};
-ghost use Rattle.cml_threads.specs.Seating.{Sitting};
-ghost use Rattle.cml_threads.specs.Hosting.{floor_of, room_of, MayAsk, with_state};
+ghost use Rattle.cml_board.specs.Prelude.{no_entries, entries_in, IsSound};
+ghost use Rattle.cml_lanes.specs.Prelude.{KeepsLanes, KeepsFeeds, KeepsRings, Reserves, CutsAFloor, CutsFloor, NotCut};
+ghost use Rattle.cml_room.specs.Prelude.{KeepsSeats, MakesNoneDue, AllSleepRightly, NoneDue, Other, IsMade, free_in, parked_in};
+ghost use Rattle.cml_threads.specs.Prelude.{Sitting, floor_of, room_of, MayAsk, with_state};
 
 mod asking;
 mod counting;

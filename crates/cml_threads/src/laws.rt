@@ -1,19 +1,14 @@
 //! Laws of runs of calls in a hall.
 ghost use Rattle.std.specs.Prelude.{◌≡◌, ℕ, ◌+◌, ◌<◌, ◌≤◌, Bool, true, List, ◌∷◌, Option, None};
-ghost use Rattle.cml_board.specs.declared.call.Call.{Call};
+ghost use Rattle.cml_board.specs.Prelude.{Call};
 ghost use Rattle.cml_board.specs.declared.outcome.Refusal.TheVariants.{NoMemory};
-ghost use Rattle.cml_lanes.specs.Floor.{FloorShown};
-ghost use Rattle.cml_lanes.specs.Lanes.{HoldsUp};
-ghost use Rattle.cml_lanes.specs.Feeds.{Starves};
-ghost use Rattle.cml_lanes.specs.Reserving.{added_since, TakesEntryAlone, LaneTakesEntryAlone, FeedTakesEntryAlone};
-ghost use Rattle.cml_lanes.specs.Steps.{FloorCall, AreCalled};
+ghost use Rattle.cml_lanes.specs.Prelude.{FloorShown, HoldsUp, Starves, added_since, TakesEntryAlone, LaneTakesEntryAlone};
+ghost use Rattle.cml_lanes.specs.Prelude.{FeedTakesEntryAlone, FloorCall, AreCalled};
 ghost use Rattle.cml_board.specs.declared.outcome.Outcome.TheVariants.{Refused};
-ghost use Rattle.cml_room.specs.Room.{RoomShown, NoneDue};
+ghost use Rattle.cml_room.specs.Prelude.{RoomShown, NoneDue};
 ghost use Rattle.cml_room.specs.Running as room;
-ghost use Rattle.cml_threads.specs.Seating.{Sitting};
-ghost use Rattle.cml_threads.specs.Hosting.{Hosted, floor_of, room_of, MayAsk, MayAskAgain};
-ghost use Rattle.cml_threads.specs.Asking.{Asks};
-ghost use Rattle.cml_threads.specs.Running.{HallCall, AreMade, keeps_entries};
+ghost use Rattle.cml_threads.specs.Prelude.{Sitting, Hosted, floor_of, room_of, MayAsk, MayAskAgain, Asks, HallCall, AreMade};
+ghost use Rattle.cml_threads.specs.Prelude.{keeps_entries};
 
 use crate::hall::Hall;
 use cml_board::Message;

@@ -1,7 +1,6 @@
 ghost use Rattle.std.specs.Prelude.{◌≡◌, ◌+◌};
-ghost use Rattle.cml_board.specs.History.{entries_in, rings_in};
-ghost use Rattle.cml_board.specs.Sound.{IsSound};
-ghost use Rattle.cml_threads.specs.Settling.{Final};
+ghost use Rattle.cml_board.specs.Prelude.{entries_in, rings_in, IsSound};
+ghost use Rattle.cml_threads.specs.Prelude.{Final};
 
 use cml_board::{Board, Message};
 use cml_log::MessageLog;

@@ -1,10 +1,7 @@
 ghost use Rattle.std.specs.Prelude.{ℕ, ◌≡◌, ◌+◌, ◌-◌, ◌^◌, ◌≤◌, true, slice_get, Some, vec_len, IfOk, IfErr, OnOk};
 ghost use Rattle.cml_board.specs.declared.outcome.Refusal.TheVariants.{Busy, NoMemory};
-ghost use Rattle.cml_board.specs.Waiting.{want_in};
-ghost use Rattle.cml_board.specs.History.{entries_in, rings_in};
-ghost use Rattle.cml_threads.specs.Unparking.{HaveLeft};
-ghost use Rattle.cml_threads.specs.Seating.{Sitting, raised, answers_in, share_at};
-ghost use Rattle.cml_threads.specs.Telling.{suits, MayRefuse, Tells, Replies};
+ghost use Rattle.cml_board.specs.Prelude.{want_in, entries_in, rings_in};
+ghost use Rattle.cml_threads.specs.Prelude.{HaveLeft, Sitting, raised, answers_in, share_at, suits, MayRefuse, Tells, Replies};
 
 mod channels;
 mod feeds;

@@ -1,9 +1,7 @@
 //! The right answer to the call of an unlawful entry.
 ghost use Rattle.std.specs.Prelude.{◌≡◌, Some, IfOk, string_bytes};
-ghost use Rattle.cml_board.specs.declared.expected.Expected.{Expected};
-ghost use Rattle.cml_board.specs.Checking.{expected_of};
-ghost use Rattle.cml.specs.Lines.{answer_text};
-ghost use Rattle.cml.specs.Checking.{EndsAs};
+ghost use Rattle.cml_board.specs.Prelude.{Expected, expected_of};
+ghost use Rattle.cml.specs.Prelude.{answer_text, EndsAs};
 
 use crate::check::ending::Ending;
 use cml_board::{Expected, Message, Refusal};

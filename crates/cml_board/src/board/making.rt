@@ -1,12 +1,7 @@
 //! Calls that make or close an object.
 ghost use Rattle.std.specs.Prelude.{◌≡◌, true, false, Some, MatchOption, slice_get};
-ghost use Rattle.cml_calls.specs.Kinds.{is_port};
-ghost use Rattle.cml_board.specs.Calls.{making_call, makes_empty};
-ghost use Rattle.cml_board.specs.Making.{CanMake};
-ghost use Rattle.cml_board.specs.Counts.{is_a};
-ghost use Rattle.cml_board.specs.History.{is_open, Fits};
-ghost use Rattle.cml_board.specs.Holdings.{open_port};
-ghost use Rattle.cml_board.specs.Outcome.{Performs, HasRoom};
+ghost use Rattle.cml_calls.specs.Prelude.{is_port};
+ghost use Rattle.cml_board.specs.Prelude.{making_call, makes_empty, CanMake, is_a, is_open, Fits, open_port, Performs, HasRoom};
 
 use super::Board;
 use super::note::{Making, Performed, note};

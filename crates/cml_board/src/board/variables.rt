@@ -1,13 +1,7 @@
 //! Calls that make a variable, fill it or read it.
 ghost use Rattle.std.specs.Prelude.{◌≡◌, ◌≢◌, true, false, Some, None, option_copied, IfOk, OnErr};
-ghost use Rattle.cml_calls.specs.Kinds.{is_variable};
-ghost use Rattle.cml_board.specs.Counts.{is_a};
-ghost use Rattle.cml_board.specs.Held.{held};
-ghost use Rattle.cml_board.specs.History.{Fits};
-ghost use Rattle.cml_calls.specs.Table.{asked};
-ghost use Rattle.cml_board.specs.Parts.{asked_call};
-ghost use Rattle.cml_board.specs.Calls.{reads_variable, empties};
-ghost use Rattle.cml_board.specs.Outcome.{Performs, HasRoom};
+ghost use Rattle.cml_calls.specs.Prelude.{is_variable, asked};
+ghost use Rattle.cml_board.specs.Prelude.{is_a, held, Fits, asked_call, reads_variable, empties, Performs, HasRoom};
 
 use super::Board;
 use super::note::{Performed, note};

@@ -1,8 +1,6 @@
 //! Whether a call would wait.
 ghost use Rattle.std.specs.Prelude.{◌≡◌, ◌↔◌, Some, None, IsTrue};
-ghost use Rattle.cml_board.specs.History.{Fits, answer};
-ghost use Rattle.cml_board.specs.Waiting.{Waits};
-ghost use Rattle.cml_board.specs.Counts.{held_by};
+ghost use Rattle.cml_board.specs.Prelude.{Fits, answer, Waits, held_by};
 
 use super::Board;
 use crate::call::{Call, Name};

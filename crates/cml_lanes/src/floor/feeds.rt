@@ -1,11 +1,9 @@
 //! The calls that open, pump and end feeds.
 ghost use Rattle.std.specs.Prelude.{ℕ, ◌≡◌, ◌≤◌, ◌<◌, true, length, IfOk, IfErr, IfNone, IfSome, MatchOption};
 ghost use Rattle.cml_board.specs.declared.call.Call.TheVariants.{NewPort};
-ghost use Rattle.cml_board.specs.History.{Fits, Lawful};
-ghost use Rattle.cml_board.specs.Outcome.{HasRoom, IsAsBefore, Refuses};
-ghost use Rattle.cml_lanes.specs.Floor.{is_open_feed, stays, OnFeed, KeepsRings, SameFeedRing};
-ghost use Rattle.cml_lanes.specs.Feeds.{MakesPort, OpensAFeed, Pumps, Ends};
-ghost use Rattle.cml_lanes.specs.Slots.{PumpsUntil};
+ghost use Rattle.cml_board.specs.Prelude.{Fits, Lawful, HasRoom, IsAsBefore, Refuses};
+ghost use Rattle.cml_lanes.specs.Prelude.{is_open_feed, stays, OnFeed, KeepsRings, SameFeedRing, MakesPort, OpensAFeed, Pumps, Ends};
+ghost use Rattle.cml_lanes.specs.Prelude.{PumpsUntil};
 
 use super::Floor;
 use crate::MAX_CAPACITY;

@@ -1,11 +1,7 @@
 //! A seat's calls.
 ghost use Rattle.std.specs.Prelude.{◌≡◌, ◌≢◌, ◌⊎◌, Some, None, IfErr, OnOk, ⊤};
-ghost use Rattle.cml_board.specs.declared.want.Want.{Want};
-ghost use Rattle.cml_room.specs.Room.{state_of, MayAsk, MayAskAgain, Moves};
-ghost use Rattle.cml_room.specs.Asking.{Asks};
-ghost use Rattle.cml_room.specs.Frames.{Turns};
-ghost use Rattle.cml_room.specs.Rising.{news_by};
-ghost use Rattle.cml_room.specs.Running.{AskOf, asked_by, withdrawn_by};
+ghost use Rattle.cml_board.specs.Prelude.{Want};
+ghost use Rattle.cml_room.specs.Prelude.{state_of, MayAsk, MayAskAgain, Moves, Asks, Turns, news_by, AskOf, asked_by, withdrawn_by};
 
 use super::Room;
 use crate::news::news_in;

@@ -1,10 +1,7 @@
 //! The calls on feeds. None of them changes a seat's state, and none brings anything to the seats that wait.
 ghost use Rattle.std.specs.Prelude.{ℕ, ◌≡◌, ◌≤◌, ◌<◌, length, count_by, is_some};
-ghost use Rattle.cml_lanes.specs.Floor.{KeepsRings, SameFeedRing};
-ghost use Rattle.cml_lanes.specs.Feeds.{OpensAFeed, Pumps, Ends};
-ghost use Rattle.cml_room.specs.Frames.{KeepsSeats, Stirs};
-ghost use Rattle.cml_room.specs.Rising.{MakesNoneDue};
-ghost use Rattle.cml_room.specs.Room.{floor_of};
+ghost use Rattle.cml_lanes.specs.Prelude.{KeepsRings, SameFeedRing, OpensAFeed, Pumps, Ends};
+ghost use Rattle.cml_room.specs.Prelude.{KeepsSeats, Stirs, MakesNoneDue, floor_of};
 
 use super::Room;
 use crate::turns::settle;

@@ -1,10 +1,7 @@
 //! The calls on the journal. They make no seat due.
 ghost use Rattle.std.specs.Prelude.{◌≡◌, ◌≤◌, ◌++◌, IfOk, MatchResult, reverse};
-ghost use Rattle.cml_lanes.specs.Floor.{KeepsRings};
-ghost use Rattle.cml_lanes.specs.Cutting.{CutsAFloor, CutsFloor, NotCut};
-ghost use Rattle.cml_lanes.specs.Reserving.{Reserves};
-ghost use Rattle.cml_room.specs.Room.{floor_of};
-ghost use Rattle.cml_room.specs.Frames.{KeepsSeats};
+ghost use Rattle.cml_lanes.specs.Prelude.{KeepsRings, CutsAFloor, CutsFloor, NotCut, Reserves};
+ghost use Rattle.cml_room.specs.Prelude.{floor_of, KeepsSeats};
 
 use super::Room;
 use cml_board::{Entry, Message, Refusal};

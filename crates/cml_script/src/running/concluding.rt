@@ -1,9 +1,7 @@
 //! What a run told, before it is reported.
 ghost use Rattle.std.specs.Prelude.{◌≡◌, ◌↔◌, ◌<◌, ℕ, length, IsTrue, IfOk, IfErr, string_bytes};
-ghost use Rattle.cml_board.specs.History.{no_entries};
-ghost use Rattle.cml_script.specs.Audit.{IsOfScript};
-ghost use Rattle.cml_script.specs.Left.{HasLeft, IsAllDone};
-ghost use Rattle.cml_script.specs.Running.{IsReportOf, IsTextOf, IsRefused, IsTakenAt, Leaves, MayEnd};
+ghost use Rattle.cml_board.specs.Prelude.{no_entries};
+ghost use Rattle.cml_script.specs.Prelude.{IsOfScript, HasLeft, IsAllDone, IsReportOf, IsTextOf, IsRefused, IsTakenAt, Leaves, MayEnd};
 
 use super::lanes::are_sent_in_order;
 use super::stalling::nobody_goes_on;

@@ -1,13 +1,11 @@
 //! What a thread does.
 ghost use Rattle.std.specs.Prelude.{◌≡◌, ◌+◌, ◌<◌, ◌^◌, ◌⊎◌, ◌&&◌, not, true, Option, Some, Ok, length, IfSome, IfOk, IfErr, OnOk};
 ghost use Rattle.std.specs.Option.{option_map};
-ghost use Rattle.cml_board.specs.History.{entries_in};
-ghost use Rattle.cml_script.specs.Schedule.{History, step_call};
-ghost use Rattle.cml_script.specs.Bindings.{AreBindings};
-ghost use Rattle.cml_script.specs.Working.{Made, BeginsAt, IsOpening, IsTurn, IsUnheld, Works, waits, with_refused, stop_of, first_of, ending_with};
-ghost use Rattle.cml_script.specs.Plan.{IsKnown, route_at};
-ghost use Rattle.cml_grammar.specs.Reading.{IsCapacity};
-ghost use Rattle.cml_script.specs.Course.{IsUnderWay, IsRefusedSo, closed_if};
+ghost use Rattle.cml_board.specs.Prelude.{entries_in};
+ghost use Rattle.cml_script.specs.Prelude.{History, step_call, AreBindings, Made, BeginsAt, IsOpening, IsTurn, IsUnheld, Works, waits};
+ghost use Rattle.cml_script.specs.Prelude.{with_refused, stop_of, first_of, ending_with, IsKnown, route_at, IsUnderWay, IsRefusedSo};
+ghost use Rattle.cml_script.specs.Prelude.{closed_if};
+ghost use Rattle.cml_grammar.specs.Prelude.{IsCapacity};
 
 use super::caller::Caller;
 use super::gate::Gate;

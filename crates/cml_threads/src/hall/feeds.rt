@@ -1,10 +1,8 @@
 //! The calls on feeds. None of them changes a seat's state.
 ghost use Rattle.std.specs.Prelude.{ℕ, ◌≡◌, ◌≤◌, ◌<◌, length, count_by, is_some};
-ghost use Rattle.cml_lanes.specs.Floor.{KeepsRings, SameFeedRing};
-ghost use Rattle.cml_lanes.specs.Feeds.{OpensAFeed, Pumps, Ends};
-ghost use Rattle.cml_room.specs.Frames.{KeepsSeats, Stirs};
-ghost use Rattle.cml_room.specs.Rising.{MakesNoneDue};
-ghost use Rattle.cml_threads.specs.Hosting.{floor_of, room_of};
+ghost use Rattle.cml_lanes.specs.Prelude.{KeepsRings, SameFeedRing, OpensAFeed, Pumps, Ends};
+ghost use Rattle.cml_room.specs.Prelude.{KeepsSeats, Stirs, MakesNoneDue};
+ghost use Rattle.cml_threads.specs.Prelude.{floor_of, room_of};
 
 use super::Hall;
 use super::counting::{count_entries, count_since};

@@ -1,6 +1,5 @@
 use Rattle.std.proofs.Common.{◌≡◌, drop, map}
-use Rattle.cml_chart.specs.Shown.{shown_act}
-use Rattle.cml_chart.specs.Columns.{names_of, each_once, doer_in}
+use Rattle.cml_chart.specs.Prelude.{shown_act, names_of, each_once, doer_in}
 use Rattle.cml_chart.proofs.chart.add_actors.Given as goal
 
 abbrev pub invariant-loop-act : goal.invariant-loop-act

@@ -1,7 +1,5 @@
 use Rattle.std.proofs.Common.{◌≡◌, ◌+◌, ◌++◌, drop, map}
-use Rattle.cml_chart.specs.Shown.{shown_object}
-use Rattle.cml_chart.specs.Columns.{names_of, taken_from}
-use Rattle.cml_chart.specs.Chart.{titles_of}
+use Rattle.cml_chart.specs.Prelude.{shown_object, names_of, taken_from, titles_of}
 use Rattle.cml_chart.proofs.chart.add_objects.Given as goal
 
 abbrev pub invariant-loop-at : goal.invariant-loop-at

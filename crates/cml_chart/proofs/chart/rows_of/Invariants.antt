@@ -1,7 +1,5 @@
 use Rattle.std.proofs.Common.{◌≡◌, ◌+◌, ◌++◌, drop, map}
-use Rattle.cml_chart.specs.Shown.{shown_act}
-use Rattle.cml_chart.specs.Columns.{names_of}
-use Rattle.cml_chart.specs.Chart.{joined, shown_row, unknown_from}
+use Rattle.cml_chart.specs.Prelude.{shown_act, names_of, joined, shown_row, unknown_from}
 use Rattle.cml_chart.proofs.chart.rows_of.Given as goal
 
 abbrev pub invariant-loop-at : goal.invariant-loop-at

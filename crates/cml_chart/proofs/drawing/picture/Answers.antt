@@ -1,9 +1,8 @@
 use Rattle.std.proofs.Common.{List, ℕ, ◌≡◌, subst}
 use Rattle.std.specs.Option.{option_map}
-use Rattle.cml_grammar.specs.Script.{Lines}
+use Rattle.cml_grammar.specs.Prelude.{Lines}
 use denote.Ref.{Bor}
-use Rattle.cml_chart.specs.Reading.{told}
-use Rattle.cml_chart.specs.Shown.{shown_report}
+use Rattle.cml_chart.specs.Prelude.{told, shown_report}
 use Rattle.cml_chart.proofs.DrawingLemmas.{drawn_of}
 use Rattle.cml_chart.proofs.drawing.picture.Goals as goal
 

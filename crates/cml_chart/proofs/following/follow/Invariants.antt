@@ -1,8 +1,5 @@
 use Rattle.std.proofs.Common.{◌≡◌, ◌+◌, drop, map}
-use Rattle.cml_chart.specs.Shown.{shown_act, texts}
-use Rattle.cml_chart.specs.Columns.{names_of}
-use Rattle.cml_chart.specs.Threads.{shown_threads}
-use Rattle.cml_chart.specs.Following.{follow}
+use Rattle.cml_chart.specs.Prelude.{shown_act, texts, names_of, shown_threads, follow}
 use Rattle.cml_chart.proofs.following.follow.Given as goal
 
 abbrev pub invariant-loop-at : goal.invariant-loop-at

@@ -1,9 +1,7 @@
 use Rattle.std.proofs.Common.{◌≡◌, ◌++◌, drop, map}
 use Rattle.std.specs.List.{filter_map}
-use Rattle.cml_grammar.specs.declared.script.Step.{Step}
-use Rattle.cml_grammar.specs.Reading.{source_of}
-use Rattle.cml_grammar.specs.Script.{SourceLine}
-use Rattle.cml_chart.specs.Plan.{port_in, shown_made}
+use Rattle.cml_grammar.specs.Prelude.{Step, source_of, SourceLine}
+use Rattle.cml_chart.specs.Prelude.{port_in, shown_made}
 use Rattle.cml_chart.proofs.plan.add_ports.Given as goal
 
 abbrev pub invariant-loop-step : goal.invariant-loop-step

@@ -1,10 +1,7 @@
 use Rattle.std.proofs.Common.{◌≡◌, ◌++◌, drop, map}
 use Rattle.std.specs.List.{filter_map}
-use Rattle.cml_grammar.specs.declared.script.Declaration.{Declaration}
-use Rattle.cml_grammar.specs.Reading.{source_of}
-use Rattle.cml_chart.specs.Shown.{texts}
-use Rattle.cml_chart.specs.Threads.{shown_threads}
-use Rattle.cml_chart.specs.Plan.{thread_in, threads_in, feed_in, feeds_in, object_in, shown_made}
+use Rattle.cml_grammar.specs.Prelude.{Declaration, source_of}
+use Rattle.cml_chart.specs.Prelude.{texts, shown_threads, thread_in, threads_in, feed_in, feeds_in, object_in, shown_made}
 use Rattle.cml_chart.proofs.plan.fill.Given as goal
 
 abbrev pub invariant-loop-declaration : goal.invariant-loop-declaration

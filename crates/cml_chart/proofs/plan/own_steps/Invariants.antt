@@ -1,9 +1,7 @@
 use Rattle.std.proofs.Common.{◌≡◌, ◌++◌, drop, map}
 use Rattle.std.specs.List.{filter_map}
-use Rattle.cml_grammar.specs.Reading.{source_of}
-use Rattle.cml_grammar.specs.declared.script.Step.{Step}
-use Rattle.cml_chart.specs.Shown.{texts}
-use Rattle.cml_chart.specs.Plan.{own_in, own_steps}
+use Rattle.cml_grammar.specs.Prelude.{source_of, Step}
+use Rattle.cml_chart.specs.Prelude.{texts, own_in, own_steps}
 use Rattle.cml_chart.proofs.plan.own_steps.Given as goal
 
 abbrev pub invariant-loop-step : goal.invariant-loop-step

@@ -1,12 +1,8 @@
 use Rattle.std.proofs.Common.{subst, sym, ap, ◌∙◌}
 use Rattle.std.specs.Option.{option_map}
-use Rattle.cml_grammar.specs.declared.forms.Declares.{Declares}
+use Rattle.cml_grammar.specs.Prelude.{Declares, declared_places, makes_by, texts_of, AllSuit}
 use Rattle.cml_grammar.specs.declared.forms.Declares.TheVariants.{MVar}
 use Rattle.cml_grammar.specs.declared.forms.Makes.TheVariants as makes
-use Rattle.cml_grammar.specs.Forms.{declared_places}
-use Rattle.cml_grammar.specs.Meaning.{makes_by}
-use Rattle.cml_grammar.specs.Reading.{texts_of}
-use Rattle.cml_grammar.specs.Suiting.{AllSuit}
 use Rattle.cml_grammar.proofs.MeaningLemmas.{Words, bytes, first_message, made_with}
 use Rattle.cml_grammar.proofs.SuitingLemmas.{made_well}
 use Rattle.cml_grammar.proofs.meaning.makes_by.Goals as goal

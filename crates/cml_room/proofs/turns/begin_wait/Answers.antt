@@ -1,12 +1,11 @@
 use Rattle.std.proofs.Common.{rules, ◌≡◌, slice_get, Some, sym, ◌∙◌}
 use Rattle.cml_room.specs.declared.state.State.TheVariants.{Free}
-use Rattle.cml_room.specs.Places.{states_in}
+use Rattle.cml_room.specs.Prelude.{states_in, quieted}
 use Rattle.cml_room.proofs.EndingLemmas.{free_place, parked_within}
 use Rattle.cml_room.proofs.ParkingLemmas.{free_begun, waits_begun, waits_unless_free}
 use Rattle.std.proofs.Common.{get_or, refl}
 use Rattle.cml_room.specs.declared.notice.Notice.TheVariants.{Nothing}
 use Rattle.cml_room.specs.declared.place.Place.TheVariants as place
-use Rattle.cml_room.specs.Places.{quieted}
 use Rattle.cml_room.proofs.WokenLemmas.{set_asked, set_asked_within, quieted_nothing}
 use Rattle.cml_room.proofs.turns.begin_wait.Goals as goal
 

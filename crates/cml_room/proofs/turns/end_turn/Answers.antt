@@ -1,15 +1,12 @@
 use Rattle.std.proofs.Common.{◌≡◌, slice_get, Some, refl, sym, ap, subst, ◌∙◌}
-use Rattle.cml_board.specs.Shown.{Shown}
+use Rattle.cml_board.specs.Prelude.{Shown}
 use Rattle.cml_room.specs.declared.state.State.TheVariants.{Parked}
-use Rattle.cml_room.specs.Places.{states_in}
-use Rattle.cml_room.specs.Rising.{RisesFew}
-use Rattle.cml_room.specs.Waking.{AreAt}
+use Rattle.cml_room.specs.Prelude.{states_in, RisesFew, AreAt, freed}
 use Rattle.cml_room.proofs.EndingLemmas.{freed_states, may_within, handed, ended, ended_at, none_told, free_unless_waits, free_same, waits_parked}
 use Rattle.cml_room.proofs.RisingLemmas.{handed_few, told_few}
 use Rattle.cml_room.proofs.RousingLemmas.{none_roused, roused_states}
 use Rattle.std.proofs.Common.{get_or}
 use Rattle.cml_room.specs.declared.place.Place.TheVariants.{Free}
-use Rattle.cml_room.specs.Seats.{freed}
 use Rattle.cml_room.proofs.EndingLemmas.{freed_here}
 use Rattle.cml_room.proofs.WokenLemmas.{asked_roused, free_asked, set_asked_within, freed_nothing}
 use Rattle.cml_room.proofs.turns.end_turn.Goals as goal

@@ -1,12 +1,10 @@
 use Rattle.std.proofs.Common.{subst}
-use Rattle.cml_room.specs.Stalling.{IsStalled}
-use Rattle.cml_room.specs.Places.{states_in}
+use Rattle.cml_room.specs.Prelude.{IsStalled, states_in, freed}
 use Rattle.cml_room.proofs.EndingLemmas.{parked_within}
 use Rattle.cml_room.proofs.ParkingLemmas.{parked_then, unparked, unparked_states}
 use Rattle.cml_room.proofs.RisingLemmas.{freed_none}
 use Rattle.std.proofs.Common.{get_or}
 use Rattle.cml_room.specs.declared.place.Place.TheVariants as place
-use Rattle.cml_room.specs.Seats.{freed}
 use Rattle.cml_room.proofs.WokenLemmas.{asked_on, set_asked_within, freed_nothing}
 use Rattle.cml_room.proofs.turns.park.Goals as goal
 

@@ -1,11 +1,6 @@
 use Rattle.std.proofs.Common.{◌≡◌, refl, sym, ap, subst, ◌∙◌}
-use Rattle.cml_board.specs.History.{entries_in}
-use Rattle.cml_board.specs.Outcome.{HasRoom}
-use Rattle.cml_board.specs.Shown.{Shown, full_at}
-use Rattle.cml_room.specs.Places.{states_in, AreRoused}
-use Rattle.cml_room.specs.Rising.{OneEach, RisesFew}
-use Rattle.cml_room.specs.Stalling.{IsStalled}
-use Rattle.cml_room.specs.Waking.{AreAt}
+use Rattle.cml_board.specs.Prelude.{entries_in, HasRoom, Shown, full_at}
+use Rattle.cml_room.specs.Prelude.{states_in, AreRoused, OneEach, RisesFew, IsStalled, AreAt}
 use Rattle.cml_room.proofs.BringingLemmas.{was_placed}
 use Rattle.cml_room.proofs.EndingLemmas.{all_watched, settled, settled_rests, not_full}
 use Rattle.cml_room.proofs.IdlingLemmas.{none_waits}

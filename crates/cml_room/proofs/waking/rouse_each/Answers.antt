@@ -1,10 +1,7 @@
 use Rattle.std.proofs.Common.{◌≡◌, ℕ, List, ◌+◌, length, true, slice_get, Some, refl, sym, ap, subst, ◌∙◌, arith}
-use Rattle.cml_queues.specs.Queues.{QueuesShown, queue_of, is_in}
-use Rattle.cml_room.specs.declared.place.Place.{Place}
+use Rattle.cml_queues.specs.Prelude.{QueuesShown, queue_of, is_in}
+use Rattle.cml_room.specs.Prelude.{Place, Waiter, row_of, is_noted, reaches}
 use Rattle.cml_room.specs.declared.place.Place.TheVariants.{Waiting}
-use Rattle.cml_room.specs.declared.place.Waiter.{Waiter}
-use Rattle.cml_room.specs.Places.{row_of, is_noted}
-use Rattle.cml_room.specs.Waking.{reaches}
 use Rattle.cml_room.proofs.WalkingLemmas.{Walked, walk_begins, walk_ends, walk_stops, walk_goes, walk_kept}
 use Rattle.cml_room.proofs.RousingLemmas.{none_roused, roused_twice, still_noted, reaches_same, not_reached}
 use Rattle.cml_room.proofs.waking.rouse_each.Goals as goal

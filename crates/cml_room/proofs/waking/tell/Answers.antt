@@ -1,12 +1,8 @@
 use Rattle.std.proofs.Common.{◌≡◌, ℕ, true, List, slice_get, Option, Some, subst, sym, ap, ◌∙◌}
-use Rattle.cml_board.specs.declared.entry.Entry.{Entry}
-use Rattle.cml_room.specs.declared.news.News.{News}
+use Rattle.cml_board.specs.Prelude.{Entry}
+use Rattle.cml_room.specs.Prelude.{News, Place, Waiter, helps, Helps, IsOf, AreRoused}
 use Rattle.cml_room.specs.declared.news.News.TheVariants.{Multicast, Value, Closed}
-use Rattle.cml_room.specs.declared.place.Place.{Place}
 use Rattle.cml_room.specs.declared.place.Place.TheVariants.{Waiting}
-use Rattle.cml_room.specs.declared.place.Waiter.{Waiter}
-use Rattle.cml_room.specs.News.{helps, Helps, IsOf}
-use Rattle.cml_room.specs.Places.{AreRoused}
 use Rattle.cml_room.proofs.HearingLemmas.{AreTold, message_told, multicast_told, closed_told, told_news, news_of, ports_are_of_channels}
 use Rattle.cml_room.proofs.NewsLemmas.{message_helps, multicast_helps, closed_helps}
 use Rattle.cml_room.proofs.RisingLemmas.{roused_where, for_one}

@@ -1,6 +1,6 @@
 use Rattle.std.proofs.Common.{◌≡◌}
-use Rattle.cml_board.specs.Positions.{before}
-use Rattle.cml_script.specs.Audit.{IsOfScript}
+use Rattle.cml_board.specs.Prelude.{before}
+use Rattle.cml_script.specs.Prelude.{IsOfScript}
 use Rattle.cml_script.proofs.auditing.first_foreign.Given as goal
 
 abbrev pub invariant-loop-k : goal.invariant-loop-k

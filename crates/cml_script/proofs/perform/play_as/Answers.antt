@@ -1,12 +1,6 @@
 use Rattle.std.proofs.Common.{◌≡◌, None, ◌∙◌, ap, sym, subst, string_bytes}
-use Rattle.cml_grammar.specs.Script.{Lines}
-use Rattle.cml_grammar.specs.Rings.{first_ring}
-use Rattle.cml_script.specs.Schedule.{History, Schedule}
-use Rattle.cml_script.specs.Stage.{Play}
-use Rattle.cml_script.specs.Report.{Tallied}
-use Rattle.cml_script.specs.Written.{text_as}
-use Rattle.cml_script.specs.Play.{IsPlayedAs}
-use Rattle.cml_script.specs.Audit.{IsOfScript}
+use Rattle.cml_grammar.specs.Prelude.{Lines, first_ring}
+use Rattle.cml_script.specs.Prelude.{History, Schedule, Play, Tallied, text_as, IsPlayedAs, IsOfScript}
 use Rattle.cml_script.proofs.GivingLemmas.{follows_own}
 use Rattle.cml_script.proofs.perform.play_as.Goals as goal
 

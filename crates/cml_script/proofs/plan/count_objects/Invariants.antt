@@ -1,6 +1,5 @@
 use Rattle.std.proofs.Common.{◌≡◌, ◌≤◌, take}
-use Rattle.cml_script.specs.Counting.{how_many}
-use Rattle.cml_script.specs.Schedule.{is_object}
+use Rattle.cml_script.specs.Prelude.{how_many, is_object}
 use Rattle.cml_script.proofs.plan.count_objects.Given as goal
 
 abbrev pub invariant-loop-declaration : goal.invariant-loop-declaration

@@ -1,6 +1,5 @@
 use Rattle.std.proofs.Common.{take}
-use Rattle.cml_script.specs.Schedule.{is_called}
-use Rattle.cml_script.specs.Plan.{AreQueues, items_of}
+use Rattle.cml_script.specs.Prelude.{is_called, AreQueues, items_of}
 use Rattle.cml_script.proofs.plan.queue_calls.Given as goal
 
 abbrev pub invariant-loop-i : goal.invariant-loop-i

@@ -1,7 +1,6 @@
 use Rattle.std.proofs.Common.{refl, arith, reverse, ◌++◌}
 use Rattle.cml_board.specs.declared.entry.Reply.TheVariants.{Closed}
-use Rattle.cml_board.specs.Parts.{asked_call}
-use Rattle.cml_board.specs.Holdings.{seen_all}
+use Rattle.cml_board.specs.Prelude.{asked_call, seen_all}
 use Rattle.cml_board.proofs.NotingLemmas.{keeps_call, adds_entry}
 use Rattle.cml_board.proofs.AnsweringLemmas.{answer_closed}
 use Rattle.cml_board.proofs.SteppingLemmas.{step_asking}

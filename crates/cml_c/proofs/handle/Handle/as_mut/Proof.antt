@@ -8,11 +8,10 @@ use denote.Memory.{part_of}
 use denote.Follow.{follows, lends_Part}
 use Rattle.std.specs.contracts.alloc.Global.{the_row as Heap}
 use Rattle.std.specs.contracts.impls.GlobalAllocator.TheImpl.{ghosts}
-use Rattle.cml_c.specs.declared.kept.Kept.{Kept}
+use Rattle.cml_c.specs.Prelude.{Kept, with_kept}
 use Rattle.std_alloc.proofs.BoxSteps.Form as box
 use Rattle.std_alloc.proofs.BoxSteps.Steps.{box_out, box_in}
 use Rattle.cml_c.specs.contracts.handle.Handle.{the_row}
-use Rattle.cml_c.specs.Lending.{with_kept}
 use Rattle.cml_c.proofs.HandleBoxLemmas.{Room, E, Boxed, boxed}
 use Rattle.cml_c.specs.contracts.handle.Handle.as_mut as f
 use Rattle.cml_c.proofs.handle.Handle.as_mut.Statement.{statement}

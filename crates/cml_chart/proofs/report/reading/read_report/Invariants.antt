@@ -1,7 +1,6 @@
 use Rattle.std.proofs.Common.{◌≡◌, ◌≤◌, ◌+◌, length}
-use Rattle.cml_grammar.specs.Words.{parts_of}
-use Rattle.cml_chart.specs.Reading.{told, told_from}
-use Rattle.cml_chart.specs.Shown.{so_far, line_count}
+use Rattle.cml_grammar.specs.Prelude.{parts_of}
+use Rattle.cml_chart.specs.Prelude.{told, told_from, so_far, line_count}
 use Rattle.cml_chart.proofs.report.reading.read_report.Given as goal
 
 abbrev pub invariant-loop-line : goal.invariant-loop-line

@@ -1,10 +1,5 @@
 use Rattle.std.proofs.Common.{ℕ, List, [], ◌∷◌, ◌++◌, map, Bor, string_bytes, sym, ap, ◌∙◌, subst}
-use Rattle.cml_grammar.specs.declared.script.Line.{Line}
-use Rattle.cml_grammar.specs.declared.script.Lane.{Lane}
-use Rattle.cml_grammar.specs.Words.{words_of}
-use Rattle.cml_grammar.specs.Forms.{lane}
-use Rattle.cml_grammar.specs.Faults.{after_words}
-use Rattle.cml_grammar.specs.Meaning.{scope_of}
+use Rattle.cml_grammar.specs.Prelude.{Line, Lane, words_of, lane, after_words, scope_of}
 use Rattle.cml_grammar.proofs.ReadingLemmas.{ReadFrom, kept_suits}
 use Rattle.cml_grammar.proofs.DeclaredLaneLemmas.{laid_closes, laid_scopes}
 use Rattle.cml_grammar.proofs.reading.Reading.lay.Goals.{After-lane_by-lane}

@@ -1,11 +1,7 @@
 use Rattle.std.proofs.Common.{sym, ap, ◌∙◌, subst, Option, ℕ}
 use Rattle.std.specs.Map.{lookup}
 use Rattle.std.specs.Option.{IfSome}
-use Rattle.cml_grammar.specs.Faults.{Ends, are_same}
-use Rattle.cml_grammar.specs.Script.{Lines}
-use Rattle.cml_grammar.specs.Meaning.{names_of}
-use Rattle.cml_grammar.specs.Rings.{capacity_of}
-use Rattle.cml_grammar.specs.Reading.{IsCapacity}
+use Rattle.cml_grammar.specs.Prelude.{Ends, are_same, Lines, names_of, capacity_of, IsCapacity}
 use Rattle.cml_grammar.proofs.GrowingLemmas.{capacity_kept}
 use Rattle.cml_grammar.proofs.RingLemmas.{kept_fits}
 use Rattle.cml_grammar.proofs.script.Script.lane_of.Goals as goal

@@ -1,6 +1,5 @@
 use Rattle.std.proofs.Common.{ap, ◌∙◌}
-use Rattle.cml_log.specs.Log.{chunk_start}
-use Rattle.cml_log.specs.PlainLog.{chunk_of}
+use Rattle.cml_log.specs.Prelude.{chunk_start, chunk_of}
 use Rattle.cml_log.proofs.plain_log.PlainLogMessageLog.first.Goals as goal
 
 pub returns-clause-starts_chunk : goal.returns-clause-starts_chunk

@@ -1,7 +1,6 @@
 use Rattle.std.proofs.Common.{rules}
-use Rattle.cml_room.specs.Room.{MayAsk}
+use Rattle.cml_room.specs.Prelude.{MayAsk, news_by}
 use Rattle.std.specs.Prelude.{⊤}
-use Rattle.cml_room.specs.Rising.{news_by}
 use Rattle.cml_room.proofs.FramesLemmas.{turns_heard}
 use Rattle.cml_room.proofs.TurningLemmas.{may_ask}
 use Rattle.cml_room.proofs.room.Room.ask.Goals as goal

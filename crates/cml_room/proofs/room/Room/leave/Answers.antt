@@ -1,15 +1,10 @@
 use Rattle.std.proofs.Common.{rules, ◌≡◌, ◌≢◌, ℕ, inl, inr, List, Some, slice_get, slice_set, refl, sym, ap, subst, ◌∙◌}
 use Rattle.std.proofs.lemmas.List.{map-set}
-use Rattle.cml_lanes.specs.Floor.{FloorShown}
-use Rattle.cml_room.specs.declared.place.Place.{Place}
+use Rattle.cml_lanes.specs.Prelude.{FloorShown}
+use Rattle.cml_room.specs.Prelude.{Place, state_by, states_in, notices_in, MakesNoneDue, RoomShown, MayAsk, with_state, IsMade, KeepsWoken}
+use Rattle.cml_room.specs.Prelude.{Other, SeatsShown, free_in, IsWatched}
 use Rattle.cml_room.specs.declared.place.Place.TheVariants.{Free, Left}
 use Rattle.cml_room.specs.declared.state.State.TheVariants as state
-use Rattle.cml_room.specs.Places.{state_by, states_in, notices_in}
-use Rattle.cml_room.specs.Rising.{MakesNoneDue}
-use Rattle.cml_room.specs.Room.{RoomShown, MayAsk, with_state}
-use Rattle.cml_room.specs.Running.{IsMade, KeepsWoken, Other}
-use Rattle.cml_room.specs.Seats.{SeatsShown, free_in}
-use Rattle.cml_room.specs.Waking.{IsWatched}
 use Rattle.cml_room.proofs.FramesLemmas.{with_seats}
 use Rattle.cml_room.proofs.IdlingLemmas.{none_waits}
 use Rattle.cml_room.proofs.SleepersLemmas.{left_watched, free_place}

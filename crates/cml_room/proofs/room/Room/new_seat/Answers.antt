@@ -1,13 +1,8 @@
 use Rattle.std.proofs.Common.{rules, ◌≡◌, ◌++◌, [], ◌∷◌, Bool, List, sym, subst}
-use Rattle.cml_room.specs.declared.place.Place.{Place}
+use Rattle.cml_room.specs.Prelude.{Place, IsWatched, HasRisen, notices_in, RoomShown, KeepsWoken}
 use Rattle.cml_room.specs.declared.place.Place.TheVariants.{Free}
-use Rattle.cml_room.specs.Waking.{IsWatched}
 use Rattle.cml_room.proofs.SleepersLemmas.{added_watched}
-use Rattle.cml_room.specs.Rising.{HasRisen}
 use Rattle.cml_room.proofs.RisingLemmas.{added_none, none_due}
-use Rattle.cml_room.specs.Places.{notices_in}
-use Rattle.cml_room.specs.Room.{RoomShown}
-use Rattle.cml_room.specs.Running.{KeepsWoken}
 use Rattle.cml_room.proofs.WokenLemmas.{added_keeps}
 use Rattle.cml_room.proofs.room.Room.new_seat.Goals as goal
 

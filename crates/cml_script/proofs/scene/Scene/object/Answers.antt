@@ -1,10 +1,8 @@
 use Rattle.std.proofs.Common.{◌≡◌, None, Some, MatchOption, IfSome, subst}
-use Rattle.cml_calls.specs.declared.kind.Kind.{Kind}
-use Rattle.cml_board.specs.History.{kind_of}
-use Rattle.cml_grammar.specs.Meaning.{names_of}
-use Rattle.cml_script.specs.Schedule.{History, made_of}
-use Rattle.cml_script.specs.Plan.{IsObjectAt}
-use Rattle.cml_script.specs.Scene.{Told}
+use Rattle.cml_calls.specs.Prelude.{Kind}
+use Rattle.cml_board.specs.Prelude.{kind_of}
+use Rattle.cml_grammar.specs.Prelude.{names_of}
+use Rattle.cml_script.specs.Prelude.{History, made_of, IsObjectAt, Told}
 use Rattle.cml_script.proofs.UseLemmas.{made_kind}
 use Rattle.cml_script.proofs.scene.Scene.object.Goals as goal
 

@@ -1,16 +1,10 @@
 use Rattle.std.proofs.Common.{◌≡◌, None, Some, slice_get, ◌+◌, ◌∙◌, sym, ap, subst, take, length}
 use Rattle.std.proofs.lemmas.Bool.{MatchBool-at_true}
-use Rattle.cml_grammar.specs.Script.{Lines}
-use Rattle.cml_grammar.specs.Meaning.{names_of}
-use Rattle.cml_grammar.specs.Reading.{source_of, ReadsDeclaration, IsMadeWell}
-use Rattle.cml_script.specs.Counting.{how_many, one_if}
-use Rattle.cml_script.specs.Schedule.{is_object}
-use Rattle.cml_script.specs.Plan.{NamesObjects}
-use Rattle.cml_script.specs.Stage.{Play}
+use Rattle.cml_grammar.specs.Prelude.{Lines, names_of, source_of, ReadsDeclaration, IsMadeWell, first_ring}
+use Rattle.cml_script.specs.Prelude.{how_many, one_if, is_object, NamesObjects, Play}
 use Rattle.cml_script.proofs.ListLemmas.{read_at, count_taken}
 use Rattle.cml_script.proofs.LineLemmas.{declaration_object, declaration_feed, declaration_read}
 use Rattle.cml_script.proofs.PlainLemmas.{plain_feed}
-use Rattle.cml_grammar.specs.Rings.{first_ring}
 use Rattle.cml_script.proofs.KindLemmas.{next_object}
 use Rattle.cml_script.proofs.stage.Stage.declare.Goals as goal
 

@@ -1,9 +1,5 @@
 use Rattle.std.proofs.Common.{◌&&◌, ◌+◌, take, ap, ◌∙◌, arith}
-use Rattle.cml_script.specs.Counting.{how_many}
-use Rattle.cml_script.specs.Left.{is_laid}
-use Rattle.cml_script.specs.Schedule.{positions_where}
-use Rattle.cml_script.specs.Stalling.{is_passed}
-use Rattle.cml_script.specs.Trail.{history_of}
+use Rattle.cml_script.specs.Prelude.{how_many, is_laid, positions_where, is_passed, history_of}
 use Rattle.cml_script.proofs.LineLemmas.{byte_more, stands}
 use Rattle.cml_script.proofs.StallingLemmas.{kept_within, passed_more, laid_at}
 use Rattle.cml_script.proofs.trail.Trail.passed_laid.Goals as goal

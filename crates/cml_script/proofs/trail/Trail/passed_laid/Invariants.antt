@@ -1,9 +1,5 @@
 use Rattle.std.proofs.Common.{◌≡◌, ◌≤◌, take}
-use Rattle.cml_script.specs.Counting.{how_many}
-use Rattle.cml_script.specs.Schedule.{positions_where}
-use Rattle.cml_script.specs.Left.{is_laid}
-use Rattle.cml_script.specs.Stalling.{is_passed}
-use Rattle.cml_script.specs.Trail.{history_of}
+use Rattle.cml_script.specs.Prelude.{how_many, positions_where, is_laid, is_passed, history_of}
 use Rattle.cml_script.proofs.trail.Trail.passed_laid.Given as goal
 
 abbrev pub invariant-loop-i : goal.invariant-loop-i

@@ -1,7 +1,6 @@
 use Rattle.std.proofs.Common.{ap, subst}
-use Rattle.cml_board.specs.Shown.{Shown}
-use Rattle.cml_board.specs.Sound.{IsSound}
-use Rattle.cml_threads.specs.Hosting.{Hosted}
+use Rattle.cml_board.specs.Prelude.{Shown, IsSound}
+use Rattle.cml_threads.specs.Prelude.{Hosted}
 use Rattle.cml_threads.proofs.hall.Hall.board.Goals as goal
 
 pub returns-clause-sound : goal.returns-clause-sound

@@ -1,8 +1,6 @@
 use Rattle.std.proofs.Common.{◌≡◌, ◌∙◌, ap, arith}
-use Rattle.cml_board.specs.History.{entries_in, rings_in}
-use Rattle.cml_board.specs.Makers.{seats_of}
-use Rattle.cml_board.specs.Shown.{Shown}
-use Rattle.cml_threads.specs.Seating.{share_at}
+use Rattle.cml_board.specs.Prelude.{entries_in, rings_in, seats_of, Shown}
+use Rattle.cml_threads.specs.Prelude.{share_at}
 use Rattle.cml_threads.proofs.RestoringLemmas.{rings_within, all_rings}
 use Rattle.cml_threads.proofs.hall.Hall.restore.Goals as goal
 

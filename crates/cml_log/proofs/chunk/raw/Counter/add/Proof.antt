@@ -1,6 +1,6 @@
 -- `add` opens the count and closes it at the next number.
 use Rattle.cml_log.proofs.WalksLemmas.{List, [], ◌∷◌, ◌+◌, ◌≡◌, refl, raw, ‵, ◌⊛◌, ◌$◌, ◌∵◌, !, qed, by, keep, move, split, fsplit, fsplit3, fjoin, fjoin3, feq_i, use0, use1, id⊢, emp, ftrue, flft, fact, fact_i, named, Val, vunit, vptr, owns, enter, alloc_all, pass_all, free_all, look_at, sets, of_opd, unit_lit, returns, nothing, opens, closes, tables, proved, leaves, Stays, stay_ref, plain, Goes-ref, mut_vals, mut_Tells, types_at}
-use Rattle.cml_log.specs.declared.chunk.raw.Counter.{Counter}
+use Rattle.cml_log.specs.Prelude.{Counter}
 use Rattle.cml_log.specs.contracts.chunk.raw.Counter.{the_row}
 use Rattle.cml_log.specs.contracts.chunk.raw.Counter.add as f
 use Rattle.cml_log.proofs.chunk.raw.Counter.add.Statement.{statement}

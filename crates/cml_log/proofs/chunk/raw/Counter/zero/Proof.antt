@@ -2,7 +2,7 @@
 use Rattle.cml_log.proofs.WalksLemmas.{[], ◌∷◌, refl, raw, ‵, ◌$◌, ◌∵◌, !, qed, by, keep, fjoin, use0, emp, ftrue, fact, fact_i, enter, alloc_all, pass_all, free_all, look_at, get, sets, agg, no_more, and_then, returns, nothing, tables, proved, leaves, ◌≡◌}
 use Rattle.cml_log.proofs.BlockValuesLemmas.{mark, count_made, Counting}
 use denote.Triple.Entry.{on_entry}
-use Rattle.cml_log.specs.declared.chunk.raw.Counter.{Counter}
+use Rattle.cml_log.specs.Prelude.{Counter}
 use Rattle.cml_log.specs.contracts.chunk.raw.Counter.zero as f
 use Rattle.cml_log.proofs.chunk.raw.Counter.zero.Statement.{statement}
 use Rattle.cml_log.proofs.chunk.raw.Counter.zero.Code as code
